@@ -1,0 +1,5 @@
+# cobix: `make test` proves and tests everything.
+.PHONY: test
+
+test:
+	rt ci

@@ -1,0 +1,80 @@
+-- The keys of a file's records, and the values of a record's keys.
+-- ANSI X3.23-1985, Indexed I-O module, FILE-CONTROL entry: RECORD KEY and ALTERNATE RECORD KEY clauses.
+use Rattle.std.specs.Prelude.{◌≡◌, ℕ, ◌+◌, ◌<◌, ◌≤◌, ◌==◌, Bool, true, false, not, ◌&&◌, if◌then◌else◌, List, [], ◌∷◌, length, take, drop, map, nat_le, slice_index_or, Option, position, All, AllPairs, refl}
+use Rattle.std.specs.Coded.{Coded, code_by, coded×, coded_ℕ, coded_bool, coded_list}
+use Rattle.std.specs.Cmp.Lexicographic.{pointwise}
+use Rattle.record_layout.specs.declared.item.Field.{Field}
+use Rattle.record_layout.specs.declared.schema.KeyPart.{KeyPart}
+
+-- the least and the greatest length of a file's records, and its keys: key 0 is the prime key, and the alternates follow by
+-- rising offset (ours: so the order of their clauses does not matter)
+pub record Schema : Type 0 where
+  pub least : ℕ
+  pub greatest : ℕ
+  pub keys : List KeyPart
+
+abbrev pub schema_of_fields : ℕ → ℕ → List KeyPart → Schema
+schema_of_fields least greatest keys = record { least = least; greatest = greatest; keys = keys }
+
+-- key k (no bytes where there is no such key)
+abbrev pub key_at : Schema → ℕ → KeyPart
+key_at schema k = slice_index_or schema.keys k (record { offset = 0; length = 0; duplicates = false })
+
+-- the bytes of a part of a record
+abbrev pub part_of : KeyPart → List ℕ → List ℕ
+part_of part bytes = take part.length (drop part.offset bytes)
+
+-- the value of key k of a record
+abbrev pub value_of : Schema → ℕ → List ℕ → List ℕ
+value_of schema k bytes = part_of (key_at schema k) bytes
+
+-- the value of the prime key of a record
+abbrev pub prime_of : Schema → List ℕ → List ℕ
+prime_of schema bytes = value_of schema 0 bytes
+
+-- a part of 1 to 250 bytes that each record has whole
+pub record IsKey (least : ℕ) (part : KeyPart) : Type 0 where
+  pub some : 1 ≤ part.length
+  pub short : part.length ≤ 250
+  pub within : part.offset + part.length ≤ least
+
+-- the prime key is unique, begins elsewhere than each alternate, and the alternates stand by rising offset
+abbrev pub AreKeys : List KeyPart → Type 0
+AreKeys [] = ⊥
+AreKeys (prime ∷ alternates) =
+    (prime.duplicates ≡ false) × All (λ part. (part.offset ≡ prime.offset → ⊥)) alternates × AllPairs (λ a b. a.offset < b.offset) alternates
+
+-- what is true of every schema: records have 1 to 4,000 bytes, and there are 1 to 9 keys
+pub record IsSchema (schema : Schema) : Type 0 where
+  pub some : 1 ≤ schema.least
+  pub ordered : schema.least ≤ schema.greatest
+  pub limit : schema.greatest ≤ 4000
+  pub few : length schema.keys ≤ 9
+  pub whole : All (IsKey schema.least) schema.keys
+  pub keys : AreKeys schema.keys
+
+-- a part is stored as the triple of its fields
+abbrev pub part_code : Coded KeyPart
+part_code =
+    code_by (ℕ × (ℕ × Bool)) (coded× coded_ℕ (coded× coded_ℕ coded_bool)) (λ p. (p.offset, (p.length, p.duplicates))) (λ q. record { offset = q.0; length = q.1.0; duplicates = q.1.1 }) (λ _. refl)
+
+-- a schema is stored as the triple of its fields
+abbrev pub schema_code : Coded Schema
+schema_code =
+    code_by (ℕ × (ℕ × List KeyPart)) (coded× coded_ℕ (coded× coded_ℕ (coded_list part_code))) (λ s. (s.least, (s.greatest, s.keys))) (λ p. schema_of_fields p.0 p.1.0 p.1.1) (λ _. refl)
+
+-- the parts are the same bytes of a record, and both may have duplicates or neither
+abbrev pub same_part : KeyPart → KeyPart → Bool
+same_part a b = (a.offset == b.offset) && (a.length == b.length) && (if a.duplicates then b.duplicates else not b.duplicates)
+
+-- the lengths and all keys are the same
+abbrev pub same_schema : Schema → Schema → Bool
+same_schema a b = (a.least == b.least) && (a.greatest == b.greatest) && pointwise same_part a.keys b.keys
+
+-- the key that is the item's very bytes: an item with a key's offset and length counts as that key (ours)
+abbrev pub key_of_field : Schema → Field → Option ℕ
+key_of_field schema field = position (λ part. (part.offset == field.offset) && (part.length == field.length)) schema.keys
+
+-- the key that begins with the item: the item's leftmost character is the key's, and it is not longer
+abbrev pub key_led_by : Schema → Field → Option ℕ
+key_led_by schema field = position (λ part. (part.offset == field.offset) && nat_le field.length part.length) schema.keys
