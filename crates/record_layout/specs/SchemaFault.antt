@@ -2,7 +2,7 @@
 -- the order in which they are given, each by the tests below in their order.
 -- ANSI X3.23-1985, Indexed I-O module, FILE-CONTROL entry: the leftmost character of no key is that of another; RECORD clause:
 -- each key is within the least record length. The limits of 250 characters and 8 alternate keys are ours.
-use Rattle.std.specs.Prelude.{◌≡◌, ℕ, ◌+◌, ◌==◌, Bool, true, false, List, [], ◌∷◌, ◌++◌, length, nat_lt, Option, Some, None, Result, Ok, Err, IsPermutation, if◌then◌else◌}
+use Rattle.std.specs.Prelude.{◌≡◌, ℕ, ◌+◌, ◌==◌, Bool, false, List, [], ◌∷◌, ◌++◌, length, nat_lt, Option, Some, None, Result, Ok, Err, IsPermutation, if◌then◌else◌}
 use Rattle.std.specs.List.{list_any}
 use Rattle.record_layout.specs.declared.fault.SchemaFault.{SchemaFault}
 use Rattle.record_layout.specs.declared.fault.SchemaFault.TheVariants.{NoSuchField, KeyTooLong, SameLeftmost, TooManyKeys, KeyPastLeast}
