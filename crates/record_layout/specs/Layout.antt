@@ -1,7 +1,7 @@
 -- The places of the items of a record.
 -- ANSI X3.23-1985, Nucleus module, data description entry, level-number: an item without a picture is a group, of the items
 -- of one greater level number that follow it.
-use Rattle.std.specs.Prelude.{◌≡◌, ℕ, ◌+◌, ◌<◌, ◌≤◌, Bool, true, false, List, [], ◌∷◌, ◌++◌, bytes_eq, Option, Some, None, option_map, IsTrue, IsFalse, if◌then◌else◌}
+use Rattle.std.specs.Prelude.{◌≡◌, ℕ, ◌+◌, ◌<◌, ◌≤◌, Bool, true, false, List, [], ◌∷◌, ◌++◌, bytes_eq, Option, Some, None, option_map, IsTrue, IsFalse, All, if◌then◌else◌}
 use Rattle.std.specs.List.{list_any}
 use Rattle.record_layout.specs.declared.item.Item.{Item}
 use Rattle.record_layout.specs.declared.item.Field.{Field}
@@ -15,6 +15,7 @@ pub record Entry : Type 0 where
   pub name : Option (List ℕ)
   pub picture : Option (List ℕ)
 
+-- what an item says
 abbrev pub entry_of : Item → Entry
 entry_of item = record {
   level = item.level;
@@ -27,6 +28,7 @@ pub record Placed : Type 0 where
   pub name : Option (List ℕ)
   pub field : Field
 
+-- the same of an item as the code has it
 abbrev pub item_of : Declared → Placed
 item_of item = record { name = option_map (λ name. name.bytes) item.name; field = item.field }
 
@@ -116,3 +118,9 @@ length_of (item ∷ after) = item.field.length
 abbrev pub field_of : List Placed → List ℕ → Option Field
 field_of [] name = None
 field_of (item ∷ after) name = if is_named name item.name then Some item.field else field_of after name
+
+-- what is true of every layout: the record has 1 to 4,000 characters, and each item has one or more of them
+pub record IsRecord (layout : List Placed) : Type 0 where
+  pub some : 1 ≤ length_of layout
+  pub short : length_of layout ≤ 4000
+  pub within : All (λ item. (1 ≤ item.field.length) × (item.field.offset + item.field.length ≤ length_of layout)) layout

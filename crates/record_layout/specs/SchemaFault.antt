@@ -4,6 +4,7 @@
 -- each key is within the least record length. The limits of 250 characters and 8 alternate keys are ours.
 use Rattle.std.specs.Prelude.{◌≡◌, ℕ, ◌+◌, ◌==◌, Bool, false, List, [], ◌∷◌, ◌++◌, length, nat_lt, Option, Some, None, Result, Ok, Err, IsPermutation, if◌then◌else◌}
 use Rattle.std.specs.List.{list_any}
+use Rattle.arrayvec.specs.ArrayString.{ArrayString as Text}
 use Rattle.record_layout.specs.declared.fault.SchemaFault.{SchemaFault}
 use Rattle.record_layout.specs.declared.fault.SchemaFault.TheVariants.{NoSuchField, KeyTooLong, SameLeftmost, TooManyKeys, KeyPastLeast}
 use Rattle.record_layout.specs.declared.item.Field.{Field}
@@ -15,6 +16,10 @@ use Rattle.record_layout.specs.Schema.{Schema}
 pub record KeyClause : Type 0 where
   pub name : List ℕ
   pub duplicates : Bool
+
+-- an alternate key as it is given
+abbrev pub clause_of : Text × Bool → KeyClause
+clause_of alternate = record { name = alternate.0.bytes; duplicates = alternate.1 }
 
 -- whether a key begins with the item's leftmost character
 abbrev pub begins_one : List KeyPart → Field → Bool

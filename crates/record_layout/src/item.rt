@@ -1,4 +1,6 @@
 //! The items of a record.
+ghost use Rattle.std.specs.Prelude.{◌≡◌, option_map};
+ghost use Rattle.record_layout.specs.Layout.{is_named};
 
 use io_state::Name;
 
@@ -24,4 +26,14 @@ pub struct Field {
 pub struct Placed {
     pub name: Option<Name>,
     pub field: Field,
+}
+
+/// Whether the text is this name, if there is a name.
+pub fn is_name(name: &Option<Name>, text: &str) -> bool
+    ensures { result ≡ is_named text.now (option_map (λ name. name.bytes) name.now) }
+{
+    match name {
+        Some(name) => name.as_str() == text,
+        None => false,
+    }
 }

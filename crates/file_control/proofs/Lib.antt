@@ -1,0 +1,9 @@
+pub mod TestLaws
+pub mod LiteralLaws
+pub mod RunLaws
+pub mod FrontLaws
+pub mod CutLaws
+pub mod ClassLaws
+pub mod RuleLaws
+pub mod RepeatLaws
+pub mod EntryLaws

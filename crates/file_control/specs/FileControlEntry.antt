@@ -1,0 +1,124 @@
+-- The file control entry.
+-- ANSI X3.23-1985, Indexed I-O module, FILE-CONTROL entry. Which clauses there are, that INDEXED and RECORD KEY have to
+-- stand, and what a file name is, is ours.
+use Rattle.std.specs.Prelude.{ℕ, ◌==◌, Bool, true, false, ◌&&◌, ◌||◌, List, [], ◌∷◌, ◌++◌, length, nat_le, nat_lt, unwrap_or, if◌then◌else◌, codes, Option, Some, None, option_map}
+use Rattle.std.specs.Char.{is_ascii_digit}
+use Rattle.std.specs.List.{list_all}
+use Rattle.io_state.specs.declared.modes.Access.{Access}
+use Rattle.io_state.specs.declared.modes.Access.TheVariants.{Sequential, Random, Dynamic}
+use Rattle.file_control.specs.ByteClass.{is_capital, is_small}
+use Rattle.file_control.specs.Rule.{Rule, optional, some_onto, where_it_gives}
+use Rattle.file_control.specs.Notation.{the, name, literal, period, ◌▸◌, ◌◂◌, ◌⊗◌, ◌∣◌, ◌<$>◌, is_there, may}
+use Rattle.file_control.specs.declared.entry.AlternateKey.{AlternateKey}
+use Rattle.file_control.specs.declared.entry.Clauses.{Clauses}
+use Rattle.file_control.specs.declared.entry.FileControlEntry.{FileControlEntry}
+
+-- ---- clauses
+
+pub data Clause : Type 0 where
+  Indexed : Clause
+  AccessMode : Access → Clause
+  RecordKey : List ℕ → Clause
+  Alternate : AlternateKey → Clause
+  FileStatus : Clause
+
+-- [ORGANIZATION [IS]] INDEXED
+unfoldable pub indexed : Rule Clause
+indexed = (λ _. Indexed) <$> optional (the (codes "ORGANIZATION") ▸ may (codes "IS")) ▸ the (codes "INDEXED")
+
+-- SEQUENTIAL | RANDOM | DYNAMIC
+unfoldable pub mode : Rule Access
+mode =
+    ((λ _. Sequential) <$> the (codes "SEQUENTIAL"))
+    ∣ ((λ _. Random) <$> the (codes "RANDOM"))
+    ∣ ((λ _. Dynamic) <$> the (codes "DYNAMIC"))
+
+-- ACCESS [MODE] [IS] (SEQUENTIAL | RANDOM | DYNAMIC)
+unfoldable pub access : Rule Clause
+access = AccessMode <$> the (codes "ACCESS") ▸ may (codes "MODE") ▸ may (codes "IS") ▸ mode
+
+-- RECORD [KEY] [IS] name
+unfoldable pub record_key : Rule Clause
+record_key = RecordKey <$> the (codes "RECORD") ▸ may (codes "KEY") ▸ may (codes "IS") ▸ name
+
+-- [[WITH] DUPLICATES]
+unfoldable pub duplicates : Rule Bool
+duplicates = is_there <$> optional (may (codes "WITH") ▸ the (codes "DUPLICATES"))
+
+abbrev pub alternate_of : List ℕ × Bool → Clause
+alternate_of key = Alternate (record { name = key.0; duplicates = key.1 })
+
+-- ALTERNATE RECORD [KEY] [IS] name [[WITH] DUPLICATES]
+unfoldable pub alternate : Rule Clause
+alternate =
+    alternate_of <$> the (codes "ALTERNATE") ▸ the (codes "RECORD") ▸ may (codes "KEY") ▸ may (codes "IS")
+    ▸ name ⊗ duplicates
+
+-- [FILE] STATUS [IS] name
+unfoldable pub status : Rule Clause
+status = (λ _. FileStatus) <$> may (codes "FILE") ▸ the (codes "STATUS") ▸ may (codes "IS") ▸ name
+
+unfoldable pub clause : Rule Clause
+clause = indexed ∣ access ∣ record_key ∣ alternate ∣ status
+
+-- ---- what the clauses of an entry say together
+
+abbrev pub no_clauses : Clauses
+no_clauses = record { indexed = false; access = None; record_key = None; alternate_keys = []; status = false }
+
+-- what is said for the first time
+abbrev pub once : {A : Type 0} → Option A → A → Option (Option A)
+once None said = Some (Some said)
+once (Some _) said = None
+
+-- with one clause more, unless it is one a second time, or a ninth alternate
+abbrev pub with_clause : Clauses → Clause → Option Clauses
+with_clause clauses Indexed = if clauses.indexed then None else Some (record clauses { indexed = true })
+with_clause clauses (AccessMode mode) = option_map (λ access. record clauses { access = access }) (once clauses.access mode)
+with_clause clauses (RecordKey key) = option_map (λ k. record clauses { record_key = k }) (once clauses.record_key key)
+with_clause clauses (Alternate key) =
+    if nat_lt (length clauses.alternate_keys) 8
+    then Some (record clauses { alternate_keys = clauses.alternate_keys ++ key ∷ [] }) else None
+with_clause clauses FileStatus = if clauses.status then None else Some (record clauses { status = true })
+
+-- the clause of a rule, beside these
+abbrev pub added_to : Clauses → Rule Clause → Rule Clauses
+added_to clauses rule = where_it_gives (with_clause clauses) rule
+
+-- ---- entries
+
+abbrev pub is_letter_or_digit : ℕ → Bool
+is_letter_or_digit byte = is_capital byte || is_small byte || is_ascii_digit byte
+
+abbrev pub is_of_file_name : ℕ → Bool
+is_of_file_name byte = is_letter_or_digit byte || byte == 46 || byte == 45 || byte == 95
+
+abbrev pub begins_file_name : List ℕ → Bool
+begins_file_name [] = false
+begins_file_name (byte ∷ text) = is_letter_or_digit byte
+
+-- 1 to 64 letters, digits, points, hyphens and underscores, the first a letter or digit
+abbrev pub is_file_name : List ℕ → Bool
+is_file_name text = nat_le (length text) 64 && begins_file_name text && list_all is_of_file_name text
+
+unfoldable pub file_name : Rule (List ℕ)
+file_name = where_it_gives (λ text. if is_file_name text then Some text else None) literal
+
+-- the entry: INDEXED and RECORD KEY have to stand; access is sequential where no clause says otherwise
+abbrev pub entry_of : Bool × (List ℕ × (List ℕ × Clauses)) → Option FileControlEntry
+entry_of parts =
+    let clauses = parts.1.1.1 in
+    if clauses.indexed then option_map (λ key. record {
+      name = parts.1.0;
+      file_name = parts.1.1.0;
+      optional = parts.0;
+      access = unwrap_or clauses.access Sequential;
+      record_key = key;
+      alternate_keys = clauses.alternate_keys;
+    }) clauses.record_key else None
+
+-- SELECT [OPTIONAL] name ASSIGN [TO] literal {clause}.. .
+unfoldable pub select : Rule FileControlEntry
+select =
+    where_it_gives entry_of (the (codes "SELECT") ▸ (is_there <$> may (codes "OPTIONAL"))
+    ⊗ name ⊗ (the (codes "ASSIGN") ▸ may (codes "TO") ▸ file_name) ⊗ some_onto with_clause no_clauses clause ◂ period)

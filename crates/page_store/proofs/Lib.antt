@@ -1,0 +1,4 @@
+pub mod FileLemmas
+pub mod GateLemmas
+pub mod CrashLemmas
+pub mod MemLemmas

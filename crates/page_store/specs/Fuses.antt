@@ -1,0 +1,57 @@
+-- What a fuse counts, and when it fails a call.
+use Rattle.std.specs.Prelude.{ℕ, ◌+◌, ◌-◌, ◌^◌, min, Bool, true, false, ◌==◌, ◌&&◌, ◌||◌, if◌then◌else◌}
+use Rattle.page_store.specs.declared.fuse.Kind.{Kind}
+use Rattle.page_store.specs.declared.fuse.Kind.TheVariants.{Reads, Writes, Syncs, Changes}
+use Rattle.page_store.specs.declared.fuse.Call.{Call}
+use Rattle.page_store.specs.declared.fuse.Call.TheVariants.{Create, Read, Write, Sync, Other}
+use Rattle.page_store.specs.declared.fuse.Turn.{Turn}
+use Rattle.page_store.specs.declared.fuse.Turn.TheVariants.{Perform, PerformAndFail, Fail}
+use Rattle.page_store.specs.declared.fuse.Fuse.{Fuse}
+
+-- a sum that stays where 64 bits end
+abbrev pub capped : ℕ → ℕ → ℕ
+capped a b = min (a + b) (2 ^ 64 - 1)
+
+-- the fuse counts the calls of its kind
+abbrev pub is_counted : Kind → Call → Bool
+is_counted Changes Create = true
+is_counted Changes Write = true
+is_counted Changes Sync = true
+is_counted Reads Read = true
+is_counted Writes Write = true
+is_counted Syncs Sync = true
+is_counted _ _ = false
+
+-- how many calls of a kind there were
+abbrev pub calls_of : Fuse → Kind → ℕ
+calls_of fuse Reads = fuse.reads
+calls_of fuse Writes = fuse.writes
+calls_of fuse Syncs = fuse.syncs
+calls_of fuse Changes = capped (capped fuse.creates fuse.writes) fuse.syncs
+
+-- this call is the one that was asked for, counted from 1
+abbrev pub fires : Fuse → Call → Bool
+fires fuse call = is_counted fuse.kind call && (calls_of fuse fuse.kind + 1 == fuse.at)
+
+-- that call fails, and once the fuse is blown each call does
+abbrev pub turn_of : Fuse → Call → Turn
+turn_of fuse call = if fuse.blown then Fail else if fires fuse call then if fuse.after then PerformAndFail else Fail else Perform
+
+abbrev pub is_refused : Turn → Bool
+is_refused Perform = false
+is_refused PerformAndFail = true
+is_refused Fail = true
+
+abbrev pub counted : Fuse → Call → Fuse
+counted fuse Create = record fuse { creates = capped fuse.creates 1 }
+counted fuse Read = record fuse { reads = capped fuse.reads 1 }
+counted fuse Write = record fuse { writes = capped fuse.writes 1 }
+counted fuse Sync = record fuse { syncs = capped fuse.syncs 1 }
+counted fuse Other = fuse
+
+-- the fuse after a call
+abbrev pub after_call : Fuse → Call → Fuse
+after_call fuse call = record (counted fuse call) {
+  blown = fuse.blown || (fires fuse call && fuse.for_good);
+  refused = if is_refused (turn_of fuse call) then capped fuse.refused 1 else fuse.refused;
+}

@@ -1,0 +1,60 @@
+-- The gate: the first byte of a file says whether its pages can be relied on.
+use Rattle.std.specs.Prelude.{◌≡◌, ◌⊎◌, ℕ, ◌<◌, ◌==◌, if◌then◌else◌, List, [], ◌∷◌, length, drop, Option, Some, None}
+use Rattle.page_store.specs.File.{File, content}
+use Rattle.page_store.specs.Images.{Leaves, IsSettled}
+use Rattle.page_store.specs.Calls.{Written, WriteFails, Synced, SyncFails}
+
+-- 'C' is the byte of a closed gate
+abbrev pub IsClosed : List ℕ → Type 0
+IsClosed [] = ⊥
+IsClosed (x ∷ bytes) = x ≡ 67
+
+-- there, and shorter than a page, or with an open gate
+abbrev pub IsRefused : Option (List ℕ) → Type 0
+IsRefused None = ⊥
+IsRefused (Some bytes) = (length bytes < 4096) ⊎ (¬ (IsClosed bytes))
+
+-- each image that a crash now may leave is refused
+abbrev pub AllRefused : File → Type 0
+AllRefused file = (c : Option (List ℕ)) → Leaves file c → IsRefused c
+
+-- there, with an open gate or empty
+abbrev pub IsOpen : Option (List ℕ) → Type 0
+IsOpen None = ⊥
+IsOpen (Some bytes) = ¬ (IsClosed bytes)
+
+-- each image that a crash now may leave has an open gate
+abbrev pub AllOpen : File → Type 0
+AllOpen file = (c : Option (List ℕ)) → Leaves file c → IsOpen c
+
+-- the bytes with another first byte
+abbrev pub with_gate : ℕ → List ℕ → List ℕ
+with_gate gate bytes = gate ∷ drop 1 bytes
+
+-- what a crash could leave of this file already, or a refused file
+abbrev pub WasOrRefused : File → Option (List ℕ) → Type 0
+WasOrRefused old c = Leaves old c ⊎ IsRefused c
+
+-- the content of this file with a closed gate, or a refused file
+abbrev pub ClosedOrRefused : File → Option (List ℕ) → Type 0
+ClosedOrRefused old c = (c ≡ Some (with_gate 67 (content old))) ⊎ IsRefused c
+
+-- the first byte is written and synced
+pub record GateWritten (gate : ℕ) (old new : File) : Type 0 where
+  pub unsynced : File
+  pub written : Written 0 (gate ∷ []) old unsynced
+  pub synced : Synced unsynced new
+
+-- the first byte is written and synced, but the write or the sync failed
+abbrev pub GateFails : ℕ → File → File → Type 0
+GateFails gate old new = WriteFails 0 1 old new ⊎ ((unsynced : File) × Written 0 (gate ∷ []) old unsynced × SyncFails unsynced new)
+
+-- a file made anew: without bytes it gets the open gate as its only one, and a closed gate is opened
+abbrev pub opened : List ℕ → List ℕ
+opened [] = 68 ∷ []
+opened (x ∷ bytes) = (if x == 67 then 68 else x) ∷ bytes
+
+-- the gate is open, and on the disk
+pub record Opens (old new : File) : Type 0 where
+  pub bytes : content new ≡ opened (content old)
+  pub settled : IsSettled new

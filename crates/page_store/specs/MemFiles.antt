@@ -1,0 +1,28 @@
+-- Files in memory, each under its name.
+use Rattle.std.specs.Prelude.{ℕ, zero, suc, List, [], ◌∷◌, Option, Some, None, option_map, if◌then◌else◌, bytes_eq, ◌+◌, Bool, true, false, ◌≡◌}
+use Rattle.page_store.specs.File.{File, absent}
+use Rattle.page_store.specs.Events.{steps}
+use Rattle.page_store.specs.declared.memory_file.MemFile.{MemFile}
+
+abbrev pub has_name : MemFile → List ℕ → Bool
+has_name f name = bytes_eq f.name.bytes name
+
+-- what a file in memory stands for
+abbrev pub file_of : MemFile → File
+file_of f = record { seen = Some f.bytes.items; log = steps f.log.items }
+
+-- the file of this name
+abbrev pub file_in : List MemFile → List ℕ → File
+file_in [] name = absent
+file_in (f ∷ fs) name = if has_name f name then file_of f else file_in fs name
+
+-- and where it stands
+abbrev pub index_of : List MemFile → List ℕ → Option ℕ
+index_of [] name = None
+index_of (f ∷ fs) name = if has_name f name then Some 0 else option_map (λ i. i + 1) (index_of fs name)
+
+-- the first with this name is at i
+abbrev pub IsAt : List MemFile → List ℕ → ℕ → Type 0
+IsAt [] name i = ⊥
+IsAt (f ∷ fs) name zero = has_name f name ≡ true
+IsAt (f ∷ fs) name (suc i) = (has_name f name ≡ false) × IsAt fs name i

@@ -1,0 +1,53 @@
+-- What a shelf shows, and what a call leaves of it.
+use Rattle.std.specs.Prelude.{◌≡◌, ◌⊎◌, ℕ, ◌+◌, ◌-◌, ◌^◌, ◌<◌, ◌≤◌, min, Bool, IsTrue, List, [], length, get_or, Result, IsErrOf, OnErr}
+use Rattle.io_state.specs.declared.fault.Fault.{Fault}
+use Rattle.io_state.specs.declared.fault.Fault.TheVariants.{Device, Memory}
+use Rattle.page_store.specs.File.{File}
+use Rattle.page_store.specs.Moments.{Quiet}
+
+pub record ShelfState : Type 0 where
+  -- the name of each unit
+  pub names : List (List ℕ)
+  -- the file of each name
+  pub file : List ℕ → File
+  -- no wrong answer was taken as true; it may fall at a call that answers, and no code can tell
+  pub is_honest : Bool
+
+-- the unit is one of those attached
+pub record HasUnit (shelf : ShelfState) (unit : ℕ) : Type 0 where
+  pub attached : unit < length shelf.names
+
+abbrev pub unit_name : ShelfState → ℕ → List ℕ
+unit_name shelf unit = get_or shelf.names unit []
+
+-- the file of a unit
+abbrev pub unit_file : ShelfState → ℕ → File
+unit_file shelf unit = shelf.file (unit_name shelf unit)
+
+-- a call that only answers: the names and files stay, and honest after is honest before
+pub record OnlyReads (old new : ShelfState) : Type 0 where
+  pub names : new.names ≡ old.names
+  pub file : new.file ≡ old.file
+  pub honest : IsTrue new.is_honest → IsTrue old.is_honest
+
+-- a call that changes only the file of one unit
+pub record ChangesOnly (unit : ℕ) (old new : ShelfState) : Type 0 where
+  pub names : new.names ≡ old.names
+  pub others : (name : List ℕ) → ¬ (name ≡ unit_name old unit) → new.file name ≡ old.file name
+  pub honest : new.is_honest ≡ old.is_honest
+
+-- calls that answer, and change only the file of one unit
+pub record KeepsOthers (unit : ℕ) (old new : ShelfState) : Type 0 where
+  pub names : new.names ≡ old.names
+  pub others : (name : List ℕ) → ¬ (name ≡ unit_name old unit) → new.file name ≡ old.file name
+  pub honest : IsTrue new.is_honest → IsTrue old.is_honest
+
+-- the file of the unit went quietly
+abbrev pub IsQuiet : ℕ → ShelfState → ShelfState → Type 0
+IsQuiet unit old new = Quiet (unit_file old unit) (unit_file new unit)
+
+-- Device comes only where the count of faults rose, or stands at its greatest value; Memory is the only other fault
+pub record HasCause {T : Type 0} (old new : ℕ) (result : Result T Fault) : Type 0 where
+  pub no_fewer : old ≤ new
+  pub device : IsErrOf result Device → min (old + 1) (2 ^ 64 - 1) ≤ new
+  pub kinds : OnErr result (IsErrOf result Device ⊎ IsErrOf result Memory)

@@ -1,0 +1,172 @@
+//! The pages of one unit of a shelf.
+ghost use Rattle.std.specs.Prelude.{◌≡◌, ◌+◌, ◌*◌, ◌-◌, ◌/◌, ◌^◌, ◌<◌, ◌≤◌, min, max, length, IsTrue, IfOk, OnOk, OnErr};
+ghost use Rattle.page_store.specs.File.{content, IsWithin, IsThere};
+ghost use Rattle.page_store.specs.Images.{IsSettled};
+ghost use Rattle.page_store.specs.Moments.{Throughout};
+ghost use Rattle.page_store.specs.Gate.{IsClosed, AllRefused, with_gate, WasOrRefused, ClosedOrRefused, Opens};
+ghost use Rattle.page_store.specs.ShelfState.{HasUnit, unit_file, OnlyReads, ChangesOnly, KeepsOthers, IsQuiet, HasCause};
+ghost use Rattle.page_store.specs.Pages.{page_of, PageWritten, PageFails, HasPages, offset_of, length_of, IsStoreOf};
+
+use crate::gate::{self, CLOSED, OPEN};
+use crate::shelf::Shelf;
+use io_state::Fault;
+
+/// The number of bytes of a page.
+pub const PAGE: u64 = 4096;
+
+/// The pages of one unit of a shelf, and its gate.
+#[derive(Clone, Copy, Debug)]
+pub struct Store {
+    /// The unit of the shelf.
+    pub unit: usize,
+    /// How many whole pages the file has, or 4,294,967,295 where it has more.
+    pub pages: u32,
+}
+
+impl Store {
+    /// Makes the unit's file, or opens the gate of the one that is there, to be written anew.
+    pub fn make<S: Shelf>(shelf: &mut S, unit: usize) -> Result<Store, Fault>
+        requires unit { HasUnit (S.state shelf.old) unit }
+        ensures store { IfOk result (λ store. IsStoreOf store unit (S.state shelf.new).is_honest (unit_file (S.state shelf.new) unit)) }
+        ensures opens { OnOk result (IsTrue (S.state shelf.new).is_honest → Opens (unit_file (S.state shelf.old) unit) (unit_file (S.state shelf.new) unit)) }
+        ensures pages { IfOk result (λ store. IsTrue (S.state shelf.new).is_honest → HasPages store.pages (unit_file (S.state shelf.new) unit)) }
+        // At each moment a crash leaves what it could leave before, or a refused file.
+        ensures images { IsTrue (S.state shelf.new).is_honest →
+            Throughout (WasOrRefused (unit_file (S.state shelf.old) unit)) (unit_file (S.state shelf.old) unit) (unit_file (S.state shelf.new) unit) }
+        ensures only { KeepsOthers unit (S.state shelf.old) (S.state shelf.new) }
+        ensures cause { HasCause (S.fault_count shelf.old) (S.fault_count shelf.new) result }
+    {
+        if !shelf.exists(unit)? {
+            gate::start(shelf, unit)?;
+            return Ok(Store { unit, pages: 0 });
+        }
+        let size = shelf.size(unit)?;
+        if size == 0 {
+            gate::begin(shelf, unit)?;
+        } else {
+            gate::reopen(shelf, unit)?;
+        }
+        Ok(Store {
+            unit,
+            pages: whole_pages(size),
+        })
+    }
+
+    /// The store of a file that is there. Nothing is written.
+    pub fn open<S: Shelf>(shelf: &mut S, unit: usize) -> Result<Store, Fault>
+        requires unit { HasUnit (S.state shelf.old) unit }
+        requires there { IsTrue (S.state shelf.old).is_honest → IsThere (unit_file (S.state shelf.old) unit) }
+        ensures store { IfOk result (λ store. IsStoreOf store unit (S.state shelf.new).is_honest (unit_file (S.state shelf.old) unit)) }
+        ensures only { OnlyReads (S.state shelf.old) (S.state shelf.new) }
+        ensures cause { HasCause (S.fault_count shelf.old) (S.fault_count shelf.new) result }
+    {
+        let size = shelf.size(unit)?;
+        Ok(Store {
+            unit,
+            pages: whole_pages(size),
+        })
+    }
+
+    /// Opens the gate of a closed file, before its first change.
+    pub fn begin_change<S: Shelf>(&self, shelf: &mut S) -> Result<(), Fault>
+        requires unit { HasUnit (S.state shelf.old) self.now.unit }
+        requires there { IsTrue (S.state shelf.old).is_honest → IsThere (unit_file (S.state shelf.old) self.now.unit) }
+        // At each moment a crash leaves what it could leave before, or a refused file.
+        ensures images { let old = unit_file (S.state shelf.old) self.now.unit in
+            IsTrue (S.state shelf.new).is_honest → IsClosed (content old) → Throughout (WasOrRefused old) old (unit_file (S.state shelf.new) self.now.unit) }
+        ensures opened { let new = unit_file (S.state shelf.new) self.now.unit in
+            OnOk result ((content new ≡ with_gate 68 (content (unit_file (S.state shelf.old) self.now.unit))) × IsSettled new) }
+        ensures only { ChangesOnly self.now.unit (S.state shelf.old) (S.state shelf.new) }
+        ensures cause { HasCause (S.fault_count shelf.old) (S.fault_count shelf.new) result }
+    {
+        gate::write(shelf, self.unit, OPEN)
+    }
+
+    /// Closes the gate after the last change.
+    pub fn finish<S: Shelf>(&self, shelf: &mut S) -> Result<(), Fault>
+        requires unit { HasUnit (S.state shelf.old) self.now.unit }
+        requires there { IsTrue (S.state shelf.old).is_honest → IsThere (unit_file (S.state shelf.old) self.now.unit) }
+        // At each moment a crash leaves the content with a closed gate, or a refused file.
+        ensures images { let old = unit_file (S.state shelf.old) self.now.unit in
+            IsTrue (S.state shelf.new).is_honest → AllRefused old → Throughout (ClosedOrRefused old) old (unit_file (S.state shelf.new) self.now.unit) }
+        ensures closed { let new = unit_file (S.state shelf.new) self.now.unit in
+            OnOk result ((content new ≡ with_gate 67 (content (unit_file (S.state shelf.old) self.now.unit))) × IsSettled new) }
+        ensures only { ChangesOnly self.now.unit (S.state shelf.old) (S.state shelf.new) }
+        ensures cause { HasCause (S.fault_count shelf.old) (S.fault_count shelf.new) result }
+    {
+        shelf.sync(self.unit)?;
+        gate::write(shelf, self.unit, CLOSED)
+    }
+
+    /// Reads page `n`.
+    pub fn read_page<S: Shelf>(
+        &self,
+        shelf: &mut S,
+        n: u32,
+        page: &mut [u8; 4096],
+    ) -> Result<(), Fault>
+        requires unit { HasUnit (S.state shelf.old) self.now.unit }
+        requires page { n < self.now.pages }
+        requires pages { IsTrue (S.state shelf.old).is_honest → HasPages self.now.pages (unit_file (S.state shelf.old) self.now.unit) }
+        ensures answer { OnOk result (IsTrue (S.state shelf.new).is_honest → page.new ≡ page_of (content (unit_file (S.state shelf.old) self.now.unit)) n) }
+        ensures quiet { IsQuiet self.now.unit (S.state shelf.old) (S.state shelf.new) }
+        ensures only { OnlyReads (S.state shelf.old) (S.state shelf.new) }
+        ensures cause { HasCause (S.fault_count shelf.old) (S.fault_count shelf.new) result }
+    {
+        shelf.read_at(self.unit, n as u64 * PAGE, page)
+    }
+
+    /// Writes page `n`, but for the first byte of the file. A page number equal to the number of pages adds one.
+    pub fn write_page<S: Shelf>(
+        &mut self,
+        shelf: &mut S,
+        n: u32,
+        page: &[u8; 4096],
+    ) -> Result<(), Fault>
+        requires unit { HasUnit (S.state shelf.old) self.old.unit }
+        requires page { (n ≤ self.old.pages) × (n < 2 ^ 32 - 1) }
+        requires pages { IsTrue (S.state shelf.old).is_honest → HasPages self.old.pages (unit_file (S.state shelf.old) self.old.unit) }
+        ensures written { OnOk result (PageWritten n page.now (unit_file (S.state shelf.old) self.old.unit) (unit_file (S.state shelf.new) self.old.unit)) }
+        ensures added { OnOk result (self.new ≡ record self.old { pages = max self.old.pages (n + 1) }) }
+        ensures failed { OnErr result (PageFails n (unit_file (S.state shelf.old) self.old.unit) (unit_file (S.state shelf.new) self.old.unit)) }
+        ensures kept { OnErr result (self.new ≡ self.old) }
+        ensures pages { IsTrue (S.state shelf.new).is_honest → HasPages self.new.pages (unit_file (S.state shelf.new) self.new.unit) }
+        ensures quiet { IsQuiet self.old.unit (S.state shelf.old) (S.state shelf.new) }
+        ensures only { ChangesOnly self.old.unit (S.state shelf.old) (S.state shelf.new) }
+        ensures cause { HasCause (S.fault_count shelf.old) (S.fault_count shelf.new) result }
+    {
+        write_at_page(shelf, self.unit, n, page)?;
+        self.pages = self.pages.max(n + 1);
+        Ok(())
+    }
+}
+
+// Writes page n in its place, but for the first byte of the file.
+fn write_at_page<S: Shelf>(
+    shelf: &mut S,
+    unit: usize,
+    n: u32,
+    page: &[u8; 4096],
+) -> Result<(), Fault>
+    requires unit { HasUnit (S.state shelf.old) unit }
+    requires within { IsTrue (S.state shelf.old).is_honest → IsWithin (offset_of n) (unit_file (S.state shelf.old) unit) }
+    ensures written { OnOk result (PageWritten n page.now (unit_file (S.state shelf.old) unit) (unit_file (S.state shelf.new) unit)) }
+    ensures failed { OnErr result (PageFails n (unit_file (S.state shelf.old) unit) (unit_file (S.state shelf.new) unit)) }
+    ensures reached { OnOk result (IsTrue (S.state shelf.old).is_honest → IsWithin (offset_of n + length_of n) (unit_file (S.state shelf.new) unit)) }
+    ensures longer { IsTrue (S.state shelf.old).is_honest → length (content (unit_file (S.state shelf.old) unit)) ≤ length (content (unit_file (S.state shelf.new) unit)) }
+    ensures quiet { IsQuiet unit (S.state shelf.old) (S.state shelf.new) }
+    ensures only { ChangesOnly unit (S.state shelf.old) (S.state shelf.new) }
+    ensures cause { HasCause (S.fault_count shelf.old) (S.fault_count shelf.new) result }
+{
+    if n == 0 {
+        shelf.write_at(unit, 1, &page[1..])
+    } else {
+        shelf.write_at(unit, n as u64 * PAGE, page)
+    }
+}
+
+fn whole_pages(size: u64) -> u32
+    ensures { result ≡ min (size / 4096) (2 ^ 32 - 1) }
+{
+    (size / PAGE).min(u32::MAX as u64) as u32
+}

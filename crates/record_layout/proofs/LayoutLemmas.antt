@@ -1,0 +1,31 @@
+-- The items of a layout, one by one.
+use Rattle.std.proofs.Common.{◌≡◌, ℕ, ◌+◌, ◌<◌, ◌≤◌, cond, List, [], ◌∷◌, length, take, drop, map, get_or, Some, replicate, sym, ap, subst, ◌∙◌}
+use Rattle.std.proofs.lemmas.List.{at_drop_more, map_more, length-map}
+use Rattle.std.proofs.lemmas.List.Elements.{All-get_or}
+use Rattle.std.proofs.lemmas.List.Sums.{fold-append}
+use Rattle.std.proofs.Math.ListN.{get_or-map}
+use Rattle.record_layout.specs.declared.item.Placed.{Placed as Declared}
+use Rattle.record_layout.specs.declared.area.Source.TheVariants.{Fill}
+use Rattle.record_layout.specs.declared.area.Figure.TheVariants.{Zero}
+use Rattle.record_layout.specs.Layout.{Placed, item_of, field_of, is_named, length_of, IsRecord}
+use Rattle.record_layout.specs.Area.{moved, blank_area}
+
+-- an item has a character or more within its record
+pub item_within : (items : List Declared) (i : ℕ) (item : Declared) → IsRecord (map item_of items) → i < length items → item ≡ get_or items i item → (1 ≤ item.field.length) × (item.field.offset + item.field.length ≤ length_of (map item_of items))
+item_within items i item layout h is =
+    let same : get_or (map item_of items) i (item_of item) ≡ item_of item = get_or-map item_of items i item ∙ ap item_of (sym is) in
+    let P : Placed → Type 0 = λ placed. (1 ≤ placed.field.length) × (placed.field.offset + placed.field.length ≤ length_of (map item_of items)) in
+    let there : i < length (map item_of items) = subst (λ n. i < n) (sym (length-map items item_of)) h in
+    subst P same (All-get_or P (map item_of items) i (item_of item) there layout.within)
+
+-- the item of a name is the next one, or one behind it
+pub field_of_more : (items : List Declared) (i : ℕ) (d : Declared) (name : List ℕ) → i < length items → field_of (map item_of (drop i items)) name ≡ cond (is_named name (item_of (get_or items i d)).name) (Some (get_or items i d).field) (field_of (map item_of (drop (i + 1) items)) name)
+field_of_more items i d name h = at_drop_more (λ xs. field_of (map item_of xs) name) items i d h
+
+-- an area with one item more
+pub blank_more : (n : ℕ) (items : List Declared) (i : ℕ) (item : Declared) → i < length items → item ≡ get_or items i item → blank_area n (map item_of (take (i + 1) items)) ≡ cond item.field.numeric (moved item.field (Fill Zero) (blank_area n (map item_of (take i items)))) (blank_area n (map item_of (take i items)))
+blank_more n items i item h is =
+    let with : List ℕ → Placed → List ℕ = λ area placed. cond placed.field.numeric (moved placed.field (Fill Zero) area) area in
+    ap (blank_area n) (map_more item_of items i item h)
+    ∙ (fold-append with (replicate n 32) (map item_of (take i items)) (item_of (get_or items i item) ∷ [])
+    ∙ ap (λ (read : Declared). with (blank_area n (map item_of (take i items))) (item_of read)) (sym is))

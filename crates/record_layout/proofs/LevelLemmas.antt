@@ -1,0 +1,38 @@
+-- What stands before an item, the nearest first.
+use Rattle.std.proofs.Common.{◌≡◌, ℕ, ◌+◌, ◌<◌, Bool, true, false, ◌||◌, List, [], ◌∷◌, length, take, map, reverse, get_or, Some, refl, ap, ◌∙◌, inl, inr, ◌⊎◌}
+use Rattle.std.specs.List.{list_any}
+use Rattle.std.proofs.lemmas.List.{map_more, reverse-append}
+use Rattle.std.proofs.lemmas.List.Folds.{list_any-append}
+use Rattle.record_layout.specs.declared.item.Item.{Item}
+use Rattle.record_layout.specs.declared.fault.LayoutFault.{LayoutFault}
+use Rattle.record_layout.specs.declared.fault.LayoutFault.TheVariants.{BadPicture, BadLevel, TooLong, DuplicateName, Empty, Memory}
+use Rattle.record_layout.specs.Picture.{IsTooLong, IsBad}
+use Rattle.record_layout.specs.Layout.{Entry, entry_of}
+use Rattle.record_layout.specs.LayoutFault.{HasPictureFault}
+
+-- the order does not matter to whether one of them passes
+pub list_any-reverse : (p : Entry → Bool) (items : List Item) → list_any p (reverse (map entry_of items)) ≡ list_any (λ item. p (entry_of item)) items
+list_any-reverse p [] = refl
+list_any-reverse p (item ∷ items) =
+    ap (list_any p) (reverse-append (entry_of item ∷ []) (map entry_of items))
+    ∙ (list_any-append p (reverse (map entry_of items)) (entry_of item ∷ [])
+    ∙ (ap (λ b. b || (p (entry_of item) || false)) (list_any-reverse p items) ∙ turned (list_any (λ item. p (entry_of item)) items) (p (entry_of item))))
+  where
+    turned : (a b : Bool) → (a || (b || false)) ≡ (b || a)
+    turned true true = refl
+    turned true false = refl
+    turned false true = refl
+    turned false false = refl
+
+-- one item more stands first
+pub reverse_more : (items : List Item) (i : ℕ) (d : Item) → i < length items → reverse (map entry_of (take (i + 1) items)) ≡ entry_of (get_or items i d) ∷ reverse (map entry_of (take i items))
+reverse_more items i d h = ap reverse (map_more entry_of items i d h) ∙ reverse-append (map entry_of (take i items)) (entry_of (get_or items i d) ∷ [])
+
+-- the fault of a picture by itself
+pub picture_fault : (total : ℕ) (text : List ℕ) (fault : LayoutFault) → (fault ≡ TooLong → IsTooLong text) → (fault ≡ BadPicture → IsBad text) → (fault ≡ TooLong) ⊎ (fault ≡ BadPicture) → HasPictureFault total (Some text) fault
+picture_fault total text BadPicture long bad only = bad refl
+picture_fault total text TooLong long bad only = inl (long refl)
+picture_fault total text BadLevel long bad only = elim only [ inl e ↦ cc | inr e ↦ cc ]
+picture_fault total text DuplicateName long bad only = elim only [ inl e ↦ cc | inr e ↦ cc ]
+picture_fault total text Empty long bad only = elim only [ inl e ↦ cc | inr e ↦ cc ]
+picture_fault total text Memory long bad only = elim only [ inl e ↦ cc | inr e ↦ cc ]

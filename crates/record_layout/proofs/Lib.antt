@@ -1,0 +1,10 @@
+pub mod PictureLemmas
+pub mod AreaLemmas
+pub mod SchemaLemmas
+pub mod LayoutLemmas
+pub mod KeysLemmas
+pub mod StructureLemmas
+pub mod RecordLemmas
+pub mod PlacingLemmas
+pub mod LevelLemmas
+pub mod OutcomeLemmas

@@ -1,0 +1,88 @@
+//! Where a data description entry may stand behind others.
+ghost use Rattle.std.specs.Prelude.{◌≡◌, ℕ, map, reverse, IsTrue, OnOk, IfErr, option_map};
+ghost use Rattle.std.specs.List.{list_any};
+ghost use Rattle.record_layout.specs.Layout.{entry_of, is_named, is_name_of};
+ghost use Rattle.record_layout.specs.LayoutFault.{is_behind_empty, is_open_level, is_level_fit, is_in_place, is_unfinished, IsFaultOf};
+
+use crate::fault::LayoutFault;
+use crate::item::{Item, is_name};
+use io_state::Name;
+
+/// Looks whether an item may stand behind the items before it, but for its picture.
+pub fn check_place(before: &[Item], item: &Item) -> Result<(), LayoutFault>
+    ensures in_place { OnOk result (IsTrue (is_in_place (reverse (map entry_of before.now)) (entry_of item.now))) }
+    ensures fault { IfErr result (λ fault. (total : ℕ) → IsFaultOf (reverse (map entry_of before.now)) total (entry_of item.now) fault) }
+{
+    if follows_empty_group(before, item.level) {
+        return Err(LayoutFault::Empty);
+    }
+    if !fits_level(before, item.level) {
+        return Err(LayoutFault::BadLevel);
+    }
+    if is_taken(before, &item.name) {
+        return Err(LayoutFault::DuplicateName);
+    }
+    Ok(())
+}
+
+/// Whether there is no item, or the last one is a group.
+pub fn ends_in_group(items: &[Item]) -> bool
+    ensures { result ≡ is_unfinished (reverse (map entry_of items.now)) }
+{
+    match items {
+        [.., last] => last.picture.is_none(),
+        [] => true,
+    }
+}
+
+/// Whether the last item is a group, and this level is not deeper.
+fn follows_empty_group(before: &[Item], level: u8) -> bool
+    ensures { result ≡ is_behind_empty (reverse (map entry_of before.now)) level }
+{
+    match before {
+        [.., last] => last.picture.is_none() && level <= last.level,
+        [] => false,
+    }
+}
+
+/// Whether the level number goes on from the items before it.
+fn fits_level(before: &[Item], level: u8) -> bool
+    ensures { result ≡ is_level_fit (reverse (map entry_of before.now)) level }
+{
+    match before {
+        [.., last] => {
+            level >= 2 && level <= 49 && (last.picture.is_none() || is_open(before, level))
+        }
+        [] => level == 1,
+    }
+}
+
+/// Whether the level is that of the nearest item that is not deeper.
+fn is_open(before: &[Item], level: u8) -> bool
+    ensures { result ≡ is_open_level (reverse (map entry_of before.now)) level }
+{
+    let mut rest = before;
+    'nearest: while let [older @ .., last] = rest {
+        if last.level <= level {
+            return last.level == level;
+        }
+        rest = older;
+    }
+    false
+}
+
+/// Whether one of the items has this name, if there is a name.
+fn is_taken(before: &[Item], name: &Option<Name>) -> bool
+    ensures { result ≡ is_name_of (reverse (map entry_of before.now)) (option_map (λ name. name.bytes) name.now) }
+{
+    match name {
+        Some(name) => has_name(before, name.as_str()),
+        None => false,
+    }
+}
+
+fn has_name(before: &[Item], name: &str) -> bool
+    ensures { result ≡ list_any (λ item. is_named name.now (entry_of item).name) before.now }
+{
+    before.iter().any(|item| is_name(&item.name, name))
+}
