@@ -1,0 +1,14 @@
+pub mod TestLemmas
+pub mod OrderLemmas
+pub mod RowLemmas
+pub mod ApartLemmas
+pub mod AddedLemmas
+pub mod ReplacedLemmas
+pub mod SoundLemmas
+pub mod ScanLemmas
+pub mod ChangeLemmas
+pub mod StoredLemmas
+pub mod ReplaceLemmas
+pub mod ReplacingLemmas
+pub mod UnitLemmas
+pub mod NameLemmas
