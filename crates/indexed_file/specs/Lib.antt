@@ -5,9 +5,3 @@ pub mod Sound
 pub mod World
 pub mod Room
 pub mod Answers
-pub mod Calls
-pub mod Wanted
-pub mod Scans
-pub mod Stored
-pub mod Units
-pub mod ListWorld
