@@ -19,3 +19,5 @@ pub mod CrashImages
 pub mod Fuses
 pub mod CrashLaws
 pub mod QuietFacts
+pub mod PageFacts
+pub mod PageLaws

@@ -24,6 +24,14 @@ unit_name shelf unit = get_or shelf.names unit []
 abbrev pub unit_file : ShelfState → ℕ → File
 unit_file shelf unit = shelf.file (unit_name shelf unit)
 
+-- where the shelf is honest, this is true of the unit's file
+abbrev pub WhereHonest : ShelfState → ℕ → (File → Type 0) → Type 0
+WhereHonest shelf unit P = IsTrue shelf.is_honest → P (unit_file shelf unit)
+
+-- this is true of the unit's file before and after
+abbrev pub FileGoes : ℕ → ShelfState → ShelfState → (File → File → Type 0) → Type 0
+FileGoes unit old new P = P (unit_file old unit) (unit_file new unit)
+
 -- a call that only answers: the names and files stay, and honest after is honest before
 pub record OnlyReads (old new : ShelfState) : Type 0 where
   pub names : new.names ≡ old.names

@@ -4,7 +4,7 @@ ghost use Rattle.page_store.specs.File.{content, IsWithin, IsThere};
 ghost use Rattle.page_store.specs.Images.{IsSettled};
 ghost use Rattle.page_store.specs.Moments.{Throughout};
 ghost use Rattle.page_store.specs.Gate.{IsClosed, AllRefused, with_gate, WasOrRefused, ClosedOrRefused, Opens};
-ghost use Rattle.page_store.specs.ShelfState.{HasUnit, unit_file, OnlyReads, ChangesOnly, KeepsOthers, IsQuiet, HasCause};
+ghost use Rattle.page_store.specs.ShelfState.{HasUnit, unit_file, WhereHonest, FileGoes, OnlyReads, ChangesOnly, KeepsOthers, IsQuiet, HasCause};
 ghost use Rattle.page_store.specs.Pages.{page_of, PageWritten, PageFails, HasPages, offset_of, length_of, IsStoreOf};
 
 use crate::gate::{self, CLOSED, OPEN};
@@ -27,12 +27,16 @@ impl Store {
     /// Makes the unit's file, or opens the gate of the one that is there, to be written anew.
     pub fn make<S: Shelf>(shelf: &mut S, unit: usize) -> Result<Store, Fault>
         requires unit { HasUnit (S.state shelf.old) unit }
-        ensures store { IfOk result (λ store. IsStoreOf store unit (S.state shelf.new).is_honest (unit_file (S.state shelf.new) unit)) }
-        ensures opens { OnOk result (IsTrue (S.state shelf.new).is_honest → Opens (unit_file (S.state shelf.old) unit) (unit_file (S.state shelf.new) unit)) }
-        ensures pages { IfOk result (λ store. IsTrue (S.state shelf.new).is_honest → HasPages store.pages (unit_file (S.state shelf.new) unit)) }
+        ensures store { let file = unit_file (S.state shelf.new) unit in
+            IfOk result (λ store. IsStoreOf store unit (S.state shelf.new).is_honest file) }
+        ensures opens { OnOk result (IsTrue (S.state shelf.new).is_honest →
+            FileGoes unit (S.state shelf.old) (S.state shelf.new) Opens) }
+        ensures pages { IfOk result (λ store.
+            WhereHonest (S.state shelf.new) unit (HasPages store.pages)) }
         // At each moment a crash leaves what it could leave before, or a refused file.
-        ensures images { IsTrue (S.state shelf.new).is_honest →
-            Throughout (WasOrRefused (unit_file (S.state shelf.old) unit)) (unit_file (S.state shelf.old) unit) (unit_file (S.state shelf.new) unit) }
+        ensures images { let old = unit_file (S.state shelf.old) unit in
+            IsTrue (S.state shelf.new).is_honest →
+            Throughout (WasOrRefused old) old (unit_file (S.state shelf.new) unit) }
         ensures only { KeepsOthers unit (S.state shelf.old) (S.state shelf.new) }
         ensures cause { HasCause (S.fault_count shelf.old) (S.fault_count shelf.new) result }
     {
@@ -55,8 +59,9 @@ impl Store {
     /// The store of a file that is there. Nothing is written.
     pub fn open<S: Shelf>(shelf: &mut S, unit: usize) -> Result<Store, Fault>
         requires unit { HasUnit (S.state shelf.old) unit }
-        requires there { IsTrue (S.state shelf.old).is_honest → IsThere (unit_file (S.state shelf.old) unit) }
-        ensures store { IfOk result (λ store. IsStoreOf store unit (S.state shelf.new).is_honest (unit_file (S.state shelf.old) unit)) }
+        requires there { WhereHonest (S.state shelf.old) unit IsThere }
+        ensures store { let file = unit_file (S.state shelf.old) unit in
+            IfOk result (λ store. IsStoreOf store unit (S.state shelf.new).is_honest file) }
         ensures only { OnlyReads (S.state shelf.old) (S.state shelf.new) }
         ensures cause { HasCause (S.fault_count shelf.old) (S.fault_count shelf.new) result }
     {
@@ -70,12 +75,14 @@ impl Store {
     /// Opens the gate of a closed file, before its first change.
     pub fn begin_change<S: Shelf>(&self, shelf: &mut S) -> Result<(), Fault>
         requires unit { HasUnit (S.state shelf.old) self.now.unit }
-        requires there { IsTrue (S.state shelf.old).is_honest → IsThere (unit_file (S.state shelf.old) self.now.unit) }
+        requires there { WhereHonest (S.state shelf.old) self.now.unit IsThere }
         // At each moment a crash leaves what it could leave before, or a refused file.
         ensures images { let old = unit_file (S.state shelf.old) self.now.unit in
-            IsTrue (S.state shelf.new).is_honest → IsClosed (content old) → Throughout (WasOrRefused old) old (unit_file (S.state shelf.new) self.now.unit) }
+            IsTrue (S.state shelf.new).is_honest → IsClosed (content old) →
+            Throughout (WasOrRefused old) old (unit_file (S.state shelf.new) self.now.unit) }
         ensures opened { let new = unit_file (S.state shelf.new) self.now.unit in
-            OnOk result ((content new ≡ with_gate 68 (content (unit_file (S.state shelf.old) self.now.unit))) × IsSettled new) }
+            let old = unit_file (S.state shelf.old) self.now.unit in
+            OnOk result ((content new ≡ with_gate 68 (content old)) × IsSettled new) }
         ensures only { ChangesOnly self.now.unit (S.state shelf.old) (S.state shelf.new) }
         ensures cause { HasCause (S.fault_count shelf.old) (S.fault_count shelf.new) result }
     {
@@ -85,12 +92,14 @@ impl Store {
     /// Closes the gate after the last change.
     pub fn finish<S: Shelf>(&self, shelf: &mut S) -> Result<(), Fault>
         requires unit { HasUnit (S.state shelf.old) self.now.unit }
-        requires there { IsTrue (S.state shelf.old).is_honest → IsThere (unit_file (S.state shelf.old) self.now.unit) }
+        requires there { WhereHonest (S.state shelf.old) self.now.unit IsThere }
         // At each moment a crash leaves the content with a closed gate, or a refused file.
         ensures images { let old = unit_file (S.state shelf.old) self.now.unit in
-            IsTrue (S.state shelf.new).is_honest → AllRefused old → Throughout (ClosedOrRefused old) old (unit_file (S.state shelf.new) self.now.unit) }
+            IsTrue (S.state shelf.new).is_honest → AllRefused old →
+            Throughout (ClosedOrRefused old) old (unit_file (S.state shelf.new) self.now.unit) }
         ensures closed { let new = unit_file (S.state shelf.new) self.now.unit in
-            OnOk result ((content new ≡ with_gate 67 (content (unit_file (S.state shelf.old) self.now.unit))) × IsSettled new) }
+            let old = unit_file (S.state shelf.old) self.now.unit in
+            OnOk result ((content new ≡ with_gate 67 (content old)) × IsSettled new) }
         ensures only { ChangesOnly self.now.unit (S.state shelf.old) (S.state shelf.new) }
         ensures cause { HasCause (S.fault_count shelf.old) (S.fault_count shelf.new) result }
     {
@@ -107,8 +116,10 @@ impl Store {
     ) -> Result<(), Fault>
         requires unit { HasUnit (S.state shelf.old) self.now.unit }
         requires page { n < self.now.pages }
-        requires pages { IsTrue (S.state shelf.old).is_honest → HasPages self.now.pages (unit_file (S.state shelf.old) self.now.unit) }
-        ensures answer { OnOk result (IsTrue (S.state shelf.new).is_honest → page.new ≡ page_of (content (unit_file (S.state shelf.old) self.now.unit)) n) }
+        requires pages { WhereHonest (S.state shelf.old) self.now.unit (HasPages self.now.pages) }
+        ensures answer { let old = unit_file (S.state shelf.old) self.now.unit in
+            OnOk result (IsTrue (S.state shelf.new).is_honest →
+            page.new ≡ page_of (content old) n) }
         ensures quiet { IsQuiet self.now.unit (S.state shelf.old) (S.state shelf.new) }
         ensures only { OnlyReads (S.state shelf.old) (S.state shelf.new) }
         ensures cause { HasCause (S.fault_count shelf.old) (S.fault_count shelf.new) result }
@@ -116,7 +127,8 @@ impl Store {
         shelf.read_at(self.unit, n as u64 * PAGE, page)
     }
 
-    /// Writes page `n`, but for the first byte of the file. A page number equal to the number of pages adds one.
+    /// Writes page `n`, but for the first byte of the file. A page number equal to the number of pages
+    /// adds one.
     pub fn write_page<S: Shelf>(
         &mut self,
         shelf: &mut S,
@@ -125,12 +137,15 @@ impl Store {
     ) -> Result<(), Fault>
         requires unit { HasUnit (S.state shelf.old) self.old.unit }
         requires page { (n ≤ self.old.pages) × (n < 2 ^ 32 - 1) }
-        requires pages { IsTrue (S.state shelf.old).is_honest → HasPages self.old.pages (unit_file (S.state shelf.old) self.old.unit) }
-        ensures written { OnOk result (PageWritten n page.now (unit_file (S.state shelf.old) self.old.unit) (unit_file (S.state shelf.new) self.old.unit)) }
-        ensures added { OnOk result (self.new ≡ record self.old { pages = max self.old.pages (n + 1) }) }
-        ensures failed { OnErr result (PageFails n (unit_file (S.state shelf.old) self.old.unit) (unit_file (S.state shelf.new) self.old.unit)) }
+        requires pages { WhereHonest (S.state shelf.old) self.old.unit (HasPages self.old.pages) }
+        ensures written { OnOk result
+            (FileGoes self.old.unit (S.state shelf.old) (S.state shelf.new) (PageWritten n page.now)) }
+        ensures added { OnOk result
+            (self.new ≡ record self.old { pages = max self.old.pages (n + 1) }) }
+        ensures failed { OnErr result
+            (FileGoes self.old.unit (S.state shelf.old) (S.state shelf.new) (PageFails n)) }
         ensures kept { OnErr result (self.new ≡ self.old) }
-        ensures pages { IsTrue (S.state shelf.new).is_honest → HasPages self.new.pages (unit_file (S.state shelf.new) self.new.unit) }
+        ensures pages { WhereHonest (S.state shelf.new) self.new.unit (HasPages self.new.pages) }
         ensures quiet { IsQuiet self.old.unit (S.state shelf.old) (S.state shelf.new) }
         ensures only { ChangesOnly self.old.unit (S.state shelf.old) (S.state shelf.new) }
         ensures cause { HasCause (S.fault_count shelf.old) (S.fault_count shelf.new) result }
@@ -149,11 +164,16 @@ fn write_at_page<S: Shelf>(
     page: &[u8; 4096],
 ) -> Result<(), Fault>
     requires unit { HasUnit (S.state shelf.old) unit }
-    requires within { IsTrue (S.state shelf.old).is_honest → IsWithin (offset_of n) (unit_file (S.state shelf.old) unit) }
-    ensures written { OnOk result (PageWritten n page.now (unit_file (S.state shelf.old) unit) (unit_file (S.state shelf.new) unit)) }
-    ensures failed { OnErr result (PageFails n (unit_file (S.state shelf.old) unit) (unit_file (S.state shelf.new) unit)) }
-    ensures reached { OnOk result (IsTrue (S.state shelf.old).is_honest → IsWithin (offset_of n + length_of n) (unit_file (S.state shelf.new) unit)) }
-    ensures longer { IsTrue (S.state shelf.old).is_honest → length (content (unit_file (S.state shelf.old) unit)) ≤ length (content (unit_file (S.state shelf.new) unit)) }
+    requires within { WhereHonest (S.state shelf.old) unit (IsWithin (offset_of n)) }
+    ensures written { OnOk result
+        (FileGoes unit (S.state shelf.old) (S.state shelf.new) (PageWritten n page.now)) }
+    ensures failed { OnErr result
+        (FileGoes unit (S.state shelf.old) (S.state shelf.new) (PageFails n)) }
+    ensures reached { OnOk result (IsTrue (S.state shelf.old).is_honest →
+        IsWithin (offset_of n + length_of n) (unit_file (S.state shelf.new) unit)) }
+    ensures longer { let old = unit_file (S.state shelf.old) unit in
+        IsTrue (S.state shelf.old).is_honest →
+        length (content old) ≤ length (content (unit_file (S.state shelf.new) unit)) }
     ensures quiet { IsQuiet unit (S.state shelf.old) (S.state shelf.new) }
     ensures only { ChangesOnly unit (S.state shelf.old) (S.state shelf.new) }
     ensures cause { HasCause (S.fault_count shelf.old) (S.fault_count shelf.new) result }

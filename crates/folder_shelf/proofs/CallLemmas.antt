@@ -1,0 +1,143 @@
+-- What a write into a folder leaves, whatever part of it the system took.
+use Rattle.std.proofs.Common.{◌≡◌, Bool, IsTrue, is_some, not, ◌&&◌, ◌||◌, None, get_or, Result, Ok, Err, OnErr, ℕ, ◌+◌, ◌<◌, ◌≤◌, ◌==◌, leb, List, [], ◌∷◌, ◌++◌, Some, true, false, length, take, drop, bytes_eq, refl, ◌∙◌, ap, inl, inr, arith, length-append, if◌then◌else◌}
+use Rattle.std.proofs.lemmas.Bool.{cases_Bool, and_parts, leb-true, leb-false, le-leb}
+use Rattle.std.proofs.Common.{eq-eqb}
+use Rattle.std.proofs.lemmas.List.{length-take, length-drop, get_or_append_left, get_or-take}
+use Rattle.std.proofs.lemmas.Slice.Eq.{bytes_eq-Decides}
+use Rattle.page_store.specs.File.{File, Torn, IsWithin, IsThere, overlay, content, created, wrote}
+use Rattle.page_store.specs.Calls.{Reads, Created, CreateFails, Written, WriteFails, Synced, SyncFails}
+use Rattle.page_store.specs.ShelfState.{ShelfState, unit_file, ChangesOnly}
+use Rattle.page_store.specs.ImageLaws.{overlay_torn}
+use Rattle.folder_shelf.specs.Events.{Event, named, made, read, written, flushed, asked}
+use Rattle.folder_shelf.specs.Replay.{Unseen, replay, has, left_of, folder_state}
+use Rattle.folder_shelf.specs.ReplayLaws.{length_left}
+
+past_end : (old : List ℕ) (at : ℕ) (bytes : List ℕ) → length old < at → Torn at (length bytes) old (overlay old at bytes)
+past_end old at bytes past =
+    let front = take at old ++ bytes in
+    let rest = drop (at + length bytes) old in
+    let all = length-append front rest in
+    let first = length-append (take at old) bytes in
+    let taken = length-take at old in
+    let left = length-drop (at + length bytes) old in
+    record {
+      no_shorter = omega arith;
+      no_longer = omega arith;
+      below = λ i within low. get_or_append_left front rest 0 i (omega arith) ∙ get_or_append_left (take at old) bytes 0 i (omega arith) ∙ get_or-take at old i 0 low;
+      above = λ i within high. absurd (omega arith);
+    }
+
+any_torn : (old : List ℕ) (at : ℕ) (bytes : List ℕ) → Torn at (length bytes) old (overlay old at bytes)
+any_torn old at bytes =
+    elim (cases_Bool (leb at (length old))) [
+      | inl low ↦ overlay_torn old at bytes (leb-true at (length old) low)
+      | inr past ↦ past_end old at bytes (leb-false at (length old) past)
+    ]
+
+part_torn : (old : List ℕ) (at : ℕ) (bytes part : List ℕ) → length part ≤ length bytes → Torn at (length bytes) old (overlay old at part)
+part_torn old at bytes part less =
+    let torn = any_torn old at part in
+    let longer = torn.no_longer in
+    record { no_shorter = torn.no_shorter; no_longer = omega arith; below = torn.below; above = λ i within high. torn.above i within (omega arith) }
+
+pub on_err : {T E : Type 0} (r : Result T E) (P : Type 0) → P → OnErr r P
+on_err (Ok v) P p = tt
+on_err (Err e) P p = p
+
+all_left : (n : ℕ) (bytes torn : List ℕ) → (n == length bytes) ≡ true → left_of n bytes torn ≡ bytes
+all_left n bytes torn all = rw all refl
+
+-- a call on the file of a unit
+module _ (disk : Unseen) (names : List (List ℕ)) (events : List Event) (unit : ℕ) where
+  abbrev name : List ℕ
+  name = get_or names unit []
+
+  abbrev old : ShelfState
+  old = folder_state disk names events
+
+  abbrev f : File
+  f = (replay disk events).file name
+
+  abbrev new : Event → ShelfState
+  new call = folder_state disk names (asked call name events)
+
+  same : bytes_eq name name ≡ true
+  same = (bytes_eq-Decides name name).1 refl
+
+  other : (n : List ℕ) → ¬ (n ≡ name) → bytes_eq n name ≡ false
+  other n differs = elim (cases_Bool (bytes_eq n name)) [ inl e ↦ absurd (differs ((bytes_eq-Decides n name).0 e)) | inr e ↦ e ]
+
+  -- a file was to be made
+  made_file : (done : Bool) → unit_file (new (made done)) unit ≡ record { seen = if done || disk.came (named name ∷ events) then Some [] else f.seen; log = f.log ++ created ∷ [] }
+  made_file done = rw same refl
+
+  pub made_true : (done : Bool) → done ≡ true → Created f (unit_file (new (made done)) unit)
+  made_true done e = record { is = made_file done ∙ rw e refl }
+
+  pub made_any : (done : Bool) → CreateFails f (unit_file (new (made done)) unit)
+  made_any done = go (done || disk.came (named name ∷ events)) (made_file done)
+    where
+      go : (there : Bool) → unit_file (new (made done)) unit ≡ record { seen = if there then Some [] else f.seen; log = f.log ++ created ∷ [] } → CreateFails f (unit_file (new (made done)) unit)
+      go true is = inr (inl (record { is = is }))
+      go false is = inr (inr is)
+
+  pub made_only : (done : Bool) → (IsTrue old.is_honest → f.seen ≡ None) → ChangesOnly unit old (new (made done))
+  made_only done absent = record { names = refl; others = λ n differs. rw (other n differs) refl; honest = both old.is_honest absent }
+    where
+      both : (honest : Bool) → (IsTrue honest → f.seen ≡ None) → (honest && not (is_some f.seen)) ≡ honest
+      both true none = rw (none refl) refl
+      both false none = refl
+
+  -- bytes came
+  pub read_true : (done : Bool) (at : ℕ) (bytes : List ℕ) → done ≡ true → IsTrue (new (read done at bytes)).is_honest → Reads f at bytes
+  read_true done at bytes e honest = go done e honest
+    where
+      go : (d : Bool) → d ≡ true → IsTrue (new (read d at bytes)).is_honest → Reads f at bytes
+      go true is h =
+          let p = and_parts old.is_honest _ h in
+          let q = and_parts (has f (at + length bytes)) _ p.1 in
+          record { is = (bytes_eq-Decides bytes (take (length bytes) (drop at (content f)))).0 q.1 }
+      go false is h = absurd (cc)
+
+  -- bytes were to be written
+  written_file : (at n : ℕ) (bytes : List ℕ) → unit_file (new (written at n bytes)) unit
+      ≡ record { seen = Some (overlay (content f) at (left_of n bytes (disk.torn (named name ∷ events)))); log = f.log ++ wrote at (length bytes) ∷ [] }
+  written_file at n bytes = rw same refl
+
+  pub written_all : (at n : ℕ) (bytes : List ℕ) → n ≡ length bytes → Written at bytes f (unit_file (new (written at n bytes)) unit)
+  written_all at n bytes all = record {
+    is = written_file at n bytes
+        ∙ ap (λ (l : List ℕ). record { seen = Some (overlay (content f) at l); log = f.log ++ wrote at (length bytes) ∷ [] }) (all_left n bytes (disk.torn (named name ∷ events)) (eq-eqb n (length bytes) all));
+  }
+
+  pub written_any : (at n : ℕ) (bytes : List ℕ) → WriteFails at (length bytes) f (unit_file (new (written at n bytes)) unit)
+  written_any at n bytes =
+      let torn = disk.torn (named name ∷ events) in
+      let left = left_of n bytes torn in
+      inr (overlay (content f) at left, part_torn (content f) at bytes left (length_left n bytes torn), written_file at n bytes)
+
+  pub written_only : (at n : ℕ) (bytes : List ℕ) → (IsTrue old.is_honest → IsWithin at f) → ChangesOnly unit old (new (written at n bytes))
+  written_only at n bytes within = record { names = refl; others = λ m differs. rw (other m differs) refl; honest = both old.is_honest within }
+    where
+      both : (honest : Bool) → (IsTrue honest → IsWithin at f) → (honest && has f at) ≡ honest
+      both true there = let w = there refl in rw (w.there, le-leb at (length (content f)) w.long) refl
+      both false there = refl
+
+  -- a file was to be synced
+  pub flushed_true : (done : Bool) → done ≡ true → Synced f (unit_file (new (flushed done)) unit)
+  flushed_true done e = record { is = rw (e, same) refl }
+
+  pub flushed_any : (done : Bool) → SyncFails f (unit_file (new (flushed done)) unit)
+  flushed_any true = inr (flushed_true true refl)
+  flushed_any false = inl refl
+
+  pub flushed_only : (done : Bool) → (IsTrue old.is_honest → IsThere f) → ChangesOnly unit old (new (flushed done))
+  flushed_only done there = record { names = refl; others = others done; honest = both old.is_honest there }
+    where
+      others : (d : Bool) (n : List ℕ) → ¬ (n ≡ name) → (new (flushed d)).file n ≡ old.file n
+      others true n differs = rw (other n differs) refl
+      others false n differs = refl
+
+      both : (honest : Bool) → (IsTrue honest → IsThere f) → (honest && is_some f.seen) ≡ honest
+      both true is = rw ((is refl).there) refl
+      both false is = refl

@@ -1,0 +1,35 @@
+-- What was asked of a folder, and what it answered.
+use Rattle.std.specs.Prelude.{ℕ, zero, suc, Bool, List, ◌∷◌, Option, Some, None, slice_index, ◌==◌, if◌then◌else◌}
+
+pub data Event : Type 0 where
+  -- the next call is on the file of this name
+  named : List ℕ → Event
+  -- it was to be made, and whether it was
+  made : Bool → Event
+  -- its size was asked for, and what was told
+  measured : Option ℕ → Event
+  -- bytes were asked for: whether they came, from where, and the bytes
+  read : Bool → ℕ → List ℕ → Event
+  -- bytes were to be written: where, how many of them were taken, and the bytes
+  written : ℕ → ℕ → List ℕ → Event
+  -- it was to be synced, and whether it was
+  flushed : Bool → Event
+  -- it was looked for, and whether it was there, if that was told
+  looked : Option Bool → Event
+
+-- the kinds of calls, as the code counts them
+abbrev pub event : ℕ → ℕ → ℕ → List ℕ → Event
+event zero at n bytes = named bytes
+event (suc zero) at n bytes = made (n == 1)
+event (suc (suc zero)) at n bytes = measured (if n == 1 then Some at else None)
+event (suc (suc (suc zero))) at n bytes = read (n == 1) at bytes
+event (suc (suc (suc (suc zero)))) at n bytes = written at n bytes
+event (suc (suc (suc (suc (suc zero))))) at n bytes = flushed (n == 1)
+event (suc (suc (suc (suc (suc (suc more)))))) at n bytes = looked (if n == 1 then Some (at == 1) else None)
+
+abbrev pub event_of : List ℕ → List ℕ → Event
+event_of numbers bytes = event (slice_index numbers 0) (slice_index numbers 1) (slice_index numbers 2) bytes
+
+-- a call on the file of this name, noted in front of the earlier ones
+abbrev pub asked : Event → List ℕ → List Event → List Event
+asked call name earlier = call ∷ named name ∷ earlier

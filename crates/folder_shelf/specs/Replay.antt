@@ -1,0 +1,86 @@
+-- What an honest folder holds after these calls and answers.
+use Rattle.std.specs.Prelude.{ℕ, ◌+◌, ◌==◌, nat_le, Bool, true, not, ◌&&◌, ◌||◌, if◌then◌else◌, List, [], ◌∷◌, ◌++◌, length, take, drop, bytes_eq, Some, None, is_some}
+use Rattle.page_store.specs.File.{File, created, wrote, synced, content, overlay}
+use Rattle.page_store.specs.ShelfState.{ShelfState}
+use Rattle.folder_shelf.specs.Events.{Event, named, made, measured, read, written, flushed, looked}
+
+-- what no code can read of a disk
+pub record Unseen : Type 0 where
+  -- the file of each name at first
+  pub first : List ℕ → File
+  -- after these calls, the newest in front, a file could not be made: whether it is there
+  pub came : List Event → Bool
+  -- after these calls a write failed: what it left in its range
+  pub torn : List Event → List ℕ
+
+-- what a folder holds, and whether it answered so
+pub record Folder : Type 0 where
+  -- the name of the file that the next call is on
+  pub current : List ℕ
+  pub file : List ℕ → File
+  -- each answer was that of the files
+  pub is_honest : Bool
+
+-- another file under this name
+abbrev pub put : (List ℕ → File) → List ℕ → File → List ℕ → File
+put files name f other = if bytes_eq other name then f else files other
+
+-- the file that the next call is on
+abbrev pub now : Folder → File
+now m = m.file m.current
+
+-- the file is there and has at least n bytes
+abbrev pub has : File → ℕ → Bool
+has f n = is_some f.seen && nat_le n (length (content f))
+
+-- these are the file's bytes at `at`
+abbrev pub gives : File → ℕ → List ℕ → Bool
+gives f at bytes = has f (at + length bytes) && bytes_eq bytes (take (length bytes) (drop at (content f)))
+
+-- the file is there, or it is not
+abbrev pub is_there : Bool → File → Bool
+is_there there f = if there then is_some f.seen else not (is_some f.seen)
+
+-- what now stands where these bytes were to be written, of which n were taken
+abbrev pub left_of : ℕ → List ℕ → List ℕ → List ℕ
+left_of n bytes torn = if n == length bytes then bytes else take (length bytes) torn
+
+-- a call after these earlier ones: what it leaves of its file, and whether its answer, if it has one, was that of the file
+abbrev pub after : Unseen → List Event → Event → Folder → Folder
+after disk earlier (named name) m = record m { current = name }
+after disk earlier (made ok) m = record m {
+  file = put m.file m.current (record {
+    seen = if ok || disk.came earlier then Some [] else (now m).seen;
+    log = (now m).log ++ created ∷ [];
+  });
+  is_honest = m.is_honest && not (is_some (now m).seen);
+}
+after disk earlier (measured None) m = m
+after disk earlier (measured (Some size)) m = record m {
+  is_honest = m.is_honest && (is_some (now m).seen && (size == length (content (now m))));
+}
+after disk earlier (read ok at bytes) m = record m { is_honest = m.is_honest && (not ok || gives (now m) at bytes) }
+after disk earlier (written at n bytes) m = record m {
+  file = put m.file m.current (record {
+    seen = Some (overlay (content (now m)) at (left_of n bytes (disk.torn earlier)));
+    log = (now m).log ++ wrote at (length bytes) ∷ [];
+  });
+  is_honest = m.is_honest && has (now m) at;
+}
+after disk earlier (flushed ok) m = record m {
+  file = if ok
+      then put m.file m.current (record { seen = Some (content (now m)); log = (now m).log ++ synced (content (now m)) ∷ [] })
+      else m.file;
+  is_honest = m.is_honest && is_some (now m).seen;
+}
+after disk earlier (looked None) m = m
+after disk earlier (looked (Some there)) m = record m { is_honest = m.is_honest && is_there there (now m) }
+
+-- the newest call is first
+abbrev pub replay : Unseen → List Event → Folder
+replay disk [] = record { current = []; file = disk.first; is_honest = true }
+replay disk (e ∷ earlier) = after disk earlier e (replay disk earlier)
+
+-- what a shelf over a folder shows
+abbrev pub folder_state : Unseen → List (List ℕ) → List Event → ShelfState
+folder_state disk names events = record { names = names; file = (replay disk events).file; is_honest = (replay disk events).is_honest }

@@ -1,0 +1,198 @@
+//! The files of a folder of the system. Each call that is made on one is noted with its answer.
+ghost use Rattle.std.specs.Prelude.{◌≡◌, ◌≤◌, [], length, IfOk, OnErr, IsOkUnless};
+ghost use Rattle.io_state.specs.declared.fault.Fault.TheVariants.{Memory};
+ghost use Rattle.folder_shelf.specs.Events.{asked, made, measured, read, written, flushed, looked};
+
+use crate::open::Open;
+use crate::record::Record;
+use crate::system;
+use io_state::{Fault, FileName};
+use std::alloc::Global;
+use std::os::unix::fs::FileExt;
+use std::rt::Files;
+
+/// The files of a folder, each kept open for the calls that follow.
+#[derive(Drop)]
+pub(crate) struct Folder<R: Files + Drop> {
+    rt: R,
+    alloc: Global,
+    path: String,
+    // The file of each unit, once it was reached.
+    open: Vec<Option<Open<R::File>>>,
+    pub(crate) calls: Record,
+}
+
+impl<R: Files + Drop> Folder<R>
+where
+    R::File: FileExt,
+{
+    pub(crate) fn new(rt: R, alloc: Global, path: String) -> Folder<R>
+        ensures { result.calls.events ≡ [] }
+    {
+        Folder {
+            rt,
+            alloc,
+            path,
+            open: Vec::new(alloc),
+            calls: Record::new(),
+        }
+    }
+
+    /// Closes the files, and has room for those of so many units.
+    pub(crate) fn close(&mut self, units: usize) -> Result<(), Fault>
+        ensures calls { self.new.calls.events ≡ self.old.calls.events }
+        ensures only_memory { IsOkUnless result Memory }
+    {
+        let mut open = Vec::new(self.alloc);
+        for _ in 0..units {
+            open.push(None).map_err(|_| Fault::Memory)?;
+        }
+        self.open = open;
+        Ok(())
+    }
+
+    fn path_of(&self, name: &FileName) -> Result<String, Fault>
+        ensures only_memory { IsOkUnless result Memory }
+    {
+        format!(in self.alloc; "{}/{}", self.path.as_str(), name.as_str()).map_err(
+            |_| Fault::Memory,
+        )
+    }
+
+    // Opens the unit's file, if it is not open.
+    fn reach(&mut self, unit: usize, name: &FileName) -> Result<(), Fault>
+        ensures calls { self.new.calls.events ≡ self.old.calls.events }
+        ensures only_memory { IsOkUnless result Memory }
+    {
+        if matches!(self.open.get(unit), Some(Some(_))) {
+            return Ok(());
+        }
+        let path = self.path_of(name)?;
+        if let Some(file) = system::open(&self.rt, path.as_str()) {
+            self.keep(unit, file);
+        }
+        Ok(())
+    }
+
+    fn keep(&mut self, unit: usize, file: R::File)
+        ensures calls { self.new.calls.events ≡ self.old.calls.events }
+    {
+        if let Some(open) = self.open.get_mut(unit) {
+            *open = Some(Open::new(file));
+        }
+    }
+
+    /// Whether the file is there, if that was told.
+    pub(crate) fn look(&mut self, name: &FileName) -> Result<Option<bool>, Fault>
+        ensures noted { IfOk result (λ found.
+            self.new.calls.events ≡ asked (looked found) name.now.bytes self.old.calls.events) }
+        ensures failed { OnErr result (self.new.calls.events ≡ self.old.calls.events) }
+        ensures only_memory { IsOkUnless result Memory }
+    {
+        let path = self.path_of(name)?;
+        let found = system::look(&self.rt, path.as_str());
+        self.calls.looked(name, found);
+        Ok(found)
+    }
+
+    /// Makes the file. Whether it was made.
+    pub(crate) fn make(&mut self, unit: usize, name: &FileName) -> Result<bool, Fault>
+        ensures noted { IfOk result (λ done.
+            self.new.calls.events ≡ asked (made done) name.now.bytes self.old.calls.events) }
+        ensures failed { OnErr result (self.new.calls.events ≡ self.old.calls.events) }
+        ensures only_memory { IsOkUnless result Memory }
+    {
+        let path = self.path_of(name)?;
+        let done = match system::make(&self.rt, path.as_str()) {
+            Some(file) => {
+                self.keep(unit, file);
+                true
+            }
+            None => false,
+        };
+        self.calls.made(name, done);
+        Ok(done)
+    }
+
+    /// The number of bytes of the file, if it was told.
+    pub(crate) fn measure(&mut self, unit: usize, name: &FileName) -> Result<Option<u64>, Fault>
+        ensures noted { IfOk result (λ size.
+            self.new.calls.events ≡ asked (measured size) name.now.bytes self.old.calls.events) }
+        ensures failed { OnErr result (self.new.calls.events ≡ self.old.calls.events) }
+        ensures only_memory { IsOkUnless result Memory }
+    {
+        self.reach(unit, name)?;
+        let size = match self.open.get(unit) {
+            Some(Some(open)) => system::measure(&open.file),
+            _ => None,
+        };
+        self.calls.measured(name, size);
+        Ok(size)
+    }
+
+    /// Fills the bytes with those of the file. Whether they all came.
+    pub(crate) fn read(
+        &mut self,
+        unit: usize,
+        name: &FileName,
+        at: u64,
+        bytes: &mut [u8],
+    ) -> Result<bool, Fault>
+        ensures noted { IfOk result (λ done.
+            self.new.calls.events ≡ asked (read done at bytes.new) name.now.bytes self.old.calls.events) }
+        ensures failed { OnErr result (self.new.calls.events ≡ self.old.calls.events) }
+        ensures only_memory { IsOkUnless result Memory }
+    {
+        self.reach(unit, name)?;
+        let done = match self.open.get(unit) {
+            Some(Some(open)) => system::read(&open.file, at, bytes),
+            _ => false,
+        };
+        self.calls.read(name, done, at, bytes);
+        Ok(done)
+    }
+
+    /// Writes the bytes into the file. How many the system took, if the file is open.
+    pub(crate) fn write(
+        &mut self,
+        unit: usize,
+        name: &FileName,
+        at: u64,
+        bytes: &[u8],
+    ) -> Result<usize, Fault>
+        ensures noted { IfOk result (λ taken.
+            self.new.calls.events ≡ asked (written at taken bytes.now) name.now.bytes self.old.calls.events) }
+        ensures failed { OnErr result (self.new.calls.events ≡ self.old.calls.events) }
+        ensures only_memory { IsOkUnless result Memory }
+    {
+        self.reach(unit, name)?;
+        let taken = match self.open.get(unit) {
+            Some(Some(open)) => system::write(&open.file, at, bytes),
+            _ => 0,
+        };
+        self.calls.written(name, at, taken, bytes);
+        Ok(taken)
+    }
+
+    /// Brings the file to the disk. Whether it was done.
+    pub(crate) fn flush(&mut self, unit: usize, name: &FileName) -> Result<bool, Fault>
+        ensures noted { IfOk result (λ done.
+            self.new.calls.events ≡ asked (flushed done) name.now.bytes self.old.calls.events) }
+        ensures failed { OnErr result (self.new.calls.events ≡ self.old.calls.events) }
+        ensures only_memory { IsOkUnless result Memory }
+    {
+        self.reach(unit, name)?;
+        let done = self.sync(unit);
+        self.calls.flushed(name, done);
+        Ok(done)
+    }
+
+    fn sync(&mut self, unit: usize) -> bool
+        ensures calls { self.new.calls.events ≡ self.old.calls.events }
+    {
+        match self.open.get_mut(unit) {
+            Some(Some(open)) => open.sync(&self.rt, self.path.as_str()),
+            _ => false,
+        }
+    }
+}

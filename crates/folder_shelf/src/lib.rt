@@ -1,0 +1,21 @@
+//! A shelf over a folder of the system: a unit is the file of that name in the folder.
+//!
+//! Nothing can be proved of what a system answers. So each call on a file is noted in a record that no memory holds, with
+//! what it was answered, and what the shelf shows is what an honest folder would hold after these calls. The clauses of
+//! `Shelf` then speak of the runs in which each answer was that of such a folder.
+//!
+//! That each method makes the call that it notes, and that nobody else writes the files, is trusted. Read
+//! `specs/Replay.antt` first, then `Folder` and `system`.
+#![tactic(auto)]
+
+mod disk;
+mod folder;
+mod folder_shelf;
+mod open;
+mod record;
+mod system;
+#[cfg(test)]
+mod tests;
+
+pub use disk::{Disk, EmptyDisk};
+pub use folder_shelf::FolderShelf;

@@ -1,0 +1,35 @@
+//! A file that is kept open.
+use crate::system;
+use std::fs::OpenFile;
+use std::rt::Files;
+
+#[derive(Drop)]
+pub(crate) struct Open<F: Drop> {
+    pub(crate) file: F,
+    // The folder is known to have its name on the disk.
+    is_named: bool,
+    // A sync failed: the system may have dropped what was written, and the next sync may not tell.
+    is_lost: bool,
+}
+
+impl<F: OpenFile + Drop> Open<F> {
+    pub(crate) fn new(file: F) -> Open<F> {
+        Open {
+            file,
+            is_named: false,
+            is_lost: false,
+        }
+    }
+
+    /// Brings the file to the disk, and its name where that is not known to be there. Whether it was done.
+    pub(crate) fn sync<R: Files>(&mut self, rt: &R, folder: &str) -> bool {
+        if self.is_lost {
+            return false;
+        }
+        self.is_lost = !system::sync(&self.file);
+        if !self.is_named {
+            self.is_named = system::sync_folder(rt, folder);
+        }
+        self.is_named && !self.is_lost
+    }
+}

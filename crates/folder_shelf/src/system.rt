@@ -1,0 +1,157 @@
+//! Calls of the system on files, made again where a signal interrupts them.
+ghost use Rattle.std.specs.Prelude.{◌<◌, ◌≤◌, length, IfSome};
+
+use std::fs::{self, Metadata, OpenFile, OpenOptions};
+use std::io;
+use std::os::unix::fs::{FileExt, MetadataExt};
+use std::rt::Files;
+
+/// So many interrupted calls in a row are a fault of the device.
+const MOST_INTERRUPTED: u32 = 1000;
+
+// Makes a call again while it is interrupted.
+fn again<T, F: Fn() -> io::Result<T> + Drop>(call: F) -> io::Result<T>
+    requires { F.IsAlwaysCallable call }
+{
+    for _ in 0..MOST_INTERRUPTED {
+        match call() {
+            Ok(answer) => return Ok(answer),
+            Err(error) => {
+                if error.kind() != io::ErrorKind::Interrupted {
+                    return Err(error);
+                }
+            }
+        }
+    }
+    Err(io::ErrorKind::Interrupted.into())
+}
+
+/// Whether a file of this name is there, if the system tells it. A folder or a link is no file.
+pub(crate) fn look<R: Files>(rt: &R, path: &str) -> Option<bool> {
+    match again(|| fs::symlink_metadata(rt, path)) {
+        Ok(found) => { if found.is_file() { Some(true) } else { None } }
+        Err(error) => {
+            if error.kind() == io::ErrorKind::NotFound {
+                Some(false)
+            } else {
+                None
+            }
+        }
+    }
+}
+
+/// Makes a file that is not there, and opens it.
+pub(crate) fn make<R: Files>(rt: &R, path: &str) -> Option<R::File> {
+    open_path(rt, path, true).ok()
+}
+
+/// Opens what is a file by its own name, and no link.
+pub(crate) fn open<R: Files>(rt: &R, path: &str) -> Option<R::File> {
+    let named = again(|| fs::symlink_metadata(rt, path)).ok()?;
+    if !named.is_file() {
+        return None;
+    }
+    let file = open_path(rt, path, false).ok()?;
+    // A link may have taken the name since.
+    let opened = again(|| file.metadata()).ok()?;
+    if is_same(&named, &opened) {
+        Some(file)
+    } else {
+        None
+    }
+}
+
+fn open_path<R: Files>(rt: &R, path: &str, is_new: bool) -> io::Result<R::File> {
+    again(|| {
+        OpenOptions::new()
+            .read(true)
+            .write(true)
+            .create_new(is_new)
+            .open(rt, path)
+    })
+}
+
+fn is_same(a: &Metadata, b: &Metadata) -> bool {
+    a.dev() == b.dev() && a.ino() == b.ino()
+}
+
+/// Brings the names in a folder to the disk.
+pub(crate) fn sync_folder<R: Files>(rt: &R, path: &str) -> bool {
+    match again(|| OpenOptions::new().read(true).open(rt, path)) {
+        Ok(folder) => sync(&folder),
+        Err(_) => false,
+    }
+}
+
+/// Brings a file to the disk.
+pub(crate) fn sync<F: OpenFile>(file: &F) -> bool {
+    again(|| file.sync_all()).is_ok()
+}
+
+/// The number of bytes of a file.
+pub(crate) fn measure<F: OpenFile>(file: &F) -> Option<u64> {
+    match again(|| file.metadata()) {
+        Ok(found) => Some(found.len()),
+        Err(_) => None,
+    }
+}
+
+/// Fills the bytes with those of the file from `at` on. Whether they all came.
+pub(crate) fn read<F: FileExt>(file: &F, at: u64, bytes: &mut [u8]) -> bool {
+    let mut done = 0;
+    while done < bytes.len() {
+        match read_part(file, at.saturating_add(done as u64), &mut bytes[done..]) {
+            Some(n) => done += n,
+            None => return false,
+        }
+    }
+    true
+}
+
+fn read_part<F: FileExt>(file: &F, at: u64, bytes: &mut [u8]) -> Option<usize>
+    ensures some { IfSome result (λ n. 0 < n) }
+    ensures within { IfSome result (λ n. n ≤ length bytes.old) }
+{
+    for _ in 0..MOST_INTERRUPTED {
+        match file.read_at(bytes, at) {
+            Ok(n) => return if n > 0 { Some(n) } else { None },
+            Err(error) => {
+                if error.kind() != io::ErrorKind::Interrupted {
+                    return None;
+                }
+            }
+        }
+    }
+    None
+}
+
+/// Writes the bytes from `at` on, in as many parts as the system takes. How many of them it took.
+pub(crate) fn write<F: FileExt>(file: &F, at: u64, bytes: &[u8]) -> usize
+    ensures { result ≤ length bytes.now }
+{
+    let mut done = 0;
+    while done < bytes.len() {
+        match write_part(file, at.saturating_add(done as u64), &bytes[done..]) {
+            Some(n) => done += n,
+            None => return done,
+        }
+    }
+    done
+}
+
+fn write_part<F: FileExt>(file: &F, at: u64, bytes: &[u8]) -> Option<usize>
+    ensures some { IfSome result (λ n. 0 < n) }
+    ensures within { IfSome result (λ n. n ≤ length bytes.now) }
+{
+    for _ in 0..MOST_INTERRUPTED {
+        match file.write_at(bytes, at) {
+            Ok(n) => return if n > 0 { Some(n) } else { None },
+            Err(error) => {
+                if error.kind() != io::ErrorKind::Interrupted {
+                    return None;
+                }
+            }
+        }
+    }
+    None
+}
