@@ -5,3 +5,12 @@ pub mod Sound
 pub mod World
 pub mod Room
 pub mod Answers
+pub mod UnitAnswers
+pub mod Clients
+pub mod Calls
+pub mod Shown
+pub mod Wanted
+pub mod Scans
+pub mod Stored
+pub mod Units
+pub mod ListWorld
