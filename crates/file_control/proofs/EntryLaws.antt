@@ -1,10 +1,11 @@
 -- A file control entry is read as it is spelled: one word of look-ahead is enough.
-use Rattle.std.proofs.Common.{◌≡◌, ℕ, Bool, true, false, refl, List}
+use Rattle.std.proofs.Common.{◌≡◌, ℕ, Bool, true, false, refl, List, []}
 use Rattle.file_control.specs.Name.{is_reserved}
 use Rattle.file_control.specs.Class.{this, names, literals, periods}
 use Rattle.file_control.specs.Rule.{many}
 use Rattle.file_control.specs.Notation.{the, name, literal, period, is_there, eaten}
-use Rattle.file_control.specs.FileControlEntry.{indexed, mode, access, record_key, duplicates, alternate, status, clause, file_name, select}
+use Rattle.file_control.specs.FileControlEntry.{indexed, mode, access, record_key, duplicates, alternate, status, clause, file_name, select_word, new_name, new_file_name, select_behind, select}
+use Rattle.file_control.specs.declared.entry.FileControlEntry.{FileControlEntry}
 use Rattle.file_control.proofs.RuleLaws.{Lawful, lawful_one, lawful_turn, lawful_optional, lawful_either, lawful_as}
 use Rattle.file_control.proofs.RepeatLaws.{lawful_onto, lawful_some}
 
@@ -62,12 +63,31 @@ pub lawful_file_name : Lawful file_name
 unfolding file_name
 lawful_file_name = search steps depth 12
 
+pub lawful_select_word : (earlier : List FileControlEntry) → Lawful (select_word earlier)
+unfolding select_word
+lawful_select_word earlier = search steps depth 12
+
+pub lawful_new_name : (earlier : List FileControlEntry) → Lawful (new_name earlier)
+unfolding new_name
+lawful_new_name earlier = search steps depth 12
+
+pub lawful_new_file_name : (earlier : List FileControlEntry) → Lawful (new_file_name earlier)
+unfolding new_file_name
+lawful_new_file_name earlier = search (steps, lawful_file_name) depth 12
+
+pub lawful_select_behind : (earlier : List FileControlEntry) → Lawful (select_behind earlier)
+unfolding select_behind
+lawful_select_behind earlier = search (steps, lawful_select_word, lawful_new_name, lawful_new_file_name, lawful_clause) depth 20
+
 pub lawful_select : Lawful select
-unfolding select
-lawful_select = search (steps, lawful_clause, lawful_file_name) depth 20
+lawful_select = lawful_select_behind []
+
+pub select_behind_is_fit : (earlier : List FileControlEntry) → (select_behind earlier).is_fit ≡ true
+unfolding select_behind select_word new_name new_file_name clause indexed mode access record_key duplicates alternate status file_name the name literal period is_reserved
+select_behind_is_fit earlier = refl
 
 pub select_is_fit : select.is_fit ≡ true
-unfolding select clause indexed mode access record_key duplicates alternate status file_name the name literal period is_reserved
+unfolding select_behind select_word new_name new_file_name clause indexed mode access record_key duplicates alternate status file_name the name literal period is_reserved
 select_is_fit = refl
 
 pub clauses_are_fit : (many clause).is_fit ≡ true

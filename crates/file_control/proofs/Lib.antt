@@ -6,4 +6,6 @@ pub mod CutLaws
 pub mod ClassLaws
 pub mod RuleLaws
 pub mod RepeatLaws
+pub mod TurnLaws
 pub mod EntryLaws
+pub mod OperandLaws

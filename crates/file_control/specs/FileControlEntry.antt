@@ -3,7 +3,8 @@
 -- stand, and what a file name is, is ours.
 use Rattle.std.specs.Prelude.{ℕ, ◌==◌, Bool, true, false, ◌&&◌, ◌||◌, List, [], ◌∷◌, ◌++◌, length, nat_le, nat_lt, unwrap_or, if◌then◌else◌, codes, Option, Some, None, option_map}
 use Rattle.std.specs.Char.{is_ascii_digit}
-use Rattle.std.specs.List.{list_all}
+use Rattle.std.specs.List.{list_all, list_any}
+use Rattle.std.specs.Str.{bytes_eq}
 use Rattle.io_state.specs.declared.modes.Access.{Access}
 use Rattle.io_state.specs.declared.modes.Access.TheVariants.{Sequential, Random, Dynamic}
 use Rattle.file_control.specs.ByteClass.{is_capital, is_small}
@@ -117,8 +118,33 @@ entry_of parts =
       alternate_keys = clauses.alternate_keys;
     }) clauses.record_key else None
 
+-- ---- entries behind earlier ones
+
+-- a deck has at most eight entries
+unfoldable pub select_word : List FileControlEntry → Rule (Unit {0})
+select_word earlier = where_it_gives (λ _. if nat_lt (length earlier) 8 then Some tt else None) (the (codes "SELECT"))
+
+abbrev pub is_selected : List FileControlEntry → List ℕ → Bool
+is_selected earlier name = list_any (λ entry. bytes_eq entry.name name) earlier
+
+abbrev pub is_assigned : List FileControlEntry → List ℕ → Bool
+is_assigned earlier file_name = list_any (λ entry. bytes_eq entry.file_name file_name) earlier
+
+-- a name of no earlier entry
+unfoldable pub new_name : List FileControlEntry → Rule (List ℕ)
+new_name earlier = where_it_gives (λ text. if is_selected earlier text then None else Some text) name
+
+-- a file name of no earlier entry
+unfoldable pub new_file_name : List FileControlEntry → Rule (List ℕ)
+new_file_name earlier = where_it_gives (λ text. if is_assigned earlier text then None else Some text) file_name
+
 -- SELECT [OPTIONAL] name ASSIGN [TO] literal {clause}.. .
-unfoldable pub select : Rule FileControlEntry
-select =
-    where_it_gives entry_of (the (codes "SELECT") ▸ (is_there <$> may (codes "OPTIONAL"))
-    ⊗ name ⊗ (the (codes "ASSIGN") ▸ may (codes "TO") ▸ file_name) ⊗ some_onto with_clause no_clauses clause ◂ period)
+unfoldable pub select_behind : List FileControlEntry → Rule FileControlEntry
+select_behind earlier =
+    where_it_gives entry_of (select_word earlier ▸ (is_there <$> may (codes "OPTIONAL"))
+    ⊗ new_name earlier ⊗ (the (codes "ASSIGN") ▸ may (codes "TO") ▸ new_file_name earlier)
+    ⊗ some_onto with_clause no_clauses clause ◂ period)
+
+-- an entry by itself
+abbrev pub select : Rule FileControlEntry
+select = select_behind []

@@ -7,5 +7,6 @@ pub mod Scanning
 pub mod Class
 pub mod Rule
 pub mod Notation
+pub mod Operand
 pub mod FileControlEntry
 pub mod Reading

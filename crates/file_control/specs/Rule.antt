@@ -148,6 +148,40 @@ some_onto add s p = record {
   is_fit = p.is_fit && (not p.may_be_empty && all_apart p.starts p.goes_on);
 }
 
+-- ---- one rule after another, each chosen by the value of the one before
+
+-- the values that the rules spell in turn, from a first one on up to a last one
+abbrev pub SpellsTurns : {S : Type 0} → (S → Rule S) → S → List S → S → List Word → List Word → Type 0
+SpellsTurns next s [] t words rest = (s ≡ t) × (words ≡ rest)
+SpellsTurns next s (u ∷ us) t words rest = (middle : List Word) × (next s).Spells u words middle × SpellsTurns next u us t middle rest
+
+abbrev pub SpellsFurther : {S : Type 0} → (S → Rule S) → S → S → List Word → List Word → Type 0
+SpellsFurther next s t words rest = (us : _) × SpellsTurns next s us t words rest
+
+abbrev pub reads_further_from : {S : Type 0} → (S → Rule S) → ℕ → S → List Word → Option (S × List Word)
+reads_further_from next zero s words = Some (s, words)
+reads_further_from next (suc turns) s words = if begins (next s).starts words then option_and_then (λ a. reads_further_from next turns a.0 a.1) ((next s).reads words) else Some (s, words)
+
+abbrev pub reads_further : {S : Type 0} → (S → Rule S) → S → List Word → Option (S × List Word)
+reads_further next s words = reads_further_from next (length words) s words
+
+-- once or more: the value of the last rule
+abbrev pub SpellsInTurn : {S : Type 0} → (S → Rule S) → S → S → List Word → List Word → Type 0
+SpellsInTurn next s t words rest = (u : _) × (us : _) × SpellsTurns next s (u ∷ us) t words rest
+
+abbrev pub reads_in_turn : {S : Type 0} → (S → Rule S) → S → List Word → Option (S × List Word)
+reads_in_turn next s words = option_and_then (λ a. reads_further next a.0 a.1) ((next s).reads words)
+
+abbrev pub each_behind : {S : Type 0} → (S → Rule S) → S → Rule S
+each_behind next s = record {
+  Spells = SpellsInTurn next s;
+  reads = reads_in_turn next s;
+  starts = (next s).starts;
+  goes_on = (next s).starts ++ (next s).goes_on;
+  may_be_empty = false;
+  is_fit = (next s).is_fit && (not (next s).may_be_empty && all_apart (next s).starts (next s).goes_on);
+}
+
 -- ---- a rule whose value passes a test, and another value for it
 
 abbrev pub SpellsAs : {A B : Type 0} → (A → Option B) → Rule A → B → List Word → List Word → Type 0

@@ -42,6 +42,38 @@ pub struct FileControlEntry {
     pub alternate_keys: AlternateKeys,
 }
 
+/// An entry, and the line of its word SELECT. Contracts see the entry.
+#[derive(Drop)]
+pub struct Selected {
+    pub line: u64,
+    pub entry: FileControlEntry,
+}
+
+impl Model for Selected {
+    ghost use Rattle.file_control.specs.declared.entry.FileControlEntry.{FileControlEntry};
+
+    ghost Value = { FileControlEntry };
+
+    ghost view = { λ selected. selected.entry };
+}
+
+impl Selected {
+    ghost use Rattle.std.specs.Prelude.{◌≡◌};
+
+    /// The name of the file in the program.
+    pub fn name(&self) -> &[u8]
+        ensures { result.now ≡ self.now.name }
+    {
+        self.entry.name.as_slice()
+    }
+
+    pub(crate) fn into_entry(self) -> FileControlEntry
+        ensures { result ≡ self }
+    {
+        self.entry
+    }
+}
+
 /// What the clauses of an entry say together.
 #[derive(Drop)]
 pub struct Clauses {

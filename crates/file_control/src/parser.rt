@@ -1,14 +1,16 @@
 //! The words that are still to be read, and the steps that read one.
-ghost use Rattle.std.specs.Prelude.{◌≡◌, ◌≢◌, [], ◌∷◌, map, Some, MatchResult};
+ghost use Rattle.std.specs.Prelude.{◌≡◌, ◌≢◌, [], ◌∷◌, map, Some, length, MatchResult};
 ghost use Rattle.std.specs.Bool.{OnTrue, OnFalse};
 ghost use Rattle.std.specs.List.{list_any};
-ghost use Rattle.file_control.specs.Class.{begins, is_in, this, names, literals, periods};
+ghost use Rattle.file_control.specs.Class.{begins, is_in, this, names, numbers, levels, pictures, literals, periods};
+ghost use Rattle.file_control.specs.Rule.{one};
+ghost use Rattle.file_control.specs.Scanning.{map_result};
 ghost use Rattle.file_control.specs.Notation.{the, may, eaten, name, literal, period};
 ghost use Rattle.file_control.specs.Reading.{Reads};
 ghost use Rattle.file_control.specs.Fault.{IsFault};
 
 use crate::fault::{Cause, Refusal};
-use crate::name::is_name_text;
+use crate::name::{is_name_text, is_number_text};
 use crate::text::copy_of;
 use crate::word::{Word, WordKind};
 use record_layout::Bytes;
@@ -18,7 +20,7 @@ use std::marker::Model;
 /// The words that are still to be read, and the line of the last one. Contracts see the words.
 #[derive(Drop)]
 pub struct Parser<'a> {
-    words: &'a [Word],
+    pub(crate) words: &'a [Word],
     last_line: u64,
 }
 
@@ -47,6 +49,24 @@ fn is_name(word: &Word) -> bool
     ensures { result ≡ is_in names word.now }
 {
     word.kind == WordKind::Plain && is_name_text(word.text.as_slice())
+}
+
+fn is_number(word: &Word) -> bool
+    ensures { result ≡ is_in numbers word.now }
+{
+    word.kind == WordKind::Plain && is_number_text(word.text.as_slice())
+}
+
+fn is_level(word: &Word) -> bool
+    ensures { result ≡ is_in levels word.now }
+{
+    is_number(word) && word.text.as_slice().len() <= 2
+}
+
+fn is_picture(word: &Word) -> bool
+    ensures { result ≡ is_in pictures word.now }
+{
+    word.kind == WordKind::Plain && word.text.as_slice() != b"IS".as_slice()
 }
 
 fn is_literal(word: &Word) -> bool
@@ -109,6 +129,43 @@ impl<'a> Parser<'a> {
         }
     }
 
+    /// Whether a name is next.
+    pub fn sees_name(&self) -> bool
+        ensures { result ≡ begins (names ∷ []) self.now }
+    {
+        match self.words.first() {
+            Some(word) => is_name(word),
+            None => false,
+        }
+    }
+
+    /// Whether a name or this word is next.
+    pub fn sees_name_or(&self, text: &[u8]) -> bool
+        ensures { result ≡ begins (names ∷ this text.now ∷ []) self.now }
+    {
+        match self.words.first() {
+            Some(word) => is_name(word) || is_this(word, text),
+            None => false,
+        }
+    }
+
+    /// Whether a level number is next.
+    pub fn sees_level(&self) -> bool
+        ensures { result ≡ begins (levels ∷ []) self.now }
+    {
+        match self.words.first() {
+            Some(word) => is_level(word),
+            None => false,
+        }
+    }
+
+    /// How many words are still to be read.
+    pub fn left(&self) -> usize
+        ensures { result ≡ length self.now }
+    {
+        self.words.len()
+    }
+
     /// Takes this word.
     #[tactic(auto, unfolding(crate::specs::Notation::the))]
     pub fn expect(&mut self, text: &[u8]) -> Result<(), Refusal>
@@ -149,6 +206,58 @@ impl<'a> Parser<'a> {
                 let text = copy_of(alloc, word.text.as_slice())?;
                 self.words = rest;
                 Ok(text)
+            }
+            _ => Err(self.fault(Cause::Expected)),
+        }
+    }
+
+    /// A name, which is not copied.
+    pub fn name_text(&mut self) -> Result<&'a [u8], Refusal>
+        ensures { Reads ((one names).reads self.old) (map_result (λ text. text.now) result) self.new }
+    {
+        match self.words.split_first() {
+            Some((word, rest)) if is_name(word) => {
+                self.words = rest;
+                Ok(word.text.as_slice())
+            }
+            _ => Err(self.fault(Cause::Expected)),
+        }
+    }
+
+    /// The digits of a number.
+    pub fn number(&mut self) -> Result<&'a [u8], Refusal>
+        ensures { Reads ((one numbers).reads self.old) (map_result (λ text. text.now) result) self.new }
+    {
+        match self.words.split_first() {
+            Some((word, rest)) if is_number(word) => {
+                self.words = rest;
+                Ok(word.text.as_slice())
+            }
+            _ => Err(self.fault(Cause::Expected)),
+        }
+    }
+
+    /// The one or two digits of a level number.
+    pub fn level(&mut self) -> Result<&'a [u8], Refusal>
+        ensures { Reads ((one levels).reads self.old) (map_result (λ text. text.now) result) self.new }
+    {
+        match self.words.split_first() {
+            Some((word, rest)) if is_level(word) => {
+                self.words = rest;
+                Ok(word.text.as_slice())
+            }
+            _ => Err(self.fault(Cause::Expected)),
+        }
+    }
+
+    /// Any plain word but IS.
+    pub fn picture(&mut self) -> Result<&'a [u8], Refusal>
+        ensures { Reads ((one pictures).reads self.old) (map_result (λ text. text.now) result) self.new }
+    {
+        match self.words.split_first() {
+            Some((word, rest)) if is_picture(word) => {
+                self.words = rest;
+                Ok(word.text.as_slice())
             }
             _ => Err(self.fault(Cause::Expected)),
         }

@@ -5,7 +5,9 @@ ghost use Rattle.file_control.specs.Class.{begins};
 ghost use Rattle.file_control.specs.Rule.{some_onto};
 ghost use Rattle.file_control.specs.FileControlEntry.{indexed, mode, access, record_key};
 ghost use Rattle.file_control.specs.FileControlEntry.{duplicates, alternate, status, clause};
-ghost use Rattle.file_control.specs.FileControlEntry.{no_clauses, with_clause, added_to, select};
+ghost use Rattle.file_control.specs.FileControlEntry.{no_clauses, with_clause, added_to, select_behind, select};
+ghost use Rattle.file_control.specs.FileControlEntry.{select_word, new_name, new_file_name};
+ghost use Rattle.file_control.specs.FileControlEntry.{is_selected, is_assigned};
 ghost use Rattle.file_control.specs.FileControlEntry.{is_letter_or_digit, is_of_file_name};
 ghost use Rattle.file_control.specs.FileControlEntry.{is_file_name, file_name};
 ghost use Rattle.file_control.specs.Fault.{IsFault};
@@ -13,7 +15,7 @@ ghost use Rattle.file_control.specs.Reading.{Reads};
 ghost use Rattle.file_control.specs.declared.entry.FileControlEntry.{FileControlEntry};
 ghost use Rattle.file_control.specs.declared.word.Word.{Word};
 
-use crate::entry::{AlternateKey, Clauses, FileControlEntry};
+use crate::entry::{AlternateKey, Clauses, FileControlEntry, Selected};
 use crate::fault::{Cause, DeckFault, Refusal};
 use crate::parser::Parser;
 use crate::word::Word;
@@ -23,6 +25,9 @@ use std::alloc::Global;
 
 /// The most alternate keys of a file.
 const ALTERNATE_LIMIT: usize = 8;
+
+/// The most files of a deck.
+const FILE_LIMIT: usize = 8;
 
 /// The most bytes of a file's name in its folder.
 const FILE_NAME_LIMIT: usize = 64;
@@ -197,21 +202,79 @@ impl<'a> Parser<'a> {
         }
     }
 
-    #[tactic(auto, unfolding(crate::specs::FileControlEntry::select), using(crate::proofs::EntryLaws::there_eaten))]
-    fn select(&mut self, alloc: Global) -> Result<FileControlEntry, Refusal>
-        ensures { Reads (select.reads self.old) result self.new }
+    #[tactic(auto, unfolding(crate::specs::FileControlEntry::select_word, crate::specs::Notation::the))]
+    fn select_word(&mut self, earlier: &[Selected]) -> Result<(), Refusal>
+        ensures { Reads ((select_word earlier.now).reads self.old) result self.new }
     {
+        let limit = self.fault(Cause::Limit);
         self.expect(b"SELECT")?;
+        if earlier.len() < FILE_LIMIT {
+            Ok(())
+        } else {
+            Err(limit)
+        }
+    }
+
+    #[tactic(auto, unfolding(crate::specs::FileControlEntry::new_name))]
+    fn new_name(&mut self, alloc: Global, earlier: &[Selected]) -> Result<Bytes, Refusal>
+        ensures { Reads ((new_name earlier.now).reads self.old) result self.new }
+    {
+        let twice = self.fault(Cause::Twice);
+        let text = self.name(alloc)?;
+        if is_selected_name(earlier, text.as_slice()) {
+            Err(twice)
+        } else {
+            Ok(text)
+        }
+    }
+
+    #[tactic(auto, unfolding(crate::specs::FileControlEntry::new_file_name))]
+    fn new_file_name(&mut self, alloc: Global, earlier: &[Selected]) -> Result<Bytes, Refusal>
+        ensures { Reads ((new_file_name earlier.now).reads self.old) result self.new }
+    {
+        let twice = self.fault(Cause::Twice);
+        let text = self.file_name(alloc)?;
+        if is_assigned_name(earlier, text.as_slice()) {
+            Err(twice)
+        } else {
+            Ok(text)
+        }
+    }
+
+    /// Takes an entry behind earlier ones of its deck: it has neither the name nor the file name of one of them.
+    #[tactic(auto, unfolding(crate::specs::FileControlEntry::select_behind), using(crate::proofs::EntryLaws::there_eaten))]
+    pub fn select(&mut self, alloc: Global, earlier: &[Selected]) -> Result<Selected, Refusal>
+        ensures { Reads ((select_behind earlier.now).reads self.old) result self.new }
+    {
+        let line = self.line();
+        self.select_word(earlier)?;
         let optional = self.eat(b"OPTIONAL");
-        let name = self.name(alloc)?;
+        let name = self.new_name(alloc, earlier)?;
         self.expect(b"ASSIGN")?;
         self.eat(b"TO");
-        let file_name = self.file_name(alloc)?;
+        let file_name = self.new_file_name(alloc, earlier)?;
         let clauses = self.clauses(alloc)?;
         let end = self.line();
         self.period()?;
-        clauses.entry(optional, name, file_name, end)
+        let entry = clauses.entry(optional, name, file_name, end)?;
+        Ok(Selected { line, entry })
     }
+}
+
+/// Whether one of the entries has this name.
+fn is_selected_name(earlier: &[Selected], name: &[u8]) -> bool
+    ensures { result ≡ is_selected earlier.now name.now }
+{
+    earlier
+        .iter()
+        .any(|selected| selected.entry.name.as_slice() == name)
+}
+
+/// Whether one of the entries has this file name.
+fn is_assigned_name(earlier: &[Selected], file_name: &[u8]) -> bool
+    ensures { result ≡ is_assigned earlier.now file_name.now }
+{
+    earlier.iter().any(|selected| selected.entry.file_name.as_slice() == file_name)
 }
 
 fn is_letter_or_digit_byte(byte: u8) -> bool
@@ -245,9 +308,9 @@ fn read_entry(alloc: Global, words: &[Word]) -> Result<FileControlEntry, Refusal
         (entry : FileControlEntry) → select.Spells entry words.now [] → ⊥) }
 {
     let mut parser = Parser::new(words);
-    let entry = parser.select(alloc)?;
+    let selected = parser.select(alloc, &[])?;
     parser.end()?;
-    Ok(entry)
+    Ok(selected.into_entry())
 }
 
 /// The file control entry that the words are, all of them, or the first fault: code 2 for a word with which no entry goes on, at

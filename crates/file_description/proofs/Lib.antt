@@ -1,0 +1,9 @@
+pub mod NameLaws
+pub mod DescriptionLaws
+pub mod DivisionLaws
+pub mod LengthItemLaws
+pub mod LayoutLaws
+pub mod FileLaws
+pub mod FilesLaws
+pub mod WholeLaws
+pub mod OneLaws

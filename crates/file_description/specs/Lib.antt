@@ -1,0 +1,5 @@
+pub mod FileDescription
+pub mod Divisions
+pub mod Description
+pub mod Checks
+pub mod Whole

@@ -1,0 +1,192 @@
+//! A file description: FD, its clauses, and the items of the records.
+ghost use Rattle.std.specs.Prelude.{◌≡◌};
+ghost use Rattle.file_control.specs.Class.{begins};
+ghost use Rattle.file_control.specs.FileControlEntry.{is_selected};
+ghost use Rattle.file_control.specs.Reading.{Reads};
+ghost use Rattle.file_description.specs.FileDescription.{is_described, described_name, description_behind};
+ghost use Rattle.file_description.specs.Divisions.{more_description, descriptions};
+
+use crate::clauses::{Clauses, read_clauses};
+use crate::item::{Items, read_items};
+use crate::record_length::RecordLength;
+use file_control::{Cause, Parser, Refusal, Selected};
+use record_layout::{Bytes, Item};
+use std::alloc::{AllocError, Global};
+use std::marker::Model;
+
+/// A file description, and the line of its word FD. Contracts see the rest.
+#[derive(Drop)]
+pub struct Described {
+    pub line: u64,
+    pub name: Bytes,
+    pub lengths: Option<RecordLength>,
+    pub items: Items,
+}
+
+impl Model for Described {
+    ghost use Rattle.file_description.specs.FileDescription.{FileDescription};
+
+    ghost Value = { FileDescription };
+
+    ghost view = { λ d. record { name = d.name; lengths = d.lengths; items = d.items } };
+}
+
+impl Described {
+    ghost use Rattle.std.specs.Prelude.{◌≡◌, map};
+    ghost use Rattle.record_layout.specs.Layout.{entry_of};
+
+    /// The items of the record.
+    pub fn items(&self) -> &[Item]
+        ensures { map entry_of result.now ≡ self.now.items }
+    {
+        self.items.as_slice()
+    }
+}
+
+/// File descriptions in their order, which contracts see as a list.
+#[derive(Drop)]
+pub struct Descriptions {
+    descriptions: Vec<Described>,
+}
+
+impl Model for Descriptions {
+    ghost use Rattle.std.specs.Prelude.{List};
+    ghost use Rattle.file_description.specs.FileDescription.{FileDescription};
+
+    ghost Value = { List FileDescription };
+
+    ghost view = { λ d. d.descriptions.items };
+}
+
+impl Descriptions {
+    ghost use Rattle.std.specs.Prelude.{◌≡◌, [], ◌∷◌, ◌++◌, OnOk};
+
+    fn new(alloc: Global) -> Self
+        ensures { result ≡ [] }
+    {
+        Descriptions {
+            descriptions: Vec::new(alloc),
+        }
+    }
+
+    fn push(&mut self, description: Described) -> Result<(), AllocError>
+        ensures { OnOk result (self.new ≡ self.old ++ description ∷ []) }
+    {
+        self.descriptions.push(description)?;
+        Ok(())
+    }
+
+    /// The descriptions themselves.
+    pub fn as_slice(&self) -> &[Described]
+        ensures { result.now ≡ self.now }
+    {
+        self.descriptions.as_slice()
+    }
+}
+
+/// Whether one of the entries has this name.
+fn is_selected_name(entries: &[Selected], name: &[u8]) -> bool
+    ensures { result ≡ is_selected entries.now name.now }
+{
+    entries
+        .iter()
+        .any(|selected| selected.entry.name.as_slice() == name)
+}
+
+/// Whether one of the descriptions has this name.
+fn is_described_name(earlier: &[Described], name: &[u8]) -> bool
+    ensures { result ≡ is_described earlier.now name.now }
+{
+    earlier
+        .iter()
+        .any(|described| described.name.as_slice() == name)
+}
+
+#[tactic(auto, unfolding(crate::specs::FileDescription::described_name))]
+fn described_name(
+    parser: &mut Parser<'_>,
+    alloc: Global,
+    entries: &[Selected],
+    earlier: &[Described],
+) -> Result<Bytes, Refusal>
+    ensures { Reads ((described_name entries.now earlier.now).reads parser.old) result parser.new }
+{
+    let unknown = parser.fault(Cause::Unknown);
+    let twice = parser.fault(Cause::Twice);
+    let text = parser.name(alloc)?;
+    if !is_selected_name(entries, text.as_slice()) {
+        return Err(unknown);
+    }
+    if is_described_name(earlier, text.as_slice()) {
+        return Err(twice);
+    }
+    Ok(text)
+}
+
+#[tactic(auto, unfolding(crate::specs::FileDescription::description_behind))]
+fn description(
+    parser: &mut Parser<'_>,
+    alloc: Global,
+    entries: &[Selected],
+    earlier: &[Described],
+) -> Result<Described, Refusal>
+    ensures { Reads ((description_behind entries.now earlier.now).reads parser.old) result parser.new }
+{
+    let line = parser.line();
+    parser.expect(b"FD")?;
+    let name = described_name(parser, alloc, entries, earlier)?;
+    let clauses = read_clauses(parser, alloc)?;
+    let Clauses {
+        label: _,
+        block: _,
+        lengths,
+    } = clauses;
+    parser.period()?;
+    let items = read_items(parser, alloc)?;
+    Ok(Described {
+        line,
+        name,
+        lengths,
+        items,
+    })
+}
+
+/// The descriptions with the next one.
+#[tactic(auto, unfolding(crate::specs::Divisions::more_description))]
+fn one_more(
+    parser: &mut Parser<'_>,
+    alloc: Global,
+    entries: &[Selected],
+    earlier: Descriptions,
+) -> Result<Descriptions, Refusal>
+    ensures { Reads ((more_description entries.now earlier).reads parser.old) result parser.new }
+{
+    let description = description(parser, alloc, entries, earlier.as_slice())?;
+    let mut descriptions = earlier;
+    descriptions.push(description)?;
+    Ok(descriptions)
+}
+
+/// Whether a description comes next.
+#[tactic(auto, unfolding(crate::specs::Divisions::more_description, crate::specs::FileDescription::description_behind, file_control::specs::Notation::the))]
+fn sees_description(parser: &Parser<'_>, entries: &[Selected], earlier: &Descriptions) -> bool
+    ensures { result ≡ begins (more_description entries.now earlier.now).starts parser.now }
+{
+    parser.sees(b"FD")
+}
+
+/// One description or more, each of an entry that has none yet.
+#[tactic(auto, unfolding(crate::specs::Divisions::descriptions))]
+pub fn read_descriptions(
+    parser: &mut Parser<'_>,
+    alloc: Global,
+    entries: &[Selected],
+) -> Result<Descriptions, Refusal>
+    ensures { Reads ((descriptions entries.now).reads parser.old) result parser.new }
+{
+    let mut read = one_more(parser, alloc, entries, Descriptions::new(alloc))?;
+    'more: while sees_description(parser, entries, &read) {
+        read = one_more(parser, alloc, entries, read)?;
+    }
+    Ok(read)
+}
