@@ -6,3 +6,6 @@ pub mod Writing
 pub mod Verbs
 pub mod Faults
 pub mod Marred
+pub mod Held
+pub mod Fields
+pub mod Fits

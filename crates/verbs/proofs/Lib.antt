@@ -1,0 +1,10 @@
+pub mod RowLemmas
+pub mod WorldLemmas
+pub mod HighestLemmas
+pub mod FaultLemmas
+pub mod ReadLemmas
+pub mod CloseLemmas
+pub mod WriteLemmas
+pub mod ChangeLemmas
+pub mod RewriteLemmas
+pub mod OpenLemmas

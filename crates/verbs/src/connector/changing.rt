@@ -1,0 +1,182 @@
+//! REWRITE and DELETE.
+ghost use Rattle.std.specs.Prelude.{◌≡◌, ◌<◌, ◌≤◌, ℕ, List, length as count_of, None, IsTrue, true, false, option_map};
+ghost use Rattle.record_layout.specs.Schema.{prime_of};
+ghost use Rattle.indexed_file.specs.Rank.{highest_of};
+ghost use Rattle.indexed_file.specs.Change.{row_of};
+ghost use Rattle.indexed_file.specs.World.{OnlyAt, name_at, holding_at, schema_at, file_at, is_open, is_broken};
+ghost use Rattle.indexed_file.specs.Calls.{Keeps, Believed, OnlyReads, MayFail};
+ghost use Rattle.verbs.specs.declared.statement.FileStatement.TheVariants.{Rewrite, Delete};
+ghost use Rattle.verbs.specs.Connector.{Session};
+ghost use Rattle.verbs.specs.Writing.{deleted};
+ghost use Rattle.verbs.specs.Held.{Performs, Changes, state_of, silent, unread, bytes_of, rewritten_as, prime_by};
+ghost use Rattle.verbs.specs.Fits.{Fits, IsStanding, HasCause, has_failed, last_read_of, updates};
+
+use super::Connector;
+use crate::checks::{
+    changes_prime, is_for_updating, is_length, is_sequential, is_unread, status_by,
+};
+use indexed_file::{Library, Replaced};
+use io_state::{Fault, Key, Status};
+
+impl Connector {
+    /// REWRITE by the record in the first `length` bytes of the area.
+    pub fn rewrite<L: Library>(&mut self, lib: &mut L, u: usize, area: &[u8], length: u16) -> Status
+        requires fits { Fits self.old (L.world lib.old) u }
+        requires area { count_of area.now ≡ self.old.connector.schema.greatest }
+        ensures fits { Fits self.new (L.world lib.new) u }
+        ensures schema { self.new.connector.schema ≡ self.old.connector.schema }
+        ensures step { Believed L.is_honest L.IsShownTruly L.world u lib.old lib.new
+            (IsStanding self.old (L.world lib.old) u
+            → Performs Rewrite length (state_of self.old (L.world lib.old) u area.now)
+            (silent result) (state_of self.new (L.world lib.new) u area.now)) }
+        ensures standing { Believed L.is_honest L.IsShownTruly L.world u lib.old lib.new
+            (IsStanding self.old (L.world lib.old) u
+            → IsStanding self.new (L.world lib.new) u) }
+        ensures only { OnlyAt u (L.world lib.old) (L.world lib.new) }
+        ensures cause { HasCause result false (L.fault_count lib.old) (L.fault_count lib.new) }
+        ensures keeps { Keeps L.is_honest L.IsShownTruly L.fault_count lib.old lib.new }
+    {
+        let Some(mode) = self.mode else {
+            return Status::NotOpenForUpdating;
+        };
+        let last_read = self.last_read.take();
+        if self.failed {
+            return Status::ConnectorFailed;
+        }
+        let updatable = is_for_updating(mode);
+        if !updatable {
+            return Status::NotOpenForUpdating;
+        }
+        let unread = is_unread(self.access, &last_read);
+        if unread {
+            return Status::NoRecordRead;
+        }
+        let fit = is_length(&self.schema, length);
+        if !fit {
+            return Status::WrongLength;
+        }
+        let bytes = &area[..usize::from(length)];
+        let prime = self.value(bytes, 0);
+        let other = changes_prime(self.access, &prime, &last_read);
+        if other {
+            return Status::OutOfSequence;
+        }
+        self.substitute(lib, u, bytes)
+    }
+
+    /// Puts a record in the place of that of its prime value.
+    fn substitute<L: Library>(&mut self, lib: &mut L, u: usize, bytes: &[u8]) -> Status
+        requires fits { Fits self.old (L.world lib.old) u }
+        requires open { IsTrue (is_open (holding_at (L.world lib.old) u)) }
+        requires works { has_failed self.old.connector.session ≡ false }
+        requires unread { last_read_of self.old.connector.session ≡ None }
+        requires updates { updates self.old.connector.session ≡ true }
+        requires least { self.old.connector.schema.least ≤ count_of bytes.now }
+        requires greatest { count_of bytes.now ≤ self.old.connector.schema.greatest }
+        ensures fits { Fits self.new (L.world lib.new) u }
+        ensures schema { self.new.connector.schema ≡ self.old.connector.schema }
+        ensures step { (area : List ℕ) → (session : Session) → self.old.connector.session ≡ Some (unread session)
+            → Believed L.is_honest L.IsShownTruly L.world u lib.old lib.new
+            (Changes Rewrite (rewritten_as bytes.now (state_of self.old (L.world lib.old) u area) session)
+            (state_of self.old (L.world lib.old) u area)
+            result (state_of self.new (L.world lib.new) u area)) }
+        ensures standing { Believed L.is_honest L.IsShownTruly L.world u lib.old lib.new
+            (IsStanding self.old (L.world lib.old) u
+            → IsStanding self.new (L.world lib.new) u) }
+        ensures only { OnlyAt u (L.world lib.old) (L.world lib.new) }
+        ensures cause { HasCause result false (L.fault_count lib.old) (L.fault_count lib.new) }
+        ensures keeps { Keeps L.is_honest L.IsShownTruly L.fault_count lib.old lib.new }
+    {
+        match lib.replace(u, bytes) {
+            Ok(Replaced::Done { repeated }) => {
+                self.forget_highest();
+                status_by(repeated)
+            }
+            Ok(Replaced::Clash) => Status::DuplicateKey,
+            Ok(Replaced::Gone) => Status::RecordNotFound,
+            Err(Fault::Full) => Status::BoundaryViolation,
+            Err(fault) => self.fail(fault),
+        }
+    }
+
+    /// DELETE: in sequential access of the record read last, else of the record of the prime value that stands in the area.
+    pub fn delete<L: Library>(&mut self, lib: &mut L, u: usize, area: &[u8]) -> Status
+        requires fits { Fits self.old (L.world lib.old) u }
+        ensures fits { Fits self.new (L.world lib.new) u }
+        ensures schema { self.new.connector.schema ≡ self.old.connector.schema }
+        ensures step { (n : ℕ) → Believed L.is_honest L.IsShownTruly L.world u lib.old lib.new
+            (IsStanding self.old (L.world lib.old) u
+            → Performs Delete n (state_of self.old (L.world lib.old) u area.now)
+            (silent result) (state_of self.new (L.world lib.new) u area.now)) }
+        ensures standing { Believed L.is_honest L.IsShownTruly L.world u lib.old lib.new
+            (IsStanding self.old (L.world lib.old) u
+            → IsStanding self.new (L.world lib.new) u) }
+        ensures only { OnlyAt u (L.world lib.old) (L.world lib.new) }
+        ensures cause { HasCause result false (L.fault_count lib.old) (L.fault_count lib.new) }
+        ensures keeps { Keeps L.is_honest L.IsShownTruly L.fault_count lib.old lib.new }
+    {
+        let Some(mode) = self.mode else {
+            return Status::NotOpenForUpdating;
+        };
+        let last_read = self.last_read.take();
+        if self.failed {
+            return Status::ConnectorFailed;
+        }
+        let updatable = is_for_updating(mode);
+        if !updatable {
+            return Status::NotOpenForUpdating;
+        }
+        let unread = is_unread(self.access, &last_read);
+        if unread {
+            return Status::NoRecordRead;
+        }
+        let prime = self.prime_to_delete(last_read, area);
+        self.take_out(lib, u, &prime)
+    }
+
+    /// The prime value of the record that DELETE takes out.
+    fn prime_to_delete(&self, last_read: Option<Key>, area: &[u8]) -> Key
+        requires { 0 < count_of self.now.connector.schema.keys }
+        ensures { result.items ≡ prime_by self.now area.now (option_map bytes_of last_read) }
+    {
+        let Some(read) = last_read else {
+            return self.value(area, 0);
+        };
+        let sequential = is_sequential(self.access);
+        if sequential {
+            return read;
+        }
+        self.value(area, 0)
+    }
+
+    /// Takes out the record of a prime value.
+    fn take_out<L: Library>(&mut self, lib: &mut L, u: usize, prime: &Key) -> Status
+        requires fits { Fits self.old (L.world lib.old) u }
+        requires open { IsTrue (is_open (holding_at (L.world lib.old) u)) }
+        requires works { has_failed self.old.connector.session ≡ false }
+        requires unread { last_read_of self.old.connector.session ≡ None }
+        requires updates { updates self.old.connector.session ≡ true }
+        ensures fits { Fits self.new (L.world lib.new) u }
+        ensures schema { self.new.connector.schema ≡ self.old.connector.schema }
+        ensures step { (area : List ℕ) → (session : Session) → self.old.connector.session ≡ Some (unread session)
+            → Believed L.is_honest L.IsShownTruly L.world u lib.old lib.new
+            (Changes Delete (deleted prime.now.items (state_of self.old (L.world lib.old) u area) session)
+            (state_of self.old (L.world lib.old) u area)
+            result (state_of self.new (L.world lib.new) u area)) }
+        ensures standing { Believed L.is_honest L.IsShownTruly L.world u lib.old lib.new
+            (IsStanding self.old (L.world lib.old) u
+            → IsStanding self.new (L.world lib.new) u) }
+        ensures only { OnlyAt u (L.world lib.old) (L.world lib.new) }
+        ensures cause { HasCause result false (L.fault_count lib.old) (L.fault_count lib.new) }
+        ensures keeps { Keeps L.is_honest L.IsShownTruly L.fault_count lib.old lib.new }
+    {
+        match lib.remove(u, prime) {
+            Ok(true) => {
+                self.forget_highest();
+                Status::Successful
+            }
+            Ok(false) => Status::RecordNotFound,
+            Err(fault) => self.fail(fault),
+        }
+    }
+}

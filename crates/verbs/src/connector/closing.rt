@@ -1,0 +1,43 @@
+//! CLOSE.
+ghost use Rattle.std.specs.Prelude.{◌≡◌, ◌<◌, ℕ, List, length, IsTrue, false};
+ghost use Rattle.indexed_file.specs.World.{OnlyAt, name_at};
+ghost use Rattle.indexed_file.specs.Calls.{Keeps, Believed};
+ghost use Rattle.verbs.specs.declared.statement.FileStatement.TheVariants.{Close};
+ghost use Rattle.verbs.specs.Held.{Performs, state_of, silent};
+ghost use Rattle.verbs.specs.Fits.{Fits, IsStanding, HasCause, has_failed};
+
+use super::Connector;
+use crate::checks::{close_fault, close_status};
+use indexed_file::Library;
+use io_state::Status;
+
+impl Connector {
+    /// CLOSE. The connector is closed after every answer.
+    pub fn close<L: Library>(&mut self, lib: &mut L, u: usize, lock: bool) -> Status
+        requires fits { Fits self.old (L.world lib.old) u }
+        ensures fits { Fits self.new (L.world lib.new) u }
+        ensures schema { self.new.connector.schema ≡ self.old.connector.schema }
+        ensures step { (n : ℕ) → (area : List ℕ) → Believed L.is_honest L.IsShownTruly L.world u lib.old lib.new
+            (IsStanding self.old (L.world lib.old) u
+            → Performs (Close lock) n (state_of self.old (L.world lib.old) u area)
+            (silent result) (state_of self.new (L.world lib.new) u area)) }
+        ensures standing { IsStanding self.new (L.world lib.new) u }
+        ensures only { OnlyAt u (L.world lib.old) (L.world lib.new) }
+        ensures cause { HasCause result (has_failed self.old.connector.session) (L.fault_count lib.old) (L.fault_count lib.new) }
+        ensures keeps { Keeps L.is_honest L.IsShownTruly L.fault_count lib.old lib.new }
+    {
+        let Some(_mode) = self.mode else {
+            return Status::NotOpen;
+        };
+        let failed = self.failed;
+        let missing = self.missing;
+        self.end(lock);
+        if missing {
+            return close_status(failed);
+        }
+        match lib.shut(u) {
+            Ok(()) => close_status(failed),
+            Err(fault) => close_fault(failed, fault),
+        }
+    }
+}

@@ -1,0 +1,158 @@
+//! OPEN.
+ghost use Rattle.std.specs.Prelude.{◌≡◌, ◌<◌, ℕ, List, None, IsTrue, true, false};
+ghost use Rattle.record_layout.specs.Schema.{Schema as Keys};
+ghost use Rattle.io_state.specs.Status.{is_successful};
+ghost use Rattle.indexed_file.specs.declared.answer.Seen.TheVariants.{Sound};
+ghost use Rattle.indexed_file.specs.Answers.{seen_of};
+ghost use Rattle.indexed_file.specs.World.{OnlyAt, Absent, name_at, holding_at, named_at, schema_at, is_looked};
+ghost use Rattle.indexed_file.specs.Calls.{Keeps, Believed};
+ghost use Rattle.verbs.specs.declared.statement.FileStatement.TheVariants.{Open};
+ghost use Rattle.verbs.specs.Connector.{answers};
+ghost use Rattle.verbs.specs.Opening.{created, open_absent, open_named};
+ghost use Rattle.verbs.specs.Marred.{creates};
+ghost use Rattle.verbs.specs.Held.{Performs, Changes, state_of, silent};
+ghost use Rattle.verbs.specs.Fits.{Fits, IsStanding, HasCause, is_output};
+
+use super::Connector;
+use crate::checks::{is_input, is_output, status_of};
+use indexed_file::{Library, Seen};
+use io_state::{Key, OpenMode, Position, Status};
+use record_layout::Schema;
+
+impl Connector {
+    /// OPEN.
+    pub fn open<L: Library>(&mut self, lib: &mut L, u: usize, mode: OpenMode) -> Status
+        requires fits { Fits self.old (L.world lib.old) u }
+        ensures fits { Fits self.new (L.world lib.new) u }
+        ensures schema { self.new.connector.schema ≡ self.old.connector.schema }
+        ensures step { (n : ℕ) → (area : List ℕ) → Believed L.is_honest L.IsShownTruly L.world u lib.old lib.new
+            (IsStanding self.old (L.world lib.old) u
+            → Performs (Open mode) n (state_of self.old (L.world lib.old) u area)
+            (silent result) (state_of self.new (L.world lib.new) u area)) }
+        ensures standing { Believed L.is_honest L.IsShownTruly L.world u lib.old lib.new
+            (IsStanding self.old (L.world lib.old) u
+            → IsStanding self.new (L.world lib.new) u) }
+        ensures only { OnlyAt u (L.world lib.old) (L.world lib.new) }
+        ensures cause { HasCause result false (L.fault_count lib.old) (L.fault_count lib.new) }
+        ensures keeps { Keeps L.is_honest L.IsShownTruly L.fault_count lib.old lib.new }
+    {
+        if self.mode.is_some() {
+            self.last_read = None;
+            return Status::AlreadyOpen;
+        }
+        if self.locked {
+            return Status::ClosedWithLock;
+        }
+        let output = is_output(mode);
+        if output {
+            return self.create(lib, u, mode, Status::Successful);
+        }
+        match lib.look(u) {
+            Ok(Seen::Absent) => self.open_absent(lib, u, mode),
+            Ok(Seen::Unsound) => Status::Damaged,
+            Ok(Seen::Sound(schema)) => self.open_sound(lib, u, mode, &schema),
+            Err(fault) => status_of(fault),
+        }
+    }
+
+    /// OPEN of a file that is absent, other than OUTPUT.
+    fn open_absent<L: Library>(&mut self, lib: &mut L, u: usize, mode: OpenMode) -> Status
+        requires fits { Fits self.old (L.world lib.old) u }
+        requires closed { self.old.connector.session ≡ None }
+        requires mode { is_output mode ≡ false }
+        ensures fits { Fits self.new (L.world lib.new) u }
+        ensures schema { self.new.connector.schema ≡ self.old.connector.schema }
+        ensures step { (area : List ℕ) → Believed L.is_honest L.IsShownTruly L.world u lib.old lib.new
+            (named_at (L.world lib.old) u ≡ Absent
+            → Changes (Open mode) (open_absent mode (state_of self.old (L.world lib.old) u area))
+            (state_of self.old (L.world lib.old) u area)
+            result (state_of self.new (L.world lib.new) u area)) }
+        ensures standing { IsTrue (L.is_honest lib.new) → named_at (L.world lib.old) u ≡ Absent
+            → IsStanding self.new (L.world lib.new) u }
+        ensures only { OnlyAt u (L.world lib.old) (L.world lib.new) }
+        ensures cause { HasCause result false (L.fault_count lib.old) (L.fault_count lib.new) }
+        ensures keeps { Keeps L.is_honest L.IsShownTruly L.fault_count lib.old lib.new }
+    {
+        if !self.optional {
+            return Status::FileAbsent;
+        }
+        let input = is_input(mode);
+        if input {
+            self.begin(mode, Position::Missing, true, None);
+            return Status::OptionalAbsent;
+        }
+        self.create(lib, u, mode, Status::OptionalAbsent)
+    }
+
+    /// OPEN of a file whose first page was found sound, with this schema.
+    fn open_sound<L: Library>(
+        &mut self,
+        lib: &mut L,
+        u: usize,
+        mode: OpenMode,
+        schema: &Schema,
+    ) -> Status
+        requires fits { Fits self.old (L.world lib.old) u }
+        requires closed { self.old.connector.session ≡ None }
+        requires mode { is_output mode ≡ false }
+        requires looked { IsTrue (is_looked (holding_at (L.world lib.old) u)) }
+        requires schema { schema_at (L.world lib.old) u ≡ schema.now }
+        ensures fits { Fits self.new (L.world lib.new) u }
+        ensures schema { self.new.connector.schema ≡ self.old.connector.schema }
+        ensures step { (area : List ℕ) → Believed L.is_honest L.IsShownTruly L.world u lib.old lib.new
+            (Sound schema.now ≡ seen_of (named_at (L.world lib.old) u)
+            → Changes (Open mode) (open_named mode (named_at (L.world lib.old) u) (state_of self.old (L.world lib.old) u area))
+            (state_of self.old (L.world lib.old) u area)
+            result (state_of self.new (L.world lib.new) u area)) }
+        ensures standing { IsTrue (L.is_honest lib.new) → Sound schema.now ≡ seen_of (named_at (L.world lib.old) u)
+            → IsStanding self.new (L.world lib.new) u }
+        ensures only { OnlyAt u (L.world lib.old) (L.world lib.new) }
+        ensures cause { HasCause result false (L.fault_count lib.old) (L.fault_count lib.new) }
+        ensures keeps { Keeps L.is_honest L.IsShownTruly L.fault_count lib.old lib.new }
+    {
+        let same = schema.same(&self.schema);
+        if !same {
+            return Status::AttributeConflict;
+        }
+        match lib.open(u) {
+            Ok(()) => {
+                self.begin(mode, Position::From(Key::new()), false, None);
+                Status::Successful
+            }
+            Err(fault) => status_of(fault),
+        }
+    }
+
+    /// OPEN that makes a new file, which has no greatest prime value.
+    fn create<L: Library>(
+        &mut self,
+        lib: &mut L,
+        u: usize,
+        mode: OpenMode,
+        status: Status,
+    ) -> Status
+        requires fits { Fits self.old (L.world lib.old) u }
+        requires closed { self.old.connector.session ≡ None }
+        requires status { IsTrue (is_successful status) }
+        ensures fits { Fits self.new (L.world lib.new) u }
+        ensures schema { self.new.connector.schema ≡ self.old.connector.schema }
+        ensures step { (area : List ℕ) → Believed L.is_honest L.IsShownTruly L.world u lib.old lib.new
+            (IsTrue (creates mode self.old.connector.optional (named_at (L.world lib.old) u))
+            → Changes (Open mode) (answers status (created mode (state_of self.old (L.world lib.old) u area)))
+            (state_of self.old (L.world lib.old) u area)
+            result (state_of self.new (L.world lib.new) u area)) }
+        ensures standing { IsTrue (L.is_honest lib.new) → IsTrue (creates mode self.old.connector.optional (named_at (L.world lib.old) u))
+            → IsStanding self.new (L.world lib.new) u }
+        ensures only { OnlyAt u (L.world lib.old) (L.world lib.new) }
+        ensures cause { HasCause result false (L.fault_count lib.old) (L.fault_count lib.new) }
+        ensures keeps { Keeps L.is_honest L.IsShownTruly L.fault_count lib.old lib.new }
+    {
+        match lib.create(u, &self.schema) {
+            Ok(()) => {
+                self.begin(mode, Position::From(Key::new()), false, Some(None));
+                status
+            }
+            Err(fault) => status_of(fault),
+        }
+    }
+}

@@ -1,0 +1,55 @@
+//! Any statement.
+ghost use Rattle.std.specs.Prelude.{◌≡◌, ℕ, List, length as count_of, IsTrue};
+ghost use Rattle.indexed_file.specs.World.{OnlyAt, name_at};
+ghost use Rattle.indexed_file.specs.Calls.{Keeps, Believed};
+ghost use Rattle.verbs.specs.Held.{Performs, state_of};
+ghost use Rattle.verbs.specs.Fits.{Fits, IsStanding, HasCause, HasOperands, closes_failed};
+
+use super::Connector;
+use crate::answer::Answer;
+use crate::statement::FileStatement;
+use indexed_file::Library;
+
+impl Connector {
+    /// Performs a statement; `length` is that of the record that a WRITE or REWRITE stores.
+    pub fn perform<L: Library>(
+        &mut self,
+        lib: &mut L,
+        u: usize,
+        statement: &FileStatement,
+        length: u16,
+        area: &mut [u8],
+    ) -> Answer
+        requires fits { Fits self.old (L.world lib.old) u }
+        requires operands { HasOperands self.old.connector.schema statement.now }
+        requires area { count_of area.old ≡ self.old.connector.schema.greatest }
+        ensures fits { Fits self.new (L.world lib.new) u }
+        ensures schema { self.new.connector.schema ≡ self.old.connector.schema }
+        ensures step { Believed L.is_honest L.IsShownTruly L.world u lib.old lib.new
+            (IsStanding self.old (L.world lib.old) u
+            → Performs statement.now length (state_of self.old (L.world lib.old) u area.old)
+            result (state_of self.new (L.world lib.new) u area.new)) }
+        ensures standing { Believed L.is_honest L.IsShownTruly L.world u lib.old lib.new
+            (IsStanding self.old (L.world lib.old) u
+            → IsStanding self.new (L.world lib.new) u) }
+        ensures only { OnlyAt u (L.world lib.old) (L.world lib.new) }
+        ensures cause { HasCause result.status (closes_failed statement.now self.old.connector.session)
+            (L.fault_count lib.old) (L.fault_count lib.new) }
+        ensures keeps { Keeps L.is_honest L.IsShownTruly L.fault_count lib.old lib.new }
+    {
+        match *statement {
+            FileStatement::Open(mode) => Answer::silent(self.open(lib, u, mode)),
+            FileStatement::Close { lock } => Answer::silent(self.close(lib, u, lock)),
+            FileStatement::ReadNext => self.read_next(lib, u, area),
+            FileStatement::Read { key } => self.read(lib, u, key, area),
+            FileStatement::Start {
+                key,
+                length,
+                relation,
+            } => Answer::silent(self.start(lib, u, key, length, relation, area)),
+            FileStatement::Write => Answer::silent(self.write(lib, u, area, length)),
+            FileStatement::Rewrite => Answer::silent(self.rewrite(lib, u, area, length)),
+            FileStatement::Delete => Answer::silent(self.delete(lib, u, area)),
+        }
+    }
+}

@@ -1,0 +1,179 @@
+//! WRITE.
+ghost use Rattle.std.specs.Option.{option_flatten};
+ghost use Rattle.std.specs.Prelude.{◌≡◌, ◌<◌, ◌≤◌, ℕ, List, length as count_of, Some, None, IsTrue, true, false, OnOk, OnErr, IfErr};
+ghost use Rattle.record_layout.specs.Schema.{prime_of};
+ghost use Rattle.indexed_file.specs.Rank.{highest_of};
+ghost use Rattle.indexed_file.specs.Change.{row_of};
+ghost use Rattle.indexed_file.specs.World.{OnlyAt, name_at, holding_at, schema_at, file_at, is_open, is_broken};
+ghost use Rattle.indexed_file.specs.Calls.{Keeps, Believed, OnlyReads, MayFail};
+ghost use Rattle.io_state.specs.Permission.{is_sequential};
+ghost use Rattle.verbs.specs.declared.statement.FileStatement.TheVariants.{Write};
+ghost use Rattle.verbs.specs.Connector.{Session};
+ghost use Rattle.verbs.specs.Writing.{stored, written, is_not_above};
+ghost use Rattle.verbs.specs.Held.{Performs, Changes, state_of, silent, unread, held_after_store};
+ghost use Rattle.verbs.specs.Fits.{Fits, IsStanding, IsHighestOf, HasCause, has_failed, last_read_of, writes};
+
+use super::Connector;
+use crate::checks::{is_length, is_not_above, is_sequential, status_by};
+use indexed_file::{Added, Library};
+use io_state::{Fault, Status, Verb, permits};
+
+impl Connector {
+    /// WRITE of the record in the first `length` bytes of the area.
+    pub fn write<L: Library>(&mut self, lib: &mut L, u: usize, area: &[u8], length: u16) -> Status
+        requires fits { Fits self.old (L.world lib.old) u }
+        requires area { count_of area.now ≡ self.old.connector.schema.greatest }
+        ensures fits { Fits self.new (L.world lib.new) u }
+        ensures schema { self.new.connector.schema ≡ self.old.connector.schema }
+        ensures step { Believed L.is_honest L.IsShownTruly L.world u lib.old lib.new
+            (IsStanding self.old (L.world lib.old) u
+            → Performs Write length (state_of self.old (L.world lib.old) u area.now)
+            (silent result) (state_of self.new (L.world lib.new) u area.now)) }
+        ensures standing { Believed L.is_honest L.IsShownTruly L.world u lib.old lib.new
+            (IsStanding self.old (L.world lib.old) u
+            → IsStanding self.new (L.world lib.new) u) }
+        ensures only { OnlyAt u (L.world lib.old) (L.world lib.new) }
+        ensures cause { HasCause result false (L.fault_count lib.old) (L.fault_count lib.new) }
+        ensures keeps { Keeps L.is_honest L.IsShownTruly L.fault_count lib.old lib.new }
+    {
+        let Some(mode) = self.mode else {
+            return Status::NotOpenForWriting;
+        };
+        self.last_read = None;
+        if self.failed {
+            return Status::ConnectorFailed;
+        }
+        let permitted = permits(self.access, mode, Verb::Write);
+        if !permitted {
+            return Status::NotOpenForWriting;
+        }
+        let fit = is_length(&self.schema, length);
+        if !fit {
+            return Status::WrongLength;
+        }
+        self.put(lib, u, &area[..usize::from(length)])
+    }
+
+    /// Adds a record, whose prime value has to be above the greatest of the file in sequential access.
+    fn put<L: Library>(&mut self, lib: &mut L, u: usize, bytes: &[u8]) -> Status
+        requires fits { Fits self.old (L.world lib.old) u }
+        requires open { IsTrue (is_open (holding_at (L.world lib.old) u)) }
+        requires works { has_failed self.old.connector.session ≡ false }
+        requires writes { writes self.old.connector.access self.old.connector.session ≡ true }
+        requires unread { last_read_of self.old.connector.session ≡ None }
+        requires least { self.old.connector.schema.least ≤ count_of bytes.now }
+        requires greatest { count_of bytes.now ≤ self.old.connector.schema.greatest }
+        ensures fits { Fits self.new (L.world lib.new) u }
+        ensures schema { self.new.connector.schema ≡ self.old.connector.schema }
+        ensures step { (area : List ℕ) → (session : Session) → self.old.connector.session ≡ Some (unread session)
+            → Believed L.is_honest L.IsShownTruly L.world u lib.old lib.new
+            (IsStanding self.old (L.world lib.old) u
+            → Changes Write (written bytes.now (state_of self.old (L.world lib.old) u area) session)
+            (state_of self.old (L.world lib.old) u area)
+            result (state_of self.new (L.world lib.new) u area)) }
+        ensures standing { Believed L.is_honest L.IsShownTruly L.world u lib.old lib.new
+            (IsStanding self.old (L.world lib.old) u
+            → IsStanding self.new (L.world lib.new) u) }
+        ensures only { OnlyAt u (L.world lib.old) (L.world lib.new) }
+        ensures cause { HasCause result false (L.fault_count lib.old) (L.fault_count lib.new) }
+        ensures keeps { Keeps L.is_honest L.IsShownTruly L.fault_count lib.old lib.new }
+    {
+        let sequential = is_sequential(self.access);
+        if !sequential {
+            return self.store(lib, u, bytes);
+        }
+        if let Err(fault) = self.learn_highest(lib, u) {
+            return self.fail(fault);
+        }
+        let late = self.is_late(bytes);
+        if late {
+            return Status::OutOfSequence;
+        }
+        self.store(lib, u, bytes)
+    }
+
+    /// Asks for the greatest prime value of the file, unless it is known.
+    fn learn_highest<L: Library>(&mut self, lib: &mut L, u: usize) -> Result<(), Fault>
+        requires fits { Fits self.old (L.world lib.old) u }
+        requires open { IsTrue (is_open (holding_at (L.world lib.old) u)) }
+        requires works { has_failed self.old.connector.session ≡ false }
+        requires unread { last_read_of self.old.connector.session ≡ None }
+        ensures fits { Fits self.new (L.world lib.new) u }
+        ensures connector { self.new.connector ≡ self.old.connector }
+        ensures known { Believed L.is_honest L.IsShownTruly L.world u lib.old lib.new
+            (IsHighestOf self.old.connector.schema (file_at (L.world lib.old) u) self.old.highest
+            → OnOk result (self.new.highest ≡ Some (highest_of self.old.connector.schema (file_at (L.world lib.old) u).rows))) }
+        ensures err { OnErr result ((self.new ≡ self.old) × (self.old.highest ≡ None)) }
+        ensures reads { OnlyReads u (L.is_honest lib.new) (L.world lib.old) (L.world lib.new) }
+        ensures fault { IfErr result (MayFail (is_broken (holding_at (L.world lib.old) u)) (L.is_honest lib.new)
+            (L.IsShownTruly lib.old (name_at (L.world lib.old) u)) (L.fault_count lib.old) (L.fault_count lib.new)) }
+        ensures keeps { Keeps L.is_honest L.IsShownTruly L.fault_count lib.old lib.new }
+    {
+        if self.highest.is_some() {
+            return Ok(());
+        }
+        let highest = lib.highest(u)?;
+        self.highest = Some(highest);
+        Ok(())
+    }
+
+    /// The record's prime value is not above the greatest of the file, where that is known.
+    fn is_late(&self, bytes: &[u8]) -> bool
+        requires { 0 < count_of self.now.connector.schema.keys }
+        ensures { result ≡ is_not_above (prime_of self.now.connector.schema bytes.now) (option_flatten self.now.highest) }
+    {
+        let Some(highest) = &self.highest else {
+            return false;
+        };
+        let prime = self.value(bytes, 0);
+        is_not_above(&prime, highest)
+    }
+
+    /// Adds a record.
+    fn store<L: Library>(&mut self, lib: &mut L, u: usize, bytes: &[u8]) -> Status
+        requires fits { Fits self.old (L.world lib.old) u }
+        requires open { IsTrue (is_open (holding_at (L.world lib.old) u)) }
+        requires works { has_failed self.old.connector.session ≡ false }
+        requires unread { last_read_of self.old.connector.session ≡ None }
+        requires least { self.old.connector.schema.least ≤ count_of bytes.now }
+        requires greatest { count_of bytes.now ≤ self.old.connector.schema.greatest }
+        ensures fits { Fits self.new (L.world lib.new) u }
+        ensures schema { self.new.connector.schema ≡ self.old.connector.schema }
+        ensures step { (area : List ℕ) → (session : Session) → self.old.connector.session ≡ Some (unread session)
+            → Believed L.is_honest L.IsShownTruly L.world u lib.old lib.new
+            (Changes Write (stored bytes.now (state_of self.old (L.world lib.old) u area) session)
+            (state_of self.old (L.world lib.old) u area)
+            result (state_of self.new (L.world lib.new) u area)) }
+        ensures standing { Believed L.is_honest L.IsShownTruly L.world u lib.old lib.new
+            ((IsTrue (is_sequential self.old.connector.access)
+            → is_not_above (prime_of self.old.connector.schema bytes.now)
+            (highest_of self.old.connector.schema (file_at (L.world lib.old) u).rows) ≡ false) → IsStanding self.old (L.world lib.old) u
+            → IsStanding self.new (L.world lib.new) u) }
+        ensures only { OnlyAt u (L.world lib.old) (L.world lib.new) }
+        ensures cause { HasCause result false (L.fault_count lib.old) (L.fault_count lib.new) }
+        ensures keeps { Keeps L.is_honest L.IsShownTruly L.fault_count lib.old lib.new }
+    {
+        match lib.add(u, bytes) {
+            Ok(Added::Done { repeated }) => {
+                self.note_stored(bytes);
+                status_by(repeated)
+            }
+            Ok(Added::Clash) => Status::DuplicateKey,
+            Err(Fault::Full) => Status::BoundaryViolation,
+            Err(fault) => self.fail(fault),
+        }
+    }
+
+    /// Takes note of a record that was added: in sequential access its prime value is the greatest.
+    fn note_stored(&mut self, bytes: &[u8])
+        requires { 0 < count_of self.old.connector.schema.keys }
+        ensures { self.new ≡ held_after_store self.old (prime_of self.old.connector.schema bytes.now) }
+    {
+        let sequential = is_sequential(self.access);
+        if sequential {
+            self.highest = Some(Some(self.value(bytes, 0)));
+        } else {
+            self.highest = None;
+        }
+    }
+}
