@@ -1,3 +1,16 @@
+pub mod OutputLemmas
+pub mod CleanLemmas
+pub mod RunLaws
+pub mod DigitLemmas
+pub mod FrameLemmas
+pub mod LengthLemmas
+pub mod VerbLemmas
+pub mod StateLemmas
+pub mod MoveLemmas
+pub mod ToldLemmas
+pub mod StepLemmas
+pub mod CloseLemmas
+pub mod StartLemmas
 pub mod Decks
 pub mod Customers
 pub mod ReadingCases

@@ -1,0 +1,63 @@
+use Rattle.std.proofs.Common.{◌≡◌, ◌<◌, ◌+◌, ◌++◌, length, arith}
+use Rattle.deck_runner.specs.Steps.{ClosesAt, Closes, ClosesInPart}
+use Rattle.deck_runner.specs.State.{state, run_in, IsTrustedIn, WhereTrue}
+use Rattle.deck_runner.proofs.StateLemmas.{goes_then}
+use Rattle.deck_runner.proofs.CloseLemmas.{AreClosed, one_closed, all_closed, closed_in_part, as_many_files}
+use Rattle.deck_runner.proofs.ToldLemmas.{told_then, told_as, part_then}
+use Rattle.deck_runner.proofs.closes.close_all.Goals as goal
+
+pub returns-in-Err-clause-refused : goal.returns-in-Err-clause-refused
+returns-in-Err-clause-refused g c =
+    let world = g.L.Library.world in
+    let first = state c.args.library.now c.args.files.now c.args.items.now in
+    let now = state c.loop-u.library c.loop-u.files c.loop-u.items in
+    let next = state c.close_file.new.library c.close_file.new.files c.close_file.new.items in
+    let before = c.loop-u.invariant in
+    let goes = c.close_file.ensures.goes in
+    let many = as_many_files (world c.args.library.now) 0 c.args.files.now in
+    let within : c.loop-u.u < length (run_in world first).files = omega arith in
+    part_then (g.W.Write.contents c.args.out.now) (g.W.Write.contents c.loop-u.out) (g.W.Write.contents c.close_file.new.out) c.loop-u.end
+    (λ lines. WhereTrue g.L.Library.is_honest (IsTrustedIn g.L.Library.IsShownTruly world first) now.library (AreClosed (run_in world first) c.loop-u.u lines (run_in world now)))
+    (λ lines. WhereTrue g.L.Library.is_honest (IsTrustedIn g.L.Library.IsShownTruly world now) next.library (ClosesAt c.loop-u.u (run_in world now) lines (run_in world next)))
+    (λ lines. WhereTrue g.L.Library.is_honest (IsTrustedIn g.L.Library.IsShownTruly world first) next.library (ClosesInPart (run_in world first) lines (run_in world next)))
+    before.told c.in-Err.ensures.refused
+    (λ xs ys p q honest trusted.
+    closed_in_part (run_in world first) (run_in world next) (c.loop-u.u + 1) (xs ++ ys)
+    (one_closed (run_in world first) (run_in world now) (run_in world next) c.loop-u.u xs ys within
+    (p (goes.keeps.honest honest) trusted) (q honest (before.goes.trusted (goes.keeps.honest honest) trusted))))
+
+pub loop-u-preserved : goal.loop-u-preserved
+loop-u-preserved g c =
+    let world = g.L.Library.world in
+    let first = state c.args.library.now c.args.files.now c.args.items.now in
+    let now = state c.loop-u.library c.loop-u.files c.loop-u.items in
+    let next = state c.close_file.new.library c.close_file.new.files c.close_file.new.items in
+    let before = c.loop-u.invariant in
+    let goes = c.close_file.ensures.goes in
+    let many = as_many_files (world c.args.library.now) 0 c.args.files.now in
+    let within : c.loop-u.u < length (run_in world first).files = omega arith in
+    record {
+      goes = goes_then g.L.Library.is_honest g.L.Library.IsShownTruly g.L.Library.fault_count world first now next before.goes goes;
+      few = let few = before.few in let one = c.in-Ok.ensures.one in rw c.followed_by-end.ensures (omega arith);
+      told = told_then (g.W.Write.contents c.args.out.now) (g.W.Write.contents c.loop-u.out) (g.W.Write.contents c.close_file.new.out) c.loop-u.end c.in-Ok.more c.followed_by-end.result
+          (λ lines. WhereTrue g.L.Library.is_honest (IsTrustedIn g.L.Library.IsShownTruly world first) now.library (AreClosed (run_in world first) c.loop-u.u lines (run_in world now)))
+          (λ lines. WhereTrue g.L.Library.is_honest (IsTrustedIn g.L.Library.IsShownTruly world now) next.library (ClosesAt c.loop-u.u (run_in world now) lines (run_in world next)))
+          (λ lines. WhereTrue g.L.Library.is_honest (IsTrustedIn g.L.Library.IsShownTruly world first) next.library (AreClosed (run_in world first) (c.loop-u.u + 1) lines (run_in world next)))
+          before.told c.in-Ok.ensures.done c.followed_by-end.ensures
+          (λ xs ys p q honest trusted.
+          one_closed (run_in world first) (run_in world now) (run_in world next) c.loop-u.u xs ys within
+          (p (goes.keeps.honest honest) trusted) (q honest (before.goes.trusted (goes.keeps.honest honest) trusted)));
+    }
+
+pub returns-clause-done : goal.returns-clause-done
+returns-clause-done g c =
+    let world = g.L.Library.world in
+    let first = state c.args.library.now c.args.files.now c.args.items.now in
+    let now = state c.loop-u.library c.loop-u.files c.loop-u.items in
+    let many = as_many_files (world c.args.library.now) 0 c.args.files.now in
+    let at_end : c.loop-u.u ≡ length (run_in world first).files = omega arith in
+    told_as (g.W.Write.contents c.args.out.now) (g.W.Write.contents c.loop-u.out) c.loop-u.end
+    (λ lines. WhereTrue g.L.Library.is_honest (IsTrustedIn g.L.Library.IsShownTruly world first) now.library (AreClosed (run_in world first) c.loop-u.u lines (run_in world now)))
+    (λ lines. WhereTrue g.L.Library.is_honest (IsTrustedIn g.L.Library.IsShownTruly world first) now.library (Closes (run_in world first) lines (run_in world now)))
+    c.loop-u.invariant.told
+    (λ lines p honest trusted. all_closed (run_in world first) (run_in world now) c.loop-u.u lines at_end (p honest trusted))

@@ -1,0 +1,108 @@
+-- A run as steps: each statement answers and leaves what it should, or a fault has marred it. All of this is ours.
+use Rattle.std.specs.Prelude.{◌≡◌, ℕ, suc, true, false, List, [], ◌∷◌, ◌++◌, slice_get, Option, Some, None, ◌⊎◌, if◌then◌else◌}
+use Rattle.std.specs.List.{list_all}
+use Rattle.verbs.specs.Connector.{Outcome}
+use Rattle.verbs.specs.declared.statement.FileStatement.{FileStatement}
+use Rattle.verbs.specs.declared.statement.FileStatement.TheVariants.{Close}
+use Rattle.verbs.specs.Marred.{Step}
+use Rattle.procedure_division.specs.declared.statement.Statement.{Statement}
+use Rattle.procedure_division.specs.declared.statement.Statement.TheVariants.{Perform, Move, MoveLength, StopRun}
+use Rattle.deck_runner.specs.Line.{Line, is_clean}
+use Rattle.deck_runner.specs.Run.{RunFile, Run, change_at, record_length, items_after_read, after, is_stop, is_still_open, lines_of_run, after_run}
+
+-- ---- a statement
+
+-- the line of a statement on a file
+abbrev pub line_by : FileStatement → RunFile → Outcome → Line
+line_by statement file outcome =
+    record { statement = statement; name = file.name; status = outcome.status; delivered = outcome.delivered }
+
+-- a file after a statement
+abbrev pub left_by : Outcome → RunFile → RunFile
+left_by outcome file = record file { state = outcome.next }
+
+-- the run after a statement on the file of a place, with what it left
+abbrev pub run_by : ℕ → Option ℕ → Outcome → Run → Run
+run_by u depends_on outcome run = record {
+  files = change_at u (left_by outcome) run.files;
+  items = items_after_read depends_on outcome.delivered run.items;
+}
+
+-- a statement on the file of a place: a step of that file, which has a line. All other files are as they were
+abbrev pub IsStepOn : FileStatement → ℕ → Option RunFile → Run → List Line → Run → Type 0
+IsStepOn statement u None run lines next = (lines ≡ []) × (next ≡ run)
+IsStepOn statement u (Some file) run lines next =
+    (outcome : Outcome) × Step statement (record_length run.items file file.depends_on) file.state outcome
+    × (lines ≡ line_by statement file outcome ∷ []) × (next ≡ run_by u file.depends_on outcome run)
+
+-- a statement with its lines: a MOVE has none, and no fault mars it
+abbrev pub IsStep : Statement → Run → List Line → Run → Type 0
+IsStep (Perform u statement) run lines next = IsStepOn statement u (slice_get run.files u) run lines next
+IsStep (Move u field source) run lines next = (lines ≡ []) × (next ≡ after (Move u field source) run)
+IsStep (MoveLength i source) run lines next = (lines ≡ []) × (next ≡ after (MoveLength i source) run)
+IsStep StopRun run lines next = (lines ≡ []) × (next ≡ run)
+
+-- statements one after another, with their lines
+abbrev pub AreSteps : List Statement → Run → List Line → Run → Type 0
+AreSteps [] run lines next = (lines ≡ []) × (next ≡ run)
+AreSteps (statement ∷ rest) run lines next =
+    (first : List Line) × (between : Run) × (others : List Line)
+    × IsStep statement run first between × AreSteps rest between others next × (lines ≡ first ++ others)
+
+-- ---- a run
+
+-- the statements up to STOP RUN
+abbrev pub until_stop : List Statement → List Statement
+until_stop [] = []
+until_stop (statement ∷ rest) = if is_stop statement then [] else statement ∷ until_stop rest
+
+-- the close of the file of a place, if it is still open
+abbrev pub close_of : ℕ → RunFile → List Statement
+close_of u file = if is_still_open file then Perform u (Close false) ∷ [] else []
+
+abbrev pub close_at : ℕ → Option RunFile → List Statement
+close_at u None = []
+close_at u (Some file) = close_of u file
+
+-- the closes of the files still open, of which the first has this place
+abbrev pub closes_from : ℕ → List RunFile → List Statement
+closes_from u [] = []
+closes_from u (file ∷ files) = close_of u file ++ closes_from (suc u) files
+
+-- the close of the file of a place, if it is still open
+abbrev pub ClosesAt : ℕ → Run → List Line → Run → Type 0
+ClosesAt u run lines next = AreSteps (close_at u (slice_get run.files u)) run lines next
+
+-- all of the closes
+abbrev pub Closes : Run → List Line → Run → Type 0
+Closes run lines next = AreSteps (closes_from 0 run.files) run lines next
+
+-- a whole run: the statements up to STOP RUN, and then the closes of the files that are open there
+abbrev pub IsRun : List Statement → Run → List Line → Run → Type 0
+IsRun statements run lines next =
+    (stopped : Run) × (first : List Line) × (others : List Line)
+    × AreSteps (until_stop statements) run first stopped × Closes stopped others next × (lines ≡ first ++ others)
+
+-- some of the statements, from the first on, one after another
+abbrev pub AreStepsInPart : List Statement → Run → List Line → Run → Type 0
+AreStepsInPart statements run lines next =
+    (done : List Statement) × (rest : List Statement) × (statements ≡ done ++ rest) × AreSteps done run lines next
+
+-- some of the closes
+abbrev pub ClosesInPart : Run → List Line → Run → Type 0
+ClosesInPart run lines next = AreStepsInPart (closes_from 0 run.files) run lines next
+
+-- a run that was broken off, before STOP RUN or among the closes
+abbrev pub IsBrokenOff : List Statement → Run → List Line → Run → Type 0
+IsBrokenOff statements run lines next =
+    AreStepsInPart (until_stop statements) run lines next
+    ⊎ ((stopped : Run) × (first : List Line) × (others : List Line)
+    × AreSteps (until_stop statements) run first stopped × ClosesInPart stopped others next × (lines ≡ first ++ others))
+
+-- ---- the law
+
+-- a run whose lines are all clean has the lines of the definition, and leaves what that leaves
+abbrev pub CleanRunsAreExact : Type 0
+CleanRunsAreExact =
+    (statements : List Statement) → (run : Run) → (lines : List Line) → (next : Run) → IsRun statements run lines next → list_all is_clean lines ≡ true
+    → (lines ≡ lines_of_run statements run) × (next ≡ after_run statements run)

@@ -1,0 +1,124 @@
+//! A file of a run.
+ghost use Rattle.std.specs.Prelude.{◌≡◌, ◌≤◌, ◌+◌, ℕ, List, length as count_of, IsTrue, is_some, option_map, IfSome};
+ghost use Rattle.indexed_file.specs.World.{OnlyAt, name_at};
+ghost use Rattle.indexed_file.specs.Calls.{Keeps};
+ghost use Rattle.verbs.specs.Held.{Performs, state_of, record_in};
+ghost use Rattle.verbs.specs.Fits.{Fits, IsStanding, HasCause};
+ghost use Rattle.verbs.specs.Fits.{HasOperands, closes_failed};
+ghost use Rattle.deck_runner.specs.Running.{schema_of, SameFile};
+ghost use Rattle.record_layout.specs.Area.{is_taken_by, moved, sent};
+
+use indexed_file::Library;
+use io_state::Name;
+use record_layout::{Field, Source, put};
+use std::marker::Model;
+use verbs::{Answer, Connector, FileStatement};
+
+/// A file of a run: its name, the place of the length item that its records depend on, its connector and its record area.
+#[derive(Drop)]
+pub struct RunningFile {
+    name: Name,
+    depends_on: Option<usize>,
+    connector: Connector,
+    area: Vec<u8>,
+}
+
+impl Model for RunningFile {
+    ghost use Rattle.deck_runner.specs.Running.{Running};
+
+    ghost Value = { Running };
+
+    ghost use Rattle.deck_runner.specs.RunningFields.{running_of, IsRunningFile};
+
+    ghost view = { running_of };
+
+    ghost invariant = { IsRunningFile };
+}
+
+impl RunningFile {
+    /// A file with this area, which is as long as the greatest record.
+    pub fn new(name: Name, depends_on: Option<usize>, connector: Connector, area: Vec<u8>) -> Self
+        requires area { count_of area.items ≡ connector.connector.schema.greatest }
+        requires short { count_of area.items ≤ 4000 }
+        ensures { result ≡ record { name = name.bytes; depends_on = depends_on; held = connector; area = area.items } }
+    {
+        RunningFile {
+            name,
+            depends_on,
+            connector,
+            area,
+        }
+    }
+
+    /// The file's name in the deck.
+    pub fn name(&self) -> &[u8]
+        ensures name { result.now ≡ self.now.name }
+        ensures short { count_of result.now ≤ 30 }
+    {
+        self.name.as_str().as_bytes()
+    }
+
+    /// The place of the length item that its records depend on.
+    pub fn depends_on(&self) -> Option<usize>
+        ensures { result ≡ self.now.depends_on }
+    {
+        self.depends_on
+    }
+
+    /// Whether its connector is open.
+    pub fn is_open(&self) -> bool
+        ensures { result ≡ is_some self.now.held.connector.session }
+    {
+        self.connector.is_open()
+    }
+
+    /// The greatest length of a record.
+    pub fn greatest(&self) -> u16
+        ensures greatest { result ≡ (schema_of self.now).greatest }
+        ensures limit { result ≤ 4000 }
+    {
+        self.area.len() as u16
+    }
+
+    /// The record of this length that a READ has delivered into the area.
+    pub fn delivered(&self, length: Option<u16>) -> Option<&[u8]>
+        ensures record { option_map (λ bytes. bytes.now) result ≡ record_in self.now.area «length» }
+        ensures short { IfSome result (λ bytes. count_of bytes.now ≤ 4000) }
+    {
+        let length = length?;
+        Some(&self.area[..usize::from(length).min(self.area.len())])
+    }
+
+    /// Performs a statement on the file, which is that of unit u of the library.
+    pub fn perform<L: Library>(
+        &mut self,
+        library: &mut L,
+        u: usize,
+        statement: &FileStatement,
+        length: u16,
+    ) -> Answer
+        requires fits { Fits self.old.held (L.world library.old) u }
+        requires key { HasOperands (schema_of self.old) statement.now }
+        ensures fits { Fits self.new.held (L.world library.new) u }
+        ensures step { IsTrue (L.is_honest library.new) → L.IsShownTruly library.old (name_at (L.world library.old) u) → IsStanding self.old.held (L.world library.old) u →
+            Performs statement.now «length» (state_of self.old.held (L.world library.old) u self.old.area) result (state_of self.new.held (L.world library.new) u self.new.area) }
+        ensures standing { IsTrue (L.is_honest library.new) → L.IsShownTruly library.old (name_at (L.world library.old) u) → IsStanding self.old.held (L.world library.old) u → IsStanding self.new.held (L.world library.new) u }
+        ensures same { SameFile self.old self.new }
+        ensures limit { (schema_of self.old).greatest ≤ 4000 }
+        ensures only { OnlyAt u (L.world library.old) (L.world library.new) }
+        ensures cause { HasCause result.status (closes_failed statement.now self.old.held.connector.session) (L.fault_count library.old) (L.fault_count library.new) }
+        ensures keeps { Keeps L.is_honest L.IsShownTruly L.fault_count library.old library.new }
+    {
+        self.connector
+            .perform(library, u, statement, length, &mut self.area)
+    }
+
+    /// MOVE to an item of the record.
+    pub fn put(&mut self, field: Field, source: &Source<&[u8]>)
+        requires within { field.offset + field.length ≤ (schema_of self.old).greatest }
+        requires taken { IsTrue (is_taken_by field.numeric (sent source.now)) }
+        ensures { self.new ≡ record self.old { area = moved field (sent source.now) self.old.area } }
+    {
+        put(&mut self.area, field, source);
+    }
+}

@@ -1,0 +1,82 @@
+//! An input-output statement on a file of the run.
+ghost use Rattle.std.specs.Prelude.{◌≡◌, ◌≤◌, ◌<◌, ℕ, List, [], ◌∷◌, length, map, min, not, slice_get, IsTrue, option_map};
+ghost use Rattle.verbs.specs.Faults.{is_unclean};
+ghost use Rattle.verbs.specs.Fits.{HasOperands};
+ghost use Rattle.procedure_division.specs.declared.statement.Statement.TheVariants.{Perform as PerformStatement};
+ghost use Rattle.deck_runner.specs.Line.{Line, text_of, is_clean};
+ghost use Rattle.deck_runner.specs.Run.{items_after_read};
+ghost use Rattle.deck_runner.specs.Steps.{IsStep};
+ghost use Rattle.deck_runner.specs.Running.{IsPlace, schema_of, length_for};
+ghost use Rattle.deck_runner.specs.State.{state, IsSafeIn, GoesOn, Leads};
+ghost use Rattle.deck_runner.specs.Conditions.{OfFile};
+
+use crate::length_item::LengthItem;
+use crate::line::{LineText, make_line};
+use crate::running_file::RunningFile;
+use indexed_file::Library;
+use io_state::Status;
+use verbs::FileStatement;
+
+/// One more than any record of a file has.
+const PAST_ALL_RECORDS: u64 = 65_535;
+
+/// Whether no fault stands in the line of a statement.
+fn is_clean(statement: &FileStatement, status: Status) -> bool
+    ensures { result ≡ not (is_unclean statement.now status) }
+{
+    match status {
+        Status::BoundaryViolation
+        | Status::PermanentError
+        | Status::OutOfMemory
+        | Status::ConnectorFailed => false,
+        Status::Damaged => matches!(statement, FileStatement::Open(_)),
+        _ => true,
+    }
+}
+
+/// The length that WRITE and REWRITE give a record of the file; one that is too long for any file is cut.
+fn record_length(items: &[LengthItem], file: &RunningFile) -> u16
+    requires { IsPlace (length items.now) file.now.depends_on }
+    ensures { result ≡ min (length_for items.now (schema_of file.now) file.now.depends_on) 65535 }
+{
+    match file.depends_on() {
+        None => file.greatest(),
+        Some(item) => items[item].value().min(PAST_ALL_RECORDS) as u16,
+    }
+}
+
+/// Moves the length of a record that was delivered to the item that the file depends on.
+fn note_length(items: &mut [LengthItem], depends_on: Option<usize>, delivered: Option<&[u8]>)
+    requires { IsPlace (length items.old) depends_on }
+    ensures { items.new ≡ items_after_read depends_on (option_map (λ bytes. bytes.now) delivered.entry) items.old }
+{
+    if let (Some(item), Some(bytes)) = (depends_on, delivered) {
+        items[item].note(bytes.len());
+    }
+}
+
+/// Performs a statement on the file of a place, which is that of the library's unit of that number, and makes its line. Tells
+/// whether the line is clean.
+pub fn perform_on<L: Library>(
+    files: &mut [RunningFile],
+    items: &mut [LengthItem],
+    u: usize,
+    statement: &FileStatement,
+    library: &mut L,
+    line: &mut LineText,
+) -> bool
+    requires safe { IsSafeIn L.world (state library.old files.old items.old) }
+    requires statement { OfFile (slice_get (map schema_of files.old) u) (λ schema. HasOperands schema statement.now) }
+    ensures goes { GoesOn L.is_honest L.IsShownTruly L.fault_count L.world (state library.old files.old items.old) (state library.new files.new items.new) }
+    ensures line { (shown : Line) × (line.new.items ≡ text_of shown) × (result ≡ is_clean shown)
+        × Leads L.is_honest L.IsShownTruly L.world (state library.old files.old items.old) (state library.new files.new items.new)
+        (IsStep (PerformStatement u statement.now)) (shown ∷ []) }
+{
+    let file = &mut files[u];
+    let length = record_length(items, file);
+    let answer = file.perform(library, u, statement, length);
+    let delivered = file.delivered(answer.length);
+    make_line(line, statement, file.name(), answer.status, delivered);
+    note_length(items, file.depends_on(), delivered);
+    is_clean(statement, answer.status)
+}

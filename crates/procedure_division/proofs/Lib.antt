@@ -1,0 +1,5 @@
+pub mod FollowLaws
+pub mod ProcedureLaws
+pub mod JoinLaws
+pub mod GivesLaws
+pub mod AllowedLaws

@@ -1,0 +1,5 @@
+pub mod Names
+pub mod Following
+pub mod StatementRules
+pub mod Procedure
+pub mod Allowed

@@ -1,0 +1,81 @@
+-- What the procedure knows of the deck's descriptions, and what its names stand for. Data names are unique in a deck.
+use Rattle.std.specs.Prelude.{ℕ, List, bytes_eq, position, slice_get, Option, is_some, option_map, option_and_then}
+use Rattle.std.specs.Option.{option_map_or}
+use Rattle.io_state.specs.declared.modes.Access.{Access}
+use Rattle.io_state.specs.declared.modes.Access.TheVariants.{Sequential}
+use Rattle.record_layout.specs.declared.item.Field.{Field}
+use Rattle.record_layout.specs.Layout.{Placed, is_named, field_of}
+use Rattle.record_layout.specs.Schema.{Schema, key_at, key_of_field, key_led_by}
+
+-- a file: its name, its access mode, the name of its record's 01 entry, if it has one, the items of the record, and its keys
+pub record NamedFile : Type 0 where
+  pub name : List ℕ
+  pub access : Access
+  pub record_name : Option (List ℕ)
+  pub layout : List Placed
+  pub schema : Schema
+
+-- a 77-level item of so many digits
+pub record NamedItem : Type 0 where
+  pub name : List ℕ
+  pub digits : ℕ
+
+-- the files in the order of their SELECT entries, and the 77-level items in the order of theirs
+pub record Names : Type 0 where
+  pub files : List NamedFile
+  pub items : List NamedItem
+
+abbrev pub named_file : List ℕ → Access → Option (List ℕ) → List Placed → Schema → NamedFile
+named_file name access record_name layout schema =
+    record { name = name; access = access; record_name = record_name; layout = layout; schema = schema }
+
+abbrev pub named_item : List ℕ → ℕ → NamedItem
+named_item name digits = record { name = name; digits = digits }
+
+abbrev pub names_of : List NamedFile → List NamedItem → Names
+names_of files items = record { files = files; items = items }
+
+-- ---- names
+
+-- the place of the file of this name
+abbrev pub file_of : Names → List ℕ → Option ℕ
+file_of names name = position (λ file. bytes_eq file.name name) names.files
+
+-- the place of the file whose record has this name
+abbrev pub record_of : Names → List ℕ → Option ℕ
+record_of names name = position (λ file. is_named name file.record_name) names.files
+
+-- the item of this name in the record of the file of a place; the record itself is one
+abbrev pub item_in : Names → ℕ → List ℕ → Option Field
+item_in names u name = option_and_then (λ file. field_of file.layout name) (slice_get names.files u)
+
+-- the place of the file whose record has an item of this name
+abbrev pub holder_of : Names → List ℕ → Option ℕ
+holder_of names name = position (λ file. is_some (field_of file.layout name)) names.files
+
+-- the same, and the item
+abbrev pub item_of : Names → List ℕ → Option (ℕ × Field)
+item_of names name =
+    option_and_then (λ u. option_map {U = ℕ × Field} (λ field. (u, field)) (item_in names u name)) (holder_of names name)
+
+-- the place of the 77-level item of this name
+abbrev pub length_item_of : Names → List ℕ → Option ℕ
+length_item_of names name = position (λ item. bytes_eq item.name name) names.items
+
+-- ---- the file of a place
+
+abbrev pub access_at : Names → ℕ → Access
+access_at names u = option_map_or (λ file. file.access) (slice_get names.files u) Sequential
+
+-- the length of its prime key
+abbrev pub prime_length : Names → ℕ → ℕ
+prime_length names u = option_map_or (λ file. (key_at file.schema 0).length) (slice_get names.files u) 0
+
+-- the key of the file that the item is
+abbrev pub key_of : Names → ℕ → Field → Option ℕ
+key_of names u field = option_and_then (λ file. key_of_field file.schema field) (slice_get names.files u)
+
+-- the key of the file that begins with the item, and the item's length
+abbrev pub led_key_of : Names → ℕ → Field → Option (ℕ × ℕ)
+led_key_of names u field =
+    option_and_then (λ file. option_map {U = ℕ × ℕ} (λ k. (k, field.length)) (key_led_by file.schema field)) (slice_get names.files u)

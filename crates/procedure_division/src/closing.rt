@@ -1,0 +1,68 @@
+//! The CLOSE statement.
+ghost use Rattle.file_control.specs.Reading.{Reads};
+ghost use Rattle.procedure_division.specs.StatementRules.{Adds, some_of, lock, closed, close_statement};
+
+use crate::file_name::file;
+use crate::names::Names;
+use crate::statement::Statement;
+use crate::statement_list::StatementList;
+use file_control::{Parser, Refusal};
+use verbs::FileStatement;
+
+/// Whether a file is closed WITH LOCK.
+#[tactic(auto, unfolding(crate::specs::StatementRules::lock, file_control::specs::Notation::the))]
+fn lock(parser: &mut Parser<'_>) -> Result<bool, Refusal>
+    ensures { Reads (lock.reads parser.old) result parser.new }
+{
+    if parser.sees(b"WITH") || parser.sees(b"LOCK") {
+        parser.eat(b"WITH");
+        parser.expect(b"LOCK")?;
+        Ok(true)
+    } else {
+        Ok(false)
+    }
+}
+
+/// A file that is closed.
+#[tactic(auto, unfolding(crate::specs::StatementRules::closed))]
+fn closed(
+    parser: &mut Parser<'_>,
+    names: &Names,
+    statements: StatementList,
+) -> Result<StatementList, Refusal>
+    ensures { Adds (closed names.now) statements parser.old result parser.new }
+{
+    let file = file(parser, names)?;
+    let lock = lock(parser)?;
+    Ok(statements.with(Statement::Perform {
+        file,
+        statement: FileStatement::Close { lock },
+    })?)
+}
+
+/// The files that are closed, one or more.
+fn all_closed(
+    parser: &mut Parser<'_>,
+    names: &Names,
+    statements: StatementList,
+) -> Result<StatementList, Refusal>
+    ensures { Adds (some_of (closed names.now)) statements parser.old result parser.new }
+{
+    let mut statements = closed(parser, names, statements)?;
+    'more: while parser.sees_name() {
+        statements = closed(parser, names, statements)?;
+    }
+    Ok(statements)
+}
+
+#[tactic(auto, unfolding(crate::specs::StatementRules::close_statement), using(crate::proofs::JoinLaws::second_behind))]
+pub fn close_statement(
+    parser: &mut Parser<'_>,
+    names: &Names,
+    statements: StatementList,
+) -> Result<StatementList, Refusal>
+    ensures { Adds (close_statement names.now) statements parser.old result parser.new }
+{
+    parser.expect(b"CLOSE")?;
+    all_closed(parser, names, statements)
+}

@@ -1,0 +1,85 @@
+//! The procedure division.
+ghost use Rattle.std.specs.Prelude.{◌≡◌, ◌≢◌, [], List, All, IfOk, IfErr};
+ghost use Rattle.file_control.specs.Fault.{IsFault};
+ghost use Rattle.file_control.specs.Reading.{Reads};
+ghost use Rattle.file_control.specs.Rule.{onto};
+ghost use Rattle.file_control.specs.declared.word.Word.{Word};
+ghost use Rattle.procedure_division.specs.Allowed.{AreDescribed, IsAllowed};
+ghost use Rattle.procedure_division.specs.Names.{Names};
+ghost use Rattle.procedure_division.specs.StatementRules.{joined};
+ghost use Rattle.procedure_division.specs.Procedure.{paragraph_or_sentence, procedure};
+ghost use Rattle.procedure_division.specs.declared.statement.Statement.{Statement};
+
+use crate::names::Names;
+use crate::sentence::{paragraph_or_sentence, sees_sentence};
+use crate::statement_list::StatementList;
+use file_control::{DeckFault, Parser, Refusal, Word};
+use std::alloc::Global;
+
+/// Paragraphs and sentences up to a word with which none begins.
+fn all_sentences(
+    alloc: Global,
+    parser: &mut Parser<'_>,
+    names: &Names,
+) -> Result<StatementList, Refusal>
+    ensures { Reads ((onto joined [] (paragraph_or_sentence names.now)).reads parser.old) result parser.new }
+{
+    let mut statements = StatementList::new(alloc);
+    'more: while sees_sentence(parser) {
+        statements = paragraph_or_sentence(alloc, parser, names, statements)?;
+    }
+    Ok(statements)
+}
+
+#[tactic(auto, unfolding(crate::specs::Procedure::procedure))]
+fn procedure_division(
+    alloc: Global,
+    parser: &mut Parser<'_>,
+    names: &Names,
+) -> Result<StatementList, Refusal>
+    ensures { Reads ((procedure names.now).reads parser.old) result parser.new }
+{
+    parser.expect(b"PROCEDURE")?;
+    parser.expect(b"DIVISION")?;
+    parser.period()?;
+    all_sentences(alloc, parser, names)
+}
+
+fn read_procedure(alloc: Global, names: &Names, words: &[Word]) -> Result<StatementList, Refusal>
+    ensures statements { IfOk result (λ list. (procedure names.now).Spells list words.now []) }
+    ensures fault { IfErr result (λ refusal. IsFault refusal →
+        (statements : List Statement) → (procedure names.now).Spells statements words.now [] → ⊥) }
+{
+    let mut parser = Parser::new(words);
+    let statements = procedure_division(alloc, &mut parser, names)?;
+    parser.end()?;
+    Ok(statements)
+}
+
+/// The statements that the words are, all of them, from PROCEDURE on, or the first fault: code 2 for a word with which no
+/// procedure goes on, and at the last line where words are missing; 3 for a file, a record or an item that is none; 5 for what is
+/// not allowed; 6 for a number of more than 18 digits; or code 8.
+pub fn procedure(alloc: Global, names: &Names, words: &[Word]) -> Result<StatementList, DeckFault>
+    ensures statements { IfOk result (λ list. (procedure names.now).Spells list words.now []) }
+    ensures fault { IfErr result (λ fault. fault.code ≢ 8 →
+        (statements : List Statement) → (procedure names.now).Spells statements words.now [] → ⊥) }
+{
+    Ok(read_procedure(alloc, names, words)?)
+}
+
+/// No words are two procedures.
+pub fn one_procedure()
+    ensures { (names : Names) (a b : List Statement) (words : List Word) →
+        (procedure names).Spells a words [] → (procedure names).Spells b words [] → a ≡ b }
+{}
+
+/// The statements of a procedure are for files, items and keys of the deck, and the access modes allow them.
+pub fn only_allowed()
+    ensures { (names : Names) (list : List Statement) (words : List Word) →
+        AreDescribed names → (procedure names).Spells list words [] → All (IsAllowed names) list }
+{}
+
+#[cfg(test)]
+mod customers;
+#[cfg(test)]
+mod tests;

@@ -1,0 +1,32 @@
+//! Names of files and of their records.
+ghost use Rattle.file_control.specs.Reading.{Reads};
+ghost use Rattle.procedure_division.specs.StatementRules.{file, record_name};
+
+use crate::names::Names;
+use file_control::{Cause, Parser, Refusal};
+
+/// The name of a file.
+#[tactic(auto, unfolding(crate::specs::StatementRules::file))]
+pub fn file(parser: &mut Parser<'_>, names: &Names) -> Result<usize, Refusal>
+    ensures { Reads ((file names.now).reads parser.old) result parser.new }
+{
+    let unknown = parser.fault(Cause::Unknown);
+    let name = parser.name_str()?;
+    match names.file(name) {
+        Some(file) => Ok(file),
+        None => Err(unknown),
+    }
+}
+
+/// The name of a file's record.
+#[tactic(auto, unfolding(crate::specs::StatementRules::record_name))]
+pub fn record_name(parser: &mut Parser<'_>, names: &Names) -> Result<usize, Refusal>
+    ensures { Reads ((record_name names.now).reads parser.old) result parser.new }
+{
+    let unknown = parser.fault(Cause::Unknown);
+    let name = parser.name_str()?;
+    match names.record(name) {
+        Some(file) => Ok(file),
+        None => Err(unknown),
+    }
+}

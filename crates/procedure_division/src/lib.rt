@@ -1,0 +1,25 @@
+//! The procedure division of a deck, read.
+//!
+//! `procedure` answers exactly the statements that the words of the procedure division spell, with the names of `Names`, or a
+//! fault. Each name is looked up, and each operand tested, at the word where it stands.
+//!
+//! Read statement for what a deck may say, specs/Names for what the names stand for, and specs/StatementRules for the grammar.
+#![tactic(auto)]
+
+mod closing;
+mod division;
+mod file_name;
+mod moving;
+mod names;
+mod opening;
+mod reading;
+mod sentence;
+mod starting;
+mod statement;
+mod statement_list;
+mod writing;
+
+pub use division::{one_procedure, only_allowed, procedure};
+pub use names::{NamedFile, NamedItem, Names};
+pub use statement::Statement;
+pub use statement_list::StatementList;

@@ -1,0 +1,149 @@
+//! The MOVE statement.
+ghost use Rattle.std.specs.Prelude.{◌≡◌, true, IfOk};
+ghost use Rattle.record_layout.specs.Area.{is_taken_by, sent};
+ghost use Rattle.file_control.specs.Reading.{Reads};
+ghost use Rattle.file_control.specs.Scanning.{map_result};
+ghost use Rattle.procedure_division.specs.StatementRules.{Adds, some_of, figure, source};
+ghost use Rattle.procedure_division.specs.StatementRules.{receiver, receivers, move_statement};
+
+use crate::names::Names;
+use crate::statement::Statement;
+use crate::statement_list::StatementList;
+use file_control::{Cause, Parser, Refusal};
+use record_layout::{Bytes, Figure, Source, takes};
+use std::alloc::{AllocError, Global};
+
+/// A figurative constant.
+#[tactic(auto, unfolding(crate::specs::StatementRules::figure, file_control::specs::Notation::the))]
+fn figure(parser: &mut Parser<'_>) -> Result<Figure, Refusal>
+    ensures { Reads (figure.reads parser.old) result parser.new }
+{
+    if parser.eat(b"SPACE") || parser.eat(b"SPACES") {
+        return Ok(Figure::Space);
+    }
+    if parser.eat(b"ZERO") || parser.eat(b"ZEROS") || parser.eat(b"ZEROES") {
+        return Ok(Figure::Zero);
+    }
+    if parser.eat(b"LOW-VALUE") || parser.eat(b"LOW-VALUES") {
+        return Ok(Figure::Low);
+    }
+    if parser.eat(b"HIGH-VALUE") {
+        return Ok(Figure::High);
+    }
+    parser.expect(b"HIGH-VALUES")?;
+    Ok(Figure::High)
+}
+
+#[tactic(auto, unfolding(crate::specs::StatementRules::source))]
+fn source<'a>(parser: &mut Parser<'a>) -> Result<Source<&'a [u8]>, Refusal>
+    ensures { Reads (source.reads parser.old) (map_result sent result) parser.new }
+{
+    if parser.sees_literal() {
+        let text = parser.literal_text()?;
+        return Ok(Source::Text(text));
+    }
+    if parser.sees_digits() {
+        let digits = parser.digits()?;
+        return Ok(Source::Digits(digits));
+    }
+    let figure = figure(parser)?;
+    Ok(Source::Fill(figure))
+}
+
+/// Whether a length item takes the source, as each numeric item does.
+fn is_numeric(source: &Source<&[u8]>) -> bool
+    ensures { result ≡ is_taken_by true (sent source.now) }
+{
+    matches!(source, Source::Digits(_) | Source::Fill(Figure::Zero))
+}
+
+/// A source with bytes of its own.
+fn copy_of(alloc: Global, source: &Source<&[u8]>) -> Result<Source<Bytes>, AllocError>
+    ensures { IfOk result (λ copy. copy ≡ sent source.now) }
+{
+    Ok(match source {
+        Source::Text(text) => Source::Text(Bytes::from_vec(Vec::from_slice(alloc, text)?)),
+        Source::Digits(digits) => Source::Digits(Bytes::from_vec(Vec::from_slice(alloc, digits)?)),
+        Source::Fill(figure) => Source::Fill(*figure),
+    })
+}
+
+/// An item that takes the source.
+#[tactic(auto, unfolding(crate::specs::StatementRules::receiver))]
+fn receiver(
+    alloc: Global,
+    parser: &mut Parser<'_>,
+    names: &Names,
+    source: &Source<&[u8]>,
+    statements: StatementList,
+) -> Result<StatementList, Refusal>
+    ensures { Adds (receiver names.now (sent source.now)) statements parser.old result parser.new }
+{
+    let unknown = parser.fault(Cause::Unknown);
+    let not_allowed = parser.fault(Cause::NotAllowed);
+    let name = parser.name_str()?;
+    if let Some((file, field)) = names.item(name) {
+        if !takes(field, source) {
+            return Err(not_allowed);
+        }
+        let source = copy_of(alloc, source)?;
+        return Ok(statements.with(Statement::Move {
+            file,
+            field,
+            source,
+        })?);
+    }
+    let Some(item) = names.length_item(name) else {
+        return Err(unknown);
+    };
+    if !is_numeric(source) {
+        return Err(not_allowed);
+    }
+    let source = copy_of(alloc, source)?;
+    Ok(statements.with(Statement::MoveLength { item, source })?)
+}
+
+/// The items that take the source, one or more.
+fn all_receivers(
+    alloc: Global,
+    parser: &mut Parser<'_>,
+    names: &Names,
+    source: &Source<&[u8]>,
+    statements: StatementList,
+) -> Result<StatementList, Refusal>
+    ensures { Adds (some_of (receiver names.now (sent source.now))) statements parser.old result parser.new }
+{
+    let mut statements = receiver(alloc, parser, names, source, statements)?;
+    'more: while parser.sees_name() {
+        statements = receiver(alloc, parser, names, source, statements)?;
+    }
+    Ok(statements)
+}
+
+#[tactic(auto, unfolding(crate::specs::StatementRules::receivers), using(crate::proofs::JoinLaws::second_behind))]
+fn receivers(
+    alloc: Global,
+    parser: &mut Parser<'_>,
+    names: &Names,
+    source: &Source<&[u8]>,
+    statements: StatementList,
+) -> Result<StatementList, Refusal>
+    ensures { Adds (receivers names.now (sent source.now)) statements parser.old result parser.new }
+{
+    parser.expect(b"TO")?;
+    all_receivers(alloc, parser, names, source, statements)
+}
+
+#[tactic(auto, unfolding(crate::specs::StatementRules::move_statement), using(crate::proofs::JoinLaws::follower_behind, crate::proofs::JoinLaws::second_behind))]
+pub fn move_statement(
+    alloc: Global,
+    parser: &mut Parser<'_>,
+    names: &Names,
+    statements: StatementList,
+) -> Result<StatementList, Refusal>
+    ensures { Adds (move_statement names.now) statements parser.old result parser.new }
+{
+    parser.expect(b"MOVE")?;
+    let source = source(parser)?;
+    receivers(alloc, parser, names, &source, statements)
+}

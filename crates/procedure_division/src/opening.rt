@@ -1,0 +1,111 @@
+//! The OPEN statement.
+ghost use Rattle.std.specs.Prelude.{◌≡◌};
+ghost use Rattle.file_control.specs.Class.{begins};
+ghost use Rattle.procedure_division.specs.Names.{Names};
+ghost use Rattle.procedure_division.specs.StatementRules.{Adds, some_of};
+ghost use Rattle.procedure_division.specs.StatementRules.{opened, opening, open_statement};
+
+use crate::names::Names;
+use crate::statement::Statement;
+use crate::statement_list::StatementList;
+use file_control::{Cause, Parser, Refusal};
+use io_state::{OpenMode, Verb, permits};
+use verbs::FileStatement;
+
+/// A file that is opened in a mode.
+#[tactic(auto, unfolding(crate::specs::StatementRules::opened))]
+fn opened(
+    parser: &mut Parser<'_>,
+    names: &Names,
+    mode: OpenMode,
+    statements: StatementList,
+) -> Result<StatementList, Refusal>
+    ensures { Adds (opened names.now mode) statements parser.old result parser.new }
+{
+    let unknown = parser.fault(Cause::Unknown);
+    let not_allowed = parser.fault(Cause::NotAllowed);
+    let name = parser.name_str()?;
+    let Some(file) = names.file(name) else {
+        return Err(unknown);
+    };
+    if !permits(names.access(file), mode, Verb::Open) {
+        return Err(not_allowed);
+    }
+    Ok(statements.with(Statement::Perform {
+        file,
+        statement: FileStatement::Open(mode),
+    })?)
+}
+
+/// The files that are opened in a mode, one or more.
+fn all_opened(
+    parser: &mut Parser<'_>,
+    names: &Names,
+    mode: OpenMode,
+    statements: StatementList,
+) -> Result<StatementList, Refusal>
+    ensures { Adds (some_of (opened names.now mode)) statements parser.old result parser.new }
+{
+    let mut statements = opened(parser, names, mode, statements)?;
+    'more: while parser.sees_name() {
+        statements = opened(parser, names, mode, statements)?;
+    }
+    Ok(statements)
+}
+
+/// A mode, and the files that are opened in it.
+#[tactic(auto, unfolding(crate::specs::StatementRules::opening, file_control::specs::Notation::the), using(crate::proofs::JoinLaws::second_behind))]
+fn opening(
+    parser: &mut Parser<'_>,
+    names: &Names,
+    statements: StatementList,
+) -> Result<StatementList, Refusal>
+    ensures { Adds (opening names.now) statements parser.old result parser.new }
+{
+    if parser.eat(b"INPUT") {
+        return all_opened(parser, names, OpenMode::Input, statements);
+    }
+    if parser.eat(b"OUTPUT") {
+        return all_opened(parser, names, OpenMode::Output, statements);
+    }
+    if parser.eat(b"I-O") {
+        return all_opened(parser, names, OpenMode::InputOutput, statements);
+    }
+    parser.expect(b"EXTEND")?;
+    all_opened(parser, names, OpenMode::Extend, statements)
+}
+
+/// Whether a mode is next.
+#[tactic(auto, unfolding(crate::specs::StatementRules::opening, file_control::specs::Notation::the))]
+fn sees_mode(parser: &Parser<'_>) -> bool
+    ensures { (known : Names) → result ≡ begins (opening known).starts parser.now }
+{
+    parser.sees_one_of(&[b"INPUT", b"OUTPUT", b"I-O", b"EXTEND"])
+}
+
+/// Modes and their files, one or more.
+fn all_openings(
+    parser: &mut Parser<'_>,
+    names: &Names,
+    statements: StatementList,
+) -> Result<StatementList, Refusal>
+    ensures { Adds (some_of (opening names.now)) statements parser.old result parser.new }
+{
+    let mut statements = opening(parser, names, statements)?;
+    'more: while sees_mode(parser) {
+        statements = opening(parser, names, statements)?;
+    }
+    Ok(statements)
+}
+
+#[tactic(auto, unfolding(crate::specs::StatementRules::open_statement), using(crate::proofs::JoinLaws::second_behind))]
+pub fn open_statement(
+    parser: &mut Parser<'_>,
+    names: &Names,
+    statements: StatementList,
+) -> Result<StatementList, Refusal>
+    ensures { Adds (open_statement names.now) statements parser.old result parser.new }
+{
+    parser.expect(b"OPEN")?;
+    all_openings(parser, names, statements)
+}

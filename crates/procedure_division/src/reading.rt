@@ -1,0 +1,122 @@
+//! The READ statement.
+ghost use Rattle.std.specs.Prelude.{◌≡◌};
+ghost use Rattle.file_control.specs.Reading.{Reads};
+ghost use Rattle.procedure_division.specs.StatementRules.{Adds, next, key, key_phrase, read_by};
+ghost use Rattle.procedure_division.specs.StatementRules.{read_operand, read_phrases, read_statement};
+
+use crate::file_name::file;
+use crate::names::Names;
+use crate::statement::Statement;
+use crate::statement_list::StatementList;
+use file_control::{Cause, Parser, Refusal};
+use io_state::Access;
+use verbs::FileStatement;
+
+/// Whether the READ is sequential: NEXT says so, and in sequential access it always is.
+#[tactic(auto, unfolding(crate::specs::StatementRules::next))]
+fn next(parser: &mut Parser<'_>, access: Access) -> Result<bool, Refusal>
+    ensures { Reads ((next access).reads parser.old) result parser.new }
+{
+    let not_allowed = parser.fault(Cause::NotAllowed);
+    if !parser.eat(b"NEXT") {
+        return Ok(access == Access::Sequential);
+    }
+    if access == Access::Random {
+        return Err(not_allowed);
+    }
+    Ok(true)
+}
+
+/// The name of an item of the file that is a key.
+#[tactic(auto, unfolding(crate::specs::StatementRules::key))]
+fn key(parser: &mut Parser<'_>, names: &Names, file: usize) -> Result<u8, Refusal>
+    ensures { Reads ((key names.now file).reads parser.old) result parser.new }
+{
+    let unknown = parser.fault(Cause::Unknown);
+    let not_allowed = parser.fault(Cause::NotAllowed);
+    let name = parser.name_str()?;
+    let Some(field) = names.item_in(file, name) else {
+        return Err(unknown);
+    };
+    match names.key(file, field) {
+        Some(key) => Ok(key),
+        None => Err(not_allowed),
+    }
+}
+
+fn read_by(sequential: bool, key: Option<u8>) -> FileStatement
+    ensures { result ≡ read_by sequential key }
+{
+    match key {
+        Some(key) => FileStatement::Read { key },
+        None if sequential => FileStatement::ReadNext,
+        None => FileStatement::Read { key: 0 },
+    }
+}
+
+/// The key that KEY says, which a sequential READ may not have.
+#[tactic(auto, unfolding(crate::specs::StatementRules::key_phrase, file_control::specs::Notation::the))]
+fn key_phrase(
+    parser: &mut Parser<'_>,
+    names: &Names,
+    file: usize,
+    sequential: bool,
+) -> Result<Option<u8>, Refusal>
+    ensures { Reads ((key_phrase names.now file sequential).reads parser.old) result parser.new }
+{
+    let not_allowed = parser.fault(Cause::NotAllowed);
+    if !parser.eat(b"KEY") {
+        return Ok(None);
+    }
+    if sequential {
+        return Err(not_allowed);
+    }
+    parser.eat(b"IS");
+    Ok(Some(key(parser, names, file)?))
+}
+
+/// The phrases behind NEXT.
+#[tactic(auto, unfolding(crate::specs::StatementRules::read_operand))]
+fn read_operand(
+    parser: &mut Parser<'_>,
+    names: &Names,
+    file: usize,
+    sequential: bool,
+    statements: StatementList,
+) -> Result<StatementList, Refusal>
+    ensures { Adds (read_operand names.now file sequential) statements parser.old result parser.new }
+{
+    parser.eat(b"RECORD");
+    let key = key_phrase(parser, names, file, sequential)?;
+    Ok(statements.with(Statement::Perform {
+        file,
+        statement: read_by(sequential, key),
+    })?)
+}
+
+/// The phrases behind the file's name.
+#[tactic(auto, unfolding(crate::specs::StatementRules::read_phrases), using(crate::proofs::JoinLaws::follower_behind))]
+fn read_phrases(
+    parser: &mut Parser<'_>,
+    names: &Names,
+    file: usize,
+    statements: StatementList,
+) -> Result<StatementList, Refusal>
+    ensures { Adds (read_phrases names.now file) statements parser.old result parser.new }
+{
+    let sequential = next(parser, names.access(file))?;
+    read_operand(parser, names, file, sequential, statements)
+}
+
+#[tactic(auto, unfolding(crate::specs::StatementRules::read_statement), using(crate::proofs::JoinLaws::follower_behind, crate::proofs::JoinLaws::second_behind))]
+pub fn read_statement(
+    parser: &mut Parser<'_>,
+    names: &Names,
+    statements: StatementList,
+) -> Result<StatementList, Refusal>
+    ensures { Adds (read_statement names.now) statements parser.old result parser.new }
+{
+    parser.expect(b"READ")?;
+    let file = file(parser, names)?;
+    read_phrases(parser, names, file, statements)
+}

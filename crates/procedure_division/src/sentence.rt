@@ -1,0 +1,142 @@
+//! Statements, sentences and paragraphs.
+ghost use Rattle.std.specs.Prelude.{◌≡◌, []};
+ghost use Rattle.file_control.specs.Class.{begins};
+ghost use Rattle.file_control.specs.Reading.{Reads};
+ghost use Rattle.file_control.specs.Scanning.{map_result};
+ghost use Rattle.procedure_division.specs.Names.{Names};
+ghost use Rattle.procedure_division.specs.StatementRules.{Adds, some_of, stop_statement};
+ghost use Rattle.procedure_division.specs.Procedure.{statement, sentence, paragraph, paragraph_or_sentence};
+
+use crate::closing::close_statement;
+use crate::moving::move_statement;
+use crate::names::Names;
+use crate::opening::open_statement;
+use crate::reading::read_statement;
+use crate::starting::start_statement;
+use crate::statement::Statement;
+use crate::statement_list::StatementList;
+use crate::writing::{delete_statement, rewrite_statement, write_statement};
+use file_control::{Parser, Refusal};
+use std::alloc::Global;
+
+#[tactic(auto, unfolding(crate::specs::StatementRules::stop_statement))]
+fn stop_statement(
+    parser: &mut Parser<'_>,
+    statements: StatementList,
+) -> Result<StatementList, Refusal>
+    ensures { Adds stop_statement statements parser.old result parser.new }
+{
+    parser.expect(b"STOP")?;
+    parser.expect(b"RUN")?;
+    Ok(statements.with(Statement::StopRun)?)
+}
+
+/// Whether a statement is next.
+#[tactic(auto, unfolding(crate::specs::Procedure::statement, crate::specs::StatementRules::open_statement, crate::specs::StatementRules::close_statement, crate::specs::StatementRules::read_statement, crate::specs::StatementRules::start_statement, crate::specs::StatementRules::write_statement, crate::specs::StatementRules::rewrite_statement, crate::specs::StatementRules::delete_statement, crate::specs::StatementRules::move_statement, crate::specs::StatementRules::stop_statement, file_control::specs::Notation::the))]
+fn sees_statement(parser: &Parser<'_>) -> bool
+    ensures { (known : Names) → result ≡ begins (statement known).starts parser.now }
+{
+    parser.sees_one_of(&[
+        b"OPEN", b"CLOSE", b"READ", b"START", b"WRITE", b"REWRITE", b"DELETE", b"MOVE", b"STOP",
+    ])
+}
+
+#[tactic(auto, unfolding(crate::specs::Procedure::statement, file_control::specs::Notation::the), using(crate::proofs::ProcedureLaws::open_starts, crate::proofs::ProcedureLaws::close_starts, crate::proofs::ProcedureLaws::read_starts, crate::proofs::ProcedureLaws::start_starts, crate::proofs::ProcedureLaws::write_starts, crate::proofs::ProcedureLaws::rewrite_starts, crate::proofs::ProcedureLaws::delete_starts, crate::proofs::ProcedureLaws::move_starts))]
+fn statement(
+    alloc: Global,
+    parser: &mut Parser<'_>,
+    names: &Names,
+    statements: StatementList,
+) -> Result<StatementList, Refusal>
+    ensures { Adds (statement names.now) statements parser.old result parser.new }
+{
+    if parser.sees(b"OPEN") {
+        return open_statement(parser, names, statements);
+    }
+    if parser.sees(b"CLOSE") {
+        return close_statement(parser, names, statements);
+    }
+    if parser.sees(b"READ") {
+        return read_statement(parser, names, statements);
+    }
+    if parser.sees(b"START") {
+        return start_statement(parser, names, statements);
+    }
+    if parser.sees(b"WRITE") {
+        return write_statement(parser, names, statements);
+    }
+    if parser.sees(b"REWRITE") {
+        return rewrite_statement(parser, names, statements);
+    }
+    if parser.sees(b"DELETE") {
+        return delete_statement(parser, names, statements);
+    }
+    if parser.sees(b"MOVE") {
+        return move_statement(alloc, parser, names, statements);
+    }
+    stop_statement(parser, statements)
+}
+
+/// Statements, one or more.
+fn all_statements(
+    alloc: Global,
+    parser: &mut Parser<'_>,
+    names: &Names,
+    statements: StatementList,
+) -> Result<StatementList, Refusal>
+    ensures { Adds (some_of (statement names.now)) statements parser.old result parser.new }
+{
+    let mut statements = statement(alloc, parser, names, statements)?;
+    'more: while sees_statement(parser) {
+        statements = statement(alloc, parser, names, statements)?;
+    }
+    Ok(statements)
+}
+
+#[tactic(auto, unfolding(crate::specs::Procedure::sentence))]
+fn sentence(
+    alloc: Global,
+    parser: &mut Parser<'_>,
+    names: &Names,
+    statements: StatementList,
+) -> Result<StatementList, Refusal>
+    ensures { Adds (sentence names.now) statements parser.old result parser.new }
+{
+    let statements = all_statements(alloc, parser, names, statements)?;
+    parser.period()?;
+    Ok(statements)
+}
+
+/// A paragraph's name, which has no effect.
+#[tactic(auto, unfolding(crate::specs::Procedure::paragraph))]
+fn paragraph(parser: &mut Parser<'_>) -> Result<(), Refusal>
+    ensures { Reads (paragraph.reads parser.old) (map_result (λ _. []) result) parser.new }
+{
+    parser.name_str()?;
+    parser.period()?;
+    Ok(())
+}
+
+#[tactic(auto, unfolding(crate::specs::Procedure::paragraph_or_sentence), using(crate::proofs::ProcedureLaws::paragraph_starts, crate::proofs::JoinLaws::nothing_behind))]
+pub fn paragraph_or_sentence(
+    alloc: Global,
+    parser: &mut Parser<'_>,
+    names: &Names,
+    statements: StatementList,
+) -> Result<StatementList, Refusal>
+    ensures { Adds (paragraph_or_sentence names.now) statements parser.old result parser.new }
+{
+    if parser.sees_name() {
+        paragraph(parser)?;
+        return Ok(statements);
+    }
+    sentence(alloc, parser, names, statements)
+}
+
+/// Whether a paragraph or a sentence is next.
+#[tactic(auto, unfolding(crate::specs::Procedure::paragraph_or_sentence, crate::specs::Procedure::paragraph, crate::specs::Procedure::sentence, file_control::specs::Notation::name))]
+pub fn sees_sentence(parser: &Parser<'_>) -> bool
+    ensures { (known : Names) → result ≡ begins (paragraph_or_sentence known).starts parser.now }
+{
+    parser.sees_name() || sees_statement(parser)
+}
