@@ -9,3 +9,5 @@ pub mod RepeatLaws
 pub mod TurnLaws
 pub mod EntryLaws
 pub mod OperandLaws
+pub mod RestLaws
+pub mod BehindLaws

@@ -146,3 +146,10 @@ module _ {S : Type 0} (next : S → Rule S) (starts goes_on : List Class) (alike
 
   pub no_first_in_turn : (s : S) (words : List Word) → (next s).reads words ≡ None → reads_in_turn next s words ≡ None
   no_first_in_turn s words e = ap (λ (o : Option (S × List Word)). option_and_then (λ (a : S × List Word). reads_further next a.0 a.1) o) e
+
+-- ---- what each turn keeps
+
+-- what is true at first, and stays so at each turn, is true at last
+pub kept_by_turns : {S : Type 0} (P : S → Type 0) (next : S → Rule S) → ((s u : S) (words middle : List Word) → P s → (next s).Spells u words middle → P u) → (s : S) (us : List S) (t : S) (words rest : List Word) → P s → SpellsTurns next s us t words rest → P t
+kept_by_turns P next keeps s [] t words rest p h = subst P h.0 p
+kept_by_turns P next keeps s (u ∷ us) t words rest p h = kept_by_turns P next keeps u us t h.0 rest (keeps s u words h.0 p h.1) h.2

@@ -1,5 +1,5 @@
 -- The faults of a deck, and what is told of them.
-use Rattle.std.specs.Prelude.{ℕ}
+use Rattle.std.specs.Prelude.{◌≡◌, ℕ}
 use Rattle.file_control.specs.declared.fault.Cause.{Cause}
 use Rattle.file_control.specs.declared.fault.Cause.TheVariants.{BadWord, Expected, Unknown, Twice, NotAllowed, Limit, Layout}
 use Rattle.file_control.specs.declared.fault.DeckFault.{DeckFault}
@@ -23,3 +23,7 @@ told (Fault line cause) = record { line = line; code = code_of cause }
 abbrev pub IsFault : Refusal → Type 0
 IsFault Memory = ⊥
 IsFault (Fault line cause) = Unit {0}
+
+-- the fault is told of a refusal
+abbrev pub IsTold : DeckFault → Type 0
+IsTold fault = (refusal : Refusal) × (fault ≡ told refusal)

@@ -1,7 +1,7 @@
 -- A file description is read as it is spelled: one word of look-ahead is enough.
-use Rattle.std.proofs.Common.{◌≡◌, true, refl, ℕ, List}
+use Rattle.std.proofs.Common.{◌≡◌, true, refl, List}
 use Rattle.file_control.specs.Name.{is_reserved}
-use Rattle.file_control.specs.Class.{numbers, levels, pictures}
+use Rattle.file_control.specs.Class.{numbers, levels}
 use Rattle.file_control.specs.Rule.{many}
 use Rattle.file_control.specs.Notation.{the, name, period}
 use Rattle.file_control.proofs.RuleLaws.{Lawful, lawful_one, lawful_as, lawful_turn, lawful_optional, lawful_either}

@@ -1,15 +1,15 @@
 -- The divisions are read as they are spelled.
-use Rattle.std.proofs.Common.{◌≡◌, ℕ, true, false, refl, List, []}
+use Rattle.std.proofs.Common.{◌≡◌, true, refl, List, []}
 use Rattle.file_control.specs.Name.{is_reserved}
 use Rattle.file_control.specs.Class.{this, levels}
 use Rattle.file_control.specs.Notation.{the, name, literal, period}
 use Rattle.file_control.specs.FileControlEntry.{indexed, mode, access, record_key, duplicates, alternate, status, clause, file_name, select_word, new_name, new_file_name, select_behind}
 use Rattle.file_control.specs.declared.entry.FileControlEntry.{FileControlEntry}
 use Rattle.file_control.proofs.RuleLaws.{Lawful, lawful_as}
-use Rattle.file_control.proofs.EntryLaws.{lawful_select_behind, select_behind_is_fit}
+use Rattle.file_control.proofs.EntryLaws.{lawful_select_behind}
 use Rattle.file_control.proofs.TurnLaws.{AreAlike, lawful_each}
 use Rattle.file_description.specs.FileDescription.{count, level, label, up_to, block, fixed, varying, length_clause, record_clause, description_clause, item_name, may_item_name, picture_clause, may_picture_clause, item, FileDescription, described_name, description_behind, storage_item}
-use Rattle.file_description.specs.Divisions.{heading, identification, may_identification, more_entry, entries, file_control_paragraph, more_description, descriptions, file_section, storage_items, storage_section, data_division}
+use Rattle.file_description.specs.Divisions.{identification, may_identification, more_entry, entries, file_control_paragraph, more_description, descriptions, file_section, storage_items, storage_section, data_division}
 use Rattle.std.specs.Prelude.{codes, ◌∷◌}
 use Rattle.file_description.proofs.DescriptionLaws.{steps, lawful_description_behind, lawful_storage_item}
 

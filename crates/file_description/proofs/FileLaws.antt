@@ -1,8 +1,7 @@
 -- What a file's checks say of it.
-use Rattle.std.proofs.Common.{◌≡◌, ℕ, ◌≤◌, ◌+◌, Bool, true, false, ◌&&◌, cond, eqb, leb, ltb, List, [], ◌∷◌, ◌++◌, length, map, Option, Some, None, refl, sym, ap, subst, ◌∙◌, arith}
+use Rattle.std.proofs.Common.{◌≡◌, ℕ, ◌≤◌, Bool, true, false, ◌&&◌, cond, eqb, leb, ltb, List, [], ◌∷◌, ◌++◌, length, map, Option, Some, None, refl, sym, ap, ◌∙◌, arith}
 use Rattle.std.specs.Prelude.{Result, Ok, Err, unwrap_or}
 use Rattle.std.specs.List.{list_all}
-use Rattle.std.proofs.lemmas.Bool.{false≢true}
 use Rattle.std.proofs.lemmas.Bool.Decides.{nat_tests}
 use Rattle.std.proofs.lemmas.Option.{same_Some}
 use Rattle.std.proofs.lemmas.List.Folds.{list_all-map}
@@ -10,7 +9,7 @@ use Rattle.record_layout.specs.declared.fault.SchemaFault.{SchemaFault}
 use Rattle.record_layout.specs.declared.item.Field.{Field}
 use Rattle.record_layout.specs.declared.schema.KeyPart.{KeyPart}
 use Rattle.record_layout.specs.Layout.{Entry, Placed, IsLayout, is_name_of, field_of}
-use Rattle.record_layout.specs.SchemaFault.{KeyClause, key_of_item, key_of_clause, where_a_key, keys_behind, keys_given, GivesSchema}
+use Rattle.record_layout.specs.SchemaFault.{KeyClause, key_of_item, key_of_clause, where_a_key, keys_behind, GivesSchema}
 use Rattle.record_layout.specs.Schema.{Schema}
 use Rattle.file_control.proofs.TestLaws.{both_true, both_are, then_some}
 use Rattle.file_control.specs.declared.entry.AlternateKey.{AlternateKey}
@@ -19,7 +18,7 @@ use Rattle.file_description.specs.declared.record_length.RecordLength.{RecordLen
 use Rattle.file_description.specs.declared.record_length.RecordLength.TheVariants.{Fixed, Varying}
 use Rattle.file_description.specs.FileDescription.{fits, fitted_text}
 use Rattle.file_description.specs.Description.{has_words, key_clause, least_length}
-use Rattle.file_description.specs.Checks.{are_keys_named, kept_text, kept_clause}
+use Rattle.file_description.specs.Checks.{are_keys_named, kept_clause}
 use Rattle.file_description.proofs.LayoutLaws.{no_field}
 
 -- ---- words that are kept whole

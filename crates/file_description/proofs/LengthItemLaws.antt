@@ -1,5 +1,5 @@
 -- Pictures of digits, and the items that have them.
-use Rattle.std.proofs.Common.{◌≡◌, ℕ, ◌≤◌, ◌<◌, Bool, true, false, List, Option, Some, None, sym, ap, subst, ◌∙◌}
+use Rattle.std.proofs.Common.{◌≡◌, ℕ, true, List, Option, Some, None, sym, subst, ◌∙◌}
 use Rattle.record_layout.specs.Picture.{Means}
 use Rattle.record_layout.proofs.PictureLemmas.{one_size}
 use Rattle.file_description.specs.declared.record_length.RecordLength.{RecordLength}

@@ -1,9 +1,15 @@
 pub mod NameLaws
 pub mod DescriptionLaws
 pub mod DivisionLaws
+pub mod DivisionRestLaws
 pub mod LengthItemLaws
 pub mod LayoutLaws
 pub mod FileLaws
 pub mod FilesLaws
 pub mod WholeLaws
 pub mod OneLaws
+pub mod EntriesLaws
+pub mod FileNameLaws
+pub mod PlaceLaws
+pub mod DigitsLaws
+pub mod DescribedLaws

@@ -1,8 +1,8 @@
 -- No words have two descriptions.
-use Rattle.std.proofs.Common.{◌≡◌, ℕ, zero, suc, ◌<◌, ◌-◌, true, false, List, [], ◌∷◌, ◌++◌, length, map, Option, Some, None, refl, sym, ap, subst, ◌∙◌, arith, get_or}
-use Rattle.std.specs.Prelude.{Result, Ok, Err, IsPermutation}
+use Rattle.std.proofs.Common.{◌≡◌, ℕ, zero, suc, ◌<◌, List, [], ◌∷◌, ◌++◌, length, drop, map, Option, Some, None, refl, sym, ap, subst, ◌∙◌, arith, get_or}
+use Rattle.std.specs.Prelude.{Result, Ok}
 use Rattle.std.specs.List.{Contains, AllPairs}
-use Rattle.std.proofs.lemmas.Option.{same_Some, some_pair_parts}
+use Rattle.std.proofs.lemmas.Option.{same_Some}
 use Rattle.std.proofs.lemmas.List.Sorted.{Contains-permutation, IsPermutation-sym}
 use Rattle.record_layout.specs.declared.schema.KeyPart.{KeyPart}
 use Rattle.record_layout.specs.declared.fault.SchemaFault.{SchemaFault}
@@ -16,12 +16,13 @@ use Rattle.file_description.specs.declared.divisions.Divisions.{Divisions}
 use Rattle.file_description.specs.declared.record_length.RecordLength.{RecordLength}
 use Rattle.file_description.specs.declared.record_length.RecordLength.TheVariants.{Fixed, Varying}
 use Rattle.file_description.specs.FileDescription.{FileDescription, StorageEntry}
-use Rattle.file_description.specs.Description.{FileDesc, LengthItem, IsFile, AreFiles, AreItems, DependsOn, description_of_file, with_names, least_length, key_clause}
+use Rattle.file_description.specs.Description.{FileDesc, LengthItem, IsFile, AreFiles, AreItems, DependsOn, with_names, least_length, key_clause}
 use Rattle.file_description.specs.Whole.{Describe, IsDescription}
 use Rattle.file_description.proofs.LayoutLaws.{one_layout}
 use Rattle.file_description.proofs.LengthItemLaws.{one_count}
 use Rattle.file_description.proofs.FilesLaws.{one_after}
 use Rattle.file_description.proofs.WholeLaws.{reads_complete, described}
+use Rattle.file_description.proofs.DivisionRestLaws.{same_count}
 
 -- ---- keys
 
@@ -133,11 +134,12 @@ one_items names (entry ∷ storage) (x ∷ a) (y ∷ b) h k =
 
 pub one_whole : (words : List Word) (a b : Description) → IsDescription words a → IsDescription words b → a ≡ b
 one_whole words a b h k =
-    let same = described h.0 k.0 words h.1 k.1 (reads_complete h.0 words h.1 h.2 h.3) k.2 k.3 in
+    let rest = drop a.words words in
+    let same = described h.0 k.0 words rest (drop b.words words) (reads_complete h.0 words rest h.2 h.3) k.2 k.3 in
     let divisions = h.0 in
     let other = subst (λ (d : Divisions). Describe d b.files b.items) same.0 k.4 in
     let files = one_files divisions.descriptions divisions.storage [] divisions.entries a.files b.files h.4.0 other.0 h.4.1 other.1 in
     let names = one_after divisions.descriptions divisions.storage [] divisions.entries a.files b.files h.4.0 other.0 h.4.1 other.1 in
     let items = one_items h.4.0 divisions.storage a.items b.items h.4.2 (subst (λ ns. AreItems ns divisions.storage b.items) names other.2) in
-    let count = h.5 ∙ sym (k.5 ∙ ap (λ (rest : List Word). length words - length rest) same.1) in
+    let count = same_count words a.words b.words h.1 k.1 (sym same.1) in
     λ j. record { files = files j; items = items j; words = count j }

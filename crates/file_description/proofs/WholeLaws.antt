@@ -1,11 +1,11 @@
 -- The divisions are read as they are spelled, where PROCEDURE stands behind them.
-use Rattle.std.proofs.Common.{◌≡◌, ℕ, true, false, List, [], ◌∷◌, ◌++◌, Option, Some, None, refl, sym, ap, subst, ◌∙◌, inl, inr}
+use Rattle.std.proofs.Common.{◌≡◌, true, false, List, [], ◌∷◌, drop, Option, Some, None, refl, sym, ap, subst, ◌∙◌, inl, inr}
 use Rattle.std.specs.Prelude.{codes}
 use Rattle.std.specs.Option.{option_map}
 use Rattle.std.proofs.lemmas.Bool.{false≢true}
 use Rattle.std.proofs.lemmas.Option.{some_pair_parts}
 use Rattle.file_control.specs.Name.{is_reserved}
-use Rattle.file_control.specs.Class.{Class, this, levels, begins, all_apart}
+use Rattle.file_control.specs.Class.{this, begins, all_apart}
 use Rattle.file_control.specs.Notation.{the, name, literal, period}
 use Rattle.file_control.specs.declared.entry.FileControlEntry.{FileControlEntry}
 use Rattle.file_control.specs.declared.word.Word.{Word}
@@ -64,16 +64,17 @@ described divisions others words rest behind e h ended = some_pair_parts others 
 -- where nothing is read, there is no description
 pub nothing_described : (words : List Word) → reads_divisions words ≡ None → (description : Description) → IsDescription words description → ⊥
 nothing_described words e description h =
-    let k : ◌≡◌ {A = Option (Divisions × List Word)} None (Some (h.0, h.1)) = sym e ∙ reads_complete h.0 words h.1 h.2 h.3 in cc
+    let rest = drop description.words words in
+    let k : ◌≡◌ {A = Option (Divisions × List Word)} None (Some (h.0, rest)) = sym e ∙ reads_complete h.0 words rest h.2 h.3 in cc
 
 -- nor where PROCEDURE does not follow
 pub no_end : (divisions : Divisions) (words rest : List Word) → reads_divisions words ≡ Some (divisions, rest) → begins (this (codes "PROCEDURE") ∷ []) rest ≡ false → (description : Description) → IsDescription words description → ⊥
 no_end divisions words rest e none description h =
-    let same = described divisions h.0 words rest h.1 e h.2 h.3 in
+    let same = described divisions h.0 words rest (drop description.words words) e h.2 h.3 in
     false≢true (sym none ∙ subst (λ ws. begins (this (codes "PROCEDURE") ∷ []) ws ≡ true) same.1 h.3)
 
 -- nor where the divisions describe nothing
 pub no_contents : (divisions : Divisions) (words rest : List Word) → reads_divisions words ≡ Some (divisions, rest) → ((files : List FileDesc) (items : List LengthItem) → Describe divisions files items → ⊥) → (description : Description) → IsDescription words description → ⊥
 no_contents divisions words rest e none description h =
-    let same = described divisions h.0 words rest h.1 e h.2 h.3 in
+    let same = described divisions h.0 words rest (drop description.words words) e h.2 h.3 in
     none description.files description.items (subst (λ d. Describe d description.files description.items) same.0 h.4)

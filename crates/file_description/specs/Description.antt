@@ -1,24 +1,20 @@
 -- The description of a deck: its files, in the order of their file control entries, and its 77-level items.
 -- ANSI X3.23-1985, Indexed I-O module, FILE-CONTROL entry, file description entry and RECORD clause. That data names are
 -- unique in a deck, and that a 77-level item is one of digits, is ours.
-use Rattle.std.specs.Prelude.{◌≡◌, ℕ, ◌-◌, ◌≤◌, ◌==◌, Bool, true, false, not, ◌&&◌, List, [], ◌∷◌, ◌++◌, length, map, nat_le, nat_lt, slice_get, position, if◌then◌else◌, codes, Option, Some, None}
+use Rattle.std.specs.Prelude.{◌≡◌, ℕ, ◌≤◌, ◌==◌, Bool, true, false, not, ◌&&◌, List, [], ◌∷◌, ◌++◌, map, nat_le, nat_lt, slice_get, position, if◌then◌else◌, Option, Some, None}
 use Rattle.std.specs.List.{list_all, list_any, find}
 use Rattle.std.specs.Str.{bytes_eq}
 use Rattle.io_state.specs.declared.modes.Access.{Access}
 use Rattle.record_layout.specs.declared.picture.Picture.{Picture}
 use Rattle.record_layout.specs.Picture.{IsPicture}
-use Rattle.record_layout.specs.Layout.{Entry, Placed, IsLayout, length_of, is_name_of}
+use Rattle.record_layout.specs.Layout.{Entry, Placed, IsLayout, length_of}
 use Rattle.record_layout.specs.Schema.{Schema, IsSchema}
 use Rattle.record_layout.specs.SchemaFault.{KeyClause, GivesSchema}
-use Rattle.file_control.specs.Class.{this, begins}
 use Rattle.file_control.specs.declared.entry.AlternateKey.{AlternateKey}
 use Rattle.file_control.specs.declared.entry.FileControlEntry.{FileControlEntry}
-use Rattle.file_control.specs.declared.word.Word.{Word}
 use Rattle.file_description.specs.declared.record_length.RecordLength.{RecordLength}
 use Rattle.file_description.specs.declared.record_length.RecordLength.TheVariants.{Fixed, Varying}
-use Rattle.file_description.specs.declared.divisions.Divisions.{Divisions}
 use Rattle.file_description.specs.FileDescription.{fits, FileDescription, StorageEntry}
-use Rattle.file_description.specs.Divisions.{SpellsDivisions}
 
 -- ---- data names
 

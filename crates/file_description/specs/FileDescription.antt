@@ -1,7 +1,7 @@
 -- File description entries, their items, and the items of the working storage.
 -- ANSI X3.23-1985, Indexed I-O module, file description entry, and Nucleus module, data description entry. Which clauses
 -- there are is ours.
-use Rattle.std.specs.Prelude.{ℕ, Bool, true, false, not, ◌&&◌, List, [], ◌∷◌, ◌++◌, length, nat_le, if◌then◌else◌, codes, Option, Some, None, option_map}
+use Rattle.std.specs.Prelude.{ℕ, Bool, true, false, not, ◌&&◌, List, [], ◌∷◌, ◌++◌, length, nat_le, if◌then◌else◌, codes, Option, Some, None}
 use Rattle.std.specs.Char.{is_ascii}
 use Rattle.std.specs.List.{list_all, list_any}
 use Rattle.std.specs.Str.{bytes_eq}

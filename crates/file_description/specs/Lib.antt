@@ -3,3 +3,4 @@ pub mod Divisions
 pub mod Description
 pub mod Checks
 pub mod Whole
+pub mod Described

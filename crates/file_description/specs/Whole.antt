@@ -1,6 +1,6 @@
 -- The whole description of a deck, as its words spell it.
 -- ANSI X3.23-1985, Nucleus module, environment and data divisions. That the description ends before the word PROCEDURE is ours.
-use Rattle.std.specs.Prelude.{◌≡◌, ℕ, ◌-◌, true, List, [], ◌∷◌, length, codes}
+use Rattle.std.specs.Prelude.{◌≡◌, ◌≤◌, ℕ, true, List, [], ◌∷◌, length, drop, codes}
 use Rattle.file_control.specs.Class.{this, begins}
 use Rattle.file_control.specs.declared.word.Word.{Word}
 use Rattle.file_description.specs.declared.description.Description.{Description}
@@ -17,6 +17,7 @@ Describe divisions files items =
 -- the words up to the word PROCEDURE, so many of them, are divisions that describe these files and items
 abbrev pub IsDescription : List Word → Description → Type 0
 IsDescription words description =
-    (divisions : Divisions) × (rest : List Word) × SpellsDivisions divisions words rest
-    × (begins (this (codes "PROCEDURE") ∷ []) rest ≡ true) × Describe divisions description.files description.items
-    × (description.words ≡ length words - length rest)
+    (divisions : Divisions) × (description.words ≤ length words)
+    × SpellsDivisions divisions words (drop description.words words)
+    × (begins (this (codes "PROCEDURE") ∷ []) (drop description.words words) ≡ true)
+    × Describe divisions description.files description.items

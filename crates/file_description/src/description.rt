@@ -1,10 +1,11 @@
 //! The description of a deck, read whole.
 ghost use Rattle.std.specs.Prelude.{◌≡◌, ◌≢◌, List, IfOk, IfErr};
-ghost use Rattle.file_control.specs.Fault.{IsFault};
+ghost use Rattle.file_control.specs.Fault.{IsFault, IsTold};
 ghost use Rattle.file_control.specs.declared.word.Word.{Word};
 ghost use Rattle.file_description.specs.declared.description.Description.{Description};
 ghost use Rattle.file_description.specs.Description.{FileDesc as File, LengthItem as Digits};
 ghost use Rattle.file_description.specs.Whole.{Describe, IsDescription};
+ghost use Rattle.file_description.specs.Described.{AreDescribed};
 
 use crate::data_names::DataNames;
 use crate::divisions::{Divisions, read_divisions};
@@ -74,9 +75,16 @@ pub fn read_description(alloc: Global, words: &[Word]) -> Result<Description, De
     ensures description { IfOk result (IsDescription words.now) }
     ensures none { IfErr result (λ fault. fault.code ≢ 8 →
         (description : Description) → IsDescription words.now description → ⊥) }
+    ensures told { IfErr result IsTold }
 {
     Ok(read(alloc, words)?)
 }
+
+/// The files and items of a description are what a run can rely on.
+pub fn are_described()
+    ensures { (words : List Word) (description : Description) → IsDescription words description →
+        AreDescribed description.files description.items }
+{}
 
 /// No words have two descriptions.
 pub fn one_description()

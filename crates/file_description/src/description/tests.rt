@@ -1,6 +1,6 @@
 //! Descriptions of decks, and faulty ones.
 
-use super::{Description, one_description, read_description};
+use super::{Description, are_described, one_description, read_description};
 use file_control::{DeckFault, words};
 use io_state::Access;
 use record_layout::{Field, KeyPart};
@@ -123,6 +123,7 @@ fn files_stand_in_the_order_of_their_entries(rt: HostRuntime) -> Result<(), Fail
     assert_eq!(rt; item.name.as_str(), "CUST-LEN");
     assert_eq!(rt; item.digits, 2);
     one_description();
+    are_described();
     Ok(())
 }
 

@@ -1,7 +1,7 @@
-use Rattle.std.proofs.Common.{◌≡◌, ◌∙◌, sym, subst, List, [], ℕ}
+use Rattle.std.proofs.Common.{sym, subst, List, []}
 use Rattle.std.proofs.lemmas.Result.{err_from_is_err_and}
 use Rattle.file_description.specs.FileDescription.{FileDescription, StorageEntry}
-use Rattle.file_description.specs.Description.{LengthItem, AreFiles, AreItems}
+use Rattle.file_description.specs.Description.{AreFiles, AreItems}
 use Rattle.file_description.proofs.FilesLaws.{one_after}
 use Rattle.file_description.proofs.description.contents_of.Goals as goal
 

@@ -1,13 +1,15 @@
-use Rattle.std.proofs.Common.{◌≡◌, ◌-◌, ◌∙◌, length, ap, sym, subst, List, [], ℕ, Option, None, Some}
+use Rattle.std.proofs.Common.{◌≡◌, ◌-◌, ◌∙◌, ◌∷◌, length, drop, ap, arith, sym, subst, [], Option, None}
 use Rattle.std.proofs.lemmas.Result.{err_from_is_err_and}
 use Rattle.file_control.specs.Fault.{IsFault}
 use Rattle.file_control.specs.Reading.{Refuses}
 use Rattle.file_control.specs.declared.fault.Refusal.{Refusal}
 use Rattle.file_control.specs.declared.fault.Refusal.TheVariants.{Memory, Fault}
-use Rattle.file_control.specs.declared.word.Word.{Word}
 use Rattle.file_description.specs.declared.description.Description.{Description}
 use Rattle.file_description.specs.Divisions.{SpellsDivisions}
 use Rattle.file_description.specs.Whole.{IsDescription}
+use Rattle.std.specs.Prelude.{codes}
+use Rattle.file_control.specs.Class.{this, begins}
+use Rattle.file_description.proofs.DivisionRestLaws.{rest_is}
 use Rattle.file_description.proofs.WholeLaws.{reads_sound, nothing_described, no_end, no_contents}
 use Rattle.file_description.proofs.description.read.Goals as goal
 
@@ -35,11 +37,13 @@ returns-in_err-contents-clause-none c =
 pub returns-clause-description : goal.returns-clause-description
 returns-clause-description c =
     let divisions = c.in_ok-divisions.divisions in
-    let rest = c.read_divisions.new.parser in (
+    let rest = c.read_divisions.new.parser in
+    let spelled = subst (λ words. SpellsDivisions divisions words rest) c.new-parser.ensures (reads_sound divisions c.new-parser.result rest c.in_ok-divisions.ensures) in
+    let count = c.saturating_sub.ensures ∙ ap (λ n. length c.args.words.now - n) c.left.ensures in
+    let left : drop c.saturating_sub.result c.args.words.now ≡ rest = ap (λ n. drop n c.args.words.now) count ∙ rest_is divisions c.args.words.now rest spelled in (
       divisions,
-      rest,
-      subst (λ words. SpellsDivisions divisions words rest) c.new-parser.ensures (reads_sound divisions c.new-parser.result rest c.in_ok-divisions.ensures),
-      sym c.sees.ensures ∙ c.if-not-sees.false,
+      omega (arith, count),
+      subst (λ ws. SpellsDivisions divisions c.args.words.now ws) (sym left) spelled,
+      ap (begins (this (codes "PROCEDURE") ∷ [])) left ∙ (sym c.sees.ensures ∙ c.if-not-sees.false),
       c.in_ok-contents.ensures.contents,
-      c.saturating_sub.ensures ∙ ap (λ n. length c.args.words.now - n) c.left.ensures,
     )

@@ -1,4 +1,4 @@
-use Rattle.std.proofs.Common.{◌≡◌, ◌≢◌, ap}
+use Rattle.std.proofs.Common.{◌≡◌, ap}
 use Rattle.std.proofs.lemmas.Result.{err_from_is_err_and}
 use Rattle.file_control.specs.Fault.{IsFault, told}
 use Rattle.file_control.specs.declared.fault.DeckFault.{DeckFault}

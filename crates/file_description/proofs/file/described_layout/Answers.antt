@@ -1,4 +1,4 @@
-use Rattle.std.proofs.Common.{◌≡◌, List, subst}
+use Rattle.std.proofs.Common.{List, subst}
 use Rattle.std.specs.Result.{IfErr}
 use Rattle.record_layout.specs.Layout.{Placed, IsLayout}
 use Rattle.file_control.specs.Fault.{IsFault}

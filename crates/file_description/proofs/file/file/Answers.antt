@@ -1,14 +1,13 @@
-use Rattle.std.proofs.Common.{◌≡◌, ◌≤◌, ◌∙◌, sym, ap, subst, List, Option, Some, None, map, ℕ, true, false}
+use Rattle.std.proofs.Common.{◌≡◌, ◌∙◌, sym, ap, subst, List, Option, Some, None, map, ℕ}
 use Rattle.std.proofs.lemmas.Bool.{false≢true}
 use Rattle.std.proofs.lemmas.Option.{same_Some}
 use Rattle.std.proofs.lemmas.Result.{err_from_is_err_and}
 use Rattle.record_layout.specs.Layout.{Placed, length_of}
 use Rattle.record_layout.specs.SchemaFault.{GivesSchema}
 use Rattle.file_control.proofs.TestLaws.{both_are}
-use Rattle.file_description.specs.Description.{FileDesc, has_words, key_clause, least_length, IsFile}
-use Rattle.file_description.specs.Checks.{are_keys_named}
+use Rattle.file_description.specs.Description.{key_clause, least_length}
 use Rattle.file_description.proofs.LayoutLaws.{one_layout}
-use Rattle.file_description.proofs.FileLaws.{keys_are_named, least_within}
+use Rattle.file_description.proofs.FileLaws.{keys_are_named}
 use Rattle.file_description.proofs.file.file.Goals as goal
 
 pub returns-in_err-check_entry-clause-none : goal.returns-in_err-check_entry-clause-none

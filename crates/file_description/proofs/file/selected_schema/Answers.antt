@@ -1,4 +1,4 @@
-use Rattle.std.proofs.Common.{◌≡◌, subst, map}
+use Rattle.std.proofs.Common.{subst, map}
 use Rattle.std.specs.Result.{IfErr}
 use Rattle.record_layout.specs.Schema.{Schema}
 use Rattle.record_layout.specs.SchemaFault.{GivesSchema}

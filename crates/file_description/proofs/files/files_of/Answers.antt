@@ -1,4 +1,4 @@
-use Rattle.std.proofs.Common.{◌≡◌, ◌∙◌, sym, subst, ap, List, [], ◌∷◌, ◌++◌, Some, ℕ}
+use Rattle.std.proofs.Common.{◌∙◌, sym, subst, ap, List, [], ◌∷◌, ◌++◌}
 use Rattle.std.proofs.lemmas.Option.{same_Some}
 use Rattle.std.proofs.lemmas.Result.{err_from_is_err_and}
 use Rattle.file_description.specs.FileDescription.{FileDescription}

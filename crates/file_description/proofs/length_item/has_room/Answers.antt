@@ -1,6 +1,6 @@
-use Rattle.std.proofs.Common.{◌≡◌, ◌≤◌, arith, sym, subst}
+use Rattle.std.proofs.Common.{◌≡◌, ◌≤◌, arith}
 use Rattle.std.proofs.lemmas.Bool.Decides.{nat_tests}
-use Rattle.file_description.specs.Description.{HasDigits, digit_count}
+use Rattle.file_description.specs.Description.{digit_count}
 use Rattle.file_description.proofs.LengthItemLaws.{one_count}
 use Rattle.file_description.proofs.length_item.has_room.Goals as goal
 
