@@ -7,4 +7,6 @@ pub mod CloseLemmas
 pub mod WriteLemmas
 pub mod ChangeLemmas
 pub mod RewriteLemmas
+pub mod RoomLemmas
+pub mod DueLemmas
 pub mod OpenLemmas

@@ -5,6 +5,8 @@ pub mod Reading
 pub mod Writing
 pub mod Verbs
 pub mod Faults
+pub mod Refusals
+pub mod Full
 pub mod Marred
 pub mod Held
 pub mod Fields

@@ -10,10 +10,12 @@
 mod answer;
 mod checks;
 mod connector;
+mod refusals;
 mod statement;
 
 pub use answer::Answer;
 pub use connector::Connector;
+pub use refusals::{no_fault_should_be, refusals_are_no_faults};
 pub use statement::FileStatement;
 
 #[cfg(test)]

@@ -4,11 +4,16 @@ ghost use Rattle.record_layout.specs.Schema.{prime_of};
 ghost use Rattle.indexed_file.specs.Rank.{highest_of};
 ghost use Rattle.indexed_file.specs.Change.{row_of};
 ghost use Rattle.indexed_file.specs.World.{OnlyAt, name_at, holding_at, schema_at, file_at, is_open, is_broken};
+ghost use Rattle.indexed_file.specs.Room.{is_full_to_replace};
 ghost use Rattle.indexed_file.specs.Calls.{Keeps, Believed, OnlyReads, MayFail};
 ghost use Rattle.verbs.specs.declared.statement.FileStatement.TheVariants.{Rewrite, Delete};
 ghost use Rattle.verbs.specs.Connector.{Session};
 ghost use Rattle.verbs.specs.Writing.{deleted};
-ghost use Rattle.verbs.specs.Held.{Performs, Changes, state_of, silent, unread, bytes_of, rewritten_as, prime_by};
+ghost use Rattle.verbs.specs.Verbs.{perform, reaches};
+ghost use Rattle.verbs.specs.Refusals.{is_early, is_refusal};
+ghost use Rattle.verbs.specs.Full.{TellsRoom, lacks_room};
+ghost use Rattle.verbs.specs.Faults.{is_boundary_violation};
+ghost use Rattle.verbs.specs.Held.{Performs, Decides, Changes, state_of, silent, unread, bytes_of, rewritten_as, prime_by};
 ghost use Rattle.verbs.specs.Fits.{Fits, IsStanding, HasCause, has_failed, last_read_of, updates};
 
 use super::Connector;
@@ -29,6 +34,15 @@ impl Connector {
             (IsStanding self.old (L.world lib.old) u
             → Performs Rewrite length (state_of self.old (L.world lib.old) u area.now)
             (silent result) (state_of self.new (L.world lib.new) u area.now)) }
+        ensures early { reaches Rewrite length (state_of self.old (L.world lib.old) u area.now) ≡ false
+            → (lib.new ≡ lib.old) × Decides Rewrite length (state_of self.old (L.world lib.old) u area.now)
+            (silent result) (state_of self.new (L.world lib.new) u area.now) }
+        ensures refusal { IsTrue (is_refusal Rewrite result)
+            → reaches Rewrite length (state_of self.old (L.world lib.old) u area.now) ≡ false }
+        ensures room { Believed L.is_honest L.IsShownTruly L.world u lib.old lib.new
+            (IsStanding self.old (L.world lib.old) u
+            → TellsRoom (perform Rewrite length (state_of self.old (L.world lib.old) u area.now))
+            (lacks_room Rewrite length (L.room lib.old u) (state_of self.old (L.world lib.old) u area.now)) result) }
         ensures standing { Believed L.is_honest L.IsShownTruly L.world u lib.old lib.new
             (IsStanding self.old (L.world lib.old) u
             → IsStanding self.new (L.world lib.new) u) }
@@ -80,6 +94,10 @@ impl Connector {
             (Changes Rewrite (rewritten_as bytes.now (state_of self.old (L.world lib.old) u area) session)
             (state_of self.old (L.world lib.old) u area)
             result (state_of self.new (L.world lib.new) u area)) }
+        ensures late { is_refusal Rewrite result ≡ false }
+        ensures room { (area : List ℕ) → (session : Session) → Believed L.is_honest L.IsShownTruly L.world u lib.old lib.new
+            (TellsRoom (rewritten_as bytes.now (state_of self.old (L.world lib.old) u area) session)
+            (is_full_to_replace (L.room lib.old u) self.old.connector.schema bytes.now (file_at (L.world lib.old) u)) result) }
         ensures standing { Believed L.is_honest L.IsShownTruly L.world u lib.old lib.new
             (IsStanding self.old (L.world lib.old) u
             → IsStanding self.new (L.world lib.new) u) }
@@ -108,6 +126,11 @@ impl Connector {
             (IsStanding self.old (L.world lib.old) u
             → Performs Delete n (state_of self.old (L.world lib.old) u area.now)
             (silent result) (state_of self.new (L.world lib.new) u area.now)) }
+        ensures early { (n : ℕ) → reaches Delete n (state_of self.old (L.world lib.old) u area.now) ≡ false
+            → (lib.new ≡ lib.old) × Decides Delete n (state_of self.old (L.world lib.old) u area.now)
+            (silent result) (state_of self.new (L.world lib.new) u area.now) }
+        ensures refusal { (n : ℕ) → IsTrue (is_early result) → reaches Delete n (state_of self.old (L.world lib.old) u area.now) ≡ false }
+        ensures not_full { is_boundary_violation result ≡ false }
         ensures standing { Believed L.is_honest L.IsShownTruly L.world u lib.old lib.new
             (IsStanding self.old (L.world lib.old) u
             → IsStanding self.new (L.world lib.new) u) }
@@ -163,6 +186,8 @@ impl Connector {
             (Changes Delete (deleted prime.now.items (state_of self.old (L.world lib.old) u area) session)
             (state_of self.old (L.world lib.old) u area)
             result (state_of self.new (L.world lib.new) u area)) }
+        ensures late { is_early result ≡ false }
+        ensures not_full { is_boundary_violation result ≡ false }
         ensures standing { Believed L.is_honest L.IsShownTruly L.world u lib.old lib.new
             (IsStanding self.old (L.world lib.old) u
             → IsStanding self.new (L.world lib.new) u) }

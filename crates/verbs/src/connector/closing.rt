@@ -1,10 +1,13 @@
 //! CLOSE.
-ghost use Rattle.std.specs.Prelude.{◌≡◌, ◌<◌, ℕ, List, length, IsTrue, false};
+ghost use Rattle.std.specs.Prelude.{◌≡◌, ◌<◌, ℕ, List, length, IsTrue, true, false};
+ghost use Rattle.io_state.specs.declared.status.Status.TheVariants.{PermanentError};
 ghost use Rattle.indexed_file.specs.World.{OnlyAt, name_at};
 ghost use Rattle.indexed_file.specs.Calls.{Keeps, Believed};
 ghost use Rattle.verbs.specs.declared.statement.FileStatement.TheVariants.{Close};
-ghost use Rattle.verbs.specs.Held.{Performs, state_of, silent};
-ghost use Rattle.verbs.specs.Fits.{Fits, IsStanding, HasCause, has_failed};
+ghost use Rattle.verbs.specs.Refusals.{is_early};
+ghost use Rattle.verbs.specs.Faults.{is_boundary_violation};
+ghost use Rattle.verbs.specs.Held.{Performs, Decides, state_of, silent};
+ghost use Rattle.verbs.specs.Fits.{Fits, IsStanding, HasCause, has_failed, asks};
 
 use super::Connector;
 use crate::checks::{close_fault, close_status};
@@ -21,6 +24,13 @@ impl Connector {
             (IsStanding self.old (L.world lib.old) u
             → Performs (Close lock) n (state_of self.old (L.world lib.old) u area)
             (silent result) (state_of self.new (L.world lib.new) u area)) }
+        ensures early { (n : ℕ) → (area : List ℕ) → asks (Close lock) n (state_of self.old (L.world lib.old) u area) ≡ false
+            → (lib.new ≡ lib.old) × Decides (Close lock) n (state_of self.old (L.world lib.old) u area)
+            (silent result) (state_of self.new (L.world lib.new) u area) }
+        ensures failed { has_failed self.old.connector.session ≡ true → result ≡ PermanentError }
+        ensures refusal { (n : ℕ) → (area : List ℕ) → IsTrue (is_early result)
+            → asks (Close lock) n (state_of self.old (L.world lib.old) u area) ≡ false }
+        ensures not_full { is_boundary_violation result ≡ false }
         ensures standing { IsStanding self.new (L.world lib.new) u }
         ensures only { OnlyAt u (L.world lib.old) (L.world lib.new) }
         ensures cause { HasCause result (has_failed self.old.connector.session) (L.fault_count lib.old) (L.fault_count lib.new) }

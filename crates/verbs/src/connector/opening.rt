@@ -10,7 +10,10 @@ ghost use Rattle.verbs.specs.declared.statement.FileStatement.TheVariants.{Open}
 ghost use Rattle.verbs.specs.Connector.{answers};
 ghost use Rattle.verbs.specs.Opening.{created, open_absent, open_named};
 ghost use Rattle.verbs.specs.Marred.{creates};
-ghost use Rattle.verbs.specs.Held.{Performs, Changes, state_of, silent};
+ghost use Rattle.verbs.specs.Verbs.{reaches};
+ghost use Rattle.verbs.specs.Refusals.{is_early};
+ghost use Rattle.verbs.specs.Faults.{is_boundary_violation};
+ghost use Rattle.verbs.specs.Held.{Performs, Decides, Changes, state_of, silent};
 ghost use Rattle.verbs.specs.Fits.{Fits, IsStanding, HasCause, is_output};
 
 use super::Connector;
@@ -29,6 +32,12 @@ impl Connector {
             (IsStanding self.old (L.world lib.old) u
             → Performs (Open mode) n (state_of self.old (L.world lib.old) u area)
             (silent result) (state_of self.new (L.world lib.new) u area)) }
+        ensures early { (n : ℕ) → (area : List ℕ) → reaches (Open mode) n (state_of self.old (L.world lib.old) u area) ≡ false
+            → (lib.new ≡ lib.old) × Decides (Open mode) n (state_of self.old (L.world lib.old) u area)
+            (silent result) (state_of self.new (L.world lib.new) u area) }
+        ensures refusal { (n : ℕ) → (area : List ℕ) → IsTrue (is_early result)
+            → reaches (Open mode) n (state_of self.old (L.world lib.old) u area) ≡ false }
+        ensures not_full { is_boundary_violation result ≡ false }
         ensures standing { Believed L.is_honest L.IsShownTruly L.world u lib.old lib.new
             (IsStanding self.old (L.world lib.old) u
             → IsStanding self.new (L.world lib.new) u) }
@@ -67,6 +76,8 @@ impl Connector {
             → Changes (Open mode) (open_absent mode (state_of self.old (L.world lib.old) u area))
             (state_of self.old (L.world lib.old) u area)
             result (state_of self.new (L.world lib.new) u area)) }
+        ensures late { is_early result ≡ false }
+        ensures not_full { is_boundary_violation result ≡ false }
         ensures standing { IsTrue (L.is_honest lib.new) → named_at (L.world lib.old) u ≡ Absent
             → IsStanding self.new (L.world lib.new) u }
         ensures only { OnlyAt u (L.world lib.old) (L.world lib.new) }
@@ -104,6 +115,8 @@ impl Connector {
             → Changes (Open mode) (open_named mode (named_at (L.world lib.old) u) (state_of self.old (L.world lib.old) u area))
             (state_of self.old (L.world lib.old) u area)
             result (state_of self.new (L.world lib.new) u area)) }
+        ensures late { is_early result ≡ false }
+        ensures not_full { is_boundary_violation result ≡ false }
         ensures standing { IsTrue (L.is_honest lib.new) → Sound schema.now ≡ seen_of (named_at (L.world lib.old) u)
             → IsStanding self.new (L.world lib.new) u }
         ensures only { OnlyAt u (L.world lib.old) (L.world lib.new) }
@@ -141,6 +154,8 @@ impl Connector {
             → Changes (Open mode) (answers status (created mode (state_of self.old (L.world lib.old) u area)))
             (state_of self.old (L.world lib.old) u area)
             result (state_of self.new (L.world lib.new) u area)) }
+        ensures late { is_early result ≡ false }
+        ensures not_full { is_boundary_violation result ≡ false }
         ensures standing { IsTrue (L.is_honest lib.new) → IsTrue (creates mode self.old.connector.optional (named_at (L.world lib.old) u))
             → IsStanding self.new (L.world lib.new) u }
         ensures only { OnlyAt u (L.world lib.old) (L.world lib.new) }

@@ -1,9 +1,13 @@
 //! Any statement.
-ghost use Rattle.std.specs.Prelude.{◌≡◌, ℕ, List, length as count_of, IsTrue};
+ghost use Rattle.std.specs.Prelude.{◌≡◌, ℕ, List, length as count_of, IsTrue, true, false};
+ghost use Rattle.io_state.specs.declared.status.Status.TheVariants.{PermanentError};
 ghost use Rattle.indexed_file.specs.World.{OnlyAt, name_at};
 ghost use Rattle.indexed_file.specs.Calls.{Keeps, Believed};
-ghost use Rattle.verbs.specs.Held.{Performs, state_of};
-ghost use Rattle.verbs.specs.Fits.{Fits, IsStanding, HasCause, HasOperands, closes_failed};
+ghost use Rattle.verbs.specs.Refusals.{is_refusal};
+ghost use Rattle.verbs.specs.Verbs.{perform};
+ghost use Rattle.verbs.specs.Full.{TellsRoom, lacks_room};
+ghost use Rattle.verbs.specs.Held.{Performs, Decides, state_of, silent};
+ghost use Rattle.verbs.specs.Fits.{Fits, IsStanding, HasCause, HasOperands, closes_failed, asks};
 
 use super::Connector;
 use crate::answer::Answer;
@@ -29,6 +33,16 @@ impl Connector {
             (IsStanding self.old (L.world lib.old) u
             → Performs statement.now length (state_of self.old (L.world lib.old) u area.old)
             result (state_of self.new (L.world lib.new) u area.new)) }
+        ensures early { asks statement.now length (state_of self.old (L.world lib.old) u area.old) ≡ false
+            → (lib.new ≡ lib.old) × Decides statement.now length (state_of self.old (L.world lib.old) u area.old)
+            result (state_of self.new (L.world lib.new) u area.new) }
+        ensures failed_close { closes_failed statement.now self.old.connector.session ≡ true → result ≡ silent PermanentError }
+        ensures refusal { IsTrue (is_refusal statement.now result.status)
+            → asks statement.now length (state_of self.old (L.world lib.old) u area.old) ≡ false }
+        ensures room { Believed L.is_honest L.IsShownTruly L.world u lib.old lib.new
+            (IsStanding self.old (L.world lib.old) u
+            → TellsRoom (perform statement.now length (state_of self.old (L.world lib.old) u area.old))
+            (lacks_room statement.now length (L.room lib.old u) (state_of self.old (L.world lib.old) u area.old)) result.status) }
         ensures standing { Believed L.is_honest L.IsShownTruly L.world u lib.old lib.new
             (IsStanding self.old (L.world lib.old) u
             → IsStanding self.new (L.world lib.new) u) }

@@ -3,7 +3,10 @@ ghost use Rattle.std.specs.Prelude.{◌≡◌, ◌<◌, ℕ, List, length, lengt
 ghost use Rattle.indexed_file.specs.World.{OnlyAt, name_at};
 ghost use Rattle.indexed_file.specs.Calls.{Keeps, Believed};
 ghost use Rattle.verbs.specs.declared.statement.FileStatement.TheVariants.{ReadNext, Read, Start};
-ghost use Rattle.verbs.specs.Held.{Performs, state_of, silent};
+ghost use Rattle.verbs.specs.Verbs.{reaches};
+ghost use Rattle.verbs.specs.Refusals.{is_early};
+ghost use Rattle.verbs.specs.Faults.{is_boundary_violation};
+ghost use Rattle.verbs.specs.Held.{Performs, Decides, state_of, silent};
 ghost use Rattle.verbs.specs.Fits.{Fits, IsStanding, HasCause};
 
 use super::Connector;
@@ -23,6 +26,12 @@ impl Connector {
             (IsStanding self.old (L.world lib.old) u
             → Performs ReadNext n (state_of self.old (L.world lib.old) u area.old)
             result (state_of self.new (L.world lib.new) u area.new)) }
+        ensures early { (n : ℕ) → reaches ReadNext n (state_of self.old (L.world lib.old) u area.old) ≡ false
+            → (lib.new ≡ lib.old) × Decides ReadNext n (state_of self.old (L.world lib.old) u area.old)
+            result (state_of self.new (L.world lib.new) u area.new) }
+        ensures refusal { (n : ℕ) → IsTrue (is_early result.status)
+            → reaches ReadNext n (state_of self.old (L.world lib.old) u area.old) ≡ false }
+        ensures not_full { is_boundary_violation result.status ≡ false }
         ensures standing { Believed L.is_honest L.IsShownTruly L.world u lib.old lib.new
             (IsStanding self.old (L.world lib.old) u
             → IsStanding self.new (L.world lib.new) u) }
@@ -67,6 +76,12 @@ impl Connector {
             (IsStanding self.old (L.world lib.old) u
             → Performs (Read k) n (state_of self.old (L.world lib.old) u area.old)
             result (state_of self.new (L.world lib.new) u area.new)) }
+        ensures early { (n : ℕ) → reaches (Read k) n (state_of self.old (L.world lib.old) u area.old) ≡ false
+            → (lib.new ≡ lib.old) × Decides (Read k) n (state_of self.old (L.world lib.old) u area.old)
+            result (state_of self.new (L.world lib.new) u area.new) }
+        ensures refusal { (n : ℕ) → IsTrue (is_early result.status)
+            → reaches (Read k) n (state_of self.old (L.world lib.old) u area.old) ≡ false }
+        ensures not_full { is_boundary_violation result.status ≡ false }
         ensures standing { Believed L.is_honest L.IsShownTruly L.world u lib.old lib.new
             (IsStanding self.old (L.world lib.old) u
             → IsStanding self.new (L.world lib.new) u) }
@@ -114,6 +129,12 @@ impl Connector {
             (IsStanding self.old (L.world lib.old) u
             → Performs (Start k length relation) n (state_of self.old (L.world lib.old) u area.now)
             (silent result) (state_of self.new (L.world lib.new) u area.now)) }
+        ensures early { (n : ℕ) → reaches (Start k length relation) n (state_of self.old (L.world lib.old) u area.now) ≡ false
+            → (lib.new ≡ lib.old) × Decides (Start k length relation) n (state_of self.old (L.world lib.old) u area.now)
+            (silent result) (state_of self.new (L.world lib.new) u area.now) }
+        ensures refusal { (n : ℕ) → IsTrue (is_early result)
+            → reaches (Start k length relation) n (state_of self.old (L.world lib.old) u area.now) ≡ false }
+        ensures not_full { is_boundary_violation result ≡ false }
         ensures standing { Believed L.is_honest L.IsShownTruly L.world u lib.old lib.new
             (IsStanding self.old (L.world lib.old) u
             → IsStanding self.new (L.world lib.new) u) }

@@ -6,11 +6,15 @@ ghost use Rattle.indexed_file.specs.Rank.{highest_of};
 ghost use Rattle.indexed_file.specs.Change.{row_of};
 ghost use Rattle.indexed_file.specs.World.{OnlyAt, name_at, holding_at, schema_at, file_at, is_open, is_broken};
 ghost use Rattle.indexed_file.specs.Calls.{Keeps, Believed, OnlyReads, MayFail};
+ghost use Rattle.indexed_file.specs.UnitAnswers.{adding_is_full};
 ghost use Rattle.io_state.specs.Permission.{is_sequential};
 ghost use Rattle.verbs.specs.declared.statement.FileStatement.TheVariants.{Write};
 ghost use Rattle.verbs.specs.Connector.{Session};
 ghost use Rattle.verbs.specs.Writing.{stored, written, is_not_above};
-ghost use Rattle.verbs.specs.Held.{Performs, Changes, state_of, silent, unread, held_after_store};
+ghost use Rattle.verbs.specs.Verbs.{perform, reaches};
+ghost use Rattle.verbs.specs.Refusals.{is_early};
+ghost use Rattle.verbs.specs.Full.{TellsRoom, lacks_room};
+ghost use Rattle.verbs.specs.Held.{Performs, Decides, Changes, state_of, silent, unread, held_after_store};
 ghost use Rattle.verbs.specs.Fits.{Fits, IsStanding, IsHighestOf, HasCause, has_failed, last_read_of, writes};
 
 use super::Connector;
@@ -29,6 +33,14 @@ impl Connector {
             (IsStanding self.old (L.world lib.old) u
             → Performs Write length (state_of self.old (L.world lib.old) u area.now)
             (silent result) (state_of self.new (L.world lib.new) u area.now)) }
+        ensures early { reaches Write length (state_of self.old (L.world lib.old) u area.now) ≡ false
+            → (lib.new ≡ lib.old) × Decides Write length (state_of self.old (L.world lib.old) u area.now)
+            (silent result) (state_of self.new (L.world lib.new) u area.now) }
+        ensures refusal { IsTrue (is_early result) → reaches Write length (state_of self.old (L.world lib.old) u area.now) ≡ false }
+        ensures room { Believed L.is_honest L.IsShownTruly L.world u lib.old lib.new
+            (IsStanding self.old (L.world lib.old) u
+            → TellsRoom (perform Write length (state_of self.old (L.world lib.old) u area.now))
+            (lacks_room Write length (L.room lib.old u) (state_of self.old (L.world lib.old) u area.now)) result) }
         ensures standing { Believed L.is_honest L.IsShownTruly L.world u lib.old lib.new
             (IsStanding self.old (L.world lib.old) u
             → IsStanding self.new (L.world lib.new) u) }
@@ -71,6 +83,11 @@ impl Connector {
             → Changes Write (written bytes.now (state_of self.old (L.world lib.old) u area) session)
             (state_of self.old (L.world lib.old) u area)
             result (state_of self.new (L.world lib.new) u area)) }
+        ensures late { is_early result ≡ false }
+        ensures room { (area : List ℕ) → (session : Session) → Believed L.is_honest L.IsShownTruly L.world u lib.old lib.new
+            (IsStanding self.old (L.world lib.old) u
+            → TellsRoom (written bytes.now (state_of self.old (L.world lib.old) u area) session)
+            (adding_is_full (L.room lib.old u) (L.world lib.old) u) result) }
         ensures standing { Believed L.is_honest L.IsShownTruly L.world u lib.old lib.new
             (IsStanding self.old (L.world lib.old) u
             → IsStanding self.new (L.world lib.new) u) }
@@ -105,6 +122,7 @@ impl Connector {
             → OnOk result (self.new.highest ≡ Some (highest_of self.old.connector.schema (file_at (L.world lib.old) u).rows))) }
         ensures err { OnErr result ((self.new ≡ self.old) × (self.old.highest ≡ None)) }
         ensures reads { OnlyReads u (L.is_honest lib.new) (L.world lib.old) (L.world lib.new) }
+        ensures room { L.room lib.new u ≡ L.room lib.old u }
         ensures fault { IfErr result (MayFail (is_broken (holding_at (L.world lib.old) u)) (L.is_honest lib.new)
             (L.IsShownTruly lib.old (name_at (L.world lib.old) u)) (L.fault_count lib.old) (L.fault_count lib.new)) }
         ensures keeps { Keeps L.is_honest L.IsShownTruly L.fault_count lib.old lib.new }
@@ -144,6 +162,10 @@ impl Connector {
             (Changes Write (stored bytes.now (state_of self.old (L.world lib.old) u area) session)
             (state_of self.old (L.world lib.old) u area)
             result (state_of self.new (L.world lib.new) u area)) }
+        ensures late { is_early result ≡ false }
+        ensures room { (area : List ℕ) → (session : Session) → Believed L.is_honest L.IsShownTruly L.world u lib.old lib.new
+            (TellsRoom (stored bytes.now (state_of self.old (L.world lib.old) u area) session)
+            (adding_is_full (L.room lib.old u) (L.world lib.old) u) result) }
         ensures standing { Believed L.is_honest L.IsShownTruly L.world u lib.old lib.new
             ((IsTrue (is_sequential self.old.connector.access)
             → is_not_above (prime_of self.old.connector.schema bytes.now)

@@ -1,5 +1,6 @@
 use Rattle.std.proofs.Common.{sym, ◌∙◌, refl, ap, Err}
 use Rattle.verbs.proofs.RewriteLemmas.{standing_after_change, rewrite_replaced, rewrite_clashes, rewrite_full}
+use Rattle.verbs.proofs.RoomLemmas.{rewrite_clash_told, rewrite_lacks}
 use Rattle.verbs.proofs.connector.Connector.substitute.Goals as goal
 
 pub returns-in-Ok-Done-clause-standing : goal.returns-in-Ok-Done-clause-standing
@@ -26,3 +27,15 @@ returns-in-Err-Full-clause-step g c area session is honest truly =
     rewrite_full c.args.self.now c.args.self.now (g.L.Library.world c.args.lib.now) (g.L.Library.world c.replace.new.self) c.args.u area session c.args.bytes.now _
     c.requires.fits c.requires.open is
     (g.L.Library.room c.args.lib.now c.args.u) (full.0.same honest) clash_and_full.0 clash_and_full.1 refl
+
+pub returns-in-Err-Full-clause-room : goal.returns-in-Err-Full-clause-room
+returns-in-Err-Full-clause-room g c area session honest truly =
+    let full = c.in-Err-Full.ensures.full (ap Err c.in-Err-Full.field-0-is) in
+    let clash_and_full = full.1 honest truly in
+    rewrite_lacks c.args.self.now (g.L.Library.world c.args.lib.now) c.args.u area session c.args.bytes.now (g.L.Library.room c.args.lib.now c.args.u)
+    c.requires.fits c.requires.open clash_and_full.0 clash_and_full.1
+
+pub returns-in-Ok-Clash-clause-room : goal.returns-in-Ok-Clash-clause-room
+returns-in-Ok-Clash-clause-room g c area session honest truly =
+    rewrite_clash_told c.args.self.now (g.L.Library.world c.args.lib.now) c.args.u area session c.args.bytes.now _
+    c.requires.fits c.requires.open (sym c.in-Ok-Clash.field-0-is ∙ c.in-Ok-Clash.ensures.answer honest truly)
