@@ -25,17 +25,20 @@ use Rattle.std.proofs.lemmas.Bool.Decides.{nat_tests}
 use Rattle.verbs.specs.declared.statement.FileStatement.TheVariants.{Open, Close, Write, Rewrite, Delete}
 use Rattle.procedure_division.specs.declared.statement.Statement.{Statement}
 use Rattle.procedure_division.specs.declared.statement.Statement.TheVariants.{Perform, Move, MoveLength, StopRun}
-use Rattle.procedure_division.specs.Allowed.{IsAllowedOn, IsAllowed, AreDescribed}
+use Rattle.file_description.specs.Description.{FileDesc}
+use Rattle.file_description.specs.Described.{IsDescribedFile, AreDescribed}
+use Rattle.procedure_division.specs.Allowed.{IsAllowedOn, IsAllowed}
 use Rattle.procedure_division.specs.Following.{followed, where_allowed}
-use Rattle.procedure_division.specs.Names.{NamedFile, Names, file_of, record_of, item_in, holder_of, item_of, length_item_of, access_at, prime_length, key_of, led_key_of}
+use Rattle.procedure_division.specs.Names.{Names, file_of, record_of, item_in, holder_of, item_of, length_item_of, access_at, prime_length, key_of, led_key_of}
 use Rattle.procedure_division.specs.Procedure.{statement, sentence, paragraph, paragraph_or_sentence, procedure}
 use Rattle.procedure_division.specs.StatementRules.{joined, some_of, perform, file, record_name, file_to_open, opened, opening, open_statement, lock, closed, close_statement, next, key_named, key, key_phrase, read_by, read_operand, read_phrases, read_statement, relation, file_to_start_named, file_to_start, led_key_named, led_key, start_by, start_phrase, start_operand, start_statement, source, moved_to, moved_to_named, receiver, receivers, move_statement, write_statement, rewrite_statement, delete_statement, stop_statement}
 use Rattle.procedure_division.proofs.GivesLaws.{Gives, gives_second, gives_first, gives_pair, gives_either, gives_as, gives_followed, IfThere, gives_optional, joined_all, gives_some, found, all_at, one_all, field_found, keys_there}
+use Rattle.procedure_division.proofs.SourceLaws.{HasDigits, gives_source, taken_is_number}
 
 -- ---- the file of a place
 
 abbrev pub IsFileOf : Names → ℕ → Type 0
-IsFileOf names u = (known : NamedFile) × (slice_get names.files u ≡ Some known)
+IsFileOf names u = (known : FileDesc) × (slice_get names.files u ≡ Some known)
 
 pub gives_file : (names : Names) → Gives (IsFileOf names) (file names)
 unfolding file
@@ -43,14 +46,14 @@ gives_file names = gives_as (λ _. Unit {0}) (IsFileOf names) (file_of names) na
 
 pub gives_record_name : (names : Names) → Gives (IsFileOf names) (record_name names)
 unfolding record_name
-gives_record_name names = gives_as (λ _. Unit {0}) (IsFileOf names) (record_of names) name (λ _ _ _ _. tt) (λ text u _ e. let f = found (λ known. is_named text known.record_name) names.files u e in (f.0, f.1))
+gives_record_name names = gives_as (λ _. Unit {0}) (IsFileOf names) (record_of names) name (λ _ _ _ _. tt) (λ text u _ e. let f = found (λ known. is_named text known.entry) names.files u e in (f.0, f.1))
 
 -- a rule whose value is one statement
 gives_one : {A : Type 0} (names : Names) (P : A → Type 0) (g : A → Statement) (p : Rule A) → Gives P p → ((x : A) → P x → IsAllowed names (g x)) → Gives (All (IsAllowed names)) (where_it_gives (λ x. Some (g x ∷ [])) p)
 gives_one names P g p h k =
     gives_as P (All (IsAllowed names)) (λ x. Some (g x ∷ [])) p h (λ x y px e. subst (All (IsAllowed names)) (same_Some (g x ∷ []) y e) (one_all (IsAllowed names) (g x) (k x px)))
 
-access_is : (names : Names) (u : ℕ) (known : NamedFile) → slice_get names.files u ≡ Some known → access_at names u ≡ known.access
+access_is : (names : Names) (u : ℕ) (known : FileDesc) → slice_get names.files u ≡ Some known → access_at names u ≡ known.access
 access_is names u known e = ap (λ o. option_map_or (λ file. file.access) o Sequential) e
 
 -- ---- OPEN and CLOSE
@@ -148,7 +151,7 @@ gives_next access =
     (λ x y _ e. (then_some (not (is_random access)) (Some x) y e).0)))
     (λ n y h e. subst (IsWay access) (same_Some (is_sequential access || is_there n) y e) (way_of access n h))
 
-module _ (names : Names) (u : ℕ) (known : NamedFile) (at : slice_get names.files u ≡ Some known) where
+module _ (names : Names) (u : ℕ) (known : FileDesc) (at : slice_get names.files u ≡ Some known) where
   item_in_is : (text : List ℕ) → item_in names u text ≡ field_of known.layout text
   item_in_is text = ap (λ o. option_and_then (λ file. field_of file.layout text) o) at
 
@@ -193,10 +196,10 @@ module _ (names : Names) (u : ℕ) (known : NamedFile) (at : slice_get names.fil
       gives_followed (IsWay (access_at names u)) (All (IsAllowed names)) false (next (access_at names u)) (read_operand names u) (gives_next (access_at names u))
       (λ sequential way. gives_read_operand keys sequential (subst (λ access. IsWay access sequential) (access_is names u known at) way))
 
-keys_of : (names : Names) → AreDescribed names → (u : ℕ) (known : NamedFile) → slice_get names.files u ≡ Some known → IsSchema known.schema
-keys_of names described u known at = (all_at (λ file. IsRecord file.layout × IsSchema file.schema) names.files u known described at).1
+keys_of : (names : Names) → AreDescribed names.files names.items → (u : ℕ) (known : FileDesc) → slice_get names.files u ≡ Some known → IsSchema known.schema
+keys_of names described u known at = (all_at (IsDescribedFile (length names.items)) names.files u known described.files_are at).schema
 
-pub gives_read : (names : Names) → AreDescribed names → Gives (All (IsAllowed names)) (read_statement names)
+pub gives_read : (names : Names) → AreDescribed names.files names.items → Gives (All (IsAllowed names)) (read_statement names)
 unfolding read_statement
 gives_read names described =
     gives_second (All (IsAllowed names)) (the (codes "READ")) (followed 0 (file names) (read_phrases names))
@@ -209,10 +212,10 @@ not_random : (b : Bool) (u v : ℕ) → cond b None (Some u) ≡ Some v → (b �
 not_random true u v e = absurd (cc)
 not_random false u v e = (refl, same_Some u v e)
 
-pub gives_file_to_start : (names : Names) → Gives (λ u. (known : NamedFile) × (slice_get names.files u ≡ Some known) × IsFalse (is_random known.access)) (file_to_start names)
+pub gives_file_to_start : (names : Names) → Gives (λ u. (known : FileDesc) × (slice_get names.files u ≡ Some known) × IsFalse (is_random known.access)) (file_to_start names)
 unfolding file_to_start
 gives_file_to_start names =
-    gives_as (λ _. Unit {0}) (λ u. (known : NamedFile) × (slice_get names.files u ≡ Some known) × IsFalse (is_random known.access)) (file_to_start_named names) name (λ _ _ _ _. tt) (λ text v _ e.
+    gives_as (λ _. Unit {0}) (λ u. (known : FileDesc) × (slice_get names.files u ≡ Some known) × IsFalse (is_random known.access)) (file_to_start_named names) name (λ _ _ _ _. tt) (λ text v _ e.
     let a = bind_some (λ u. cond (is_random (access_at names u)) None (Some u)) (file_of names text) v e in
     let b = not_random (is_random (access_at names a.0)) a.0 v a.2 in
     let f = found (λ known. bytes_eq known.name text) names.files a.0 a.1 in
@@ -228,10 +231,10 @@ item_fits layout described text field e =
     subst (λ (field : Field). (1 ≤ field.length) × (field.offset + field.length ≤ length_of layout)) f.3
     (all_at (λ item. (1 ≤ item.field.length) × (item.field.offset + item.field.length ≤ length_of layout)) layout f.1 f.0 described.within f.2)
 
-abbrev pub IsLed : NamedFile → ℕ → ℕ → Type 0
+abbrev pub IsLed : FileDesc → ℕ → ℕ → Type 0
 IsLed known k n = (k < length known.schema.keys) × (1 ≤ n) × (n ≤ (key_at known.schema k).length)
 
-module _ (names : Names) (u : ℕ) (known : NamedFile) (at : slice_get names.files u ≡ Some known) where
+module _ (names : Names) (u : ℕ) (known : FileDesc) (at : slice_get names.files u ≡ Some known) where
   led_key_is : (field : Field) → led_key_of names u field ≡ option_map {U = ℕ × ℕ} (λ k. (k, field.length)) (key_led_by known.schema field)
   led_key_is field = ap (λ o. option_and_then (λ file. option_map {U = ℕ × ℕ} (λ k. (k, field.length)) (key_led_by file.schema field)) o) at
 
@@ -274,52 +277,52 @@ module _ (names : Names) (u : ℕ) (known : NamedFile) (at : slice_get names.fil
       gives_one names (IfThere (λ operand. IsLed known operand.1.0 operand.1.1)) (λ operand. Perform u (start_by names u operand)) (start_phrase names u) (gives_start_phrase record_is)
       (λ operand h. (known, at, start_allowed schema_is way operand h))
 
-pub gives_start : (names : Names) → AreDescribed names → Gives (All (IsAllowed names)) (start_statement names)
+pub gives_start : (names : Names) → AreDescribed names.files names.items → Gives (All (IsAllowed names)) (start_statement names)
 unfolding start_statement
 gives_start names described =
     gives_second (All (IsAllowed names)) (the (codes "START")) (followed 0 (file_to_start names) (start_operand names))
-    (gives_followed (λ u. (known : NamedFile) × (slice_get names.files u ≡ Some known) × IsFalse (is_random known.access)) (All (IsAllowed names)) 0 (file_to_start names) (start_operand names) (gives_file_to_start names)
-    (λ u f. let d = all_at (λ file. IsRecord file.layout × IsSchema file.schema) names.files u f.0 described f.1 in gives_start_operand names u f.0 f.1 d.0 d.1 f.2))
+    (gives_followed (λ u. (known : FileDesc) × (slice_get names.files u ≡ Some known) × IsFalse (is_random known.access)) (All (IsAllowed names)) 0 (file_to_start names) (start_operand names) (gives_file_to_start names)
+    (λ u f. let d = all_at (IsDescribedFile (length names.items)) names.files u f.0 described.files_are f.1 in gives_start_operand names u f.0 f.1 d.layout d.schema f.2))
 
 -- ---- MOVE
 
-move_allowed : (names : Names) → AreDescribed names → (sent : Source (List ℕ)) (text : List ℕ) (item : Option (ℕ × Field)) (place : Option ℕ) (statements : List Statement) → item_of names text ≡ item → length_item_of names text ≡ place → moved_to sent item place ≡ Some statements → All (IsAllowed names) statements
-move_allowed names described sent text (Some item) place statements e p m =
+move_allowed : (names : Names) → AreDescribed names.files names.items → (sent : Source (List ℕ)) → HasDigits sent → (text : List ℕ) (item : Option (ℕ × Field)) (place : Option ℕ) (statements : List Statement) → item_of names text ≡ item → length_item_of names text ≡ place → moved_to sent item place ≡ Some statements → All (IsAllowed names) statements
+move_allowed names described sent numeral text (Some item) place statements e p m =
     let t = then_some (is_taken_by item.1.numeric sent) (Some (Move item.0 item.1 sent ∷ [])) statements m in
     let a = bind_some (λ u. option_map {U = ℕ × Field} (λ field. (u, field)) (item_in names u text)) (holder_of names text) item e in
     let b = map_some (λ field. (a.0, field)) (item_in names a.0 text) item a.2 in
     let f = found (λ known. is_some (field_of known.layout text)) names.files a.0 a.1 in
-    let d = all_at (λ file. IsRecord file.layout × IsSchema file.schema) names.files a.0 f.0 described f.1 in
-    let fits = item_fits f.0.layout d.0 text b.0 (sym (item_in_is names a.0 f.0 f.1 text) ∙ b.1) in
+    let d = all_at (IsDescribedFile (length names.items)) names.files a.0 f.0 described.files_are f.1 in
+    let fits = item_fits f.0.layout d.layout text b.0 (sym (item_in_is names a.0 f.0 f.1 text) ∙ b.1) in
     let at : slice_get names.files item.0 ≡ Some f.0 = subst (λ (item : ℕ × Field). slice_get names.files item.0 ≡ Some f.0) b.2 f.1 in
     let within : item.1.offset + item.1.length ≤ length_of f.0.layout = subst (λ (item : ℕ × Field). item.1.offset + item.1.length ≤ length_of f.0.layout) b.2 fits.1 in
     subst (All (IsAllowed names)) (same_Some (Move item.0 item.1 sent ∷ []) statements t.1) (one_all (IsAllowed names) (Move item.0 item.1 sent) (f.0, at, within, t.0))
-move_allowed names described sent text None (Some i) statements e p m =
+move_allowed names described sent numeral text None (Some i) statements e p m =
     let t = then_some (is_taken_by true sent) (Some (MoveLength i sent ∷ [])) statements m in
     let f = found (λ item. bytes_eq item.name text) names.items i p in
-    subst (All (IsAllowed names)) (same_Some (MoveLength i sent ∷ []) statements t.1) (one_all (IsAllowed names) (MoveLength i sent) (slice_get_within names.items i f.0 f.1, t.0))
-move_allowed names described sent text None None statements e p m = absurd (cc)
+    subst (All (IsAllowed names)) (same_Some (MoveLength i sent ∷ []) statements t.1) (one_all (IsAllowed names) (MoveLength i sent) (slice_get_within names.items i f.0 f.1, taken_is_number sent numeral t.0))
+move_allowed names described sent numeral text None None statements e p m = absurd (cc)
 
-pub gives_receiver : (names : Names) → AreDescribed names → (sent : Source (List ℕ)) → Gives (All (IsAllowed names)) (receiver names sent)
+pub gives_receiver : (names : Names) → AreDescribed names.files names.items → (sent : Source (List ℕ)) → HasDigits sent → Gives (All (IsAllowed names)) (receiver names sent)
 unfolding receiver
-gives_receiver names described sent =
+gives_receiver names described sent numeral =
     gives_as (λ _. Unit {0}) (All (IsAllowed names)) (moved_to_named names sent) name (λ _ _ _ _. tt)
-    (λ text statements _ e. move_allowed names described sent text (item_of names text) (length_item_of names text) statements refl refl e)
+    (λ text statements _ e. move_allowed names described sent numeral text (item_of names text) (length_item_of names text) statements refl refl e)
 
-pub gives_receivers : (names : Names) → AreDescribed names → (sent : Source (List ℕ)) → Gives (All (IsAllowed names)) (receivers names sent)
+pub gives_receivers : (names : Names) → AreDescribed names.files names.items → (sent : Source (List ℕ)) → HasDigits sent → Gives (All (IsAllowed names)) (receivers names sent)
 unfolding receivers
-gives_receivers names described sent =
-    gives_second (All (IsAllowed names)) (the (codes "TO")) (some_of (receiver names sent)) (gives_some (IsAllowed names) (receiver names sent) (gives_receiver names described sent))
+gives_receivers names described sent numeral =
+    gives_second (All (IsAllowed names)) (the (codes "TO")) (some_of (receiver names sent)) (gives_some (IsAllowed names) (receiver names sent) (gives_receiver names described sent numeral))
 
-pub gives_move : (names : Names) → AreDescribed names → Gives (All (IsAllowed names)) (move_statement names)
+pub gives_move : (names : Names) → AreDescribed names.files names.items → Gives (All (IsAllowed names)) (move_statement names)
 unfolding move_statement
 gives_move names described =
     gives_second (All (IsAllowed names)) (the (codes "MOVE")) (followed (Fill Zero) source (receivers names))
-    (gives_followed (λ _. Unit {0}) (All (IsAllowed names)) (Fill Zero) source (receivers names) (λ _ _ _ _. tt) (λ sent _. gives_receivers names described sent))
+    (gives_followed HasDigits (All (IsAllowed names)) (Fill Zero) source (receivers names) gives_source (gives_receivers names described))
 
 -- ---- the procedure
 
-pub gives_statement : (names : Names) → AreDescribed names → Gives (All (IsAllowed names)) (statement names)
+pub gives_statement : (names : Names) → AreDescribed names.files names.items → Gives (All (IsAllowed names)) (statement names)
 unfolding statement
 gives_statement names described =
     let P = All (IsAllowed names) in
@@ -340,7 +343,7 @@ gives_statement names described =
     (gives_either P (delete_statement names) eight (gives_delete names)
     (gives_either P (move_statement names) last (gives_move names described) (gives_stop names))))))))
 
-pub gives_sentence : (names : Names) → AreDescribed names → Gives (All (IsAllowed names)) (sentence names)
+pub gives_sentence : (names : Names) → AreDescribed names.files names.items → Gives (All (IsAllowed names)) (sentence names)
 unfolding sentence
 gives_sentence names described =
     gives_first (All (IsAllowed names)) (some_of (statement names)) period (gives_some (IsAllowed names) (statement names) (gives_statement names described))
@@ -354,13 +357,13 @@ gives_paragraph names =
     gives_as (λ _. Unit {0}) (All (IsAllowed names)) (λ _. Some []) (name ▸ period) (λ _ _ _ _. tt)
     (λ _ statements _ e. subst (All (IsAllowed names)) (same_Some {A = List Statement} [] statements e) (nothing_all (IsAllowed names)))
 
-pub gives_turn : (names : Names) → AreDescribed names → Gives (All (IsAllowed names)) (paragraph_or_sentence names)
+pub gives_turn : (names : Names) → AreDescribed names.files names.items → Gives (All (IsAllowed names)) (paragraph_or_sentence names)
 unfolding paragraph_or_sentence
 gives_turn names described =
     gives_either (All (IsAllowed names)) paragraph (sentence names) (gives_paragraph names) (gives_sentence names described)
 
 -- every statement of a procedure is allowed
-pub all_allowed : (names : Names) → AreDescribed names → Gives (All (IsAllowed names)) (procedure names)
+pub all_allowed : (names : Names) → AreDescribed names.files names.items → Gives (All (IsAllowed names)) (procedure names)
 unfolding procedure
 all_allowed names described =
     let P = All (IsAllowed names) in

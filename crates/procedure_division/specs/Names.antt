@@ -4,35 +4,16 @@ use Rattle.std.specs.Option.{option_map_or}
 use Rattle.io_state.specs.declared.modes.Access.{Access}
 use Rattle.io_state.specs.declared.modes.Access.TheVariants.{Sequential}
 use Rattle.record_layout.specs.declared.item.Field.{Field}
-use Rattle.record_layout.specs.Layout.{Placed, is_named, field_of}
-use Rattle.record_layout.specs.Schema.{Schema, key_at, key_of_field, key_led_by}
-
--- a file: its name, its access mode, the name of its record's 01 entry, if it has one, the items of the record, and its keys
-pub record NamedFile : Type 0 where
-  pub name : List ℕ
-  pub access : Access
-  pub record_name : Option (List ℕ)
-  pub layout : List Placed
-  pub schema : Schema
-
--- a 77-level item of so many digits
-pub record NamedItem : Type 0 where
-  pub name : List ℕ
-  pub digits : ℕ
+use Rattle.record_layout.specs.Layout.{is_named, field_of}
+use Rattle.record_layout.specs.Schema.{key_at, key_of_field, key_led_by}
+use Rattle.file_description.specs.Description.{FileDesc, LengthItem}
 
 -- the files in the order of their SELECT entries, and the 77-level items in the order of theirs
 pub record Names : Type 0 where
-  pub files : List NamedFile
-  pub items : List NamedItem
+  pub files : List FileDesc
+  pub items : List LengthItem
 
-abbrev pub named_file : List ℕ → Access → Option (List ℕ) → List Placed → Schema → NamedFile
-named_file name access record_name layout schema =
-    record { name = name; access = access; record_name = record_name; layout = layout; schema = schema }
-
-abbrev pub named_item : List ℕ → ℕ → NamedItem
-named_item name digits = record { name = name; digits = digits }
-
-abbrev pub names_of : List NamedFile → List NamedItem → Names
+abbrev pub names_of : List FileDesc → List LengthItem → Names
 names_of files items = record { files = files; items = items }
 
 -- ---- names
@@ -43,7 +24,7 @@ file_of names name = position (λ file. bytes_eq file.name name) names.files
 
 -- the place of the file whose record has this name
 abbrev pub record_of : Names → List ℕ → Option ℕ
-record_of names name = position (λ file. is_named name file.record_name) names.files
+record_of names name = position (λ file. is_named name file.entry) names.files
 
 -- the item of this name in the record of the file of a place; the record itself is one
 abbrev pub item_in : Names → ℕ → List ℕ → Option Field

@@ -2,6 +2,8 @@
 -- ANSI X3.23-1985, Indexed I-O module, general formats of the CLOSE, DELETE, OPEN, READ, REWRITE, START and WRITE statements;
 -- Nucleus module, those of the MOVE and STOP statements. Which phrases there are is ours.
 use Rattle.std.specs.Prelude.{ℕ, Bool, true, false, not, ◌||◌, List, [], ◌∷◌, ◌++◌, if◌then◌else◌, codes, Option, Some, None, option_and_then, Result}
+use Rattle.std.specs.List.{list_all}
+use Rattle.std.specs.Char.{is_ascii_digit}
 use Rattle.io_state.specs.declared.modes.Access.{Access}
 use Rattle.io_state.specs.declared.modes.OpenMode.{OpenMode}
 use Rattle.io_state.specs.declared.modes.OpenMode.TheVariants.{Input, Output, InputOutput, Extend}
@@ -218,9 +220,13 @@ figure =
     ∣ ((λ _. Low) <$> (the (codes "LOW-VALUE") ∣ the (codes "LOW-VALUES")))
     ∣ ((λ _. High) <$> (the (codes "HIGH-VALUE") ∣ the (codes "HIGH-VALUES")))
 
+-- ours: a literal of digits alone is moved as a number is
+abbrev pub sent_by_literal : List ℕ → Source (List ℕ)
+sent_by_literal text = if list_all is_ascii_digit text then Digits text else Text text
+
 -- literal | number | a figurative constant
 unfoldable pub source : Rule (Source (List ℕ))
-source = (Text <$> literal) ∣ (Digits <$> digits) ∣ (Fill <$> figure)
+source = (sent_by_literal <$> literal) ∣ (Digits <$> digits) ∣ (Fill <$> figure)
 
 -- to an item of a file, or else to a length item, which takes what a numeric item takes
 abbrev pub moved_to : Source (List ℕ) → Option (ℕ × Field) → Option ℕ → Option (List Statement)

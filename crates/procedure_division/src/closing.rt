@@ -27,7 +27,7 @@ fn lock(parser: &mut Parser<'_>) -> Result<bool, Refusal>
 #[tactic(auto, unfolding(crate::specs::StatementRules::closed))]
 fn closed(
     parser: &mut Parser<'_>,
-    names: &Names,
+    names: &Names<'_>,
     statements: StatementList,
 ) -> Result<StatementList, Refusal>
     ensures { Adds (closed names.now) statements parser.old result parser.new }
@@ -43,7 +43,7 @@ fn closed(
 /// The files that are closed, one or more.
 fn all_closed(
     parser: &mut Parser<'_>,
-    names: &Names,
+    names: &Names<'_>,
     statements: StatementList,
 ) -> Result<StatementList, Refusal>
     ensures { Adds (some_of (closed names.now)) statements parser.old result parser.new }
@@ -58,7 +58,7 @@ fn all_closed(
 #[tactic(auto, unfolding(crate::specs::StatementRules::close_statement), using(crate::proofs::JoinLaws::second_behind))]
 pub fn close_statement(
     parser: &mut Parser<'_>,
-    names: &Names,
+    names: &Names<'_>,
     statements: StatementList,
 ) -> Result<StatementList, Refusal>
     ensures { Adds (close_statement names.now) statements parser.old result parser.new }

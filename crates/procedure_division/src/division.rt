@@ -1,10 +1,11 @@
 //! The procedure division.
 ghost use Rattle.std.specs.Prelude.{◌≡◌, ◌≢◌, [], List, All, IfOk, IfErr};
-ghost use Rattle.file_control.specs.Fault.{IsFault};
+ghost use Rattle.file_control.specs.Fault.{IsFault, IsTold};
 ghost use Rattle.file_control.specs.Reading.{Reads};
 ghost use Rattle.file_control.specs.Rule.{onto};
 ghost use Rattle.file_control.specs.declared.word.Word.{Word};
-ghost use Rattle.procedure_division.specs.Allowed.{AreDescribed, IsAllowed};
+ghost use Rattle.file_description.specs.Described.{AreDescribed};
+ghost use Rattle.procedure_division.specs.Allowed.{IsAllowed};
 ghost use Rattle.procedure_division.specs.Names.{Names};
 ghost use Rattle.procedure_division.specs.StatementRules.{joined};
 ghost use Rattle.procedure_division.specs.Procedure.{paragraph_or_sentence, procedure};
@@ -20,7 +21,7 @@ use std::alloc::Global;
 fn all_sentences(
     alloc: Global,
     parser: &mut Parser<'_>,
-    names: &Names,
+    names: &Names<'_>,
 ) -> Result<StatementList, Refusal>
     ensures { Reads ((onto joined [] (paragraph_or_sentence names.now)).reads parser.old) result parser.new }
 {
@@ -35,7 +36,7 @@ fn all_sentences(
 fn procedure_division(
     alloc: Global,
     parser: &mut Parser<'_>,
-    names: &Names,
+    names: &Names<'_>,
 ) -> Result<StatementList, Refusal>
     ensures { Reads ((procedure names.now).reads parser.old) result parser.new }
 {
@@ -45,7 +46,11 @@ fn procedure_division(
     all_sentences(alloc, parser, names)
 }
 
-fn read_procedure(alloc: Global, names: &Names, words: &[Word]) -> Result<StatementList, Refusal>
+fn read_procedure(
+    alloc: Global,
+    names: &Names<'_>,
+    words: &[Word],
+) -> Result<StatementList, Refusal>
     ensures statements { IfOk result (λ list. (procedure names.now).Spells list words.now []) }
     ensures fault { IfErr result (λ refusal. IsFault refusal →
         (statements : List Statement) → (procedure names.now).Spells statements words.now [] → ⊥) }
@@ -59,10 +64,15 @@ fn read_procedure(alloc: Global, names: &Names, words: &[Word]) -> Result<Statem
 /// The statements that the words are, all of them, from PROCEDURE on, or the first fault: code 2 for a word with which no
 /// procedure goes on, and at the last line where words are missing; 3 for a file, a record or an item that is none; 5 for what is
 /// not allowed; 6 for a number of more than 18 digits; or code 8.
-pub fn procedure(alloc: Global, names: &Names, words: &[Word]) -> Result<StatementList, DeckFault>
+pub fn procedure(
+    alloc: Global,
+    names: &Names<'_>,
+    words: &[Word],
+) -> Result<StatementList, DeckFault>
     ensures statements { IfOk result (λ list. (procedure names.now).Spells list words.now []) }
     ensures fault { IfErr result (λ fault. fault.code ≢ 8 →
         (statements : List Statement) → (procedure names.now).Spells statements words.now [] → ⊥) }
+    ensures told { IfErr result IsTold }
 {
     Ok(read_procedure(alloc, names, words)?)
 }
@@ -76,7 +86,7 @@ pub fn one_procedure()
 /// The statements of a procedure are for files, items and keys of the deck, and the access modes allow them.
 pub fn only_allowed()
     ensures { (names : Names) (list : List Statement) (words : List Word) →
-        AreDescribed names → (procedure names).Spells list words [] → All (IsAllowed names) list }
+        AreDescribed names.files names.items → (procedure names).Spells list words [] → All (IsAllowed names) list }
 {}
 
 #[cfg(test)]

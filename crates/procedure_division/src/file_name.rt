@@ -7,7 +7,7 @@ use file_control::{Cause, Parser, Refusal};
 
 /// The name of a file.
 #[tactic(auto, unfolding(crate::specs::StatementRules::file))]
-pub fn file(parser: &mut Parser<'_>, names: &Names) -> Result<usize, Refusal>
+pub fn file(parser: &mut Parser<'_>, names: &Names<'_>) -> Result<usize, Refusal>
     ensures { Reads ((file names.now).reads parser.old) result parser.new }
 {
     let unknown = parser.fault(Cause::Unknown);
@@ -20,7 +20,7 @@ pub fn file(parser: &mut Parser<'_>, names: &Names) -> Result<usize, Refusal>
 
 /// The name of a file's record.
 #[tactic(auto, unfolding(crate::specs::StatementRules::record_name))]
-pub fn record_name(parser: &mut Parser<'_>, names: &Names) -> Result<usize, Refusal>
+pub fn record_name(parser: &mut Parser<'_>, names: &Names<'_>) -> Result<usize, Refusal>
     ensures { Reads ((record_name names.now).reads parser.old) result parser.new }
 {
     let unknown = parser.fault(Cause::Unknown);

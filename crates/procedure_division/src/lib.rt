@@ -20,6 +20,6 @@ mod statement_list;
 mod writing;
 
 pub use division::{one_procedure, only_allowed, procedure};
-pub use names::{NamedFile, NamedItem, Names};
+pub use names::Names;
 pub use statement::Statement;
 pub use statement_list::StatementList;

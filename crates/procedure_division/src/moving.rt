@@ -1,9 +1,11 @@
 //! The MOVE statement.
 ghost use Rattle.std.specs.Prelude.{◌≡◌, true, IfOk};
+ghost use Rattle.std.specs.List.{list_all};
+ghost use Rattle.std.specs.Char.{is_ascii_digit};
 ghost use Rattle.record_layout.specs.Area.{is_taken_by, sent};
 ghost use Rattle.file_control.specs.Reading.{Reads};
 ghost use Rattle.file_control.specs.Scanning.{map_result};
-ghost use Rattle.procedure_division.specs.StatementRules.{Adds, some_of, figure, source};
+ghost use Rattle.procedure_division.specs.StatementRules.{Adds, some_of, figure, source, sent_by_literal};
 ghost use Rattle.procedure_division.specs.StatementRules.{receiver, receivers, move_statement};
 
 use crate::names::Names;
@@ -34,13 +36,30 @@ fn figure(parser: &mut Parser<'_>) -> Result<Figure, Refusal>
     Ok(Figure::High)
 }
 
+fn are_digits(text: &[u8]) -> bool
+    ensures { result ≡ list_all is_ascii_digit text.now }
+{
+    text.iter().all(|byte| byte.is_ascii_digit())
+}
+
+/// What a literal sends.
+fn sent_by_literal(text: &[u8]) -> Source<&[u8]>
+    ensures { sent result ≡ sent_by_literal text.now }
+{
+    if are_digits(text) {
+        Source::Digits(text)
+    } else {
+        Source::Text(text)
+    }
+}
+
 #[tactic(auto, unfolding(crate::specs::StatementRules::source))]
 fn source<'a>(parser: &mut Parser<'a>) -> Result<Source<&'a [u8]>, Refusal>
     ensures { Reads (source.reads parser.old) (map_result sent result) parser.new }
 {
     if parser.sees_literal() {
         let text = parser.literal_text()?;
-        return Ok(Source::Text(text));
+        return Ok(sent_by_literal(text));
     }
     if parser.sees_digits() {
         let digits = parser.digits()?;
@@ -73,7 +92,7 @@ fn copy_of(alloc: Global, source: &Source<&[u8]>) -> Result<Source<Bytes>, Alloc
 fn receiver(
     alloc: Global,
     parser: &mut Parser<'_>,
-    names: &Names,
+    names: &Names<'_>,
     source: &Source<&[u8]>,
     statements: StatementList,
 ) -> Result<StatementList, Refusal>
@@ -107,7 +126,7 @@ fn receiver(
 fn all_receivers(
     alloc: Global,
     parser: &mut Parser<'_>,
-    names: &Names,
+    names: &Names<'_>,
     source: &Source<&[u8]>,
     statements: StatementList,
 ) -> Result<StatementList, Refusal>
@@ -124,7 +143,7 @@ fn all_receivers(
 fn receivers(
     alloc: Global,
     parser: &mut Parser<'_>,
-    names: &Names,
+    names: &Names<'_>,
     source: &Source<&[u8]>,
     statements: StatementList,
 ) -> Result<StatementList, Refusal>
@@ -138,7 +157,7 @@ fn receivers(
 pub fn move_statement(
     alloc: Global,
     parser: &mut Parser<'_>,
-    names: &Names,
+    names: &Names<'_>,
     statements: StatementList,
 ) -> Result<StatementList, Refusal>
     ensures { Adds (move_statement names.now) statements parser.old result parser.new }

@@ -3,131 +3,70 @@ ghost use Rattle.std.specs.Prelude.{ℕ, ◌≡◌, Option, is_some, option_map}
 ghost use Rattle.std.specs.Option.{option_map_or};
 ghost use Rattle.record_layout.specs.Layout.{is_named, field_of};
 ghost use Rattle.record_layout.specs.Schema.{key_at};
-ghost use Rattle.procedure_division.specs.Names.{named_file, named_item, names_of, file_of, record_of};
+ghost use Rattle.procedure_division.specs.Names.{names_of, file_of, record_of};
 ghost use Rattle.procedure_division.specs.Names.{item_in, holder_of, item_of};
 ghost use Rattle.procedure_division.specs.Names.{length_item_of, access_at, prime_length, key_of, led_key_of};
 ghost use Rattle.std.specs.Prelude.{position, bytes_eq};
 
-use io_state::{Access, Name};
-use record_layout::{Field, Layout, Schema};
+use file_description::{FileDesc, LengthItem};
+use io_state::Access;
+use record_layout::Field;
 use std::marker::Model;
-
-/// A file: its name, its access mode, the name of its record's 01 entry, the items of the record, and its keys.
-#[derive(Drop)]
-pub struct NamedFile {
-    name: Name,
-    access: Access,
-    record_name: Option<Name>,
-    layout: Layout,
-    schema: Schema,
-}
-
-impl Model for NamedFile {
-    ghost use Rattle.std.specs.Prelude.{option_map};
-    ghost use Rattle.procedure_division.specs.Names.{NamedFile as File, named_file};
-
-    ghost Value = { File };
-
-    ghost view = { λ f. named_file f.name.bytes f.access (option_map (λ name. name.bytes) f.record_name) f.layout f.schema };
-}
-
-/// A 77-level item, and the number of its digits.
-#[derive(Drop)]
-pub struct NamedItem {
-    name: Name,
-    digits: u8,
-}
-
-impl Model for NamedItem {
-    ghost use Rattle.procedure_division.specs.Names.{NamedItem as Item, named_item};
-
-    ghost Value = { Item };
-
-    ghost view = { λ i. named_item i.name.bytes i.digits };
-}
 
 /// The files of a deck in the order of their SELECT entries, and its 77-level items in the order of their entries.
 #[derive(Drop)]
-pub struct Names {
-    files: Vec<NamedFile>,
-    items: Vec<NamedItem>,
+pub struct Names<'a> {
+    files: &'a [FileDesc],
+    items: &'a [LengthItem],
 }
 
-impl Model for Names {
+impl<'a> Model for Names<'a> {
     ghost use Rattle.procedure_division.specs.Names.{Names as Known, names_of};
 
     ghost Value = { Known };
 
-    ghost view = { λ n. names_of n.files.items n.items.items };
+    ghost view = { λ n. names_of n.files.now n.items.now };
 }
 
-impl NamedFile {
-    pub fn new(
-        name: Name,
-        access: Access,
-        record_name: Option<Name>,
-        layout: Layout,
-        schema: Schema,
-    ) -> Self
-        ensures { result ≡ named_file name.bytes access (option_map (λ name. name.bytes) record_name) layout schema }
-    {
-        NamedFile {
-            name,
-            access,
-            record_name,
-            layout,
-            schema,
-        }
-    }
+fn is_named(file: &FileDesc, name: &str) -> bool
+    ensures { result ≡ bytes_eq file.now.name name.now }
+{
+    file.name.as_str() == name
+}
 
-    fn is_named(&self, name: &str) -> bool
-        ensures { result ≡ bytes_eq self.now.name name.now }
-    {
-        self.name.as_str() == name
-    }
-
-    fn has_record(&self, name: &str) -> bool
-        ensures { result ≡ is_named name.now self.now.record_name }
-    {
-        match &self.record_name {
-            Some(record_name) => record_name.as_str() == name,
-            None => false,
-        }
-    }
-
-    fn has_item(&self, name: &str) -> bool
-        ensures { result ≡ is_some (field_of self.now.layout name.now) }
-    {
-        self.layout.field(name).is_some()
-    }
-
-    fn prime_length(&self) -> u16
-        ensures { result ≡ (key_at self.now.schema 0).length }
-    {
-        match self.schema.keys().first() {
-            Some(prime) => prime.length,
-            None => 0,
-        }
+fn has_record(file: &FileDesc, name: &str) -> bool
+    ensures { result ≡ is_named name.now file.now.entry }
+{
+    match &file.entry {
+        Some(entry) => entry.as_str() == name,
+        None => false,
     }
 }
 
-impl NamedItem {
-    pub fn new(name: Name, digits: u8) -> Self
-        ensures { result ≡ named_item name.bytes digits }
-    {
-        NamedItem { name, digits }
-    }
+fn has_item(file: &FileDesc, name: &str) -> bool
+    ensures { result ≡ is_some (field_of file.now.layout name.now) }
+{
+    file.layout.field(name).is_some()
+}
 
-    fn is_named(&self, name: &str) -> bool
-        ensures { result ≡ bytes_eq self.now.name name.now }
-    {
-        self.name.as_str() == name
+fn prime_length_of(file: &FileDesc) -> u16
+    ensures { result ≡ (key_at file.now.schema 0).length }
+{
+    match file.schema.keys().first() {
+        Some(prime) => prime.length,
+        None => 0,
     }
 }
 
-impl Names {
-    pub fn new(files: Vec<NamedFile>, items: Vec<NamedItem>) -> Self
-        ensures { result ≡ names_of files.items items.items }
+fn is_length_item(item: &LengthItem, name: &str) -> bool
+    ensures { result ≡ bytes_eq item.now.name name.now }
+{
+    item.name.as_str() == name
+}
+
+impl<'a> Names<'a> {
+    pub fn new(files: &'a [FileDesc], items: &'a [LengthItem]) -> Self
+        ensures { result ≡ names_of files.now items.now }
     {
         Names { files, items }
     }
@@ -136,14 +75,14 @@ impl Names {
     pub fn file(&self, name: &str) -> Option<usize>
         ensures { result ≡ file_of self.now name.now }
     {
-        self.files.iter().position(|file| file.is_named(name))
+        self.files.iter().position(|file| is_named(file, name))
     }
 
     /// The file whose record has this name.
     pub fn record(&self, name: &str) -> Option<usize>
         ensures { result ≡ record_of self.now name.now }
     {
-        self.files.iter().position(|file| file.has_record(name))
+        self.files.iter().position(|file| has_record(file, name))
     }
 
     /// The item of a name in the record of a file.
@@ -157,7 +96,7 @@ impl Names {
     fn holder(&self, name: &str) -> Option<usize>
         ensures { result ≡ holder_of self.now name.now }
     {
-        self.files.iter().position(|file| file.has_item(name))
+        self.files.iter().position(|file| has_item(file, name))
     }
 
     /// The item of a name in the record of any file, and the file.
@@ -173,7 +112,9 @@ impl Names {
     pub fn length_item(&self, name: &str) -> Option<usize>
         ensures { result ≡ length_item_of self.now name.now }
     {
-        self.items.iter().position(|item| item.is_named(name))
+        self.items
+            .iter()
+            .position(|item| is_length_item(item, name))
     }
 
     /// The access mode of a file.
@@ -191,7 +132,7 @@ impl Names {
         ensures { result ≡ prime_length self.now file }
     {
         match self.files.get(file) {
-            Some(file) => file.prime_length(),
+            Some(file) => prime_length_of(file),
             None => 0,
         }
     }

@@ -16,7 +16,7 @@ use verbs::FileStatement;
 #[tactic(auto, unfolding(crate::specs::StatementRules::opened))]
 fn opened(
     parser: &mut Parser<'_>,
-    names: &Names,
+    names: &Names<'_>,
     mode: OpenMode,
     statements: StatementList,
 ) -> Result<StatementList, Refusal>
@@ -40,7 +40,7 @@ fn opened(
 /// The files that are opened in a mode, one or more.
 fn all_opened(
     parser: &mut Parser<'_>,
-    names: &Names,
+    names: &Names<'_>,
     mode: OpenMode,
     statements: StatementList,
 ) -> Result<StatementList, Refusal>
@@ -57,7 +57,7 @@ fn all_opened(
 #[tactic(auto, unfolding(crate::specs::StatementRules::opening, file_control::specs::Notation::the), using(crate::proofs::JoinLaws::second_behind))]
 fn opening(
     parser: &mut Parser<'_>,
-    names: &Names,
+    names: &Names<'_>,
     statements: StatementList,
 ) -> Result<StatementList, Refusal>
     ensures { Adds (opening names.now) statements parser.old result parser.new }
@@ -86,7 +86,7 @@ fn sees_mode(parser: &Parser<'_>) -> bool
 /// Modes and their files, one or more.
 fn all_openings(
     parser: &mut Parser<'_>,
-    names: &Names,
+    names: &Names<'_>,
     statements: StatementList,
 ) -> Result<StatementList, Refusal>
     ensures { Adds (some_of (opening names.now)) statements parser.old result parser.new }
@@ -101,7 +101,7 @@ fn all_openings(
 #[tactic(auto, unfolding(crate::specs::StatementRules::open_statement), using(crate::proofs::JoinLaws::second_behind))]
 pub fn open_statement(
     parser: &mut Parser<'_>,
-    names: &Names,
+    names: &Names<'_>,
     statements: StatementList,
 ) -> Result<StatementList, Refusal>
     ensures { Adds (open_statement names.now) statements parser.old result parser.new }

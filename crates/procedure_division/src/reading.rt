@@ -29,7 +29,7 @@ fn next(parser: &mut Parser<'_>, access: Access) -> Result<bool, Refusal>
 
 /// The name of an item of the file that is a key.
 #[tactic(auto, unfolding(crate::specs::StatementRules::key))]
-fn key(parser: &mut Parser<'_>, names: &Names, file: usize) -> Result<u8, Refusal>
+fn key(parser: &mut Parser<'_>, names: &Names<'_>, file: usize) -> Result<u8, Refusal>
     ensures { Reads ((key names.now file).reads parser.old) result parser.new }
 {
     let unknown = parser.fault(Cause::Unknown);
@@ -58,7 +58,7 @@ fn read_by(sequential: bool, key: Option<u8>) -> FileStatement
 #[tactic(auto, unfolding(crate::specs::StatementRules::key_phrase, file_control::specs::Notation::the))]
 fn key_phrase(
     parser: &mut Parser<'_>,
-    names: &Names,
+    names: &Names<'_>,
     file: usize,
     sequential: bool,
 ) -> Result<Option<u8>, Refusal>
@@ -79,7 +79,7 @@ fn key_phrase(
 #[tactic(auto, unfolding(crate::specs::StatementRules::read_operand))]
 fn read_operand(
     parser: &mut Parser<'_>,
-    names: &Names,
+    names: &Names<'_>,
     file: usize,
     sequential: bool,
     statements: StatementList,
@@ -98,7 +98,7 @@ fn read_operand(
 #[tactic(auto, unfolding(crate::specs::StatementRules::read_phrases), using(crate::proofs::JoinLaws::follower_behind))]
 fn read_phrases(
     parser: &mut Parser<'_>,
-    names: &Names,
+    names: &Names<'_>,
     file: usize,
     statements: StatementList,
 ) -> Result<StatementList, Refusal>
@@ -111,7 +111,7 @@ fn read_phrases(
 #[tactic(auto, unfolding(crate::specs::StatementRules::read_statement), using(crate::proofs::JoinLaws::follower_behind, crate::proofs::JoinLaws::second_behind))]
 pub fn read_statement(
     parser: &mut Parser<'_>,
-    names: &Names,
+    names: &Names<'_>,
     statements: StatementList,
 ) -> Result<StatementList, Refusal>
     ensures { Adds (read_statement names.now) statements parser.old result parser.new }

@@ -45,7 +45,7 @@ fn sees_statement(parser: &Parser<'_>) -> bool
 fn statement(
     alloc: Global,
     parser: &mut Parser<'_>,
-    names: &Names,
+    names: &Names<'_>,
     statements: StatementList,
 ) -> Result<StatementList, Refusal>
     ensures { Adds (statement names.now) statements parser.old result parser.new }
@@ -81,7 +81,7 @@ fn statement(
 fn all_statements(
     alloc: Global,
     parser: &mut Parser<'_>,
-    names: &Names,
+    names: &Names<'_>,
     statements: StatementList,
 ) -> Result<StatementList, Refusal>
     ensures { Adds (some_of (statement names.now)) statements parser.old result parser.new }
@@ -97,7 +97,7 @@ fn all_statements(
 fn sentence(
     alloc: Global,
     parser: &mut Parser<'_>,
-    names: &Names,
+    names: &Names<'_>,
     statements: StatementList,
 ) -> Result<StatementList, Refusal>
     ensures { Adds (sentence names.now) statements parser.old result parser.new }
@@ -121,7 +121,7 @@ fn paragraph(parser: &mut Parser<'_>) -> Result<(), Refusal>
 pub fn paragraph_or_sentence(
     alloc: Global,
     parser: &mut Parser<'_>,
-    names: &Names,
+    names: &Names<'_>,
     statements: StatementList,
 ) -> Result<StatementList, Refusal>
     ensures { Adds (paragraph_or_sentence names.now) statements parser.old result parser.new }

@@ -14,7 +14,7 @@ use verbs::FileStatement;
 
 /// The name of a file that START is for: its access is not random.
 #[tactic(auto, unfolding(crate::specs::StatementRules::file_to_start))]
-fn file_to_start(parser: &mut Parser<'_>, names: &Names) -> Result<usize, Refusal>
+fn file_to_start(parser: &mut Parser<'_>, names: &Names<'_>) -> Result<usize, Refusal>
     ensures { Reads ((file_to_start names.now).reads parser.old) result parser.new }
 {
     let unknown = parser.fault(Cause::Unknown);
@@ -31,7 +31,7 @@ fn file_to_start(parser: &mut Parser<'_>, names: &Names) -> Result<usize, Refusa
 
 /// The name of an item of the file that is a key or the leading part of one: the key, and the item's length.
 #[tactic(auto, unfolding(crate::specs::StatementRules::led_key))]
-fn led_key(parser: &mut Parser<'_>, names: &Names, file: usize) -> Result<(u8, u16), Refusal>
+fn led_key(parser: &mut Parser<'_>, names: &Names<'_>, file: usize) -> Result<(u8, u16), Refusal>
     ensures { Reads ((led_key names.now file).reads parser.old) result parser.new }
 {
     let unknown = parser.fault(Cause::Unknown);
@@ -104,7 +104,7 @@ fn relation(parser: &mut Parser<'_>) -> Result<Relation, Refusal>
 #[tactic(auto, unfolding(crate::specs::StatementRules::start_phrase, file_control::specs::Notation::the))]
 fn start_phrase(
     parser: &mut Parser<'_>,
-    names: &Names,
+    names: &Names<'_>,
     file: usize,
 ) -> Result<Option<(Relation, (u8, u16))>, Refusal>
     ensures { Reads ((start_phrase names.now file).reads parser.old) result parser.new }
@@ -118,7 +118,7 @@ fn start_phrase(
     Ok(Some((relation, led)))
 }
 
-fn start_by(names: &Names, file: usize, operand: Option<(Relation, (u8, u16))>) -> FileStatement
+fn start_by(names: &Names<'_>, file: usize, operand: Option<(Relation, (u8, u16))>) -> FileStatement
     ensures { result ≡ start_by names.now file operand }
 {
     match operand {
@@ -139,7 +139,7 @@ fn start_by(names: &Names, file: usize, operand: Option<(Relation, (u8, u16))>) 
 #[tactic(auto, unfolding(crate::specs::StatementRules::start_operand))]
 fn start_operand(
     parser: &mut Parser<'_>,
-    names: &Names,
+    names: &Names<'_>,
     file: usize,
     statements: StatementList,
 ) -> Result<StatementList, Refusal>
@@ -155,7 +155,7 @@ fn start_operand(
 #[tactic(auto, unfolding(crate::specs::StatementRules::start_statement), using(crate::proofs::JoinLaws::follower_behind, crate::proofs::JoinLaws::second_behind))]
 pub fn start_statement(
     parser: &mut Parser<'_>,
-    names: &Names,
+    names: &Names<'_>,
     statements: StatementList,
 ) -> Result<StatementList, Refusal>
     ensures { Adds (start_statement names.now) statements parser.old result parser.new }

@@ -12,7 +12,7 @@ use verbs::FileStatement;
 #[tactic(auto, unfolding(crate::specs::StatementRules::write_statement))]
 pub fn write_statement(
     parser: &mut Parser<'_>,
-    names: &Names,
+    names: &Names<'_>,
     statements: StatementList,
 ) -> Result<StatementList, Refusal>
     ensures { Adds (write_statement names.now) statements parser.old result parser.new }
@@ -28,7 +28,7 @@ pub fn write_statement(
 #[tactic(auto, unfolding(crate::specs::StatementRules::rewrite_statement))]
 pub fn rewrite_statement(
     parser: &mut Parser<'_>,
-    names: &Names,
+    names: &Names<'_>,
     statements: StatementList,
 ) -> Result<StatementList, Refusal>
     ensures { Adds (rewrite_statement names.now) statements parser.old result parser.new }
@@ -44,7 +44,7 @@ pub fn rewrite_statement(
 #[tactic(auto, unfolding(crate::specs::StatementRules::delete_statement))]
 pub fn delete_statement(
     parser: &mut Parser<'_>,
-    names: &Names,
+    names: &Names<'_>,
     statements: StatementList,
 ) -> Result<StatementList, Refusal>
     ensures { Adds (delete_statement names.now) statements parser.old result parser.new }

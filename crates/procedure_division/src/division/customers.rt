@@ -1,10 +1,11 @@
 //! The files and the length item of the tests' procedures.
 
 use super::procedure;
-use crate::names::{NamedFile, NamedItem, Names};
+use crate::names::Names;
 use crate::statement_list::StatementList;
 use file_control::{DeckFault, words};
-use io_state::{Access, Name};
+use file_description::{FileDesc, LengthItem};
+use io_state::{Access, FileName, Name};
 use record_layout::{Item, Layout, Schema};
 use std::alloc::Global;
 use std::test::Fail;
@@ -26,9 +27,21 @@ fn layout(alloc: Global, rows: &[(u8, &'static str, &'static str)]) -> Result<La
     Ok(Layout::build(alloc, &items)?)
 }
 
-/// Customers with an access mode and three keys, parts in sequential access, and a length item.
-pub fn names(alloc: Global, access: Access) -> Result<Names, Fail> {
-    let customer = layout(
+/// The files and the length items that a procedure names.
+#[derive(Drop)]
+pub struct Described {
+    files: Vec<FileDesc>,
+    items: Vec<LengthItem>,
+}
+
+impl Described {
+    pub fn names(&self) -> Names<'_> {
+        Names::new(self.files.as_slice(), self.items.as_slice())
+    }
+}
+
+fn customers(alloc: Global, access: Access) -> Result<FileDesc, Fail> {
+    let layout = layout(
         alloc,
         &[
             (1, "CUST-REC", ""),
@@ -39,7 +52,25 @@ pub fn names(alloc: Global, access: Access) -> Result<Names, Fail> {
             (5, "CUST-CITY", "X(6)"),
         ],
     )?;
-    let part = layout(
+    let alternates = [
+        (Name::from("CUST-NAME")?, false),
+        (Name::from("CUST-CITY")?, true),
+    ];
+    let schema = Schema::new(&layout, "CUST-ID", &alternates)?;
+    Ok(FileDesc {
+        name: Name::from("CUST")?,
+        file: FileName::from("cust.dat")?,
+        access,
+        optional: false,
+        entry: Some(Name::from("CUST-REC")?),
+        layout,
+        schema,
+        depends_on: Some(0),
+    })
+}
+
+fn parts(alloc: Global) -> Result<FileDesc, Fail> {
+    let layout = layout(
         alloc,
         &[
             (1, "PART-REC", ""),
@@ -47,36 +78,36 @@ pub fn names(alloc: Global, access: Access) -> Result<Names, Fail> {
             (5, "PART-COUNT", "9(5)"),
         ],
     )?;
-    let alternates = [
-        (Name::from("CUST-NAME")?, false),
-        (Name::from("CUST-CITY")?, true),
-    ];
-    let customer_keys = Schema::new(&customer, "CUST-ID", &alternates)?;
-    let part_keys = Schema::new(&part, "PART-NO", &[])?;
-    let mut files = Vec::new(alloc);
-    files.push(NamedFile::new(
-        Name::from("CUST")?,
-        access,
-        Some(Name::from("CUST-REC")?),
-        customer,
-        customer_keys,
-    ))?;
-    files.push(NamedFile::new(
-        Name::from("PARTS")?,
-        Access::Sequential,
-        Some(Name::from("PART-REC")?),
-        part,
-        part_keys,
-    ))?;
-    let mut items = Vec::new(alloc);
-    items.push(NamedItem::new(Name::from("CUST-LEN")?, 2))?;
-    Ok(Names::new(files, items))
+    let schema = Schema::new(&layout, "PART-NO", &[])?;
+    Ok(FileDesc {
+        name: Name::from("PARTS")?,
+        file: FileName::from("parts.dat")?,
+        access: Access::Sequential,
+        optional: false,
+        entry: Some(Name::from("PART-REC")?),
+        layout,
+        schema,
+        depends_on: None,
+    })
 }
 
-/// What the words of a heading and a text are, with these names.
+/// Customers with an access mode and three keys, parts in sequential access, and a length item.
+pub fn customers_and_parts(alloc: Global, access: Access) -> Result<Described, Fail> {
+    let mut files = Vec::new(alloc);
+    files.push(customers(alloc, access)?)?;
+    files.push(parts(alloc)?)?;
+    let mut items = Vec::new(alloc);
+    items.push(LengthItem {
+        name: Name::from("CUST-LEN")?,
+        digits: 2,
+    })?;
+    Ok(Described { files, items })
+}
+
+/// What the words of a heading and a text are, with these files and items.
 pub fn read(
     alloc: Global,
-    names: &Names,
+    described: &Described,
     heading: &str,
     text: &str,
 ) -> Result<Result<StatementList, DeckFault>, Fail> {
@@ -84,5 +115,5 @@ pub fn read(
     deck.push_str(heading)?;
     deck.push_str(text)?;
     let words = words(alloc, deck.as_bytes())?;
-    Ok(procedure(alloc, names, words.as_slice()))
+    Ok(procedure(alloc, &described.names(), words.as_slice()))
 }

@@ -1,12 +1,12 @@
 //! Procedures, and faulty ones.
 
-use super::customers::{names, read};
+use super::customers::{customers_and_parts, read};
 use super::{one_procedure, only_allowed};
 use crate::statement::Statement;
 use crate::statement_list::StatementList;
 use file_control::DeckFault;
 use io_state::{Access, OpenMode, Relation};
-use record_layout::{Bytes, Field, Figure, Source};
+use record_layout::{Bytes, Field, Figure, Source, put, takes};
 use std::alloc::Global;
 use std::test::Fail;
 use verbs::FileStatement;
@@ -37,7 +37,7 @@ fn file_statements(
 
 #[test]
 fn files_are_opened_and_closed_one_by_one(rt: HostRuntime) -> Result<(), Fail> {
-    let names = names(rt.alloc(), Access::Dynamic)?;
+    let described = customers_and_parts(rt.alloc(), Access::Dynamic)?;
     let input = FileStatement::Open(OpenMode::Input);
     let output = FileStatement::Open(OpenMode::Output);
     let update = FileStatement::Open(OpenMode::InputOutput);
@@ -57,7 +57,7 @@ fn files_are_opened_and_closed_one_by_one(rt: HostRuntime) -> Result<(), Fail> {
             [(0, lock), (1, lock), (0, close)].as_slice(),
         ),
     ] {
-        let list = read(rt.alloc(), &names, HEADING, text)??;
+        let list = read(rt.alloc(), &described, HEADING, text)??;
         let found = file_statements(rt.alloc(), &list)?;
         assert_eq!(rt; found.as_slice(), expected, "{text}");
     }
@@ -101,8 +101,8 @@ fn a_read_is_sequential_or_by_a_key(rt: HostRuntime) -> Result<(), Fail> {
             FileStatement::Read { key: 2 },
         ),
     ] {
-        let names = names(rt.alloc(), access)?;
-        let list = read(rt.alloc(), &names, HEADING, text)??;
+        let described = customers_and_parts(rt.alloc(), access)?;
+        let list = read(rt.alloc(), &described, HEADING, text)??;
         let found = file_statements(rt.alloc(), &list)?;
         assert_eq!(rt; found.as_slice(), [(0, expected)].as_slice(), "{text}");
     }
@@ -112,7 +112,7 @@ fn a_read_is_sequential_or_by_a_key(rt: HostRuntime) -> Result<(), Fail> {
 // START statement, general rules: the relation is that of equality where the KEY phrase is left out.
 #[test]
 fn a_start_is_by_the_leading_part_of_a_key(rt: HostRuntime) -> Result<(), Fail> {
-    let names = names(rt.alloc(), Access::Dynamic)?;
+    let described = customers_and_parts(rt.alloc(), Access::Dynamic)?;
     for (text, expected) in [
         ("START CUST.", start(0, 4, Relation::Equal)),
         (
@@ -155,7 +155,7 @@ fn a_start_is_by_the_leading_part_of_a_key(rt: HostRuntime) -> Result<(), Fail> 
         ),
         ("START CUST KEY >= NAME-1.", start(1, 1, Relation::NotLess)),
     ] {
-        let list = read(rt.alloc(), &names, HEADING, text)??;
+        let list = read(rt.alloc(), &described, HEADING, text)??;
         let found = file_statements(rt.alloc(), &list)?;
         assert_eq!(rt; found.as_slice(), [(0, expected)].as_slice(), "{text}");
     }
@@ -164,10 +164,10 @@ fn a_start_is_by_the_leading_part_of_a_key(rt: HostRuntime) -> Result<(), Fail> 
 
 #[test]
 fn statements_stand_in_their_order(rt: HostRuntime) -> Result<(), Fail> {
-    let names = names(rt.alloc(), Access::Dynamic)?;
+    let described = customers_and_parts(rt.alloc(), Access::Dynamic)?;
     let list = read(
         rt.alloc(),
-        &names,
+        &described,
         HEADING,
         "MAIN-LINE. WRITE CUST-REC REWRITE PART-REC. DELETE CUST RECORD.
          LAST-LINES. DELETE PARTS STOP RUN. WRITE PART-REC.",
@@ -183,7 +183,7 @@ fn statements_stand_in_their_order(rt: HostRuntime) -> Result<(), Fail> {
     assert_eq!(rt; found.as_slice(), expected.as_slice());
     assert_eq!(rt; list.as_slice().len(), 6);
     assert!(rt; matches!(list.as_slice()[4], Statement::StopRun));
-    let none = read(rt.alloc(), &names, HEADING, "")??;
+    let none = read(rt.alloc(), &described, HEADING, "")??;
     assert_eq!(rt; none.as_slice().len(), 0);
     Ok(())
 }
@@ -199,7 +199,7 @@ fn is_sent(source: &Source<Bytes>, expected: &Source<&[u8]>) -> bool {
 
 #[test]
 fn a_move_sends_a_literal_a_number_or_a_figurative_constant(rt: HostRuntime) -> Result<(), Fail> {
-    let names = names(rt.alloc(), Access::Dynamic)?;
+    let described = customers_and_parts(rt.alloc(), Access::Dynamic)?;
     for (text, expected) in [
         (
             "MOVE \"O''Hara\" TO CUST-NAME.",
@@ -208,6 +208,14 @@ fn a_move_sends_a_literal_a_number_or_a_figurative_constant(rt: HostRuntime) -> 
         (
             "MOVE 0012 TO CUST-NAME.",
             Source::Digits(b"0012".as_slice()),
+        ),
+        (
+            "MOVE '0012' TO CUST-NAME.",
+            Source::Digits(b"0012".as_slice()),
+        ),
+        (
+            "MOVE '00 12' TO CUST-NAME.",
+            Source::Text(b"00 12".as_slice()),
         ),
         (
             "MOVE 123456789012345678 TO CUST-NAME.",
@@ -223,7 +231,7 @@ fn a_move_sends_a_literal_a_number_or_a_figurative_constant(rt: HostRuntime) -> 
         ("MOVE HIGH-VALUE TO CUST-NAME.", Source::Fill(Figure::High)),
         ("MOVE HIGH-VALUES TO CUST-NAME.", Source::Fill(Figure::High)),
     ] {
-        let list = read(rt.alloc(), &names, HEADING, text)??;
+        let list = read(rt.alloc(), &described, HEADING, text)??;
         assert_eq!(rt; list.as_slice().len(), 1, "{text}");
         let Statement::Move {
             file,
@@ -248,10 +256,10 @@ fn a_move_sends_a_literal_a_number_or_a_figurative_constant(rt: HostRuntime) -> 
 
 #[test]
 fn a_move_has_receivers_of_several_files(rt: HostRuntime) -> Result<(), Fail> {
-    let names = names(rt.alloc(), Access::Dynamic)?;
+    let described = customers_and_parts(rt.alloc(), Access::Dynamic)?;
     let list = read(
         rt.alloc(),
-        &names,
+        &described,
         HEADING,
         "MOVE 7 TO PART-COUNT CUST-LEN CUST-REC.",
     )??;
@@ -293,6 +301,46 @@ fn a_move_has_receivers_of_several_files(rt: HostRuntime) -> Result<(), Fail> {
         }
         found += 1;
     }
+    Ok(())
+}
+
+/// The area of a customer, after the moves of a list.
+fn area_after(list: &StatementList) -> [u8; 16] {
+    let mut area = [b'.'; 16];
+    for statement in list.as_slice() {
+        if let Statement::Move { field, source, .. } = statement {
+            let source = source.as_ref();
+            let end = usize::from(field.offset) + usize::from(field.length);
+            if end <= area.len() && takes(*field, &source) {
+                put(&mut area, *field, &source);
+            }
+        }
+    }
+    area
+}
+
+// MOVE statement, general rules: to an item of digits right-justified, to any other left-justified. A literal of digits is moved as
+// a number is.
+#[test]
+fn a_literal_of_digits_is_moved_as_a_number(rt: HostRuntime) -> Result<(), Fail> {
+    let described = customers_and_parts(rt.alloc(), Access::Dynamic)?;
+    for (text, expected) in [
+        ("MOVE 12 TO CUST-ID CUST-NAME.", b"001212    ......"),
+        ("MOVE \"12\" TO CUST-ID CUST-NAME.", b"001212    ......"),
+        ("MOVE '123456' TO CUST-ID CUST-NAME.", b"3456123456......"),
+        ("MOVE '0007' TO CUST-CITY CUST-ID.", b"0007......0007  "),
+    ] {
+        let list = read(rt.alloc(), &described, HEADING, text)??;
+        assert_eq!(rt; list.as_slice().len(), 2, "{text}");
+        assert_eq!(rt; area_after(&list).as_slice(), expected.as_slice(), "{text}");
+    }
+    let list = read(rt.alloc(), &described, HEADING, "MOVE '12' TO CUST-LEN.")??;
+    assert_eq!(rt; list.as_slice().len(), 1);
+    let Statement::MoveLength { item: 0, source } = &list.as_slice()[0] else {
+        assert!(rt; false);
+        return Ok(());
+    };
+    assert!(rt; is_sent(source, &Source::Digits(b"12".as_slice())));
     Ok(())
 }
 
@@ -347,7 +395,10 @@ fn a_fault_is_told_for_its_line(rt: HostRuntime) -> Result<(), Fail> {
         (Access::Dynamic, "START CUST KEY >=\nCUST-REC.", 2, 5),
         (Access::Dynamic, "MOVE \"A\"\nTO\nCUST-ID.", 3, 5),
         (Access::Dynamic, "MOVE SPACES TO CUST-NAME\nCUST-ID.", 2, 5),
+        (Access::Dynamic, "MOVE '1A' TO CUST-NAME\nCUST-ID.", 2, 5),
         (Access::Dynamic, "MOVE \"TEN\" TO\nCUST-LEN.", 2, 5),
+        (Access::Dynamic, "MOVE '1 2' TO\nCUST-LEN.", 2, 5),
+        (Access::Dynamic, "MOVE SPACES TO\nCUST-LEN.", 2, 5),
         (
             Access::Dynamic,
             "MOVE\n1234567890123456789\nTO CUST-ID.",
@@ -355,12 +406,12 @@ fn a_fault_is_told_for_its_line(rt: HostRuntime) -> Result<(), Fail> {
             6,
         ),
     ] {
-        let names = names(rt.alloc(), access)?;
-        let fault = read(rt.alloc(), &names, HEADING, text)?.err();
+        let described = customers_and_parts(rt.alloc(), access)?;
+        let fault = read(rt.alloc(), &described, HEADING, text)?.err();
         assert_eq!(rt; fault, Some(DeckFault { line, code }), "{text:?}");
     }
-    let names = names(rt.alloc(), Access::Dynamic)?;
-    let faulty_heading = read(rt.alloc(), &names, "PROCEDURE\nDIVISON.", "")?.err();
+    let described = customers_and_parts(rt.alloc(), Access::Dynamic)?;
+    let faulty_heading = read(rt.alloc(), &described, "PROCEDURE\nDIVISON.", "")?.err();
     assert_eq!(rt; faulty_heading, Some(DeckFault { line: 2, code: 2 }));
     Ok(())
 }

@@ -1,0 +1,14 @@
+use Rattle.std.proofs.lemmas.Result.{err_from_is_err_and}
+use Rattle.deck_reader.proofs.DeckLaws.{no_deck}
+use Rattle.deck_reader.proofs.deck.read.Goals as goal
+
+pub returns-in_err-description-clause-none : goal.returns-in_err-description-clause-none
+returns-in_err-description-clause-none c =
+    let p = err_from_is_err_and c.from_residual.result c.from_residual.ensures.1 in
+    rw (p.1, p.2) (λ other deck s. c.in_err-description.ensures.none other s.0 s.1)
+
+pub returns-in_err-statements-clause-none : goal.returns-in_err-statements-clause-none
+returns-in_err-statements-clause-none c =
+    let p = err_from_is_err_and c.from_residual-in_err-statements.result c.from_residual-in_err-statements.ensures.1 in
+    rw (p.1, p.2) (λ other. no_deck c.one_description.ensures c.args.words.now c.in_ok-description.description c.in_ok-description.ensures.description
+    (λ statements s. c.in_err-statements.ensures.fault other statements (rw (c.new-names.ensures, c.as_slice.ensures, c.as_slice-2.ensures, c.split_at.ensures.back) s)))

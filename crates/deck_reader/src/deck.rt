@@ -1,0 +1,87 @@
+//! A deck, read whole.
+ghost use Rattle.std.specs.Prelude.{◌≡◌, ◌≢◌, ℕ, List, IfOk, IfErr};
+ghost use Rattle.file_control.specs.Fault.{IsTold};
+ghost use Rattle.file_control.specs.declared.word.Word.{Word};
+ghost use Rattle.deck_reader.specs.declared.deck.Deck.{Deck};
+ghost use Rattle.deck_reader.specs.Deck.{Spells, IsDeck, CanBeRun};
+
+use file_control::{DeckFault, Word, one_reading, words};
+use file_description::{
+    Description, FileList, ItemList, are_described, one_description, read_description,
+};
+use procedure_division::{Names, StatementList, one_procedure, only_allowed, procedure};
+use std::alloc::Global;
+
+/// The files of a deck in the order of their SELECT entries, its 77-level items in the order of their entries, and its
+/// statements in their order.
+#[derive(Drop)]
+pub struct Deck {
+    pub files: FileList,
+    pub items: ItemList,
+    pub statements: StatementList,
+}
+
+/// The deck that the words spell.
+fn read(alloc: Global, words: &[Word]) -> Result<Deck, DeckFault>
+    ensures deck { IfOk result (Spells words.now) }
+    ensures none { IfErr result (λ fault. fault.code ≢ 8 → (deck : Deck) → Spells words.now deck → ⊥) }
+    ensures told { IfErr result IsTold }
+{
+    one_description();
+    let description = read_description(alloc, words)?;
+    let Description {
+        files,
+        items,
+        words: count,
+    } = description;
+    let names = Names::new(files.as_slice(), items.as_slice());
+    let (_, rest) = words.split_at(count);
+    let statements = procedure(alloc, &names, rest)?;
+    Ok(Deck {
+        files,
+        items,
+        statements,
+    })
+}
+
+/// A run can rely on whatever words spell.
+fn every_deck_can_be_run()
+    ensures { (words : List Word) (deck : Deck) → Spells words deck → CanBeRun deck }
+{
+    are_described();
+    only_allowed();
+}
+
+/// The deck that the bytes are, or the first fault, by its code and its line: first those of the words (1 and 6), then those of
+/// the words up to PROCEDURE, then those of the files and 77-level items, and then those of the procedure. Or code 8 on line 0,
+/// for want of memory.
+pub fn read_deck(alloc: Global, bytes: &[u8]) -> Result<Deck, DeckFault>
+    ensures deck { IfOk result (IsDeck bytes.now) }
+    ensures none { IfErr result (λ fault. fault.code ≢ 8 → (deck : Deck) → IsDeck bytes.now deck → ⊥) }
+    ensures runnable { IfOk result CanBeRun }
+    ensures told { IfErr result IsTold }
+{
+    one_reading();
+    every_deck_can_be_run();
+    let words = words(alloc, bytes)?;
+    read(alloc, words.as_slice())
+}
+
+/// No bytes are two decks.
+pub fn one_deck()
+    ensures { (bytes : List ℕ) (a b : Deck) → IsDeck bytes a → IsDeck bytes b → a ≡ b }
+{
+    one_reading();
+    no_words_are_two_decks();
+}
+
+/// No words spell two decks.
+pub fn no_words_are_two_decks()
+    ensures { (words : List Word) (a b : Deck) → Spells words a → Spells words b → a ≡ b }
+{
+    one_description();
+    one_procedure();
+}
+
+#[cfg(test)]
+mod tests;
