@@ -75,14 +75,11 @@ rest_after u None run lines next steps = ap (λ (r : Run). drop (suc u) r.files)
 rest_after u (Some file) run lines next steps = rest_after_if u (is_still_open file) run lines next steps
 
 -- the closes of the first files, where the others are as they were
-pub record AreClosed (first : Run) (u : ℕ) (lines : List Line) (now : Run) : Type 0 where
+pub record AreClosed (u : ℕ) (first : Run) (lines : List Line) (now : Run) : Type 0 where
   pub steps : AreSteps (closes_from 0 (take u first.files)) first lines now
   pub rest : drop u now.files ≡ drop u first.files
 
-pub none_closed : (first : Run) → AreClosed first 0 [] first
-none_closed first = record { steps = no_steps first; rest = refl }
-
-pub one_closed : (first now next : Run) (u : ℕ) (lines others : List Line) → u < length first.files → AreClosed first u lines now → ClosesAt u now others next → AreClosed first (u + 1) (lines ++ others) next
+pub one_closed : (first now next : Run) (u : ℕ) (lines others : List Line) → u < length first.files → AreClosed u first lines now → ClosesAt u now others next → AreClosed (u + 1) first (lines ++ others) next
 one_closed first now next u lines others within closed step =
     let file = get_there first.files u within in
     let same : slice_get now.files u ≡ slice_get first.files u =
@@ -96,11 +93,11 @@ one_closed first now next u lines others within closed step =
       rest = rw add-one after;
     }
 
-pub all_closed : (first now : Run) (u : ℕ) (lines : List Line) → u ≡ length first.files → AreClosed first u lines now → Closes first lines now
+pub all_closed : (first now : Run) (u : ℕ) (lines : List Line) → u ≡ length first.files → AreClosed u first lines now → Closes first lines now
 all_closed first now u lines at_end closed =
     subst (λ (l : List RunFile). AreSteps (closes_from 0 l) first lines now) (take_all u first.files (omega arith)) closed.steps
 
-pub closed_in_part : (first now : Run) (u : ℕ) (lines : List Line) → AreClosed first u lines now → ClosesInPart first lines now
+pub closed_in_part : (first now : Run) (u : ℕ) (lines : List Line) → AreClosed u first lines now → ClosesInPart first lines now
 closed_in_part first now u lines closed = (
   closes_from 0 (take u first.files),
   closes_from (0 + length (take u first.files)) (drop u first.files),

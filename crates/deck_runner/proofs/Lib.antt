@@ -11,6 +11,10 @@ pub mod ToldLemmas
 pub mod StepLemmas
 pub mod CloseLemmas
 pub mod StartLemmas
+pub mod StatementLemmas
+pub mod BeginningLemmas
+pub mod EndLemmas
+pub mod DeckRunLemmas
 pub mod Decks
 pub mod Customers
 pub mod ReadingCases

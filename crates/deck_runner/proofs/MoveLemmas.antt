@@ -1,6 +1,5 @@
 -- MOVE, which no fault mars.
 use Rattle.std.proofs.Common.{◌≡◌, ℕ, ◌+◌, Bool, List, [], length, slice_get, slice_set, Some, refl, sym, ap, ◌∙◌, arith}
-use Rattle.std.proofs.lemmas.List.{length-set}
 use Rattle.record_layout.specs.declared.item.Field.{Field}
 use Rattle.record_layout.specs.declared.area.Source.{Source}
 use Rattle.record_layout.specs.Area.{moved}
@@ -30,21 +29,10 @@ module _ {S : Type 0} (is_honest : S → Bool) (IsShownTruly : S → List ℕ �
         safe = safe_after (world library) (world library) u files file next (length items) (length items) safe get (λ v other. refl) refl (safe.fits u file get) refl refl;
         schemas = schemas_after files u file next get refl;
         items = refl;
+        units = refl;
+        elsewhere = refl;
         trusted = λ h trusted.
             trusted_after (IsShownTruly library) (IsShownTruly library) (world library) (world library) u files next trusted (λ v other. refl) (λ v. refl) (trusted.standing u file get) (λ name t. t);
-      }
-
-  -- a MOVE to a length item
-  pub goes_by_length : (library : S) (files : List Running) (items : List LengthItem) (i : ℕ) (item : LengthItem)
-      → IsSafe (world library) files (length items) → GoesOn is_honest IsShownTruly fault_count world (state library files items) (state library files (slice_set items i item))
-  goes_by_length library files items i item safe =
-      let count = length-set items i item in
-      record {
-        keeps = keeps_same is_honest IsShownTruly fault_count world library;
-        safe = record { fits = safe.fits; places = λ u file get. rw count (safe.places u file get) };
-        schemas = refl;
-        items = count;
-        trusted = λ h t. t;
       }
 
 -- ---- the steps

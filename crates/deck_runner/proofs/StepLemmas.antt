@@ -1,6 +1,6 @@
 -- One step more.
-use Rattle.std.proofs.Common.{◌≡◌, ◌<◌, ℕ, ◌+◌, Bool, true, false, List, [], ◌∷◌, ◌++◌, length, take, drop, slice_index_or, refl, sym, ap, ◌∙◌, subst, append_assoc, append-nil, if◌then◌else◌, arith}
-use Rattle.std.proofs.lemmas.List.{take_more, drop_more, drop_all}
+use Rattle.std.proofs.Common.{◌≡◌, ◌<◌, ℕ, ◌+◌, Bool, false, List, [], ◌∷◌, ◌++◌, length, take, drop, slice_index_or, refl, sym, ap, ◌∙◌, subst, append_assoc, append-nil, if◌then◌else◌}
+use Rattle.std.proofs.lemmas.List.{take_more, drop_more}
 use Rattle.procedure_division.specs.declared.statement.Statement.{Statement}
 use Rattle.deck_runner.specs.Line.{Line}
 use Rattle.deck_runner.specs.Run.{Run, is_stop}
@@ -42,18 +42,6 @@ passed_more statements i statement within is goes_on passed =
     ap until_stop here ∙ ap (λ (b : Bool). if b then [] else statement ∷ until_stop (drop (i + 1) statements)) goes_on in
     passed ∙ ap (λ (l : List Statement). take i statements ++ l) rest ∙ sym (append_assoc (take i statements) (statement ∷ []) (until_stop (drop (i + 1) statements)))
     ∙ ap (λ (l : List Statement). l ++ until_stop (drop (i + 1) statements)) (sym front)
-
-pub stops_here : (statements : List Statement) (i : ℕ) (statement : Statement) → i < length statements → statement ≡ slice_index_or statements i statement → is_stop statement ≡ true
-    → IsPassed statements i → until_stop statements ≡ take i statements
-stops_here statements i statement within is stops passed =
-    let here : drop i statements ≡ statement ∷ drop (i + 1) statements = drop_more statements i statement within ∙ ap (λ (s : Statement). s ∷ drop (i + 1) statements) (sym is) in
-    let none : until_stop (drop i statements) ≡ [] = ap until_stop here ∙ ap (λ (b : Bool). if b then [] else statement ∷ until_stop (drop (i + 1) statements)) stops in
-    passed ∙ ap (λ (l : List Statement). take i statements ++ l) none ∙ append-nil (take i statements)
-
-pub stops_at_end : (statements : List Statement) (i : ℕ) → i ≡ length statements → IsPassed statements i → until_stop statements ≡ take i statements
-stops_at_end statements i at_end passed =
-    let nothing : drop i statements ≡ [] = drop_all i statements (omega arith) in
-    passed ∙ ap (λ (l : List Statement). take i statements ++ until_stop l) nothing ∙ append-nil (take i statements)
 
 -- one more of the statements before STOP RUN
 pub breaks_behind : (statements : List Statement) (i : ℕ) (statement : Statement) → i < length statements → statement ≡ slice_index_or statements i statement → is_stop statement ≡ false

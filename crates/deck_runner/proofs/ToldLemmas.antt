@@ -1,15 +1,11 @@
 -- Lines that follow others.
 use Rattle.std.proofs.Common.{◌≡◌, ℕ, List, [], ◌∷◌, ◌++◌, flat_map, Option, sym, ◌∙◌, append_assoc, length-append, subst}
-use Rattle.std.proofs.KnownBytes.{Appends-nil, Appends-trans}
+use Rattle.std.proofs.KnownBytes.{Appends-trans}
 use Rattle.std.proofs.lemmas.Grind.{flat_map-append}
 use Rattle.std.proofs.lemmas.List.Folds.{list_all-append}
 use Rattle.deck_runner.specs.declared.run_end.RunEnd.{RunEnd}
 use Rattle.deck_runner.specs.Line.{Line, text_of, is_clean}
 use Rattle.deck_runner.specs.RunEnd.{end_of, followed, Told, ToldInPart}
-
--- no line yet
-pub told_none : (a : Option (List ℕ)) (end : RunEnd) (P : List Line → Type 0) → end ≡ end_of [] → P [] → Told a a end P
-told_none a end P is p = ([], Appends-nil a, is, p)
 
 end_of_both : (xs ys : List Line) → end_of (xs ++ ys) ≡ followed (end_of xs) (end_of ys)
 end_of_both xs ys = λ i. record { clean = list_all-append is_clean xs ys i; lines = length-append xs ys i }

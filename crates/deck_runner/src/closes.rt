@@ -1,7 +1,7 @@
 //! The closes at the end of a run.
 ghost use Rattle.std.specs.Prelude.{◌≡◌, ◌≤◌, ◌<◌, IfOk, OnErr, length};
 ghost use Rattle.deck_runner.specs.Steps.{ClosesAt, Closes, ClosesInPart};
-ghost use Rattle.deck_runner.specs.State.{state, IsSafeIn, GoesOn, Leads};
+ghost use Rattle.deck_runner.specs.State.{state, IsSafeIn, GoesOnIn, LeadsIn};
 ghost use Rattle.deck_runner.specs.RunEnd.{Told, ToldInPart};
 
 use crate::length_item::LengthItem;
@@ -25,12 +25,12 @@ fn close_file<L: Library, W: Write>(
 ) -> Result<RunEnd, Refused>
     requires safe { IsSafeIn L.world (state library.old files.old items.old) }
     requires place { u < length files.old }
-    ensures goes { GoesOn L.is_honest L.IsShownTruly L.fault_count L.world (state library.old files.old items.old) (state library.new files.new items.new) }
+    ensures goes { GoesOnIn L.Library (state library.old files.old items.old) (state library.new files.new items.new) }
     ensures one { IfOk result (λ end. end.lines ≤ 1) }
     ensures done { IfOk result (λ end. Told (W.contents out.old) (W.contents out.new) end
-        (Leads L.is_honest L.IsShownTruly L.world (state library.old files.old items.old) (state library.new files.new items.new) (ClosesAt u))) }
+        (LeadsIn L.Library (state library.old files.old items.old) (state library.new files.new items.new) (ClosesAt u))) }
     ensures refused { OnErr result (ToldInPart (W.contents out.old) (W.contents out.new)
-        (Leads L.is_honest L.IsShownTruly L.world (state library.old files.old items.old) (state library.new files.new items.new) (ClosesAt u))) }
+        (LeadsIn L.Library (state library.old files.old items.old) (state library.new files.new items.new) (ClosesAt u))) }
 {
     let file = &files[u];
     let open = file.is_open();
@@ -50,12 +50,12 @@ pub fn close_all<L: Library, W: Write>(
     out: &mut W,
 ) -> Result<RunEnd, Refused>
     requires safe { IsSafeIn L.world (state library.old files.old items.old) }
-    ensures goes { GoesOn L.is_honest L.IsShownTruly L.fault_count L.world (state library.old files.old items.old) (state library.new files.new items.new) }
+    ensures goes { GoesOnIn L.Library (state library.old files.old items.old) (state library.new files.new items.new) }
     ensures few { IfOk result (λ end. end.lines ≤ length files.old) }
     ensures done { IfOk result (λ end. Told (W.contents out.old) (W.contents out.new) end
-        (Leads L.is_honest L.IsShownTruly L.world (state library.old files.old items.old) (state library.new files.new items.new) Closes)) }
+        (LeadsIn L.Library (state library.old files.old items.old) (state library.new files.new items.new) Closes)) }
     ensures refused { OnErr result (ToldInPart (W.contents out.old) (W.contents out.new)
-        (Leads L.is_honest L.IsShownTruly L.world (state library.old files.old items.old) (state library.new files.new items.new) ClosesInPart)) }
+        (LeadsIn L.Library (state library.old files.old items.old) (state library.new files.new items.new) ClosesInPart)) }
 {
     let mut end = RunEnd::none();
     for u in 0..files.len() {

@@ -8,7 +8,10 @@
 //! Read specs/Line for a line of the transcript, specs/Run for the fold, specs/Steps for a run as steps, and then `run`.
 #![tactic(auto)]
 
+mod beginning;
 mod closes;
+mod deck_run;
+mod fault;
 mod length_item;
 mod line;
 mod output;
@@ -19,6 +22,8 @@ mod statements;
 mod verb;
 mod whole_run;
 
+pub use deck_run::run_deck;
+pub use fault::RunFault;
 pub use length_item::LengthItem;
 pub use line::LineText;
 pub use output::Refused;

@@ -3,7 +3,7 @@ ghost use Rattle.std.specs.Prelude.{◌≡◌, ◌<◌, ℕ, List, All, OnOk, On
 ghost use Rattle.std.specs.List.{IsDistinct};
 ghost use Rattle.indexed_file.specs.World.{named_in};
 ghost use Rattle.indexed_file.specs.Calls.{Keeps};
-ghost use Rattle.deck_runner.specs.Running.{IsSafe, IsTrusted, IsPlace, run_files};
+ghost use Rattle.deck_runner.specs.Running.{IsSafe, IsTrusted, IsPlace, unit_names, run_files};
 ghost use Rattle.deck_runner.specs.Start.{IsAtStart, files_at_start};
 
 use crate::running_file::RunningFile;
@@ -20,9 +20,13 @@ pub fn attach<L: Library>(
     requires distinct { IsDistinct bytes_eq (map (λ name. name.bytes) names.now) }
     requires as_many { length names.now ≡ length files.now }
     requires closed { All IsAtStart files.now }
-    ensures run { OnOk result (run_files (L.world library.new) 0 files.now ≡ files_at_start (L.world library.old) (map (λ name. name.bytes) names.now) files.now) }
-    ensures safe { OnOk result ((count : ℕ) → All (λ file. IsPlace count file.depends_on) files.now → IsSafe (L.world library.new) files.now count) }
-    ensures trusted { OnOk result (IsTrue (L.is_honest library.new) → All (L.IsShownTruly library.old) (map (λ name. name.bytes) names.now) → IsTrusted (L.IsShownTruly library.new) (L.world library.new) files.now) }
+    ensures run { OnOk result (run_files (L.world library.new) 0 files.now
+        ≡ files_at_start (L.world library.old) (map (λ name. name.bytes) names.now) files.now) }
+    ensures safe { OnOk result ((count : ℕ) → All (λ file. IsPlace count file.depends_on) files.now
+        → IsSafe (L.world library.new) files.now count) }
+    ensures trusted { OnOk result (IsTrue (L.is_honest library.new) → All (L.IsShownTruly library.old) (map (λ name. name.bytes) names.now)
+        → IsTrusted (L.IsShownTruly library.new) (L.world library.new) files.now) }
+    ensures units { OnOk result (unit_names (L.world library.new) ≡ map (λ name. name.bytes) names.now) }
     ensures named { (name : List ℕ) → named_in (L.world library.new) name ≡ named_in (L.world library.old) name }
     ensures err { OnErr result (L.world library.new ≡ L.world library.old) }
     ensures only_memory { IsOkUnless result Fault.Memory }

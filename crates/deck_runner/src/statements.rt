@@ -6,7 +6,7 @@ ghost use Rattle.deck_runner.specs.Run.{is_stop};
 ghost use Rattle.deck_runner.specs.Steps.{IsStep, AreSteps, AreStepsInPart, until_stop};
 ghost use Rattle.deck_runner.specs.Conditions.{OfFile, IsStatementOf};
 ghost use Rattle.deck_runner.specs.Running.{schema_of};
-ghost use Rattle.deck_runner.specs.State.{state, IsSafeIn, GoesOn, Leads};
+ghost use Rattle.deck_runner.specs.State.{state, IsSafeIn, GoesOnIn, LeadsIn};
 ghost use Rattle.deck_runner.specs.RunEnd.{Told, ToldInPart};
 
 use crate::length_item::LengthItem;
@@ -39,12 +39,14 @@ pub fn run_verb<L: Library, W: Write>(
 ) -> Result<RunEnd, Refused>
     requires safe { IsSafeIn L.world (state library.old files.old items.old) }
     requires statement { OfFile (slice_get (map schema_of files.old) u) (λ schema. HasOperands schema statement.now) }
-    ensures goes { GoesOn L.is_honest L.IsShownTruly L.fault_count L.world (state library.old files.old items.old) (state library.new files.new items.new) }
+    ensures goes { GoesOnIn L.Library (state library.old files.old items.old) (state library.new files.new items.new) }
     ensures one { IfOk result (λ end. end.lines ≤ 1) }
     ensures done { IfOk result (λ end. Told (W.contents out.old) (W.contents out.new) end
-        (Leads L.is_honest L.IsShownTruly L.world (state library.old files.old items.old) (state library.new files.new items.new) (IsStep (PerformStatement u statement.now)))) }
+        (LeadsIn L.Library (state library.old files.old items.old) (state library.new files.new items.new)
+        (IsStep (PerformStatement u statement.now)))) }
     ensures refused { OnErr result (ToldInPart (W.contents out.old) (W.contents out.new)
-        (Leads L.is_honest L.IsShownTruly L.world (state library.old files.old items.old) (state library.new files.new items.new) (IsStep (PerformStatement u statement.now)))) }
+        (LeadsIn L.Library (state library.old files.old items.old) (state library.new files.new items.new)
+        (IsStep (PerformStatement u statement.now)))) }
 {
     let clean = perform_on(files, items, u, statement, library, line);
     if let Err(refused) = write_text(out, line.as_slice()) {
@@ -64,12 +66,12 @@ fn run_statement<L: Library, W: Write>(
 ) -> Result<RunEnd, Refused>
     requires safe { IsSafeIn L.world (state library.old files.old items.old) }
     requires statement { IsStatementOf (map schema_of files.old) (length items.old) statement.now }
-    ensures goes { GoesOn L.is_honest L.IsShownTruly L.fault_count L.world (state library.old files.old items.old) (state library.new files.new items.new) }
+    ensures goes { GoesOnIn L.Library (state library.old files.old items.old) (state library.new files.new items.new) }
     ensures one { IfOk result (λ end. end.lines ≤ 1) }
     ensures done { IfOk result (λ end. Told (W.contents out.old) (W.contents out.new) end
-        (Leads L.is_honest L.IsShownTruly L.world (state library.old files.old items.old) (state library.new files.new items.new) (IsStep statement.now))) }
+        (LeadsIn L.Library (state library.old files.old items.old) (state library.new files.new items.new) (IsStep statement.now))) }
     ensures refused { OnErr result (ToldInPart (W.contents out.old) (W.contents out.new)
-        (Leads L.is_honest L.IsShownTruly L.world (state library.old files.old items.old) (state library.new files.new items.new) (IsStep statement.now))) }
+        (LeadsIn L.Library (state library.old files.old items.old) (state library.new files.new items.new) (IsStep statement.now))) }
 {
     match statement {
         Statement::Perform { file, statement } => {
@@ -104,12 +106,14 @@ pub fn run_to_stop<L: Library, W: Write>(
 ) -> Result<RunEnd, Refused>
     requires safe { IsSafeIn L.world (state library.old files.old items.old) }
     requires statements { All (IsStatementOf (map schema_of files.old) (length items.old)) statements.now }
-    ensures goes { GoesOn L.is_honest L.IsShownTruly L.fault_count L.world (state library.old files.old items.old) (state library.new files.new items.new) }
+    ensures goes { GoesOnIn L.Library (state library.old files.old items.old) (state library.new files.new items.new) }
     ensures few { IfOk result (λ end. end.lines ≤ length statements.now) }
     ensures done { IfOk result (λ end. Told (W.contents out.old) (W.contents out.new) end
-        (Leads L.is_honest L.IsShownTruly L.world (state library.old files.old items.old) (state library.new files.new items.new) (AreSteps (until_stop statements.now)))) }
+        (LeadsIn L.Library (state library.old files.old items.old) (state library.new files.new items.new)
+        (AreSteps (until_stop statements.now)))) }
     ensures refused { OnErr result (ToldInPart (W.contents out.old) (W.contents out.new)
-        (Leads L.is_honest L.IsShownTruly L.world (state library.old files.old items.old) (state library.new files.new items.new) (AreStepsInPart (until_stop statements.now)))) }
+        (LeadsIn L.Library (state library.old files.old items.old) (state library.new files.new items.new)
+        (AreStepsInPart (until_stop statements.now)))) }
 {
     let mut end = RunEnd::none();
     for statement in statements {

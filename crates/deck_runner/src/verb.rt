@@ -7,7 +7,7 @@ ghost use Rattle.deck_runner.specs.Line.{Line, text_of, is_clean};
 ghost use Rattle.deck_runner.specs.Run.{items_after_read};
 ghost use Rattle.deck_runner.specs.Steps.{IsStep};
 ghost use Rattle.deck_runner.specs.Running.{IsPlace, schema_of, length_for};
-ghost use Rattle.deck_runner.specs.State.{state, IsSafeIn, GoesOn, Leads};
+ghost use Rattle.deck_runner.specs.State.{state, IsSafeIn, GoesOnIn, LeadsIn};
 ghost use Rattle.deck_runner.specs.Conditions.{OfFile};
 
 use crate::length_item::LengthItem;
@@ -67,9 +67,9 @@ pub fn perform_on<L: Library>(
 ) -> bool
     requires safe { IsSafeIn L.world (state library.old files.old items.old) }
     requires statement { OfFile (slice_get (map schema_of files.old) u) (λ schema. HasOperands schema statement.now) }
-    ensures goes { GoesOn L.is_honest L.IsShownTruly L.fault_count L.world (state library.old files.old items.old) (state library.new files.new items.new) }
+    ensures goes { GoesOnIn L.Library (state library.old files.old items.old) (state library.new files.new items.new) }
     ensures line { (shown : Line) × (line.new.items ≡ text_of shown) × (result ≡ is_clean shown)
-        × Leads L.is_honest L.IsShownTruly L.world (state library.old files.old items.old) (state library.new files.new items.new)
+        × LeadsIn L.Library (state library.old files.old items.old) (state library.new files.new items.new)
         (IsStep (PerformStatement u statement.now)) (shown ∷ []) }
 {
     let file = &mut files[u];

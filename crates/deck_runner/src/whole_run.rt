@@ -3,7 +3,7 @@ ghost use Rattle.std.specs.Prelude.{◌≡◌, All, IfOk, OnErr, length, map};
 ghost use Rattle.deck_runner.specs.Steps.{IsRun, IsBrokenOff, CleanRunsAreExact};
 ghost use Rattle.deck_runner.specs.Conditions.{IsStatementOf};
 ghost use Rattle.deck_runner.specs.Running.{schema_of};
-ghost use Rattle.deck_runner.specs.State.{state, IsSafeIn, GoesOn, Leads};
+ghost use Rattle.deck_runner.specs.State.{state, IsSafeIn, GoesOnIn, LeadsIn};
 ghost use Rattle.deck_runner.specs.RunEnd.{Told, ToldInPart};
 
 use crate::closes::close_all;
@@ -29,11 +29,11 @@ pub fn run<L: Library, W: Write>(
 ) -> Result<RunEnd, Refused>
     requires safe { IsSafeIn L.world (state library.old files.old items.old) }
     requires statements { All (IsStatementOf (map schema_of files.old) (length items.old)) statements.now }
-    ensures goes { GoesOn L.is_honest L.IsShownTruly L.fault_count L.world (state library.old files.old items.old) (state library.new files.new items.new) }
+    ensures goes { GoesOnIn L.Library (state library.old files.old items.old) (state library.new files.new items.new) }
     ensures done { IfOk result (λ end. Told (W.contents out.old) (W.contents out.new) end
-        (Leads L.is_honest L.IsShownTruly L.world (state library.old files.old items.old) (state library.new files.new items.new) (IsRun statements.now))) }
+        (LeadsIn L.Library (state library.old files.old items.old) (state library.new files.new items.new) (IsRun statements.now))) }
     ensures refused { OnErr result (ToldInPart (W.contents out.old) (W.contents out.new)
-        (Leads L.is_honest L.IsShownTruly L.world (state library.old files.old items.old) (state library.new files.new items.new) (IsBrokenOff statements.now))) }
+        (LeadsIn L.Library (state library.old files.old items.old) (state library.new files.new items.new) (IsBrokenOff statements.now))) }
 {
     let stopped = match run_to_stop(files, items, statements, library, line, out) {
         Ok(stopped) => stopped,

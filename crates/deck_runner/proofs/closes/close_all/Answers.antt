@@ -1,6 +1,6 @@
 use Rattle.std.proofs.Common.{◌≡◌, ◌<◌, ◌+◌, ◌++◌, length, arith}
 use Rattle.deck_runner.specs.Steps.{ClosesAt, Closes, ClosesInPart}
-use Rattle.deck_runner.specs.State.{state, run_in, IsTrustedIn, WhereTrue}
+use Rattle.deck_runner.specs.State.{state, run_in, LeadsIn}
 use Rattle.deck_runner.proofs.StateLemmas.{goes_then}
 use Rattle.deck_runner.proofs.CloseLemmas.{AreClosed, one_closed, all_closed, closed_in_part, as_many_files}
 use Rattle.deck_runner.proofs.ToldLemmas.{told_then, told_as, part_then}
@@ -17,9 +17,9 @@ returns-in-Err-clause-refused g c =
     let many = as_many_files (world c.args.library.now) 0 c.args.files.now in
     let within : c.loop-u.u < length (run_in world first).files = omega arith in
     part_then (g.W.Write.contents c.args.out.now) (g.W.Write.contents c.loop-u.out) (g.W.Write.contents c.close_file.new.out) c.loop-u.end
-    (λ lines. WhereTrue g.L.Library.is_honest (IsTrustedIn g.L.Library.IsShownTruly world first) now.library (AreClosed (run_in world first) c.loop-u.u lines (run_in world now)))
-    (λ lines. WhereTrue g.L.Library.is_honest (IsTrustedIn g.L.Library.IsShownTruly world now) next.library (ClosesAt c.loop-u.u (run_in world now) lines (run_in world next)))
-    (λ lines. WhereTrue g.L.Library.is_honest (IsTrustedIn g.L.Library.IsShownTruly world first) next.library (ClosesInPart (run_in world first) lines (run_in world next)))
+    (LeadsIn g.L.Library first now (AreClosed c.loop-u.u))
+    (LeadsIn g.L.Library now next (ClosesAt c.loop-u.u))
+    (LeadsIn g.L.Library first next ClosesInPart)
     before.told c.in-Err.ensures.refused
     (λ xs ys p q honest trusted.
     closed_in_part (run_in world first) (run_in world next) (c.loop-u.u + 1) (xs ++ ys)
@@ -40,9 +40,9 @@ loop-u-preserved g c =
       goes = goes_then g.L.Library.is_honest g.L.Library.IsShownTruly g.L.Library.fault_count world first now next before.goes goes;
       few = let few = before.few in let one = c.in-Ok.ensures.one in rw c.followed_by-end.ensures (omega arith);
       told = told_then (g.W.Write.contents c.args.out.now) (g.W.Write.contents c.loop-u.out) (g.W.Write.contents c.close_file.new.out) c.loop-u.end c.in-Ok.more c.followed_by-end.result
-          (λ lines. WhereTrue g.L.Library.is_honest (IsTrustedIn g.L.Library.IsShownTruly world first) now.library (AreClosed (run_in world first) c.loop-u.u lines (run_in world now)))
-          (λ lines. WhereTrue g.L.Library.is_honest (IsTrustedIn g.L.Library.IsShownTruly world now) next.library (ClosesAt c.loop-u.u (run_in world now) lines (run_in world next)))
-          (λ lines. WhereTrue g.L.Library.is_honest (IsTrustedIn g.L.Library.IsShownTruly world first) next.library (AreClosed (run_in world first) (c.loop-u.u + 1) lines (run_in world next)))
+          (LeadsIn g.L.Library first now (AreClosed c.loop-u.u))
+          (LeadsIn g.L.Library now next (ClosesAt c.loop-u.u))
+          (LeadsIn g.L.Library first next (AreClosed (c.loop-u.u + 1)))
           before.told c.in-Ok.ensures.done c.followed_by-end.ensures
           (λ xs ys p q honest trusted.
           one_closed (run_in world first) (run_in world now) (run_in world next) c.loop-u.u xs ys within
@@ -57,7 +57,7 @@ returns-clause-done g c =
     let many = as_many_files (world c.args.library.now) 0 c.args.files.now in
     let at_end : c.loop-u.u ≡ length (run_in world first).files = omega arith in
     told_as (g.W.Write.contents c.args.out.now) (g.W.Write.contents c.loop-u.out) c.loop-u.end
-    (λ lines. WhereTrue g.L.Library.is_honest (IsTrustedIn g.L.Library.IsShownTruly world first) now.library (AreClosed (run_in world first) c.loop-u.u lines (run_in world now)))
-    (λ lines. WhereTrue g.L.Library.is_honest (IsTrustedIn g.L.Library.IsShownTruly world first) now.library (Closes (run_in world first) lines (run_in world now)))
+    (LeadsIn g.L.Library first now (AreClosed c.loop-u.u))
+    (LeadsIn g.L.Library first now Closes)
     c.loop-u.invariant.told
     (λ lines p honest trusted. all_closed (run_in world first) (run_in world now) c.loop-u.u lines at_end (p honest trusted))

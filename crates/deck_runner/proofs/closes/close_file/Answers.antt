@@ -1,13 +1,12 @@
-use Rattle.std.proofs.Common.{false, List, [], slice_index_or, sym}
+use Rattle.std.proofs.Common.{false, [], slice_index_or, sym}
 use Rattle.std.proofs.KnownBytes.{Appends-nil}
 use Rattle.std.proofs.lemmas.Option.{slice_get-get_or}
 use Rattle.std.proofs.lemmas.Result.{IfOk-weaker, on_err_weaker}
 use Rattle.verbs.specs.declared.statement.FileStatement.TheVariants.{Close}
 use Rattle.procedure_division.specs.declared.statement.Statement.TheVariants.{Perform}
-use Rattle.deck_runner.specs.Line.{Line}
 use Rattle.deck_runner.specs.Steps.{IsStep, ClosesAt}
 use Rattle.deck_runner.specs.Running.{run_file}
-use Rattle.deck_runner.specs.State.{state, run_in, IsTrustedIn, WhereTrue}
+use Rattle.deck_runner.specs.State.{state, run_in, LeadsIn}
 use Rattle.deck_runner.specs.RunEnd.{Told}
 use Rattle.deck_runner.proofs.VerbLemmas.{run_here, of_any}
 use Rattle.deck_runner.proofs.ToldLemmas.{told_as, part_as}
@@ -39,8 +38,8 @@ returns-clause-done g c =
     let get = slice_get-get_or c.args.files.now c.args.u c.index-files-u.result c.requires.place in
     let first = state c.args.library.now c.args.files.now c.args.items.now in
     let next = state c.run_verb.new.library c.run_verb.new.files c.run_verb.new.items in
-    let P = λ (lines : List Line). WhereTrue g.L.Library.is_honest (IsTrustedIn g.L.Library.IsShownTruly g.L.Library.world first) next.library (IsStep (Perform c.args.u (Close false)) (run_in g.L.Library.world first) lines (run_in g.L.Library.world next)) in
-    let Q = λ (lines : List Line). WhereTrue g.L.Library.is_honest (IsTrustedIn g.L.Library.IsShownTruly g.L.Library.world first) next.library (ClosesAt c.args.u (run_in g.L.Library.world first) lines (run_in g.L.Library.world next)) in
+    let P = LeadsIn g.L.Library first next (IsStep (Perform c.args.u (Close false))) in
+    let Q = LeadsIn g.L.Library first next (ClosesAt c.args.u) in
     IfOk-weaker c.run_verb.result
     (λ end. Told (g.W.Write.contents c.args.out.now) (g.W.Write.contents c.run_verb.new.out) end P)
     (λ end. Told (g.W.Write.contents c.args.out.now) (g.W.Write.contents c.run_verb.new.out) end Q)
@@ -57,8 +56,8 @@ returns-clause-refused g c =
     let get = slice_get-get_or c.args.files.now c.args.u c.index-files-u.result c.requires.place in
     let first = state c.args.library.now c.args.files.now c.args.items.now in
     let next = state c.run_verb.new.library c.run_verb.new.files c.run_verb.new.items in
-    let P = λ (lines : List Line). WhereTrue g.L.Library.is_honest (IsTrustedIn g.L.Library.IsShownTruly g.L.Library.world first) next.library (IsStep (Perform c.args.u (Close false)) (run_in g.L.Library.world first) lines (run_in g.L.Library.world next)) in
-    let Q = λ (lines : List Line). WhereTrue g.L.Library.is_honest (IsTrustedIn g.L.Library.IsShownTruly g.L.Library.world first) next.library (ClosesAt c.args.u (run_in g.L.Library.world first) lines (run_in g.L.Library.world next)) in
+    let P = LeadsIn g.L.Library first next (IsStep (Perform c.args.u (Close false))) in
+    let Q = LeadsIn g.L.Library first next (ClosesAt c.args.u) in
     on_err_weaker c.run_verb.result
     (λ part. part_as (g.W.Write.contents c.args.out.now) (g.W.Write.contents c.run_verb.new.out) P Q part
     (λ lines p honest trusted.

@@ -1,6 +1,6 @@
 use Rattle.std.proofs.Common.{◌+◌, take, sym, arith}
 use Rattle.deck_runner.specs.Steps.{IsStep, AreSteps, until_stop, AreStepsInPart}
-use Rattle.deck_runner.specs.State.{state, run_in, IsTrustedIn, WhereTrue}
+use Rattle.deck_runner.specs.State.{state, run_in, LeadsIn}
 use Rattle.deck_runner.proofs.StateLemmas.{goes_then}
 use Rattle.deck_runner.proofs.StepLemmas.{passed_more, step_to_next, breaks_behind}
 use Rattle.deck_runner.proofs.ToldLemmas.{told_then, part_then}
@@ -16,9 +16,9 @@ returns-in-Err-clause-refused g c =
     let before = c.loop-statement.invariant in
     let goes = c.run_statement.ensures.goes in
     part_then (g.W.Write.contents c.args.out.now) (g.W.Write.contents c.loop-statement.out) (g.W.Write.contents c.run_statement.new.out) c.loop-statement.end
-    (λ lines. WhereTrue g.L.Library.is_honest (IsTrustedIn g.L.Library.IsShownTruly g.L.Library.world first) now.library (AreSteps (take i c.args.statements.now) (run_in g.L.Library.world first) lines (run_in g.L.Library.world now)))
-    (λ lines. WhereTrue g.L.Library.is_honest (IsTrustedIn g.L.Library.IsShownTruly g.L.Library.world now) next.library (IsStep statement (run_in g.L.Library.world now) lines (run_in g.L.Library.world next)))
-    (λ lines. WhereTrue g.L.Library.is_honest (IsTrustedIn g.L.Library.IsShownTruly g.L.Library.world first) next.library (AreStepsInPart (until_stop c.args.statements.now) (run_in g.L.Library.world first) lines (run_in g.L.Library.world next)))
+    (LeadsIn g.L.Library first now (AreSteps (take i c.args.statements.now)))
+    (LeadsIn g.L.Library now next (IsStep statement))
+    (LeadsIn g.L.Library first next (AreStepsInPart (until_stop c.args.statements.now)))
     before.told c.in-Err.ensures.refused
     (λ xs ys p q honest trusted.
     breaks_behind c.args.statements.now i statement c.loop-statement-test.true c.statement-item.is (sym c.if-stop.ensures) before.passed
@@ -39,9 +39,9 @@ loop-statement-preserved g c =
       passed = passed_more c.args.statements.now i statement c.loop-statement-test.true c.statement-item.is (sym c.if-stop.ensures) before.passed;
       few = let few = before.few in let one = c.in-Ok.ensures.one in let both = c.followed_by-end.ensures in rw c.followed_by-end.ensures (omega arith);
       told = told_then (g.W.Write.contents c.args.out.now) (g.W.Write.contents c.loop-statement.out) (g.W.Write.contents c.run_statement.new.out) c.loop-statement.end c.in-Ok.more c.followed_by-end.result
-          (λ lines. WhereTrue g.L.Library.is_honest (IsTrustedIn g.L.Library.IsShownTruly g.L.Library.world first) now.library (AreSteps (take i c.args.statements.now) (run_in g.L.Library.world first) lines (run_in g.L.Library.world now)))
-          (λ lines. WhereTrue g.L.Library.is_honest (IsTrustedIn g.L.Library.IsShownTruly g.L.Library.world now) next.library (IsStep statement (run_in g.L.Library.world now) lines (run_in g.L.Library.world next)))
-          (λ lines. WhereTrue g.L.Library.is_honest (IsTrustedIn g.L.Library.IsShownTruly g.L.Library.world first) next.library (AreSteps (take (i + 1) c.args.statements.now) (run_in g.L.Library.world first) lines (run_in g.L.Library.world next)))
+          (LeadsIn g.L.Library first now (AreSteps (take i c.args.statements.now)))
+          (LeadsIn g.L.Library now next (IsStep statement))
+          (LeadsIn g.L.Library first next (AreSteps (take (i + 1) c.args.statements.now)))
           before.told c.in-Ok.ensures.done c.followed_by-end.ensures
           (λ xs ys p q honest trusted.
           step_to_next c.args.statements.now i statement c.loop-statement-test.true c.statement-item.is

@@ -1,6 +1,6 @@
 use Rattle.std.proofs.Common.{◌≤◌, take}
 use Rattle.deck_runner.specs.Steps.{AreSteps}
-use Rattle.deck_runner.specs.State.{state, run_in, IsTrustedIn, WhereTrue, GoesOn}
+use Rattle.deck_runner.specs.State.{state, GoesOnIn, LeadsIn}
 use Rattle.deck_runner.specs.RunEnd.{Told}
 use Rattle.deck_runner.proofs.StepLemmas.{IsPassed}
 use Rattle.deck_runner.proofs.statements.run_to_stop.Given as goal
@@ -11,10 +11,9 @@ invariant-loop-statement g l =
     let first = state l.fn.library l.fn.files l.fn.items in
     let now = state l.library l.files l.items in
     record {
-      goes : GoesOn g.L.Library.is_honest g.L.Library.IsShownTruly g.L.Library.fault_count g.L.Library.world first now;
+      goes : GoesOnIn g.L.Library first now;
       passed : IsPassed l.statements l.statement-index;
       few : l.end.lines ≤ l.statement-index;
       told : Told (g.W.Write.contents l.fn.out) (g.W.Write.contents l.out) l.end
-          (λ lines. WhereTrue g.L.Library.is_honest (IsTrustedIn g.L.Library.IsShownTruly g.L.Library.world first) l.library
-          (AreSteps (take l.statement-index l.statements) (run_in g.L.Library.world first) lines (run_in g.L.Library.world now)));
+          (LeadsIn g.L.Library first now (AreSteps (take l.statement-index l.statements)));
     }

@@ -3,7 +3,7 @@ use Rattle.verbs.specs.Held.{record_in}
 use Rattle.verbs.specs.Fits.{HasOperands}
 use Rattle.deck_runner.specs.Run.{LengthItem, items_after_read}
 use Rattle.deck_runner.specs.Running.{line_answered}
-use Rattle.deck_runner.proofs.FrameLemmas.{unit_elsewhere, as_many_units, name_kept}
+use Rattle.deck_runner.proofs.FrameLemmas.{unit_elsewhere, as_many_units, name_kept, names_after, elsewhere_after}
 use Rattle.deck_runner.proofs.VerbLemmas.{file_within, file_at, of_file, safe_after, trusted_after, schemas_after, step_on, as_many_items}
 use Rattle.deck_runner.proofs.verb.perform_on.Goals as goal
 
@@ -27,13 +27,15 @@ returns-clause-goes g c =
     let file = slice_index_or c.args.files.now c.args.u c.index-files-u.result in
     let before = g.L.Library.world c.args.library.now in
     let next = g.L.Library.world c.perform-answer.new.library in
-    let count = ap (λ (l : List LengthItem). length l) c.note_length.ensures ∙ as_many_items c.depends_on.result _ c.args.items.now in
+    let count : length c.note_length.new.items ≡ length c.args.items.now = ap (λ (l : List LengthItem). length l) c.note_length.ensures ∙ as_many_items c.depends_on.result _ c.args.items.now in
     record {
       keeps = c.perform-answer.ensures.keeps;
       safe = safe_after before next c.args.u c.args.files.now file c.perform-answer.new.self (length c.args.items.now) (length c.note_length.new.items)
           c.requires.safe get (λ v other. unit_elsewhere before next c.args.u v c.perform-answer.ensures.only other) (as_many_units before next c.args.u c.perform-answer.ensures.only) c.perform-answer.ensures.fits c.perform-answer.ensures.same.depends_on count;
       schemas = schemas_after c.args.files.now c.args.u file c.perform-answer.new.self get c.perform-answer.ensures.same.schema;
       items = count;
+      units = names_after before next c.args.u c.perform-answer.ensures.only;
+      elsewhere = elsewhere_after before next c.args.u c.perform-answer.ensures.only;
       trusted = λ honest trusted.
           let there = (c.requires.safe.fits c.args.u _ get).attached in
           let shown = trusted.shown c.args.u (file_within c.args.files.now c.args.u (λ schema. HasOperands schema c.args.statement.now) c.requires.statement) in

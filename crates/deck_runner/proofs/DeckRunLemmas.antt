@@ -1,0 +1,66 @@
+-- What a run of the bytes of a deck tells.
+use Rattle.std.proofs.Common.{◌≡◌, ◌≢◌, ◌≤◌, ℕ, true, List, Option, sym, ap, ◌∙◌, subst, arith}
+use Rattle.file_control.specs.declared.fault.Cause.{Cause}
+use Rattle.file_control.specs.declared.fault.Cause.TheVariants.{BadWord, Expected, Unknown, Twice, NotAllowed, Limit, Layout}
+use Rattle.file_control.specs.declared.fault.DeckFault.{DeckFault}
+use Rattle.file_control.specs.declared.fault.Refusal.{Refusal}
+use Rattle.file_control.specs.declared.fault.Refusal.TheVariants.{Memory as NoMemory, Fault}
+use Rattle.file_control.specs.Fault.{code_of, told, IsTold}
+use Rattle.indexed_file.specs.declared.library.Library.{Ghosts}
+use Rattle.deck_reader.specs.declared.deck.Deck.{Deck}
+use Rattle.deck_reader.specs.Deck.{IsDeck}
+use Rattle.deck_runner.specs.declared.fault.RunFault.{RunFault}
+use Rattle.deck_runner.specs.declared.fault.RunFault.TheVariants.{Deck as DeckRefused, Memory}
+use Rattle.deck_runner.specs.declared.run_end.RunEnd.{RunEnd}
+use Rattle.deck_runner.specs.Run.{Run}
+use Rattle.deck_runner.specs.RunEnd.{end_of, Told}
+use Rattle.deck_runner.specs.Steps.{IsRun}
+use Rattle.deck_runner.specs.Beginning.{run_before, Leaves, WhereFilesAreTrue, DeckLeads}
+use Rattle.deck_runner.specs.DeckRun.{RunsExactly, IsRefused}
+use Rattle.deck_runner.proofs.RunLaws.{clean_runs_are_exact}
+
+-- a run whose end is clean is the definition's
+pub exact :
+    {S : Type 0} (library : Ghosts S) (old new : S) (written written_after : Option (List ℕ)) (end : RunEnd) (deck : Deck)
+    → Told written written_after end (DeckLeads library old new deck (IsRun deck.statements)) → end.clean ≡ true
+    → WhereFilesAreTrue library old new deck (RunsExactly written written_after (library.world old) (library.world new) end deck)
+exact library old new written written_after end deck run clean = λ honest shown.
+    let leads = run.3 honest shown in
+    let first = run_before (library.world old) deck in
+    let law = clean_runs_are_exact deck.statements first run.0 leads.0 leads.1 (sym (ap (λ (e : RunEnd). e.clean) run.2) ∙ clean) in
+    record {
+      transcript_is = rw (← law.0) run.1;
+      end_is = run.2 ∙ ap end_of law.0;
+      leaves = subst (λ (next : Run). Leaves (library.world new) deck next) law.1 leads.2;
+    }
+
+-- ---- refusals
+
+code_within : (cause : Cause) → (1 ≤ code_of cause) × (code_of cause ≤ 7)
+code_within BadWord = (omega arith, omega arith)
+code_within Expected = (omega arith, omega arith)
+code_within Unknown = (omega arith, omega arith)
+code_within Twice = (omega arith, omega arith)
+code_within NotAllowed = (omega arith, omega arith)
+code_within Limit = (omega arith, omega arith)
+code_within Layout = (omega arith, omega arith)
+
+refused_by :
+    (bytes : List ℕ) (fault : DeckFault) (result : RunFault) (refusal : Refusal) → fault ≡ told refusal → (fault.code ≡ 8 → result ≡ Memory) → (fault.code ≢ 8 → result ≡ DeckRefused fault)
+    → (fault.code ≢ 8 → (deck : Deck) → IsDeck bytes deck → ⊥) → IsRefused bytes result
+refused_by bytes fault result NoMemory is memory deck none =
+    let code : fault.code ≡ 8 = ap (λ (f : DeckFault). f.code) is in
+    subst (IsRefused bytes) (sym (memory code)) tt
+refused_by bytes fault result (Fault line cause) is memory deck none =
+    let code : fault.code ≡ code_of cause = ap (λ (f : DeckFault). f.code) is in
+    let within = code_within cause in
+    let least = within.0 in
+    let most = within.1 in
+    let unlike : fault.code ≢ 8 = λ e. omega arith in
+    subst (IsRefused bytes) (sym (deck unlike)) (omega arith, omega arith, none unlike)
+
+-- a fault of reading a deck, as it is told
+pub refused :
+    (bytes : List ℕ) (fault : DeckFault) (result : RunFault) → IsTold fault → (fault.code ≡ 8 → result ≡ Memory) → (fault.code ≢ 8 → result ≡ DeckRefused fault)
+    → (fault.code ≢ 8 → (deck : Deck) → IsDeck bytes deck → ⊥) → IsRefused bytes result
+refused bytes fault result is_told memory deck none = refused_by bytes fault result is_told.0 is_told.1 memory deck none

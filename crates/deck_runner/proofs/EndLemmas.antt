@@ -1,0 +1,89 @@
+-- What a run leaves of the names of a library.
+use Rattle.std.proofs.Common.{◌≡◌, ℕ, suc, ◌+◌, true, false, List, [], ◌∷◌, length, map, drop, slice_index_or, refl, sym, ap, ◌∙◌, subst, arith, bytes_eq}
+use Rattle.std.specs.List.{list_any, IsDistinct, AllByRecursion}
+use Rattle.std.proofs.lemmas.List.{drop_more, drop_all, length-map}
+use Rattle.std.proofs.lemmas.Slice.Eq.{bytes_eq-Decides}
+use Rattle.indexed_file.specs.World.{World, FileUnit, Named, Absent, Shut, name_in}
+use Rattle.indexed_file.specs.declared.library.Library.{Ghosts}
+use Rattle.indexed_file.proofs.TestLemmas.{either}
+use Rattle.file_description.specs.Described.{file_names}
+use Rattle.record_layout.specs.Schema.{Schema}
+use Rattle.deck_reader.specs.declared.deck.Deck.{Deck}
+use Rattle.deck_reader.specs.Deck.{CanBeRun}
+use Rattle.deck_runner.specs.Line.{Line}
+use Rattle.deck_runner.specs.Run.{RunFile, LengthItem, Run}
+use Rattle.deck_runner.specs.Running.{Running, schema_of, unit_names, run_files, run_of}
+use Rattle.deck_runner.specs.State.{state, GoesOnIn, LeadsIn}
+use Rattle.deck_runner.specs.Beginning.{Leaves, SameElsewhere, SameNames, IsBegun, DeckLeads}
+
+-- ---- what names stand for
+
+-- a name that no unit has
+not_among : (units : List FileUnit) (elsewhere : List ℕ → Named) (name : List ℕ) → list_any (λ other. bytes_eq other name) (map (λ (unit : FileUnit). unit.name) units) ≡ false
+    → name_in units elsewhere name ≡ elsewhere name
+not_among [] elsewhere name none = refl
+not_among (unit ∷ units) elsewhere name none =
+    either (bytes_eq unit.name name) (name_in (unit ∷ units) elsewhere name ≡ elsewhere name)
+    (λ same. let e = rw same at none in absurd (cc))
+    (λ unlike. rw unlike (not_among units elsewhere name (rw unlike at none)))
+
+-- names that a unit has not are those of the units behind it
+behind : (unit : FileUnit) (units : List FileUnit) (elsewhere : List ℕ → Named) (names : List (List ℕ)) → AllByRecursion (λ y. bytes_eq unit.name y ≡ false) names
+    → map (name_in (unit ∷ units) elsewhere) names ≡ map (name_in units elsewhere) names
+behind unit units elsewhere [] all = refl
+behind unit units elsewhere (name ∷ names) all =
+    rw (all.0) (ap (λ (rest : List Named). name_in units elsewhere name ∷ rest) (behind unit units elsewhere names all.1))
+
+-- where no two units have one name, each name stands for what its unit says
+each_name : (units : List FileUnit) (elsewhere : List ℕ → Named) → IsDistinct bytes_eq (map (λ (unit : FileUnit). unit.name) units)
+    → map (name_in units elsewhere) (map (λ (unit : FileUnit). unit.name) units) ≡ map (λ (unit : FileUnit). unit.named) units
+unfolding IsDistinct
+each_name [] elsewhere distinct = refl
+each_name (unit ∷ units) elsewhere distinct =
+    let own : bytes_eq unit.name unit.name ≡ true = (bytes_eq-Decides unit.name unit.name).1 refl in
+    rw own (ap (λ (rest : List Named). unit.named ∷ rest)
+    (behind unit units elsewhere (map (λ (u : FileUnit). u.name) units) distinct.0 ∙ each_name units elsewhere distinct.1))
+
+-- the names of the files of a run stand for what their units say
+files_named : (world : World) (w : ℕ) (files : List Running) → w + length files ≡ length world.units
+    → map (λ (file : RunFile). file.state.named) (run_files world w files) ≡ map (λ (unit : FileUnit). unit.named) (drop w world.units)
+files_named world w [] many = rw (drop_all w world.units (omega arith)) refl
+files_named world w (file ∷ files) many =
+    let unit : FileUnit = slice_index_or world.units w (record { name = []; named = Absent; holding = Shut }) in
+    let next : w + 1 ≡ suc w = omega arith in
+    rw (drop_more world.units w (record { name = []; named = Absent; holding = Shut }) (omega arith), next)
+    (ap (λ (rest : List Named). unit.named ∷ rest) (files_named world (suc w) files (omega arith)))
+
+-- ---- what is left
+
+leaves : (world : World) (deck : Deck) (files : List Running) (items : List LengthItem) → unit_names world ≡ file_names deck.files → IsDistinct bytes_eq (file_names deck.files) → length files ≡ length deck.files
+    → Leaves world deck (run_of world files items)
+leaves world deck files items units distinct many =
+    let units_many : length (unit_names world) ≡ length deck.files = ap (λ (l : List (List ℕ)). length l) units ∙ length-map deck.files (λ file. file.file) in
+    let units_are : length (unit_names world) ≡ length world.units = length-map world.units (λ unit. unit.name) in
+    let as_many : 0 + length files ≡ length world.units = omega arith in
+    rw (← units) (each_name world.units world.elsewhere (rw units distinct) ∙ sym (files_named world 0 files as_many))
+
+same_elsewhere : (old between new : World) (deck : Deck) → unit_names between ≡ file_names deck.files → unit_names new ≡ unit_names between → new.elsewhere ≡ between.elsewhere → SameNames old between
+    → SameElsewhere deck old new
+same_elsewhere old between new deck units same elsewhere named name none =
+    not_among new.units new.elsewhere name (rw (same, units) none)
+    ∙ (ap (λ (f : List ℕ → Named). f name) elsewhere
+    ∙ (sym (not_among between.units between.elsewhere name (rw units none)) ∙ named name))
+
+module _ {S : Type 0} (library : Ghosts S) (old between new : S) (deck : Deck) (files after : List Running) (items items_after : List LengthItem) where
+  pub leads : CanBeRun deck → IsBegun library old between deck files items → GoesOnIn library (state between files items) (state new after items_after)
+      → (AreSuch : Run → List Line → Run → Type 0) (lines : List Line) → LeadsIn library (state between files items) (state new after items_after) AreSuch lines
+      → DeckLeads library old new deck AreSuch lines
+  leads runs begun goes AreSuch lines p = λ honest shown.
+      let next = run_of (library.world new) after items_after in
+      let many : length after ≡ length files = sym (length-map after schema_of) ∙ ap (λ (l : List Schema). length l) goes.schemas ∙ length-map files schema_of in (
+        next,
+        subst (λ (first : Run). AreSuch first lines next) begun.run (p honest (begun.trusted (goes.keeps.honest honest) shown)),
+        leaves (library.world new) deck after items_after (goes.units ∙ begun.units) runs.described.distinct (many ∙ begun.many),
+      )
+
+  pub elsewhere_same : IsBegun library old between deck files items → GoesOnIn library (state between files items) (state new after items_after)
+      → SameNames (library.world old) (library.world between) → SameElsewhere deck (library.world old) (library.world new)
+  elsewhere_same begun goes named =
+      same_elsewhere (library.world old) (library.world between) (library.world new) deck begun.units goes.units goes.elsewhere named

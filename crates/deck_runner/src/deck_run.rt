@@ -1,0 +1,93 @@
+//! The run of the bytes of a deck.
+ghost use Rattle.std.specs.Prelude.{◌≡◌, ◌≢◌, ◌⊎◌, true, IfOk, IfErr};
+ghost use Rattle.indexed_file.specs.Calls.{Keeps};
+ghost use Rattle.deck_reader.specs.Deck.{CanBeRun};
+ghost use Rattle.deck_runner.specs.Steps.{IsRun, IsBrokenOff};
+ghost use Rattle.deck_runner.specs.RunEnd.{Told, ToldInPart};
+ghost use Rattle.deck_runner.specs.Beginning.{SameElsewhere, SameNames, WhereFilesAreTrue, DeckLeads};
+ghost use Rattle.deck_runner.specs.DeckRun.{OfDeck, RunsExactly, IsRefused};
+
+use crate::beginning::{Beginning, begin};
+use crate::fault::RunFault;
+use crate::line::LineText;
+use crate::run_end::RunEnd;
+use crate::whole_run::run;
+use deck_reader::{Deck, read_deck};
+use indexed_file::Library;
+use std::alloc::Global;
+use std::io::Write;
+
+/// Runs a deck that was read. `Output` and `Memory` are as for its bytes.
+fn run_read<L: Library, W: Write>(
+    alloc: Global,
+    deck: &Deck,
+    library: &mut L,
+    out: &mut W,
+) -> Result<RunEnd, RunFault>
+    requires { CanBeRun deck.now }
+    ensures elsewhere { SameElsewhere deck.now (L.world library.old) (L.world library.new) }
+    ensures run { IfOk result (λ end. Told (W.contents out.old) (W.contents out.new) end
+        (DeckLeads L.Library library.old library.new deck.now (IsRun deck.now.statements))) }
+    ensures output { IfErr result (λ fault. fault ≡ RunFault.Output → ToldInPart (W.contents out.old) (W.contents out.new)
+        (DeckLeads L.Library library.old library.new deck.now (IsBrokenOff deck.now.statements))) }
+    ensures nothing { IfErr result (λ fault. fault ≢ RunFault.Output →
+        (out.new ≡ out.old) × SameNames (L.world library.old) (L.world library.new)) }
+    ensures faults { IfErr result (λ fault. (fault ≡ RunFault.Output) ⊎ (fault ≡ RunFault.Memory)) }
+    ensures keeps { Keeps L.is_honest L.IsShownTruly L.fault_count library.old library.new }
+{
+    let Ok(begun) = begin(alloc, deck, library) else {
+        return Err(RunFault::Memory);
+    };
+    let Beginning {
+        mut files,
+        mut items,
+    } = begun;
+    let mut line = LineText::new();
+    match run(
+        &mut files,
+        &mut items,
+        deck.statements.as_slice(),
+        library,
+        &mut line,
+        out,
+    ) {
+        Ok(end) => Ok(end),
+        Err(_) => Err(RunFault::Output),
+    }
+}
+
+/// Runs the deck that the bytes are over the files of the library: its statements in order up to STOP RUN, and then the closes of
+/// the files still open, in the order of their SELECT entries. Each statement on a file has its line in `out`.
+///
+/// A run whose end is clean has written exactly the transcript of the definitions, and each file name of the deck stands for what
+/// they leave. `Deck`: the bytes are no deck, and nothing was written or changed. `Memory`: memory was wanted before the first
+/// statement, and nothing was written or changed. `Output`: the writer refused a line; it holds all lines before it and a proper
+/// front of it, and nothing was performed behind the statement of that line, no close either.
+pub fn run_deck<L: Library, W: Write>(
+    alloc: Global,
+    bytes: &[u8],
+    library: &mut L,
+    out: &mut W,
+) -> Result<RunEnd, RunFault>
+    ensures exact { IfOk result (λ end. end.clean ≡ true → OfDeck L.Library bytes.now library.old library.new (λ deck.
+        WhereFilesAreTrue L.Library library.old library.new deck
+        (RunsExactly (W.contents out.old) (W.contents out.new) (L.world library.old) (L.world library.new) end deck))) }
+    ensures run { IfOk result (λ end. OfDeck L.Library bytes.now library.old library.new (λ deck.
+        Told (W.contents out.old) (W.contents out.new) end
+        (DeckLeads L.Library library.old library.new deck (IsRun deck.statements)))) }
+    ensures output { IfErr result (λ fault. fault ≡ RunFault.Output → OfDeck L.Library bytes.now library.old library.new (λ deck.
+        ToldInPart (W.contents out.old) (W.contents out.new)
+        (DeckLeads L.Library library.old library.new deck (IsBrokenOff deck.statements)))) }
+    ensures nothing { IfErr result (λ fault. fault ≢ RunFault.Output →
+        (out.new ≡ out.old) × SameNames (L.world library.old) (L.world library.new)) }
+    ensures refused { IfErr result (IsRefused bytes.now) }
+    ensures keeps { Keeps L.is_honest L.IsShownTruly L.fault_count library.old library.new }
+{
+    match read_deck(alloc, bytes) {
+        Ok(deck) => run_read(alloc, &deck, library, out),
+        Err(fault) => Err(RunFault::of(fault)),
+    }
+}
+
+#[cfg(test)]
+mod tests;
