@@ -1,4 +1,4 @@
-# cobix: `make run` shows an example deck and has the prover evaluate the worked decks; `make test` proves and tests everything.
+# cobix: `make run` builds the program and runs an example deck; `make test` proves and tests everything, and runs the cases.
 .PHONY: run test
 
 SHELL = /bin/bash -o pipefail
@@ -7,10 +7,10 @@ EXAMPLE = examples/written-and-read-back
 run:
 	@echo "== $(EXAMPLE).deck"
 	@cat $(EXAMPLE).deck
-	@echo "== the prover evaluates this and the other worked decks from the definitions of the verbs"
-	@cd crates/deck_runner && rt check | grep '^logic='
-	@echo "== $(EXAMPLE).transcript"
-	@cat $(EXAMPLE).transcript
+	@echo "== cobix run $(EXAMPLE).deck --folder crates/cobix/out"
+	@cd crates/cobix && rt run -- run ../../$(EXAMPLE).deck --folder out
 
+# A gate that passes leaves the program that it built in crates/cobix/out.
 test:
 	rt ci
+	cases/run crates/cobix/out/cobix
