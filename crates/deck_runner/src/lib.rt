@@ -1,11 +1,13 @@
-//! The run of a deck: its statements, the lines of its transcript, and what it leaves.
+//! The run of a deck: from its bytes to its transcript.
 //!
-//! The transcript is the fold of the deck's statements up to STOP RUN over its files and length items, followed by the closes
-//! of the files that are still open, in the order of their SELECT entries. `run` performs them over any library, and each
+//! `run_deck` reads a deck and runs it over any library. The transcript is the fold of the deck's statements up to STOP RUN over its
+//! files and length items, followed by the closes of the files that are still open, in the order of their SELECT entries. Each
 //! statement is what the definitions say or a step that a fault has marred; `clean_runs_are_exact` says that a run without an
-//! unclean line is the fold itself. No memory is taken.
+//! unclean line is the fold itself. Memory is taken for the deck, its files and its items before the first statement, and by the
+//! library; for nothing else.
 //!
-//! Read specs/Line for a line of the transcript, specs/Run for the fold, specs/Steps for a run as steps, and then `run`.
+//! Read specs/Line for a line of the transcript, specs/Run for the fold, specs/Steps for a run as steps, specs/Beginning for a deck
+//! before its first statement, specs/DeckRun for how its run ends, and then `run_deck`.
 #![tactic(auto)]
 
 mod beginning;

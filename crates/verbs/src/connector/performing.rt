@@ -15,7 +15,8 @@ use crate::statement::FileStatement;
 use indexed_file::Library;
 
 impl Connector {
-    /// Performs a statement; `length` is that of the record that a WRITE or REWRITE stores.
+    /// Performs a statement; `length` is that of the record that a WRITE or REWRITE stores. What its checks decide is exact, and
+    /// leaves the library as it was; but CLOSE of a connector that has failed asks it, and answers 30 whatever it says.
     pub fn perform<L: Library>(
         &mut self,
         lib: &mut L,
