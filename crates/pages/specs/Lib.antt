@@ -1,0 +1,4 @@
+pub mod PageMap
+pub mod Owners
+pub mod PagesState
+pub mod Cause
