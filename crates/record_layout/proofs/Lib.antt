@@ -1,3 +1,4 @@
+pub mod PartsLemmas
 pub mod PictureLemmas
 pub mod AreaLemmas
 pub mod SchemaLemmas

@@ -14,6 +14,7 @@ mod item;
 mod keys;
 mod layout;
 mod levels;
+mod parts;
 mod picture;
 mod placing;
 mod schema;

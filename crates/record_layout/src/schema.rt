@@ -7,6 +7,7 @@ use crate::fault::SchemaFault;
 use crate::item::Field;
 use crate::keys::{keys_in_order, sort_alternates};
 use crate::layout::Layout;
+use crate::parts::are_keys;
 use arrayvec::ArrayVec;
 use io_state::{Key, Name};
 use std::marker::Model;
@@ -55,10 +56,10 @@ impl KeyPart {
 }
 
 impl Schema {
-    ghost use Rattle.std.specs.Prelude.{◌≡◌, ◌<◌, ◌≤◌, ◌↔◌, length, IsTrue, IfOk, IfErr, map, option_map, ℕ};
+    ghost use Rattle.std.specs.Prelude.{◌≡◌, ◌<◌, ◌≤◌, ◌↔◌, length, IsTrue, IsSome, IfSome, IfOk, IfErr, map, option_map, ℕ};
     ghost use Rattle.record_layout.specs.Layout.{length_of};
     ghost use Rattle.record_layout.specs.SchemaFault.{clause_of, keys_given, GivesSchema};
-    ghost use Rattle.record_layout.specs.Schema.{IsSchema, IsKey, key_at, value_of, same_schema, key_of_field, key_led_by};
+    ghost use Rattle.record_layout.specs.Schema.{IsSchema, IsKey, schema_of_fields, key_at, value_of, same_schema, key_of_field, key_led_by};
 
     /// The schema of records that are all as long as the layout, with these items for their keys. An alternate key is an item's
     /// name, and whether its clause says WITH DUPLICATES.
@@ -95,6 +96,24 @@ impl Schema {
             least,
             greatest,
             keys,
+        })
+    }
+
+    /// The schema of these numbers, as a file's header has them, where they make one.
+    pub fn from_parts(least: u16, greatest: u16, keys: &[KeyPart]) -> Option<Schema>
+        ensures schema { IfSome result (λ schema. schema ≡ schema_of_fields least greatest keys.now) }
+        ensures exact { IsSome result ↔ IsSchema (schema_of_fields least greatest keys.now) }
+    {
+        let fits = 1 <= least && least <= greatest && greatest <= 4000 && keys.len() <= 9;
+        if !fits || !are_keys(least, keys) {
+            return None;
+        }
+        let mut parts = ArrayVec::new();
+        let _ = parts.try_extend_from_slice(keys);
+        Some(Schema {
+            least,
+            greatest,
+            keys: parts,
         })
     }
 

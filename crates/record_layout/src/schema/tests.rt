@@ -153,3 +153,18 @@ fn a_key_is_a_part_of_a_record(rt: HostRuntime) -> Result<(), Fail> {
     );
     Ok(())
 }
+
+// A key of the greatest length, one byte past the least record, and alternates out of order.
+#[test]
+fn a_schema_is_made_from_the_numbers_of_one(rt: HostRuntime) -> Result<(), Fail> {
+    let keys = [part(0, 250, false), part(4, 8, false), part(12, 238, true)];
+    match Schema::from_parts(250, 4000, &keys) {
+        Some(schema) => assert_eq!(rt; schema.keys(), keys.as_slice()),
+        None => assert!(rt; false, "these make a schema"),
+    }
+    let turned = [part(0, 4, false), part(12, 2, true), part(4, 8, false)];
+    assert!(rt; Schema::from_parts(249, 4000, &keys).is_none());
+    assert!(rt; Schema::from_parts(20, 20, &turned).is_none());
+    assert!(rt; Schema::from_parts(20, 20, &[]).is_none());
+    Ok(())
+}
