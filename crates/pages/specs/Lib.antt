@@ -1,4 +1,5 @@
 pub mod PageMap
 pub mod Owners
 pub mod PagesState
+pub mod Answer
 pub mod Cause
