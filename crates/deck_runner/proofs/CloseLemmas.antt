@@ -5,7 +5,7 @@ use Rattle.std.proofs.lemmas.Option.{get_or_from_slice_get}
 use Rattle.indexed_file.specs.World.{World}
 use Rattle.deck_runner.specs.Line.{Line}
 use Rattle.deck_runner.specs.Run.{RunFile, Run, change_at, is_still_open}
-use Rattle.verbs.specs.declared.statement.FileStatement.TheVariants.{Close}
+use Rattle.io_state.specs.declared.statement.FileStatement.TheVariants.{Close}
 use Rattle.procedure_division.specs.declared.statement.Statement.{Statement}
 use Rattle.procedure_division.specs.declared.statement.Statement.TheVariants.{Perform}
 use Rattle.deck_runner.specs.Steps.{left_by, IsStepOn, IsStep, AreSteps, close_of, close_at, closes_from, ClosesAt, Closes, ClosesInPart}

@@ -3,8 +3,8 @@ use Rattle.std.proofs.Common.{◌≡◌, ℕ, zero, suc, Bool, true, false, not,
 use Rattle.std.specs.List.{list_all}
 use Rattle.std.proofs.lemmas.List.Folds.{list_all-append}
 use Rattle.verbs.specs.Connector.{Session, FileState, Outcome, answers}
-use Rattle.verbs.specs.declared.statement.FileStatement.{FileStatement}
-use Rattle.verbs.specs.declared.statement.FileStatement.TheVariants.{Close}
+use Rattle.io_state.specs.declared.statement.FileStatement.{FileStatement}
+use Rattle.io_state.specs.declared.statement.FileStatement.TheVariants.{Close}
 use Rattle.io_state.specs.declared.status.Status.TheVariants.{PermanentError, Successful}
 use Rattle.verbs.specs.Faults.{is_unclean}
 use Rattle.verbs.specs.Checks.{check, unless_refused}

@@ -22,7 +22,7 @@ use Rattle.record_layout.specs.declared.area.Source.TheVariants.{Fill}
 use Rattle.record_layout.specs.declared.area.Figure.TheVariants.{Zero}
 use Rattle.io_state.specs.declared.modes.Relation.{Relation}
 use Rattle.std.proofs.lemmas.Bool.Decides.{nat_tests}
-use Rattle.verbs.specs.declared.statement.FileStatement.TheVariants.{Open, Close, Write, Rewrite, Delete}
+use Rattle.io_state.specs.declared.statement.FileStatement.TheVariants.{Open, Close, Write, Rewrite, Delete}
 use Rattle.procedure_division.specs.declared.statement.Statement.{Statement}
 use Rattle.procedure_division.specs.declared.statement.Statement.TheVariants.{Perform, Move, MoveLength, StopRun}
 use Rattle.file_description.specs.Description.{FileDesc}

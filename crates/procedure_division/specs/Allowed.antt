@@ -9,8 +9,8 @@ use Rattle.record_layout.specs.Layout.{length_of}
 use Rattle.record_layout.specs.Schema.{key_at}
 use Rattle.record_layout.specs.declared.area.Source.{Source}
 use Rattle.record_layout.specs.declared.area.Source.TheVariants.{Text, Digits, Fill}
-use Rattle.verbs.specs.declared.statement.FileStatement.{FileStatement}
-use Rattle.verbs.specs.declared.statement.FileStatement.TheVariants.{Open, Close, ReadNext, Read, Start, Write, Rewrite, Delete}
+use Rattle.io_state.specs.declared.statement.FileStatement.{FileStatement}
+use Rattle.io_state.specs.declared.statement.FileStatement.TheVariants.{Open, Close, ReadNext, Read, Start, Write, Rewrite, Delete}
 use Rattle.file_description.specs.Description.{FileDesc}
 use Rattle.procedure_division.specs.Names.{Names}
 use Rattle.procedure_division.specs.declared.statement.Statement.{Statement}

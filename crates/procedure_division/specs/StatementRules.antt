@@ -22,8 +22,8 @@ use Rattle.file_control.specs.Operand.{sign, digits}
 use Rattle.file_control.specs.Reading.{Reads}
 use Rattle.file_control.specs.declared.fault.Refusal.{Refusal}
 use Rattle.file_control.specs.declared.word.Word.{Word}
-use Rattle.verbs.specs.declared.statement.FileStatement.{FileStatement}
-use Rattle.verbs.specs.declared.statement.FileStatement.TheVariants.{Open, Close, ReadNext, Read, Start, Write, Rewrite, Delete}
+use Rattle.io_state.specs.declared.statement.FileStatement.{FileStatement}
+use Rattle.io_state.specs.declared.statement.FileStatement.TheVariants.{Open, Close, ReadNext, Read, Start, Write, Rewrite, Delete}
 use Rattle.procedure_division.specs.declared.statement.Statement.{Statement}
 use Rattle.procedure_division.specs.declared.statement.Statement.TheVariants.{Perform, Move, MoveLength, StopRun}
 use Rattle.procedure_division.specs.Following.{followed, where_allowed}

@@ -6,7 +6,7 @@ ghost use Rattle.indexed_file.specs.Change.{row_of};
 ghost use Rattle.indexed_file.specs.World.{OnlyAt, name_at, holding_at, schema_at, file_at, is_open, is_broken};
 ghost use Rattle.indexed_file.specs.Room.{is_full_to_replace};
 ghost use Rattle.indexed_file.specs.Calls.{Keeps, Believed, OnlyReads, MayFail};
-ghost use Rattle.verbs.specs.declared.statement.FileStatement.TheVariants.{Rewrite, Delete};
+ghost use Rattle.io_state.specs.declared.statement.FileStatement.TheVariants.{Rewrite, Delete};
 ghost use Rattle.verbs.specs.Connector.{Session};
 ghost use Rattle.verbs.specs.Writing.{deleted};
 ghost use Rattle.verbs.specs.Verbs.{perform, reaches};

@@ -3,7 +3,7 @@ ghost use Rattle.std.specs.Prelude.{◌≡◌, ◌<◌, ℕ, List, length, IsTru
 ghost use Rattle.io_state.specs.declared.status.Status.TheVariants.{PermanentError};
 ghost use Rattle.indexed_file.specs.World.{OnlyAt, name_at};
 ghost use Rattle.indexed_file.specs.Calls.{Keeps, Believed};
-ghost use Rattle.verbs.specs.declared.statement.FileStatement.TheVariants.{Close};
+ghost use Rattle.io_state.specs.declared.statement.FileStatement.TheVariants.{Close};
 ghost use Rattle.verbs.specs.Refusals.{is_early};
 ghost use Rattle.verbs.specs.Faults.{is_boundary_violation};
 ghost use Rattle.verbs.specs.Held.{Performs, Decides, state_of, silent};

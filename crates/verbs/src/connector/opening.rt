@@ -6,7 +6,7 @@ ghost use Rattle.indexed_file.specs.declared.answer.Seen.TheVariants.{Sound};
 ghost use Rattle.indexed_file.specs.Answers.{seen_of};
 ghost use Rattle.indexed_file.specs.World.{OnlyAt, Absent, name_at, holding_at, named_at, schema_at, is_looked};
 ghost use Rattle.indexed_file.specs.Calls.{Keeps, Believed};
-ghost use Rattle.verbs.specs.declared.statement.FileStatement.TheVariants.{Open};
+ghost use Rattle.io_state.specs.declared.statement.FileStatement.TheVariants.{Open};
 ghost use Rattle.verbs.specs.Connector.{answers};
 ghost use Rattle.verbs.specs.Opening.{created, open_absent, open_named};
 ghost use Rattle.verbs.specs.Marred.{creates};

@@ -11,8 +11,8 @@ ghost use Rattle.verbs.specs.Fits.{Fits, IsStanding, HasCause, HasOperands, clos
 
 use super::Connector;
 use crate::answer::Answer;
-use crate::statement::FileStatement;
 use indexed_file::Library;
+use io_state::FileStatement;
 
 impl Connector {
     /// Performs a statement; `length` is that of the record that a WRITE or REWRITE stores. What its checks decide is exact, and

@@ -2,7 +2,7 @@
 ghost use Rattle.std.specs.Prelude.{◌≡◌, ◌<◌, ℕ, List, length, length as count_of, IsTrue, false};
 ghost use Rattle.indexed_file.specs.World.{OnlyAt, name_at};
 ghost use Rattle.indexed_file.specs.Calls.{Keeps, Believed};
-ghost use Rattle.verbs.specs.declared.statement.FileStatement.TheVariants.{ReadNext, Read, Start};
+ghost use Rattle.io_state.specs.declared.statement.FileStatement.TheVariants.{ReadNext, Read, Start};
 ghost use Rattle.verbs.specs.Verbs.{reaches};
 ghost use Rattle.verbs.specs.Refusals.{is_early};
 ghost use Rattle.verbs.specs.Faults.{is_boundary_violation};

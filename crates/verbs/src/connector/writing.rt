@@ -8,7 +8,7 @@ ghost use Rattle.indexed_file.specs.World.{OnlyAt, name_at, holding_at, schema_a
 ghost use Rattle.indexed_file.specs.Calls.{Keeps, Believed, OnlyReads, MayFail};
 ghost use Rattle.indexed_file.specs.UnitAnswers.{adding_is_full};
 ghost use Rattle.io_state.specs.Permission.{is_sequential};
-ghost use Rattle.verbs.specs.declared.statement.FileStatement.TheVariants.{Write};
+ghost use Rattle.io_state.specs.declared.statement.FileStatement.TheVariants.{Write};
 ghost use Rattle.verbs.specs.Connector.{Session};
 ghost use Rattle.verbs.specs.Writing.{stored, written, is_not_above};
 ghost use Rattle.verbs.specs.Verbs.{perform, reaches};

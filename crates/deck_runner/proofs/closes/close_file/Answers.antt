@@ -2,7 +2,7 @@ use Rattle.std.proofs.Common.{false, [], slice_index_or, sym}
 use Rattle.std.proofs.KnownBytes.{Appends-nil}
 use Rattle.std.proofs.lemmas.Option.{slice_get-get_or}
 use Rattle.std.proofs.lemmas.Result.{IfOk-weaker, on_err_weaker}
-use Rattle.verbs.specs.declared.statement.FileStatement.TheVariants.{Close}
+use Rattle.io_state.specs.declared.statement.FileStatement.TheVariants.{Close}
 use Rattle.procedure_division.specs.declared.statement.Statement.TheVariants.{Perform}
 use Rattle.deck_runner.specs.Steps.{IsStep, ClosesAt}
 use Rattle.deck_runner.specs.Running.{run_file}
