@@ -1,1 +1,1 @@
-pub mod DeckLaws
+pub mod DeckLemmas

@@ -1,11 +1,11 @@
 -- A deck: which words spell it, and which bytes are it.
 -- ANSI X3.23-1985, Nucleus module: the divisions of a source program. Its free form, and which divisions there are, is ours.
 use Rattle.std.specs.Prelude.{◌≡◌, ℕ, List, [], drop, All}
-use Rattle.file_control.specs.declared.word.Word.{Word}
-use Rattle.file_control.specs.Words.{HasWords}
-use Rattle.file_description.specs.declared.description.Description.{Description}
-use Rattle.file_description.specs.Whole.{IsDescription}
-use Rattle.file_description.specs.Described.{AreDescribed}
+use Rattle.deck_words.specs.Word.{Word}
+use Rattle.deck_words.specs.Words.{HasWords}
+use Rattle.file_control.specs.declared.description.Description.{Description}
+use Rattle.file_control.specs.Whole.{IsDescription}
+use Rattle.file_control.specs.Described.{AreDescribed}
 use Rattle.procedure_division.specs.Names.{Names, names_of}
 use Rattle.procedure_division.specs.Procedure.{procedure}
 use Rattle.procedure_division.specs.Allowed.{IsAllowed}

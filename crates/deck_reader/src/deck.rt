@@ -1,13 +1,13 @@
 //! A deck, read whole.
 ghost use Rattle.std.specs.Prelude.{◌≡◌, ◌≢◌, ℕ, List, IfOk, IfErr};
-ghost use Rattle.file_control.specs.Fault.{IsTold};
-ghost use Rattle.file_control.specs.declared.word.Word.{Word};
+ghost use Rattle.deck_words.specs.Fault.{IsTold};
+ghost use Rattle.deck_words.specs.Word.{Word};
 ghost use Rattle.deck_reader.specs.declared.deck.Deck.{Deck};
 ghost use Rattle.deck_reader.specs.Deck.{Spells, IsDeck, CanBeRun};
 
-use file_control::{DeckFault, Word, one_reading, words};
-use file_description::{
-    Description, FileList, ItemList, are_described, one_description, read_description,
+use file_control::{
+    DeckFault, Description, FileList, ItemList, Word, are_described, one_description, one_reading,
+    read_description, words,
 };
 use procedure_division::{Names, StatementList, one_procedure, only_allowed, procedure};
 use std::alloc::Global;

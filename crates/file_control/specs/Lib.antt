@@ -1,12 +1,4 @@
-pub mod ByteClass
-pub mod Fault
-pub mod Name
-pub mod Words
-pub mod Front
-pub mod Scanning
-pub mod Class
-pub mod Rule
-pub mod Notation
-pub mod Operand
-pub mod FileControlEntry
-pub mod Reading
+pub mod Description
+pub mod Checks
+pub mod Whole
+pub mod Described

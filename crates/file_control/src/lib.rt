@@ -1,29 +1,21 @@
-//! The description of the files of a deck: from its bytes to words, and from words to a file control entry.
+//! The files of a deck and its 77-level items, as its words up to PROCEDURE describe them.
 //!
-//! `words` answers exactly the words of the bytes, or the first fault with its line. `file_control_entry` answers exactly the
-//! entry that the words spell by the grammar, or a fault. No deck has two readings, and no words are two entries. Whether a
-//! key is an item of a record is not known here.
+//! `words` gives the words of a deck. `read_description` answers exactly the description that the words up to PROCEDURE spell:
+//! the files in the order of their SELECT entries, each with the layout and the keys of its records, and the 77-level items. Or
+//! it answers a fault, and the words spell none. No words spell two. `are_described` says what is true of every description.
 //!
-//! Read `specs/Words.antt` for the rules of words and `specs/FileControlEntry.antt` for the grammar, then `scanner` and
-//! `select`.
+//! Read `specs/Description.antt` for the files, `specs/Whole.antt` for the whole description and `specs/Described.antt` for what
+//! is true of it, and then `description`. The grammar of the entries is in `deck_entries`, the words are in `deck_words`.
 #![tactic(auto)]
 
-mod byte_class;
-mod entry;
-mod fault;
-mod literal;
-mod name;
-mod operand;
-mod parser;
-mod run;
-mod scanner;
-mod select;
-mod text;
-mod word;
+mod data_names;
+mod description;
+mod file;
+mod files;
+mod keys;
+mod length_item;
 
-pub use entry::{AlternateKey, AlternateKeys, FileControlEntry, Selected};
-pub use fault::{Cause, DeckFault, Refusal};
-pub use parser::Parser;
-pub use scanner::{DECK_LIMIT, one_reading, words};
-pub use select::{file_control_entry, one_entry};
-pub use word::{Word, WordKind};
+pub use deck_words::{DECK_LIMIT, DeckFault, Word, one_reading, words};
+pub use description::{Description, are_described, one_description, read_description};
+pub use file::FileDesc;
+pub use files::{FileList, ItemList, LengthItem};

@@ -1,6 +1,6 @@
-pub mod FollowLaws
-pub mod ProcedureLaws
-pub mod JoinLaws
-pub mod GivesLaws
-pub mod SourceLaws
-pub mod AllowedLaws
+pub mod FollowLemmas
+pub mod ProcedureLemmas
+pub mod JoinLemmas
+pub mod GivesLemmas
+pub mod SourceLemmas
+pub mod AllowedLemmas

@@ -1,8 +1,8 @@
 -- Rules that depend on the value of the rule before them.
 use Rattle.std.specs.Prelude.{Bool, ◌&&◌, if◌then◌else◌, List, ◌++◌, Option, Some, None, option_and_then}
-use Rattle.file_control.specs.Class.{all_apart}
-use Rattle.file_control.specs.Rule.{Rule, where_it_gives}
-use Rattle.file_control.specs.declared.word.Word.{Word}
+use Rattle.deck_words.specs.Class.{all_apart}
+use Rattle.deck_words.specs.Rule.{Rule, where_it_gives}
+use Rattle.deck_words.specs.Word.{Word}
 
 abbrev pub SpellsFollowed : {A B : Type 0} → Rule A → (A → Rule B) → B → List Word → List Word → Type 0
 SpellsFollowed p q y words rest = (x : _) × (middle : List Word) × p.Spells x words middle × (q x).Spells y middle rest

@@ -6,7 +6,7 @@ use Rattle.io_state.specs.declared.modes.Access.TheVariants.{Sequential}
 use Rattle.record_layout.specs.declared.item.Field.{Field}
 use Rattle.record_layout.specs.Layout.{is_named, field_of}
 use Rattle.record_layout.specs.Schema.{key_at, key_of_field, key_led_by}
-use Rattle.file_description.specs.Description.{FileDesc, LengthItem}
+use Rattle.file_control.specs.Description.{FileDesc, LengthItem}
 
 -- the files in the order of their SELECT entries, and the 77-level items in the order of theirs
 pub record Names : Type 0 where

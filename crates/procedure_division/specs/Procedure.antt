@@ -1,8 +1,8 @@
 -- The procedure division: paragraphs and sentences.
 -- ANSI X3.23-1985, Nucleus module, procedure division structure. Names of paragraphs have no effect, which is ours.
 use Rattle.std.specs.Prelude.{List, [], codes}
-use Rattle.file_control.specs.Rule.{Rule, onto}
-use Rattle.file_control.specs.Notation.{the, name, period, ◌▸◌, ◌◂◌, ◌∣◌, ◌<$>◌}
+use Rattle.deck_words.specs.Rule.{Rule, onto}
+use Rattle.deck_words.specs.Notation.{the, name, period, ◌▸◌, ◌◂◌, ◌∣◌, ◌<$>◌}
 use Rattle.procedure_division.specs.declared.statement.Statement.{Statement}
 use Rattle.procedure_division.specs.Names.{Names}
 use Rattle.procedure_division.specs.StatementRules.{joined, some_of, open_statement, close_statement, read_statement, start_statement, write_statement, rewrite_statement, delete_statement, move_statement, stop_statement}

@@ -16,12 +16,12 @@ use Rattle.record_layout.specs.declared.area.Source.TheVariants.{Text, Digits, F
 use Rattle.record_layout.specs.declared.area.Figure.{Figure}
 use Rattle.record_layout.specs.declared.area.Figure.TheVariants.{Space, Zero, Low, High}
 use Rattle.record_layout.specs.Area.{is_taken_by}
-use Rattle.file_control.specs.Rule.{Rule, optional, some_onto, where_it_gives}
-use Rattle.file_control.specs.Notation.{the, name, literal, ◌▸◌, ◌◂◌, ◌⊗◌, ◌∣◌, ◌<$>◌, is_there, may}
-use Rattle.file_control.specs.Operand.{sign, digits}
-use Rattle.file_control.specs.Reading.{Reads}
-use Rattle.file_control.specs.declared.fault.Refusal.{Refusal}
-use Rattle.file_control.specs.declared.word.Word.{Word}
+use Rattle.deck_words.specs.Rule.{Rule, optional, some_onto, where_it_gives}
+use Rattle.deck_words.specs.Notation.{the, name, literal, ◌▸◌, ◌◂◌, ◌⊗◌, ◌∣◌, ◌<$>◌, is_there, may}
+use Rattle.deck_words.specs.Operand.{sign, digits}
+use Rattle.deck_words.specs.Reading.{Reads}
+use Rattle.deck_words.specs.declared.fault.Refusal.{Refusal}
+use Rattle.deck_words.specs.Word.{Word}
 use Rattle.io_state.specs.declared.statement.FileStatement.{FileStatement}
 use Rattle.io_state.specs.declared.statement.FileStatement.TheVariants.{Open, Close, ReadNext, Read, Start, Write, Rewrite, Delete}
 use Rattle.procedure_division.specs.declared.statement.Statement.{Statement}

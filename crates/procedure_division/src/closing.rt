@@ -1,16 +1,16 @@
 //! The CLOSE statement.
-ghost use Rattle.file_control.specs.Reading.{Reads};
+ghost use Rattle.deck_words.specs.Reading.{Reads};
 ghost use Rattle.procedure_division.specs.StatementRules.{Adds, some_of, lock, closed, close_statement};
 
 use crate::file_name::file;
 use crate::names::Names;
 use crate::statement::Statement;
 use crate::statement_list::StatementList;
-use file_control::{Parser, Refusal};
-use verbs::FileStatement;
+use deck_words::{Parser, Refusal};
+use io_state::FileStatement;
 
 /// Whether a file is closed WITH LOCK.
-#[tactic(auto, unfolding(crate::specs::StatementRules::lock, file_control::specs::Notation::the))]
+#[tactic(auto, unfolding(crate::specs::StatementRules::lock, deck_words::specs::Notation::the))]
 fn lock(parser: &mut Parser<'_>) -> Result<bool, Refusal>
     ensures { Reads (lock.reads parser.old) result parser.new }
 {
@@ -55,7 +55,7 @@ fn all_closed(
     Ok(statements)
 }
 
-#[tactic(auto, unfolding(crate::specs::StatementRules::close_statement), using(crate::proofs::JoinLaws::second_behind))]
+#[tactic(auto, unfolding(crate::specs::StatementRules::close_statement), using(crate::proofs::JoinLemmas::second_behind))]
 pub fn close_statement(
     parser: &mut Parser<'_>,
     names: &Names<'_>,

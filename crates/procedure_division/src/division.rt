@@ -1,10 +1,10 @@
 //! The procedure division.
 ghost use Rattle.std.specs.Prelude.{◌≡◌, ◌≢◌, [], List, All, IfOk, IfErr};
-ghost use Rattle.file_control.specs.Fault.{IsFault, IsTold};
-ghost use Rattle.file_control.specs.Reading.{Reads};
-ghost use Rattle.file_control.specs.Rule.{onto};
-ghost use Rattle.file_control.specs.declared.word.Word.{Word};
-ghost use Rattle.file_description.specs.Described.{AreDescribed};
+ghost use Rattle.deck_words.specs.Fault.{IsFault, IsTold};
+ghost use Rattle.deck_words.specs.Reading.{Reads};
+ghost use Rattle.deck_words.specs.Rule.{onto};
+ghost use Rattle.deck_words.specs.Word.{Word};
+ghost use Rattle.file_control.specs.Described.{AreDescribed};
 ghost use Rattle.procedure_division.specs.Allowed.{IsAllowed};
 ghost use Rattle.procedure_division.specs.Names.{Names};
 ghost use Rattle.procedure_division.specs.StatementRules.{joined};
@@ -14,7 +14,7 @@ ghost use Rattle.procedure_division.specs.declared.statement.Statement.{Statemen
 use crate::names::Names;
 use crate::sentence::{paragraph_or_sentence, sees_sentence};
 use crate::statement_list::StatementList;
-use file_control::{DeckFault, Parser, Refusal, Word};
+use deck_words::{DeckFault, Parser, Refusal, Word};
 use std::alloc::Global;
 
 /// Paragraphs and sentences up to a word with which none begins.

@@ -1,9 +1,9 @@
 //! Names of files and of their records.
-ghost use Rattle.file_control.specs.Reading.{Reads};
+ghost use Rattle.deck_words.specs.Reading.{Reads};
 ghost use Rattle.procedure_division.specs.StatementRules.{file, record_name};
 
 use crate::names::Names;
-use file_control::{Cause, Parser, Refusal};
+use deck_words::{Cause, Parser, Refusal};
 
 /// The name of a file.
 #[tactic(auto, unfolding(crate::specs::StatementRules::file))]
@@ -11,7 +11,7 @@ pub fn file(parser: &mut Parser<'_>, names: &Names<'_>) -> Result<usize, Refusal
     ensures { Reads ((file names.now).reads parser.old) result parser.new }
 {
     let unknown = parser.fault(Cause::Unknown);
-    let name = parser.name_str()?;
+    let name = parser.name()?.as_str();
     match names.file(name) {
         Some(file) => Ok(file),
         None => Err(unknown),
@@ -24,7 +24,7 @@ pub fn record_name(parser: &mut Parser<'_>, names: &Names<'_>) -> Result<usize, 
     ensures { Reads ((record_name names.now).reads parser.old) result parser.new }
 {
     let unknown = parser.fault(Cause::Unknown);
-    let name = parser.name_str()?;
+    let name = parser.name()?.as_str();
     match names.record(name) {
         Some(file) => Ok(file),
         None => Err(unknown),

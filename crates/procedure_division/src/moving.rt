@@ -3,20 +3,20 @@ ghost use Rattle.std.specs.Prelude.{◌≡◌, true, IfOk};
 ghost use Rattle.std.specs.List.{list_all};
 ghost use Rattle.std.specs.Char.{is_ascii_digit};
 ghost use Rattle.record_layout.specs.Area.{is_taken_by, sent};
-ghost use Rattle.file_control.specs.Reading.{Reads};
-ghost use Rattle.file_control.specs.Scanning.{map_result};
+ghost use Rattle.deck_words.specs.Reading.{Reads};
+ghost use Rattle.deck_words.specs.Scanning.{map_result};
 ghost use Rattle.procedure_division.specs.StatementRules.{Adds, some_of, figure, source, sent_by_literal};
 ghost use Rattle.procedure_division.specs.StatementRules.{receiver, receivers, move_statement};
 
 use crate::names::Names;
 use crate::statement::Statement;
 use crate::statement_list::StatementList;
-use file_control::{Cause, Parser, Refusal};
+use deck_words::{Cause, Parser, Refusal};
 use record_layout::{Bytes, Figure, Source, takes};
 use std::alloc::{AllocError, Global};
 
 /// A figurative constant.
-#[tactic(auto, unfolding(crate::specs::StatementRules::figure, file_control::specs::Notation::the))]
+#[tactic(auto, unfolding(crate::specs::StatementRules::figure, deck_words::specs::Notation::the))]
 fn figure(parser: &mut Parser<'_>) -> Result<Figure, Refusal>
     ensures { Reads (figure.reads parser.old) result parser.new }
 {
@@ -58,7 +58,7 @@ fn source<'a>(parser: &mut Parser<'a>) -> Result<Source<&'a [u8]>, Refusal>
     ensures { Reads (source.reads parser.old) (map_result sent result) parser.new }
 {
     if parser.sees_literal() {
-        let text = parser.literal_text()?;
+        let text = parser.literal()?;
         return Ok(sent_by_literal(text));
     }
     if parser.sees_digits() {
@@ -100,7 +100,7 @@ fn receiver(
 {
     let unknown = parser.fault(Cause::Unknown);
     let not_allowed = parser.fault(Cause::NotAllowed);
-    let name = parser.name_str()?;
+    let name = parser.name()?.as_str();
     if let Some((file, field)) = names.item(name) {
         if !takes(field, source) {
             return Err(not_allowed);
@@ -139,7 +139,7 @@ fn all_receivers(
     Ok(statements)
 }
 
-#[tactic(auto, unfolding(crate::specs::StatementRules::receivers), using(crate::proofs::JoinLaws::second_behind))]
+#[tactic(auto, unfolding(crate::specs::StatementRules::receivers), using(crate::proofs::JoinLemmas::second_behind))]
 fn receivers(
     alloc: Global,
     parser: &mut Parser<'_>,
@@ -153,7 +153,7 @@ fn receivers(
     all_receivers(alloc, parser, names, source, statements)
 }
 
-#[tactic(auto, unfolding(crate::specs::StatementRules::move_statement), using(crate::proofs::JoinLaws::follower_behind, crate::proofs::JoinLaws::second_behind))]
+#[tactic(auto, unfolding(crate::specs::StatementRules::move_statement), using(crate::proofs::JoinLemmas::follower_behind, crate::proofs::JoinLemmas::second_behind))]
 pub fn move_statement(
     alloc: Global,
     parser: &mut Parser<'_>,

@@ -8,7 +8,7 @@ ghost use Rattle.procedure_division.specs.Names.{item_in, holder_of, item_of};
 ghost use Rattle.procedure_division.specs.Names.{length_item_of, access_at, prime_length, key_of, led_key_of};
 ghost use Rattle.std.specs.Prelude.{position, bytes_eq};
 
-use file_description::{FileDesc, LengthItem};
+use file_control::{FileDesc, LengthItem};
 use io_state::Access;
 use record_layout::Field;
 use std::marker::Model;

@@ -1,6 +1,6 @@
 //! The OPEN statement.
 ghost use Rattle.std.specs.Prelude.{◌≡◌};
-ghost use Rattle.file_control.specs.Class.{begins};
+ghost use Rattle.deck_words.specs.Class.{begins};
 ghost use Rattle.procedure_division.specs.Names.{Names};
 ghost use Rattle.procedure_division.specs.StatementRules.{Adds, some_of};
 ghost use Rattle.procedure_division.specs.StatementRules.{opened, opening, open_statement};
@@ -8,9 +8,8 @@ ghost use Rattle.procedure_division.specs.StatementRules.{opened, opening, open_
 use crate::names::Names;
 use crate::statement::Statement;
 use crate::statement_list::StatementList;
-use file_control::{Cause, Parser, Refusal};
-use io_state::{OpenMode, Verb, permits};
-use verbs::FileStatement;
+use deck_words::{Cause, Parser, Refusal};
+use io_state::{FileStatement, OpenMode, Verb, permits};
 
 /// A file that is opened in a mode.
 #[tactic(auto, unfolding(crate::specs::StatementRules::opened))]
@@ -24,7 +23,7 @@ fn opened(
 {
     let unknown = parser.fault(Cause::Unknown);
     let not_allowed = parser.fault(Cause::NotAllowed);
-    let name = parser.name_str()?;
+    let name = parser.name()?.as_str();
     let Some(file) = names.file(name) else {
         return Err(unknown);
     };
@@ -54,7 +53,7 @@ fn all_opened(
 }
 
 /// A mode, and the files that are opened in it.
-#[tactic(auto, unfolding(crate::specs::StatementRules::opening, file_control::specs::Notation::the), using(crate::proofs::JoinLaws::second_behind))]
+#[tactic(auto, unfolding(crate::specs::StatementRules::opening, deck_words::specs::Notation::the), using(crate::proofs::JoinLemmas::second_behind))]
 fn opening(
     parser: &mut Parser<'_>,
     names: &Names<'_>,
@@ -76,7 +75,7 @@ fn opening(
 }
 
 /// Whether a mode is next.
-#[tactic(auto, unfolding(crate::specs::StatementRules::opening, file_control::specs::Notation::the))]
+#[tactic(auto, unfolding(crate::specs::StatementRules::opening, deck_words::specs::Notation::the))]
 fn sees_mode(parser: &Parser<'_>) -> bool
     ensures { (known : Names) → result ≡ begins (opening known).starts parser.now }
 {
@@ -98,7 +97,7 @@ fn all_openings(
     Ok(statements)
 }
 
-#[tactic(auto, unfolding(crate::specs::StatementRules::open_statement), using(crate::proofs::JoinLaws::second_behind))]
+#[tactic(auto, unfolding(crate::specs::StatementRules::open_statement), using(crate::proofs::JoinLemmas::second_behind))]
 pub fn open_statement(
     parser: &mut Parser<'_>,
     names: &Names<'_>,

@@ -1,6 +1,6 @@
 //! The READ statement.
 ghost use Rattle.std.specs.Prelude.{◌≡◌};
-ghost use Rattle.file_control.specs.Reading.{Reads};
+ghost use Rattle.deck_words.specs.Reading.{Reads};
 ghost use Rattle.procedure_division.specs.StatementRules.{Adds, next, key, key_phrase, read_by};
 ghost use Rattle.procedure_division.specs.StatementRules.{read_operand, read_phrases, read_statement};
 
@@ -8,9 +8,8 @@ use crate::file_name::file;
 use crate::names::Names;
 use crate::statement::Statement;
 use crate::statement_list::StatementList;
-use file_control::{Cause, Parser, Refusal};
-use io_state::Access;
-use verbs::FileStatement;
+use deck_words::{Cause, Parser, Refusal};
+use io_state::{Access, FileStatement};
 
 /// Whether the READ is sequential: NEXT says so, and in sequential access it always is.
 #[tactic(auto, unfolding(crate::specs::StatementRules::next))]
@@ -34,7 +33,7 @@ fn key(parser: &mut Parser<'_>, names: &Names<'_>, file: usize) -> Result<u8, Re
 {
     let unknown = parser.fault(Cause::Unknown);
     let not_allowed = parser.fault(Cause::NotAllowed);
-    let name = parser.name_str()?;
+    let name = parser.name()?.as_str();
     let Some(field) = names.item_in(file, name) else {
         return Err(unknown);
     };
@@ -55,7 +54,7 @@ fn read_by(sequential: bool, key: Option<u8>) -> FileStatement
 }
 
 /// The key that KEY says, which a sequential READ may not have.
-#[tactic(auto, unfolding(crate::specs::StatementRules::key_phrase, file_control::specs::Notation::the))]
+#[tactic(auto, unfolding(crate::specs::StatementRules::key_phrase, deck_words::specs::Notation::the))]
 fn key_phrase(
     parser: &mut Parser<'_>,
     names: &Names<'_>,
@@ -95,7 +94,7 @@ fn read_operand(
 }
 
 /// The phrases behind the file's name.
-#[tactic(auto, unfolding(crate::specs::StatementRules::read_phrases), using(crate::proofs::JoinLaws::follower_behind))]
+#[tactic(auto, unfolding(crate::specs::StatementRules::read_phrases), using(crate::proofs::JoinLemmas::follower_behind))]
 fn read_phrases(
     parser: &mut Parser<'_>,
     names: &Names<'_>,
@@ -108,7 +107,7 @@ fn read_phrases(
     read_operand(parser, names, file, sequential, statements)
 }
 
-#[tactic(auto, unfolding(crate::specs::StatementRules::read_statement), using(crate::proofs::JoinLaws::follower_behind, crate::proofs::JoinLaws::second_behind))]
+#[tactic(auto, unfolding(crate::specs::StatementRules::read_statement), using(crate::proofs::JoinLemmas::follower_behind, crate::proofs::JoinLemmas::second_behind))]
 pub fn read_statement(
     parser: &mut Parser<'_>,
     names: &Names<'_>,

@@ -1,8 +1,8 @@
 //! Statements, sentences and paragraphs.
 ghost use Rattle.std.specs.Prelude.{◌≡◌, []};
-ghost use Rattle.file_control.specs.Class.{begins};
-ghost use Rattle.file_control.specs.Reading.{Reads};
-ghost use Rattle.file_control.specs.Scanning.{map_result};
+ghost use Rattle.deck_words.specs.Class.{begins};
+ghost use Rattle.deck_words.specs.Reading.{Reads};
+ghost use Rattle.deck_words.specs.Scanning.{map_result};
 ghost use Rattle.procedure_division.specs.Names.{Names};
 ghost use Rattle.procedure_division.specs.StatementRules.{Adds, some_of, stop_statement};
 ghost use Rattle.procedure_division.specs.Procedure.{statement, sentence, paragraph, paragraph_or_sentence};
@@ -16,7 +16,7 @@ use crate::starting::start_statement;
 use crate::statement::Statement;
 use crate::statement_list::StatementList;
 use crate::writing::{delete_statement, rewrite_statement, write_statement};
-use file_control::{Parser, Refusal};
+use deck_words::{Parser, Refusal};
 use std::alloc::Global;
 
 #[tactic(auto, unfolding(crate::specs::StatementRules::stop_statement))]
@@ -32,7 +32,7 @@ fn stop_statement(
 }
 
 /// Whether a statement is next.
-#[tactic(auto, unfolding(crate::specs::Procedure::statement, crate::specs::StatementRules::open_statement, crate::specs::StatementRules::close_statement, crate::specs::StatementRules::read_statement, crate::specs::StatementRules::start_statement, crate::specs::StatementRules::write_statement, crate::specs::StatementRules::rewrite_statement, crate::specs::StatementRules::delete_statement, crate::specs::StatementRules::move_statement, crate::specs::StatementRules::stop_statement, file_control::specs::Notation::the))]
+#[tactic(auto, unfolding(crate::specs::Procedure::statement, crate::specs::StatementRules::open_statement, crate::specs::StatementRules::close_statement, crate::specs::StatementRules::read_statement, crate::specs::StatementRules::start_statement, crate::specs::StatementRules::write_statement, crate::specs::StatementRules::rewrite_statement, crate::specs::StatementRules::delete_statement, crate::specs::StatementRules::move_statement, crate::specs::StatementRules::stop_statement, deck_words::specs::Notation::the))]
 fn sees_statement(parser: &Parser<'_>) -> bool
     ensures { (known : Names) → result ≡ begins (statement known).starts parser.now }
 {
@@ -41,7 +41,7 @@ fn sees_statement(parser: &Parser<'_>) -> bool
     ])
 }
 
-#[tactic(auto, unfolding(crate::specs::Procedure::statement, file_control::specs::Notation::the), using(crate::proofs::ProcedureLaws::open_starts, crate::proofs::ProcedureLaws::close_starts, crate::proofs::ProcedureLaws::read_starts, crate::proofs::ProcedureLaws::start_starts, crate::proofs::ProcedureLaws::write_starts, crate::proofs::ProcedureLaws::rewrite_starts, crate::proofs::ProcedureLaws::delete_starts, crate::proofs::ProcedureLaws::move_starts))]
+#[tactic(auto, unfolding(crate::specs::Procedure::statement, deck_words::specs::Notation::the), using(crate::proofs::ProcedureLemmas::open_starts, crate::proofs::ProcedureLemmas::close_starts, crate::proofs::ProcedureLemmas::read_starts, crate::proofs::ProcedureLemmas::start_starts, crate::proofs::ProcedureLemmas::write_starts, crate::proofs::ProcedureLemmas::rewrite_starts, crate::proofs::ProcedureLemmas::delete_starts, crate::proofs::ProcedureLemmas::move_starts))]
 fn statement(
     alloc: Global,
     parser: &mut Parser<'_>,
@@ -112,12 +112,12 @@ fn sentence(
 fn paragraph(parser: &mut Parser<'_>) -> Result<(), Refusal>
     ensures { Reads (paragraph.reads parser.old) (map_result (λ _. []) result) parser.new }
 {
-    parser.name_str()?;
+    parser.name()?;
     parser.period()?;
     Ok(())
 }
 
-#[tactic(auto, unfolding(crate::specs::Procedure::paragraph_or_sentence), using(crate::proofs::ProcedureLaws::paragraph_starts, crate::proofs::JoinLaws::nothing_behind))]
+#[tactic(auto, unfolding(crate::specs::Procedure::paragraph_or_sentence), using(crate::proofs::ProcedureLemmas::paragraph_starts, crate::proofs::JoinLemmas::nothing_behind))]
 pub fn paragraph_or_sentence(
     alloc: Global,
     parser: &mut Parser<'_>,
@@ -134,7 +134,7 @@ pub fn paragraph_or_sentence(
 }
 
 /// Whether a paragraph or a sentence is next.
-#[tactic(auto, unfolding(crate::specs::Procedure::paragraph_or_sentence, crate::specs::Procedure::paragraph, crate::specs::Procedure::sentence, file_control::specs::Notation::name))]
+#[tactic(auto, unfolding(crate::specs::Procedure::paragraph_or_sentence, crate::specs::Procedure::paragraph, crate::specs::Procedure::sentence, deck_words::specs::Notation::name))]
 pub fn sees_sentence(parser: &Parser<'_>) -> bool
     ensures { (known : Names) → result ≡ begins (paragraph_or_sentence known).starts parser.now }
 {

@@ -1,6 +1,6 @@
 //! The START statement.
 ghost use Rattle.std.specs.Prelude.{◌≡◌};
-ghost use Rattle.file_control.specs.Reading.{Reads};
+ghost use Rattle.deck_words.specs.Reading.{Reads};
 ghost use Rattle.procedure_division.specs.StatementRules.{Adds, greater, not_less, relation};
 ghost use Rattle.procedure_division.specs.StatementRules.{file_to_start, led_key};
 ghost use Rattle.procedure_division.specs.StatementRules.{start_by, start_phrase, start_operand, start_statement};
@@ -8,9 +8,8 @@ ghost use Rattle.procedure_division.specs.StatementRules.{start_by, start_phrase
 use crate::names::Names;
 use crate::statement::Statement;
 use crate::statement_list::StatementList;
-use file_control::{Cause, Parser, Refusal};
-use io_state::{Access, Relation};
-use verbs::FileStatement;
+use deck_words::{Cause, Parser, Refusal};
+use io_state::{Access, FileStatement, Relation};
 
 /// The name of a file that START is for: its access is not random.
 #[tactic(auto, unfolding(crate::specs::StatementRules::file_to_start))]
@@ -19,7 +18,7 @@ fn file_to_start(parser: &mut Parser<'_>, names: &Names<'_>) -> Result<usize, Re
 {
     let unknown = parser.fault(Cause::Unknown);
     let not_allowed = parser.fault(Cause::NotAllowed);
-    let name = parser.name_str()?;
+    let name = parser.name()?.as_str();
     let Some(file) = names.file(name) else {
         return Err(unknown);
     };
@@ -36,7 +35,7 @@ fn led_key(parser: &mut Parser<'_>, names: &Names<'_>, file: usize) -> Result<(u
 {
     let unknown = parser.fault(Cause::Unknown);
     let not_allowed = parser.fault(Cause::NotAllowed);
-    let name = parser.name_str()?;
+    let name = parser.name()?.as_str();
     let Some(field) = names.item_in(file, name) else {
         return Err(unknown);
     };
@@ -47,7 +46,7 @@ fn led_key(parser: &mut Parser<'_>, names: &Names<'_>, file: usize) -> Result<(u
 }
 
 /// GREATER, or GREATER OR EQUAL.
-#[tactic(auto, unfolding(crate::specs::StatementRules::greater, file_control::specs::Notation::the))]
+#[tactic(auto, unfolding(crate::specs::StatementRules::greater, deck_words::specs::Notation::the))]
 fn greater(parser: &mut Parser<'_>) -> Result<Relation, Refusal>
     ensures { Reads (greater.reads parser.old) result parser.new }
 {
@@ -63,7 +62,7 @@ fn greater(parser: &mut Parser<'_>) -> Result<Relation, Refusal>
 }
 
 /// NOT LESS.
-#[tactic(auto, unfolding(crate::specs::StatementRules::not_less, file_control::specs::Notation::the))]
+#[tactic(auto, unfolding(crate::specs::StatementRules::not_less, deck_words::specs::Notation::the))]
 fn not_less(parser: &mut Parser<'_>) -> Result<Relation, Refusal>
     ensures { Reads (not_less.reads parser.old) result parser.new }
 {
@@ -76,7 +75,7 @@ fn not_less(parser: &mut Parser<'_>) -> Result<Relation, Refusal>
     Ok(Relation::NotLess)
 }
 
-#[tactic(auto, unfolding(crate::specs::StatementRules::relation, crate::specs::StatementRules::greater, crate::specs::StatementRules::not_less, file_control::specs::Notation::the, file_control::specs::Operand::sign))]
+#[tactic(auto, unfolding(crate::specs::StatementRules::relation, crate::specs::StatementRules::greater, crate::specs::StatementRules::not_less, deck_words::specs::Notation::the, deck_words::specs::Operand::sign))]
 fn relation(parser: &mut Parser<'_>) -> Result<Relation, Refusal>
     ensures { Reads (relation.reads parser.old) result parser.new }
 {
@@ -101,7 +100,7 @@ fn relation(parser: &mut Parser<'_>) -> Result<Relation, Refusal>
 }
 
 /// What KEY says: a relation, a key, and how much of it.
-#[tactic(auto, unfolding(crate::specs::StatementRules::start_phrase, file_control::specs::Notation::the))]
+#[tactic(auto, unfolding(crate::specs::StatementRules::start_phrase, deck_words::specs::Notation::the))]
 fn start_phrase(
     parser: &mut Parser<'_>,
     names: &Names<'_>,
@@ -152,7 +151,7 @@ fn start_operand(
     })?)
 }
 
-#[tactic(auto, unfolding(crate::specs::StatementRules::start_statement), using(crate::proofs::JoinLaws::follower_behind, crate::proofs::JoinLaws::second_behind))]
+#[tactic(auto, unfolding(crate::specs::StatementRules::start_statement), using(crate::proofs::JoinLemmas::follower_behind, crate::proofs::JoinLemmas::second_behind))]
 pub fn start_statement(
     parser: &mut Parser<'_>,
     names: &Names<'_>,

@@ -1,7 +1,7 @@
 //! A statement of a deck.
 
+use io_state::FileStatement;
 use record_layout::{Bytes, Field, Source};
-use verbs::FileStatement;
 
 /// A statement of the procedure division. A file is its place among the deck's SELECT entries, from 0; a length item is its
 /// place among the 77-level entries, from 0.

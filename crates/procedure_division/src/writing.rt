@@ -6,8 +6,8 @@ use crate::file_name::{file, record_name};
 use crate::names::Names;
 use crate::statement::Statement;
 use crate::statement_list::StatementList;
-use file_control::{Parser, Refusal};
-use verbs::FileStatement;
+use deck_words::{Parser, Refusal};
+use io_state::FileStatement;
 
 #[tactic(auto, unfolding(crate::specs::StatementRules::write_statement))]
 pub fn write_statement(

@@ -2,12 +2,11 @@
 
 use super::{Deck, no_words_are_two_decks, one_deck, read_deck};
 use file_control::DeckFault;
-use io_state::{Access, OpenMode};
+use io_state::{Access, FileStatement, OpenMode};
 use procedure_division::Statement;
 use record_layout::{Field, Figure, Source};
 use std::alloc::Global;
 use std::test::Fail;
-use verbs::FileStatement;
 
 /// Two files, the description of the second first, and two 77-level items.
 const SHOP: &str = "IDENTIFICATION DIVISION. PROGRAM-ID. SHOP.

@@ -3,8 +3,8 @@
 use super::procedure;
 use crate::names::Names;
 use crate::statement_list::StatementList;
-use file_control::{DeckFault, words};
-use file_description::{FileDesc, LengthItem};
+use deck_words::{DeckFault, words};
+use file_control::{FileDesc, LengthItem};
 use io_state::{Access, FileName, Name};
 use record_layout::{Item, Layout, Schema};
 use std::alloc::Global;

@@ -4,12 +4,11 @@ use super::customers::{customers_and_parts, read};
 use super::{one_procedure, only_allowed};
 use crate::statement::Statement;
 use crate::statement_list::StatementList;
-use file_control::DeckFault;
-use io_state::{Access, OpenMode, Relation};
+use deck_words::DeckFault;
+use io_state::{Access, FileStatement, OpenMode, Relation};
 use record_layout::{Bytes, Field, Figure, Source, put, takes};
 use std::alloc::Global;
 use std::test::Fail;
-use verbs::FileStatement;
 
 const HEADING: &str = "PROCEDURE DIVISION. ";
 

@@ -1,4 +1,4 @@
-use Rattle.deck_reader.proofs.DeckLaws.{can_be_run}
+use Rattle.deck_reader.proofs.DeckLemmas.{can_be_run}
 use Rattle.deck_reader.proofs.deck.every_deck_can_be_run.Goals as goal
 
 pub returns : goal.returns

@@ -1,4 +1,4 @@
-use Rattle.deck_reader.proofs.DeckLaws.{one_spelling}
+use Rattle.deck_reader.proofs.DeckLemmas.{one_spelling}
 use Rattle.deck_reader.proofs.deck.no_words_are_two_decks.Goals as goal
 
 pub returns : goal.returns

@@ -1,5 +1,5 @@
 use Rattle.std.proofs.lemmas.Result.{err_from_is_err_and}
-use Rattle.deck_reader.proofs.DeckLaws.{no_deck}
+use Rattle.deck_reader.proofs.DeckLemmas.{no_deck}
 use Rattle.deck_reader.proofs.deck.read.Goals as goal
 
 pub returns-in_err-description-clause-none : goal.returns-in_err-description-clause-none

@@ -1,8 +1,8 @@
 use Rattle.std.proofs.Common.{◌∙◌, sym}
 use Rattle.std.proofs.lemmas.Result.{err_from_is_err_and}
 use Rattle.procedure_division.specs.StatementRules.{closed}
-use Rattle.procedure_division.proofs.JoinLaws.{begun, further, shorter, not_further, finished}
-use Rattle.procedure_division.proofs.ProcedureLaws.{lawful_closed, closed_are_fit, closed_starts}
+use Rattle.procedure_division.proofs.JoinLemmas.{begun, further, shorter, not_further, finished}
+use Rattle.procedure_division.proofs.ProcedureLemmas.{lawful_closed, closed_are_fit, closed_starts}
 use Rattle.procedure_division.proofs.closing.all_closed.Goals as goal
 
 pub more-init : goal.more-init

@@ -1,5 +1,5 @@
 use Rattle.std.proofs.Common.{◌≡◌, length}
-use Rattle.file_control.specs.Rule.{onto}
+use Rattle.deck_words.specs.Rule.{onto}
 use Rattle.procedure_division.specs.StatementRules.{closed}
 use Rattle.procedure_division.specs.StatementRules.{joined, behind, some_of}
 use Rattle.procedure_division.proofs.closing.all_closed.Given as goal

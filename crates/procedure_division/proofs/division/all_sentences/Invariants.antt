@@ -1,5 +1,5 @@
 use Rattle.std.proofs.Common.{◌≡◌, [], length}
-use Rattle.file_control.specs.Rule.{onto}
+use Rattle.deck_words.specs.Rule.{onto}
 use Rattle.procedure_division.specs.Procedure.{paragraph_or_sentence}
 use Rattle.procedure_division.specs.StatementRules.{joined}
 use Rattle.procedure_division.proofs.division.all_sentences.Given as goal

@@ -1,5 +1,5 @@
 use Rattle.std.proofs.Common.{[]}
-use Rattle.procedure_division.proofs.AllowedLaws.{all_allowed}
+use Rattle.procedure_division.proofs.AllowedLemmas.{all_allowed}
 use Rattle.procedure_division.proofs.division.only_allowed.Goals as goal
 
 pub returns : goal.returns

@@ -1,14 +1,14 @@
 use Rattle.std.proofs.Common.{◌≡◌, [], subst, List, Option, None}
 use Rattle.std.proofs.lemmas.Result.{err_from_is_err_and}
-use Rattle.file_control.proofs.RuleLaws.{nothing_spelled, not_all_spelled}
-use Rattle.file_control.specs.Fault.{IsFault}
-use Rattle.file_control.specs.Reading.{Refuses}
-use Rattle.file_control.specs.declared.fault.Refusal.{Refusal}
-use Rattle.file_control.specs.declared.fault.Refusal.TheVariants.{Memory, Fault}
-use Rattle.file_control.specs.declared.word.Word.{Word}
+use Rattle.deck_words.proofs.RuleLemmas.{nothing_spelled, not_all_spelled}
+use Rattle.deck_words.specs.Fault.{IsFault}
+use Rattle.deck_words.specs.Reading.{Refuses}
+use Rattle.deck_words.specs.declared.fault.Refusal.{Refusal}
+use Rattle.deck_words.specs.declared.fault.Refusal.TheVariants.{Memory, Fault}
+use Rattle.deck_words.specs.Word.{Word}
 use Rattle.procedure_division.specs.Procedure.{procedure}
 use Rattle.procedure_division.specs.declared.statement.Statement.{Statement}
-use Rattle.procedure_division.proofs.ProcedureLaws.{lawful_procedure, procedure_is_fit}
+use Rattle.procedure_division.proofs.ProcedureLemmas.{lawful_procedure, procedure_is_fit}
 use Rattle.procedure_division.proofs.division.read_procedure.Goals as goal
 
 none_read : {A : Type 0} (refusal : Refusal) (read : Option A) → Refuses read refusal → IsFault refusal → read ≡ None

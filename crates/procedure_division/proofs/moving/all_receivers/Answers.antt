@@ -2,8 +2,8 @@ use Rattle.std.proofs.Common.{◌∙◌, sym}
 use Rattle.std.proofs.lemmas.Result.{err_from_is_err_and}
 use Rattle.record_layout.specs.Area.{sent}
 use Rattle.procedure_division.specs.StatementRules.{receiver}
-use Rattle.procedure_division.proofs.JoinLaws.{begun, further, shorter, not_further, finished}
-use Rattle.procedure_division.proofs.ProcedureLaws.{lawful_receiver, receivers_are_fit, receiver_starts}
+use Rattle.procedure_division.proofs.JoinLemmas.{begun, further, shorter, not_further, finished}
+use Rattle.procedure_division.proofs.ProcedureLemmas.{lawful_receiver, receivers_are_fit, receiver_starts}
 use Rattle.procedure_division.proofs.moving.all_receivers.Goals as goal
 
 pub more-init : goal.more-init

@@ -1,5 +1,5 @@
 use Rattle.std.proofs.Common.{◌≡◌, length}
-use Rattle.file_control.specs.Rule.{onto}
+use Rattle.deck_words.specs.Rule.{onto}
 use Rattle.record_layout.specs.Area.{sent}
 use Rattle.procedure_division.specs.StatementRules.{joined, behind, some_of, receiver}
 use Rattle.procedure_division.proofs.moving.all_receivers.Given as goal

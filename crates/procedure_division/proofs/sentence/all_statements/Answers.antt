@@ -1,8 +1,8 @@
 use Rattle.std.proofs.Common.{◌∙◌, sym}
 use Rattle.std.proofs.lemmas.Result.{err_from_is_err_and}
 use Rattle.procedure_division.specs.Procedure.{statement}
-use Rattle.procedure_division.proofs.JoinLaws.{begun, further, shorter, not_further, finished}
-use Rattle.procedure_division.proofs.ProcedureLaws.{lawful_statement, statements_are_fit}
+use Rattle.procedure_division.proofs.JoinLemmas.{begun, further, shorter, not_further, finished}
+use Rattle.procedure_division.proofs.ProcedureLemmas.{lawful_statement, statements_are_fit}
 use Rattle.procedure_division.proofs.sentence.all_statements.Goals as goal
 
 pub more-init : goal.more-init

@@ -1,7 +1,7 @@
 use Rattle.std.proofs.Common.{◌||◌, ◌∙◌, sym, ap}
-use Rattle.file_control.specs.Class.{begins}
+use Rattle.deck_words.specs.Class.{begins}
 use Rattle.procedure_division.specs.Procedure.{statement}
-use Rattle.procedure_division.proofs.ProcedureLaws.{sentences_start}
+use Rattle.procedure_division.proofs.ProcedureLemmas.{sentences_start}
 use Rattle.procedure_division.proofs.sentence.sees_sentence.Goals as goal
 
 pub returns-else-sees_name : goal.returns-else-sees_name

@@ -1,0 +1,52 @@
+-- An entry behind earlier ones is one of eight, and none of those has its file name.
+use Rattle.std.proofs.Common.{◌≡◌, ℕ, ◌<◌, Bool, true, false, cond, List, length, Some, None, refl, sym, ap, subst, ◌∙◌, arith}
+use Rattle.std.specs.Prelude.{nat_lt}
+use Rattle.std.proofs.lemmas.Bool.Decides.{nat_tests}
+use Rattle.std.proofs.lemmas.Option.{same_Some}
+use Rattle.deck_entries.specs.FileControlEntry.{Clauses}
+use Rattle.deck_entries.specs.FileControlEntry.{FileControlEntry}
+use Rattle.deck_words.specs.Word.{Word}
+use Rattle.deck_entries.specs.FileControlEntry.{entry_of, is_assigned, select_word, new_file_name, select_behind}
+use Rattle.deck_words.proofs.TestLemmas.{then_some, map_some}
+
+less : (m n : ℕ) → nat_lt m n ≡ true → m < n
+less m n e = grind (arith, nat_tests)
+
+-- the word SELECT stands behind seven entries at most
+room_behind : (earlier : List FileControlEntry) (x : Unit {0}) (words rest : List Word) → (select_word earlier).Spells x words rest → length earlier < 8
+unfolding select_word
+room_behind earlier x words rest s = less (length earlier) 8 (then_some (nat_lt (length earlier) 8) (Some tt) x s.1).0
+
+other_taken : {A : Type 0} (b : Bool) (x y : A) → cond b None (Some x) ≡ Some y → (b ≡ false) × (x ≡ y)
+other_taken true x y e = absurd (cc)
+other_taken false x y e = (refl, same_Some x y e)
+
+file_name_apart : (earlier : List FileControlEntry) (text : List ℕ) (words rest : List Word) → (new_file_name earlier).Spells text words rest → is_assigned earlier text ≡ false
+unfolding new_file_name
+file_name_apart earlier text words rest s =
+    let t = other_taken (is_assigned earlier s.0) s.0 text s.1 in subst (λ name. is_assigned earlier name ≡ false) t.1 t.0
+
+-- an entry has the file name that stands in it
+file_name_of : (parts : Bool × (List ℕ × (List ℕ × Clauses))) (entry : FileControlEntry) → entry_of parts ≡ Some entry → parts.1.1.0 ≡ entry.file_name
+file_name_of parts entry e =
+    let t = then_some parts.1.1.1.indexed _ entry e in
+    let m = map_some _ parts.1.1.1.record_key entry t.1 in
+    ap (λ (entry : FileControlEntry). entry.file_name) m.2
+
+pub record IsBehind (earlier : List FileControlEntry) (entry : FileControlEntry) : Type 0 where
+  pub room : length earlier < 8
+  pub apart : is_assigned earlier entry.file_name ≡ false
+
+pub is_behind : (earlier : List FileControlEntry) (entry : FileControlEntry) (words rest : List Word) → (select_behind earlier).Spells entry words rest → IsBehind earlier entry
+unfolding select_behind
+is_behind earlier entry words rest s =
+    let first = s.2 in
+    let second = first.5 in
+    let third = second.5 in
+    let fourth = third.5 in
+    let text = fourth.4.5 in
+    let name : s.0.1.1.0 ≡ text.1 = ap (λ parts. parts.1.1.0) (first.3 ∙ second.3) ∙ (ap (λ parts. parts.1.0) third.3 ∙ (ap (λ parts. parts.0) fourth.3 ∙ (fourth.4.3 ∙ text.3))) in
+    record {
+      room = room_behind earlier first.0 words first.2 first.4;
+      apart = subst (λ name. is_assigned earlier name ≡ false) (sym name ∙ file_name_of s.0 entry s.1) (file_name_apart earlier text.1 text.2 _ text.5);
+    }

@@ -1,0 +1,78 @@
+-- The divisions before the procedure: file control entries, file descriptions, and the working storage.
+-- ANSI X3.23-1985, Nucleus and Indexed I-O modules: identification, environment and data divisions. Which paragraphs and
+-- sections there are is ours.
+use Rattle.std.specs.Prelude.{ℕ, List, [], codes, Option, Some, None, option_map, option_and_then}
+use Rattle.deck_words.specs.Rule.{Rule, optional, onto, where_it_gives, each_behind}
+use Rattle.deck_words.specs.Notation.{the, name, period, ◌▸◌, ◌⊗◌, ◌<$>◌}
+use Rattle.deck_entries.specs.FileControlEntry.{select_behind}
+use Rattle.deck_entries.specs.FileControlEntry.{FileControlEntry}
+use Rattle.deck_words.specs.Word.{Word}
+use Rattle.deck_entries.specs.declared.divisions.Divisions.{Divisions}
+use Rattle.deck_entries.specs.FileDescription.{FileDescription, StorageEntry, description_behind, storage_item, with_one}
+
+-- two words and a period
+abbrev pub heading : List ℕ → List ℕ → Rule (Unit {0})
+heading first second = the first ▸ the second ▸ period
+
+-- IDENTIFICATION DIVISION . PROGRAM-ID . name .
+unfoldable pub identification : Rule (Unit {0})
+identification = heading (codes "IDENTIFICATION") (codes "DIVISION") ▸ the (codes "PROGRAM-ID") ▸ period ▸ name ▸ period
+
+unfoldable pub may_identification : Rule (Unit {0})
+may_identification = (λ _. tt) <$> optional identification
+
+-- ---- file control
+
+-- the earlier entries, and one more
+unfoldable pub more_entry : List FileControlEntry → Rule (List FileControlEntry)
+more_entry earlier = where_it_gives (with_one earlier) (select_behind earlier)
+
+unfoldable pub entries : Rule (List FileControlEntry)
+entries = each_behind more_entry []
+
+-- [IDENTIFICATION ..] ENVIRONMENT DIVISION . INPUT-OUTPUT SECTION . FILE-CONTROL . {select}..
+unfoldable pub file_control_paragraph : Rule (List FileControlEntry)
+file_control_paragraph =
+    may_identification ▸ heading (codes "ENVIRONMENT") (codes "DIVISION") ▸ heading (codes "INPUT-OUTPUT") (codes "SECTION")
+    ▸ the (codes "FILE-CONTROL") ▸ period ▸ entries
+
+-- ---- data division
+
+-- the earlier descriptions, and one more
+unfoldable pub more_description : List FileControlEntry → List FileDescription → Rule (List FileDescription)
+more_description selected earlier = where_it_gives (with_one earlier) (description_behind selected earlier)
+
+unfoldable pub descriptions : List FileControlEntry → Rule (List FileDescription)
+descriptions selected = each_behind (more_description selected) []
+
+-- DATA DIVISION . FILE SECTION . {fd}..
+unfoldable pub file_section : List FileControlEntry → Rule (List FileDescription)
+file_section selected =
+    heading (codes "DATA") (codes "DIVISION") ▸ heading (codes "FILE") (codes "SECTION") ▸ descriptions selected
+
+abbrev pub listed : {A : Type 0} → Option (List A) → List A
+listed None = []
+listed (Some xs) = xs
+
+unfoldable pub storage_items : Rule (List StorageEntry)
+storage_items = onto with_one [] storage_item
+
+-- [WORKING-STORAGE SECTION . {77 item}..?]
+unfoldable pub storage_section : Rule (List StorageEntry)
+storage_section = listed <$> optional (heading (codes "WORKING-STORAGE") (codes "SECTION") ▸ storage_items)
+
+unfoldable pub data_division : List FileControlEntry → Rule (List FileDescription × List StorageEntry)
+data_division selected = file_section selected ⊗ storage_section
+
+-- ---- both
+
+-- the words, up to the rest, are the file control entries and then the data division of these
+abbrev pub SpellsDivisions : Divisions → List Word → List Word → Type 0
+SpellsDivisions written words rest =
+    (middle : List Word) × file_control_paragraph.Spells written.entries words middle
+    × (data_division written.entries).Spells (written.descriptions, written.storage) middle rest
+
+-- what is read, and the rest
+abbrev pub reads_divisions : List Word → Option (Divisions × List Word)
+reads_divisions words =
+    option_and_then (λ a. option_map (λ b. (record { entries = a.0; descriptions = b.0.0; storage = b.0.1 }, b.1)) ((data_division a.0).reads a.1)) (file_control_paragraph.reads words)

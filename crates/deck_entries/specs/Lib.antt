@@ -1,0 +1,4 @@
+pub mod FileControlEntry
+pub mod RecordLength
+pub mod FileDescription
+pub mod Divisions

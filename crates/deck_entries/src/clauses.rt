@@ -1,0 +1,112 @@
+//! The clauses of a file description.
+ghost use Rattle.std.specs.Prelude.{◌≡◌};
+ghost use Rattle.deck_words.specs.Class.{begins};
+ghost use Rattle.deck_words.specs.Rule.{onto};
+ghost use Rattle.deck_words.specs.Reading.{Reads};
+ghost use Rattle.deck_entries.specs.FileDescription.{label, block, up_to, record_clause, description_clause};
+ghost use Rattle.deck_entries.specs.FileDescription.{no_clauses, with_clause, added_to};
+
+use crate::record_length::{RecordLength, count, length_clause};
+use crate::words::{eat_one, expect_one};
+use deck_words::{Cause, Parser, Refusal};
+
+/// What the clauses of a file description say together.
+#[derive(Drop)]
+pub struct Clauses {
+    pub label: bool,
+    pub block: bool,
+    pub lengths: Option<RecordLength>,
+}
+
+#[tactic(auto, unfolding(crate::specs::FileDescription::label), using(deck_words::proofs::RepeatLemmas::never_added))]
+fn label(parser: &mut Parser<'_>, clauses: Clauses) -> Result<Clauses, Refusal>
+    ensures { Reads ((added_to clauses label).reads parser.old) result parser.new }
+{
+    if clauses.label {
+        return Err(parser.fault(Cause::Twice));
+    }
+    parser.expect(b"LABEL")?;
+    expect_one(parser, b"RECORD", b"RECORDS")?;
+    eat_one(parser, b"IS", b"ARE")?;
+    expect_one(parser, b"STANDARD", b"OMITTED")?;
+    let mut clauses = clauses;
+    clauses.label = true;
+    Ok(clauses)
+}
+
+/// TO and a number, if TO is next.
+#[tactic(auto, unfolding(crate::specs::FileDescription::up_to, deck_words::specs::Notation::the))]
+fn up_to(parser: &mut Parser<'_>) -> Result<(), Refusal>
+    ensures { Reads (up_to.reads parser.old) result parser.new }
+{
+    if parser.eat(b"TO") {
+        count(parser)?;
+    }
+    Ok(())
+}
+
+#[tactic(auto, unfolding(crate::specs::FileDescription::block), using(deck_words::proofs::RepeatLemmas::never_added))]
+fn block(parser: &mut Parser<'_>, clauses: Clauses) -> Result<Clauses, Refusal>
+    ensures { Reads ((added_to clauses block).reads parser.old) result parser.new }
+{
+    if clauses.block {
+        return Err(parser.fault(Cause::Twice));
+    }
+    parser.expect(b"BLOCK")?;
+    parser.eat(b"CONTAINS");
+    count(parser)?;
+    up_to(parser)?;
+    eat_one(parser, b"RECORDS", b"CHARACTERS")?;
+    let mut clauses = clauses;
+    clauses.block = true;
+    Ok(clauses)
+}
+
+#[tactic(auto, unfolding(crate::specs::FileDescription::record_clause), using(deck_words::proofs::RepeatLemmas::never_added))]
+fn record_clause(parser: &mut Parser<'_>, clauses: Clauses) -> Result<Clauses, Refusal>
+    ensures { Reads ((added_to clauses record_clause).reads parser.old) result parser.new }
+{
+    if clauses.lengths.is_some() {
+        return Err(parser.fault(Cause::Twice));
+    }
+    parser.expect(b"RECORD")?;
+    let mut clauses = clauses;
+    clauses.lengths = Some(length_clause(parser)?);
+    Ok(clauses)
+}
+
+/// Whether a clause comes next.
+#[tactic(auto, unfolding(crate::specs::FileDescription::description_clause, crate::specs::FileDescription::label, crate::specs::FileDescription::block, crate::specs::FileDescription::record_clause, deck_words::specs::Notation::the))]
+fn sees_clause(parser: &Parser<'_>) -> bool
+    ensures { result ≡ begins description_clause.starts parser.now }
+{
+    parser.sees_one_of(&[b"LABEL", b"BLOCK", b"RECORD"])
+}
+
+#[tactic(auto, unfolding(crate::specs::FileDescription::description_clause, crate::specs::FileDescription::label, crate::specs::FileDescription::block, deck_words::specs::Notation::the))]
+fn clause(parser: &mut Parser<'_>, clauses: Clauses) -> Result<Clauses, Refusal>
+    ensures { Reads ((added_to clauses description_clause).reads parser.old) result parser.new }
+{
+    if parser.sees(b"LABEL") {
+        return label(parser, clauses);
+    }
+    if parser.sees(b"BLOCK") {
+        return block(parser, clauses);
+    }
+    record_clause(parser, clauses)
+}
+
+/// The clauses that come next, if any.
+pub fn read_clauses(parser: &mut Parser<'_>) -> Result<Clauses, Refusal>
+    ensures { Reads ((onto with_clause no_clauses description_clause).reads parser.old) result parser.new }
+{
+    let mut clauses = Clauses {
+        label: false,
+        block: false,
+        lengths: None,
+    };
+    'more: while sees_clause(parser) {
+        clauses = clause(parser, clauses)?;
+    }
+    Ok(clauses)
+}

@@ -1,0 +1,190 @@
+//! A file description: FD, its clauses, and the items of the records.
+ghost use Rattle.std.specs.Prelude.{◌≡◌};
+ghost use Rattle.deck_words.specs.Class.{begins};
+ghost use Rattle.deck_words.specs.Reading.{Reads};
+ghost use Rattle.deck_words.specs.Scanning.{map_result};
+ghost use Rattle.deck_entries.specs.FileDescription.{is_described, described_name, description_behind};
+ghost use Rattle.deck_entries.specs.Divisions.{more_description, descriptions};
+
+use crate::clauses::{Clauses, read_clauses};
+use crate::entry::Selected;
+use crate::item::{Items, read_items};
+use crate::record_length::RecordLength;
+use crate::select::is_selected_name;
+use deck_words::{Cause, Parser, Refusal};
+use io_state::Name;
+use record_layout::Item;
+use std::alloc::{AllocError, Global};
+use std::marker::Model;
+
+/// A file description, and the line of its word FD. Contracts see the rest.
+#[derive(Drop)]
+pub struct Described {
+    pub line: u64,
+    pub name: Name,
+    pub lengths: Option<RecordLength>,
+    pub items: Items,
+}
+
+impl Model for Described {
+    ghost use Rattle.deck_entries.specs.FileDescription.{FileDescription};
+
+    ghost Value = { FileDescription };
+
+    ghost view = { λ d. record { name = d.name.bytes; lengths = d.lengths; items = d.items } };
+}
+
+impl Described {
+    ghost use Rattle.std.specs.Prelude.{◌≡◌, map};
+    ghost use Rattle.record_layout.specs.Layout.{entry_of};
+
+    /// The name of the file.
+    pub fn name(&self) -> &[u8]
+        ensures { result.now ≡ self.now.name }
+    {
+        self.name.as_str().as_bytes()
+    }
+
+    /// The items of the record.
+    pub fn items(&self) -> &[Item]
+        ensures { map entry_of result.now ≡ self.now.items }
+    {
+        self.items.as_slice()
+    }
+}
+
+/// File descriptions in their order, which contracts see as a list.
+#[derive(Drop)]
+pub struct Descriptions {
+    descriptions: Vec<Described>,
+}
+
+impl Model for Descriptions {
+    ghost use Rattle.std.specs.Prelude.{List};
+    ghost use Rattle.deck_entries.specs.FileDescription.{FileDescription};
+
+    ghost Value = { List FileDescription };
+
+    ghost view = { λ d. d.descriptions.items };
+}
+
+impl Descriptions {
+    ghost use Rattle.std.specs.Prelude.{◌≡◌, [], ◌∷◌, ◌++◌, OnOk};
+
+    fn new(alloc: Global) -> Self
+        ensures { result ≡ [] }
+    {
+        Descriptions {
+            descriptions: Vec::new(alloc),
+        }
+    }
+
+    fn push(&mut self, description: Described) -> Result<(), AllocError>
+        ensures { OnOk result (self.new ≡ self.old ++ description ∷ []) }
+    {
+        self.descriptions.push(description)?;
+        Ok(())
+    }
+
+    /// The descriptions themselves.
+    pub fn as_slice(&self) -> &[Described]
+        ensures { result.now ≡ self.now }
+    {
+        self.descriptions.as_slice()
+    }
+}
+
+/// Whether one of the descriptions has this name.
+fn is_described_name(earlier: &[Described], name: &[u8]) -> bool
+    ensures { result ≡ is_described earlier.now name.now }
+{
+    earlier.iter().any(|described| described.name() == name)
+}
+
+#[tactic(auto, unfolding(crate::specs::FileDescription::described_name))]
+fn described_name(
+    parser: &mut Parser<'_>,
+    entries: &[Selected],
+    earlier: &[Described],
+) -> Result<Name, Refusal>
+    ensures { Reads ((described_name entries.now earlier.now).reads parser.old) (map_result (λ name. name.bytes) result) parser.new }
+{
+    let unknown = parser.fault(Cause::Unknown);
+    let twice = parser.fault(Cause::Twice);
+    let name = parser.name()?;
+    if !is_selected_name(entries, name.as_str().as_bytes()) {
+        return Err(unknown);
+    }
+    if is_described_name(earlier, name.as_str().as_bytes()) {
+        return Err(twice);
+    }
+    Ok(*name)
+}
+
+#[tactic(auto, unfolding(crate::specs::FileDescription::description_behind))]
+fn description(
+    parser: &mut Parser<'_>,
+    alloc: Global,
+    entries: &[Selected],
+    earlier: &[Described],
+) -> Result<Described, Refusal>
+    ensures { Reads ((description_behind entries.now earlier.now).reads parser.old) result parser.new }
+{
+    let line = parser.line();
+    parser.expect(b"FD")?;
+    let name = described_name(parser, entries, earlier)?;
+    let clauses = read_clauses(parser)?;
+    let Clauses {
+        label: _,
+        block: _,
+        lengths,
+    } = clauses;
+    parser.period()?;
+    let items = read_items(parser, alloc)?;
+    Ok(Described {
+        line,
+        name,
+        lengths,
+        items,
+    })
+}
+
+/// The descriptions with the next one.
+#[tactic(auto, unfolding(crate::specs::Divisions::more_description))]
+fn one_more(
+    parser: &mut Parser<'_>,
+    alloc: Global,
+    entries: &[Selected],
+    earlier: Descriptions,
+) -> Result<Descriptions, Refusal>
+    ensures { Reads ((more_description entries.now earlier).reads parser.old) result parser.new }
+{
+    let description = description(parser, alloc, entries, earlier.as_slice())?;
+    let mut descriptions = earlier;
+    descriptions.push(description)?;
+    Ok(descriptions)
+}
+
+/// Whether a description comes next.
+#[tactic(auto, unfolding(crate::specs::Divisions::more_description, crate::specs::FileDescription::description_behind, deck_words::specs::Notation::the))]
+fn sees_description(parser: &Parser<'_>, entries: &[Selected], earlier: &Descriptions) -> bool
+    ensures { result ≡ begins (more_description entries.now earlier.now).starts parser.now }
+{
+    parser.sees(b"FD")
+}
+
+/// One description or more, each of an entry that has none yet.
+#[tactic(auto, unfolding(crate::specs::Divisions::descriptions))]
+pub fn read_descriptions(
+    parser: &mut Parser<'_>,
+    alloc: Global,
+    entries: &[Selected],
+) -> Result<Descriptions, Refusal>
+    ensures { Reads ((descriptions entries.now).reads parser.old) result parser.new }
+{
+    let mut read = one_more(parser, alloc, entries, Descriptions::new(alloc))?;
+    'more: while sees_description(parser, entries, &read) {
+        read = one_more(parser, alloc, entries, read)?;
+    }
+    Ok(read)
+}

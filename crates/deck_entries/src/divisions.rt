@@ -1,0 +1,159 @@
+//! The divisions before the procedure.
+ghost use Rattle.std.specs.Prelude.{◌≡◌};
+ghost use Rattle.deck_words.specs.Class.{begins};
+ghost use Rattle.deck_words.specs.Reading.{Reads};
+ghost use Rattle.deck_entries.specs.Divisions.{identification, may_identification, more_entry, entries};
+ghost use Rattle.deck_entries.specs.Divisions.{file_control_paragraph, file_section, reads_divisions};
+
+use crate::description_entry::{Descriptions, read_descriptions};
+use crate::entry::Selected;
+use crate::select::select;
+use crate::storage::{StorageItems, storage_section};
+use crate::words::heading;
+use deck_words::{Parser, Refusal};
+use std::alloc::{AllocError, Global};
+use std::marker::Model;
+
+/// What stands before the procedure.
+#[derive(Drop)]
+pub struct Divisions {
+    pub entries: Entries,
+    pub descriptions: Descriptions,
+    pub storage: StorageItems,
+}
+
+/// File control entries in their order, which contracts see as a list.
+#[derive(Drop)]
+pub struct Entries {
+    entries: Vec<Selected>,
+}
+
+impl Model for Entries {
+    ghost use Rattle.std.specs.Prelude.{List};
+    ghost use Rattle.deck_entries.specs.FileControlEntry.{FileControlEntry};
+
+    ghost Value = { List FileControlEntry };
+
+    ghost view = { λ e. e.entries.items };
+}
+
+impl Entries {
+    ghost use Rattle.std.specs.Prelude.{◌≡◌, [], ◌∷◌, ◌++◌, OnOk};
+
+    fn new(alloc: Global) -> Self
+        ensures { result ≡ [] }
+    {
+        Entries {
+            entries: Vec::new(alloc),
+        }
+    }
+
+    fn push(&mut self, selected: Selected) -> Result<(), AllocError>
+        ensures { OnOk result (self.new ≡ self.old ++ selected ∷ []) }
+    {
+        self.entries.push(selected)?;
+        Ok(())
+    }
+
+    /// The entries themselves.
+    pub fn as_slice(&self) -> &[Selected]
+        ensures { result.now ≡ self.now }
+    {
+        self.entries.as_slice()
+    }
+}
+
+#[tactic(auto, unfolding(crate::specs::Divisions::identification, deck_words::specs::Notation::name))]
+fn identification(parser: &mut Parser<'_>) -> Result<(), Refusal>
+    ensures { Reads (identification.reads parser.old) result parser.new }
+{
+    heading(parser, b"IDENTIFICATION", b"DIVISION")?;
+    parser.expect(b"PROGRAM-ID")?;
+    parser.period()?;
+    parser.name()?;
+    parser.period()
+}
+
+#[tactic(auto, unfolding(crate::specs::Divisions::may_identification, crate::specs::Divisions::identification, deck_words::specs::Notation::the))]
+fn may_identification(parser: &mut Parser<'_>) -> Result<(), Refusal>
+    ensures { Reads (may_identification.reads parser.old) result parser.new }
+{
+    if parser.sees(b"IDENTIFICATION") {
+        identification(parser)?;
+    }
+    Ok(())
+}
+
+/// The entries with the next one.
+#[tactic(auto, unfolding(crate::specs::Divisions::more_entry))]
+fn one_more(parser: &mut Parser<'_>, alloc: Global, earlier: Entries) -> Result<Entries, Refusal>
+    ensures { Reads ((more_entry earlier).reads parser.old) result parser.new }
+{
+    let selected = select(parser, alloc, earlier.as_slice())?;
+    let mut entries = earlier;
+    entries.push(selected)?;
+    Ok(entries)
+}
+
+/// Whether an entry comes next.
+#[tactic(auto, unfolding(crate::specs::Divisions::more_entry, crate::specs::FileControlEntry::select_behind, crate::specs::FileControlEntry::select_word, deck_words::specs::Notation::the))]
+fn sees_entry(parser: &Parser<'_>, earlier: &Entries) -> bool
+    ensures { result ≡ begins (more_entry earlier.now).starts parser.now }
+{
+    parser.sees(b"SELECT")
+}
+
+/// One entry or more.
+#[tactic(auto, unfolding(crate::specs::Divisions::entries))]
+fn read_entries(parser: &mut Parser<'_>, alloc: Global) -> Result<Entries, Refusal>
+    ensures { Reads (entries.reads parser.old) result parser.new }
+{
+    let mut read = one_more(parser, alloc, Entries::new(alloc))?;
+    'more: while sees_entry(parser, &read) {
+        read = one_more(parser, alloc, read)?;
+    }
+    Ok(read)
+}
+
+/// The divisions up to the file control entries.
+#[tactic(auto, unfolding(crate::specs::Divisions::file_control_paragraph))]
+fn file_control_paragraph(parser: &mut Parser<'_>, alloc: Global) -> Result<Entries, Refusal>
+    ensures { Reads (file_control_paragraph.reads parser.old) result parser.new }
+{
+    may_identification(parser)?;
+    heading(parser, b"ENVIRONMENT", b"DIVISION")?;
+    heading(parser, b"INPUT-OUTPUT", b"SECTION")?;
+    parser.expect(b"FILE-CONTROL")?;
+    parser.period()?;
+    let read = read_entries(parser, alloc)?;
+    Ok(read)
+}
+
+/// The file descriptions of these entries.
+#[tactic(auto, unfolding(crate::specs::Divisions::file_section))]
+fn file_section(
+    parser: &mut Parser<'_>,
+    alloc: Global,
+    entries: &[Selected],
+) -> Result<Descriptions, Refusal>
+    ensures { Reads ((file_section entries.now).reads parser.old) result parser.new }
+{
+    heading(parser, b"DATA", b"DIVISION")?;
+    heading(parser, b"FILE", b"SECTION")?;
+    read_descriptions(parser, alloc, entries)
+}
+
+/// The divisions before the procedure.
+#[tactic(auto, unfolding(crate::specs::Divisions::data_division))]
+pub fn read_divisions(parser: &mut Parser<'_>, alloc: Global) -> Result<Divisions, Refusal>
+    ensures { Reads (reads_divisions parser.old) result parser.new }
+{
+    let entries = file_control_paragraph(parser, alloc)?;
+    let descriptions = file_section(parser, alloc, entries.as_slice())?;
+    let storage = storage_section(parser, alloc)?;
+    Ok(Divisions {
+        entries,
+        descriptions,
+        storage,
+    })
+}

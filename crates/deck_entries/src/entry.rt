@@ -1,0 +1,180 @@
+//! A file control entry: SELECT, ASSIGN, and the clauses of an indexed file.
+ghost use Rattle.std.specs.Prelude.{◌≡◌};
+ghost use Rattle.deck_entries.specs.FileControlEntry.{no_clauses, entry_of};
+ghost use Rattle.deck_words.specs.Reading.{Makes};
+
+use deck_words::{Cause, Refusal};
+use io_state::{Access, FileName, Name};
+use std::alloc::{AllocError, Global};
+use std::marker::Model;
+
+/// Alternate keys in the order of their clauses: the item that is the key, and whether records may share a value of it.
+#[derive(Drop)]
+pub struct AlternateKeys {
+    keys: Vec<(Name, bool)>,
+}
+
+impl Model for AlternateKeys {
+    ghost use Rattle.std.specs.Prelude.{List, map};
+    ghost use Rattle.record_layout.specs.SchemaFault.{KeyClause, clause_of};
+
+    ghost Value = { List KeyClause };
+
+    ghost view = { λ k. map clause_of k.keys.items };
+}
+
+impl AlternateKeys {
+    ghost use Rattle.std.specs.Prelude.{◌≡◌, [], ◌∷◌, ◌++◌, length, map, OnOk};
+    ghost use Rattle.record_layout.specs.SchemaFault.{clause_of};
+
+    fn new(alloc: Global) -> Self
+        ensures { result ≡ [] }
+    {
+        AlternateKeys {
+            keys: Vec::new(alloc),
+        }
+    }
+
+    /// The keys themselves.
+    pub fn as_slice(&self) -> &[(Name, bool)]
+        ensures { map clause_of result.now ≡ self.now }
+    {
+        self.keys.as_slice()
+    }
+
+    pub(crate) fn len(&self) -> usize
+        ensures { result ≡ length self.now }
+    {
+        self.keys.len()
+    }
+
+    pub(crate) fn push(&mut self, name: Name, duplicates: bool) -> Result<(), AllocError>
+        ensures { OnOk result (self.new ≡ self.old ++ clause_of (name, duplicates) ∷ []) }
+    {
+        self.keys.push((name, duplicates))?;
+        Ok(())
+    }
+}
+
+/// A file, as its entry describes it: its name in the program, the name of its file in the folder, and its keys. Contracts see
+/// the names as their bytes.
+#[derive(Drop)]
+pub struct FileControlEntry {
+    pub name: Name,
+    pub file_name: FileName,
+    pub optional: bool,
+    pub access: Access,
+    pub record_key: Name,
+    pub alternate_keys: AlternateKeys,
+}
+
+impl Model for FileControlEntry {
+    ghost use Rattle.deck_entries.specs.FileControlEntry.{FileControlEntry as Entry};
+
+    ghost Value = { Entry };
+
+    ghost view = { λ e. record { name = e.name.bytes; file_name = e.file_name.bytes; optional = e.optional; access = e.access; record_key = e.record_key.bytes; alternate_keys = e.alternate_keys } };
+}
+
+/// An entry, and the line of its word SELECT. Contracts see the entry.
+#[derive(Drop)]
+pub struct Selected {
+    pub line: u64,
+    pub entry: FileControlEntry,
+}
+
+impl Model for Selected {
+    ghost use Rattle.deck_entries.specs.FileControlEntry.{FileControlEntry as Entry};
+
+    ghost Value = { Entry };
+
+    ghost view = { λ selected. selected.entry };
+}
+
+impl Selected {
+    ghost use Rattle.std.specs.Prelude.{◌≡◌};
+
+    /// The name of the file in the program.
+    pub fn name(&self) -> &[u8]
+        ensures { result.now ≡ self.now.name }
+    {
+        self.entry.name.as_str().as_bytes()
+    }
+
+    /// The name of its file in the folder.
+    pub fn file_name(&self) -> &[u8]
+        ensures { result.now ≡ self.now.file_name }
+    {
+        self.entry.file_name.as_str().as_bytes()
+    }
+}
+
+/// What the clauses of an entry say together.
+#[derive(Drop)]
+pub struct Clauses {
+    pub indexed: bool,
+    pub access: Option<Access>,
+    pub record_key: Option<Name>,
+    pub alternate_keys: AlternateKeys,
+    pub status: bool,
+}
+
+impl Model for Clauses {
+    ghost use Rattle.std.specs.Prelude.{option_map};
+    ghost use Rattle.deck_entries.specs.FileControlEntry.{Clauses as Said};
+
+    ghost Value = { Said };
+
+    ghost view = { λ c. record { indexed = c.indexed; access = c.access; record_key = option_map (λ key. key.bytes) c.record_key; alternate_keys = c.alternate_keys; status = c.status } };
+}
+
+impl Clauses {
+    ghost use Rattle.std.specs.Prelude.{◌≡◌};
+    ghost use Rattle.deck_entries.specs.FileControlEntry.{no_clauses, entry_of};
+    ghost use Rattle.deck_words.specs.Reading.{Makes};
+
+    pub fn new(alloc: Global) -> Self
+        ensures { result ≡ no_clauses }
+    {
+        Clauses {
+            indexed: false,
+            access: None,
+            record_key: None,
+            alternate_keys: AlternateKeys::new(alloc),
+            status: false,
+        }
+    }
+
+    /// The entry that the clauses make, unless INDEXED or RECORD KEY is missing, which is told for a line.
+    pub fn entry(
+        self,
+        optional: bool,
+        name: Name,
+        file_name: FileName,
+        line: u64,
+    ) -> Result<FileControlEntry, Refusal>
+        ensures { Makes (entry_of (optional, (name.bytes, (file_name.bytes, self)))) result }
+    {
+        let Clauses {
+            indexed,
+            access,
+            record_key,
+            alternate_keys,
+            status: _,
+        } = self;
+        if !indexed {
+            return Err(Refusal::Fault(line, Cause::Expected));
+        }
+        let Some(record_key) = record_key else {
+            return Err(Refusal::Fault(line, Cause::Expected));
+        };
+        Ok(FileControlEntry {
+            name,
+            file_name,
+            optional,
+            access: access.unwrap_or(Access::Sequential),
+            record_key,
+            alternate_keys,
+        })
+    }
+}

@@ -1,0 +1,166 @@
+//! The items of a record, as they are described.
+ghost use Rattle.std.specs.Prelude.{◌≡◌, [], option_map};
+ghost use Rattle.record_layout.specs.Layout.{entry_of};
+ghost use Rattle.deck_words.specs.Class.{begins};
+ghost use Rattle.deck_words.specs.Rule.{some_onto, where_it_gives};
+ghost use Rattle.deck_words.specs.Reading.{Reads};
+ghost use Rattle.deck_words.specs.Scanning.{map_result};
+ghost use Rattle.deck_entries.specs.FileDescription.{level, item_name, may_item_name, picture_clause, may_picture_clause, item, with_one};
+
+use crate::record_length::number_of;
+use crate::words::expect_one;
+use deck_words::{Cause, Parser, Refusal};
+use io_state::Name;
+use record_layout::Item;
+use std::alloc::{AllocError, Global};
+use std::marker::Model;
+
+/// Data description entries, which contracts see as a list.
+#[derive(Drop)]
+pub struct Items {
+    items: Vec<Item>,
+}
+
+impl Model for Items {
+    ghost use Rattle.std.specs.Prelude.{List, map};
+    ghost use Rattle.record_layout.specs.Layout.{Entry, entry_of};
+
+    ghost Value = { List Entry };
+
+    ghost view = { λ items. map entry_of items.items.items };
+}
+
+impl Items {
+    ghost use Rattle.std.specs.Prelude.{◌≡◌, [], ◌∷◌, ◌++◌, map, OnOk};
+    ghost use Rattle.record_layout.specs.Layout.{entry_of};
+
+    pub fn new(alloc: Global) -> Self
+        ensures { result ≡ [] }
+    {
+        Items {
+            items: Vec::new(alloc),
+        }
+    }
+
+    fn push(
+        &mut self,
+        level: u8,
+        name: Option<Name>,
+        picture: Option<Name>,
+    ) -> Result<(), AllocError>
+        ensures { OnOk result (self.new ≡ self.old ++ entry_of (record { level = level; name = name; picture = picture }) ∷ []) }
+    {
+        self.items.push(Item {
+            level,
+            name,
+            picture,
+        })?;
+        Ok(())
+    }
+
+    /// The entries themselves.
+    pub fn as_slice(&self) -> &[Item]
+        ensures { map entry_of result.now ≡ self.now }
+    {
+        self.items.as_slice()
+    }
+}
+
+#[tactic(auto, unfolding(crate::specs::FileDescription::level))]
+fn level(parser: &mut Parser<'_>) -> Result<u8, Refusal>
+    ensures { Reads (level.reads parser.old) result parser.new }
+{
+    let fault = parser.fault(Cause::Expected);
+    let digits = parser.level()?;
+    let level = number_of(digits.as_str().as_bytes());
+    if level > 99 {
+        return Err(fault);
+    }
+    Ok(level as u8)
+}
+
+#[tactic(auto, unfolding(crate::specs::FileDescription::item_name, deck_words::specs::Notation::the, deck_words::specs::Notation::name))]
+fn item_name(parser: &mut Parser<'_>) -> Result<Option<Name>, Refusal>
+    ensures { Reads (item_name.reads parser.old) (map_result (λ n. option_map (λ name. name.bytes) n) result) parser.new }
+{
+    if parser.sees_name() {
+        let name = *parser.name()?;
+        return Ok(Some(name));
+    }
+    parser.expect(b"FILLER")?;
+    Ok(None)
+}
+
+#[tactic(auto, unfolding(crate::specs::FileDescription::may_item_name, crate::specs::FileDescription::item_name, deck_words::specs::Notation::the, deck_words::specs::Notation::name))]
+fn may_item_name(parser: &mut Parser<'_>) -> Result<Option<Name>, Refusal>
+    ensures { Reads (may_item_name.reads parser.old) (map_result (λ n. option_map (λ name. name.bytes) n) result) parser.new }
+{
+    if parser.sees_name_or(b"FILLER") {
+        return item_name(parser);
+    }
+    Ok(None)
+}
+
+#[tactic(auto, unfolding(crate::specs::FileDescription::picture_clause))]
+pub fn picture_clause(parser: &mut Parser<'_>) -> Result<Name, Refusal>
+    ensures { Reads (picture_clause.reads parser.old) (map_result (λ n. n.bytes) result) parser.new }
+{
+    expect_one(parser, b"PIC", b"PICTURE")?;
+    parser.eat(b"IS");
+    Ok(*parser.picture()?)
+}
+
+#[tactic(auto, unfolding(crate::specs::FileDescription::may_picture_clause, crate::specs::FileDescription::picture_clause, deck_words::specs::Notation::the))]
+fn may_picture_clause(parser: &mut Parser<'_>) -> Result<Option<Name>, Refusal>
+    ensures { Reads (may_picture_clause.reads parser.old) (map_result (λ n. option_map (λ name. name.bytes) n) result) parser.new }
+{
+    if parser.sees_one_of(&[b"PIC", b"PICTURE"]) {
+        let picture = picture_clause(parser)?;
+        return Ok(Some(picture));
+    }
+    Ok(None)
+}
+
+#[tactic(auto, unfolding(crate::specs::FileDescription::item))]
+fn item(parser: &mut Parser<'_>) -> Result<Item, Refusal>
+    ensures { Reads (item.reads parser.old) (map_result entry_of result) parser.new }
+{
+    let level = level(parser)?;
+    let name = may_item_name(parser)?;
+    let picture = may_picture_clause(parser)?;
+    parser.period()?;
+    Ok(Item {
+        level,
+        name,
+        picture,
+    })
+}
+
+/// Whether an item comes next.
+#[tactic(auto, unfolding(crate::specs::FileDescription::item, crate::specs::FileDescription::level))]
+fn sees_item(parser: &Parser<'_>) -> bool
+    ensures { result ≡ begins item.starts parser.now }
+{
+    parser.sees_level()
+}
+
+/// The items with the next one.
+fn one_more(parser: &mut Parser<'_>, items: Items) -> Result<Items, Refusal>
+    ensures { Reads ((where_it_gives (with_one items) item).reads parser.old) result parser.new }
+{
+    let item = item(parser)?;
+    let mut items = items;
+    items.push(item.level, item.name, item.picture)?;
+    Ok(items)
+}
+
+/// One item or more.
+pub fn read_items(parser: &mut Parser<'_>, alloc: Global) -> Result<Items, Refusal>
+    ensures { Reads ((some_onto with_one [] item).reads parser.old) result parser.new }
+{
+    let mut items = one_more(parser, Items::new(alloc))?;
+    'more: while sees_item(parser) {
+        items = one_more(parser, items)?;
+    }
+    Ok(items)
+}

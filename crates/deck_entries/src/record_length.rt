@@ -1,0 +1,113 @@
+//! The lengths of records, as a RECORD clause says them.
+ghost use Rattle.std.specs.Prelude.{◌≡◌};
+ghost use Rattle.record_layout.specs.Picture.{number};
+ghost use Rattle.record_layout.specs.Reading.{capped};
+ghost use Rattle.deck_words.specs.Reading.{Reads};
+ghost use Rattle.deck_entries.specs.FileDescription.{count, fixed, varying, length_clause};
+
+use deck_words::{Parser, Refusal};
+use io_state::Name;
+use std::marker::Model;
+
+/// The least and the greatest length of records, and the item that has the length of one. Lengths are counted up to 4,001.
+/// Contracts see the item's name as its bytes.
+#[derive(Drop)]
+pub struct VaryingLength {
+    pub least: u64,
+    pub greatest: u64,
+    pub item: Name,
+}
+
+impl Model for VaryingLength {
+    ghost use Rattle.deck_entries.specs.RecordLength.{VaryingLength as Lengths};
+
+    ghost Value = { Lengths };
+
+    ghost view = { λ v. record { least = v.least; greatest = v.greatest; item = v.item.bytes } };
+}
+
+impl VaryingLength {
+    ghost use Rattle.std.specs.Prelude.{◌≡◌};
+
+    /// The name of the item.
+    pub fn item_bytes(&self) -> &[u8]
+        ensures { result.now ≡ self.now.item }
+    {
+        self.item.as_str().as_bytes()
+    }
+}
+
+/// One length, which is counted up to 4,001, or lengths that vary.
+#[derive(Drop)]
+pub enum RecordLength {
+    Fixed(u64),
+    Varying(VaryingLength),
+}
+
+/// One past the greatest length of a record.
+const CAP: u64 = 4001;
+
+/// The number that digits stand for, or the cap where it is more.
+pub fn number_of(digits: &[u8]) -> u64
+    ensures { result ≡ capped (number digits.now) }
+{
+    let mut n: u64 = 0;
+    for digit in digits {
+        n = (n * 10 + u64::from(*digit).saturating_sub(48)).min(CAP);
+    }
+    n
+}
+
+/// A number of at most 18 digits, counted up to one past the greatest length of a record.
+#[tactic(auto, unfolding(crate::specs::FileDescription::count))]
+pub fn count(parser: &mut Parser<'_>) -> Result<u64, Refusal>
+    ensures { Reads (count.reads parser.old) result parser.new }
+{
+    let digits = parser.digits()?;
+    Ok(number_of(digits))
+}
+
+#[tactic(auto, unfolding(crate::specs::FileDescription::fixed))]
+fn fixed(parser: &mut Parser<'_>) -> Result<RecordLength, Refusal>
+    ensures { Reads (fixed.reads parser.old) result parser.new }
+{
+    parser.eat(b"CONTAINS");
+    let length = count(parser)?;
+    parser.eat(b"CHARACTERS");
+    Ok(RecordLength::Fixed(length))
+}
+
+#[tactic(auto, unfolding(crate::specs::FileDescription::varying))]
+fn varying(parser: &mut Parser<'_>) -> Result<RecordLength, Refusal>
+    ensures { Reads (varying.reads parser.old) result parser.new }
+{
+    parser.eat(b"IS");
+    parser.expect(b"VARYING")?;
+    parser.eat(b"IN");
+    parser.eat(b"SIZE");
+    parser.eat(b"FROM");
+    let least = count(parser)?;
+    parser.expect(b"TO")?;
+    let greatest = count(parser)?;
+    parser.eat(b"CHARACTERS");
+    parser.expect(b"DEPENDING")?;
+    parser.eat(b"ON");
+    let item = *parser.name()?;
+    Ok(RecordLength::Varying(VaryingLength {
+        least,
+        greatest,
+        item,
+    }))
+}
+
+/// What stands behind RECORD.
+#[tactic(auto, unfolding(crate::specs::FileDescription::length_clause, crate::specs::FileDescription::varying, deck_words::specs::Notation::the))]
+pub fn length_clause(parser: &mut Parser<'_>) -> Result<RecordLength, Refusal>
+    ensures { Reads (length_clause.reads parser.old) result parser.new }
+{
+    if parser.sees_one_of(&[b"IS", b"VARYING"]) {
+        varying(parser)
+    } else {
+        fixed(parser)
+    }
+}

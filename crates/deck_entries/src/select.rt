@@ -1,0 +1,271 @@
+//! The words of a file control entry.
+ghost use Rattle.std.specs.Prelude.{◌≡◌};
+ghost use Rattle.deck_words.specs.Class.{begins};
+ghost use Rattle.deck_words.specs.Rule.{some_onto};
+ghost use Rattle.deck_words.specs.Reading.{Reads};
+ghost use Rattle.deck_words.specs.Scanning.{map_result};
+ghost use Rattle.deck_entries.specs.FileControlEntry.{indexed, mode, access, record_key};
+ghost use Rattle.deck_entries.specs.FileControlEntry.{duplicates, alternate, status, clause};
+ghost use Rattle.deck_entries.specs.FileControlEntry.{no_clauses, with_clause, added_to, select_behind};
+ghost use Rattle.deck_entries.specs.FileControlEntry.{select_word, new_name, file_name, new_file_name};
+ghost use Rattle.deck_entries.specs.FileControlEntry.{is_selected, is_assigned};
+
+use crate::entry::{Clauses, Selected};
+use crate::file_name::{file_name_of, is_file_name_text};
+use deck_words::{Cause, Parser, Refusal};
+use io_state::{Access, FileName, Name};
+use std::alloc::Global;
+
+/// The most alternate keys of a file.
+const ALTERNATE_LIMIT: usize = 8;
+
+/// The most files of a deck.
+const FILE_LIMIT: usize = 8;
+
+#[tactic(auto, unfolding(crate::specs::FileControlEntry::indexed, deck_words::specs::Notation::the), using(deck_words::proofs::RepeatLemmas::never_added))]
+fn indexed(parser: &mut Parser<'_>, clauses: Clauses) -> Result<Clauses, Refusal>
+    ensures { Reads ((added_to clauses indexed).reads parser.old) result parser.new }
+{
+    if clauses.indexed {
+        return Err(parser.fault(Cause::Twice));
+    }
+    if parser.eat(b"ORGANIZATION") {
+        parser.eat(b"IS");
+    }
+    parser.expect(b"INDEXED")?;
+    let mut clauses = clauses;
+    clauses.indexed = true;
+    Ok(clauses)
+}
+
+#[tactic(auto, unfolding(crate::specs::FileControlEntry::mode, deck_words::specs::Notation::the))]
+fn mode(parser: &mut Parser<'_>) -> Result<Access, Refusal>
+    ensures { Reads (mode.reads parser.old) result parser.new }
+{
+    if parser.eat(b"SEQUENTIAL") {
+        return Ok(Access::Sequential);
+    }
+    if parser.eat(b"RANDOM") {
+        return Ok(Access::Random);
+    }
+    parser.expect(b"DYNAMIC")?;
+    Ok(Access::Dynamic)
+}
+
+#[tactic(auto, unfolding(crate::specs::FileControlEntry::access), using(deck_words::proofs::RepeatLemmas::never_added))]
+fn access(parser: &mut Parser<'_>, clauses: Clauses) -> Result<Clauses, Refusal>
+    ensures { Reads ((added_to clauses access).reads parser.old) result parser.new }
+{
+    if clauses.access.is_some() {
+        return Err(parser.fault(Cause::Twice));
+    }
+    parser.expect(b"ACCESS")?;
+    parser.eat(b"MODE");
+    parser.eat(b"IS");
+    let mut clauses = clauses;
+    clauses.access = Some(mode(parser)?);
+    Ok(clauses)
+}
+
+#[tactic(auto, unfolding(crate::specs::FileControlEntry::record_key), using(deck_words::proofs::RepeatLemmas::never_added))]
+fn record_key(parser: &mut Parser<'_>, clauses: Clauses) -> Result<Clauses, Refusal>
+    ensures { Reads ((added_to clauses record_key).reads parser.old) result parser.new }
+{
+    if clauses.record_key.is_some() {
+        return Err(parser.fault(Cause::Twice));
+    }
+    parser.expect(b"RECORD")?;
+    parser.eat(b"KEY");
+    parser.eat(b"IS");
+    let mut clauses = clauses;
+    clauses.record_key = Some(*parser.name()?);
+    Ok(clauses)
+}
+
+#[tactic(auto, unfolding(crate::specs::FileControlEntry::duplicates, deck_words::specs::Notation::the))]
+fn duplicates(parser: &mut Parser<'_>) -> Result<bool, Refusal>
+    ensures { Reads (duplicates.reads parser.old) result parser.new }
+{
+    if parser.sees(b"WITH") || parser.sees(b"DUPLICATES") {
+        parser.eat(b"WITH");
+        parser.expect(b"DUPLICATES")?;
+        Ok(true)
+    } else {
+        Ok(false)
+    }
+}
+
+#[tactic(auto, unfolding(crate::specs::FileControlEntry::alternate), using(deck_words::proofs::RepeatLemmas::never_added))]
+fn alternate(parser: &mut Parser<'_>, clauses: Clauses) -> Result<Clauses, Refusal>
+    ensures { Reads ((added_to clauses alternate).reads parser.old) result parser.new }
+{
+    if clauses.alternate_keys.len() >= ALTERNATE_LIMIT {
+        return Err(parser.fault(Cause::Limit));
+    }
+    parser.expect(b"ALTERNATE")?;
+    parser.expect(b"RECORD")?;
+    parser.eat(b"KEY");
+    parser.eat(b"IS");
+    let name = *parser.name()?;
+    let duplicates = duplicates(parser)?;
+    let mut clauses = clauses;
+    clauses.alternate_keys.push(name, duplicates)?;
+    Ok(clauses)
+}
+
+#[tactic(auto, unfolding(crate::specs::FileControlEntry::status), using(deck_words::proofs::RepeatLemmas::never_added))]
+fn status(parser: &mut Parser<'_>, clauses: Clauses) -> Result<Clauses, Refusal>
+    ensures { Reads ((added_to clauses status).reads parser.old) result parser.new }
+{
+    if clauses.status {
+        return Err(parser.fault(Cause::Twice));
+    }
+    parser.eat(b"FILE");
+    parser.expect(b"STATUS")?;
+    parser.eat(b"IS");
+    parser.name()?;
+    let mut clauses = clauses;
+    clauses.status = true;
+    Ok(clauses)
+}
+
+/// Whether a clause comes next.
+#[tactic(auto, unfolding(crate::specs::FileControlEntry::clause, crate::specs::FileControlEntry::indexed, crate::specs::FileControlEntry::access, crate::specs::FileControlEntry::record_key, crate::specs::FileControlEntry::alternate, crate::specs::FileControlEntry::status, deck_words::specs::Notation::the))]
+fn sees_clause(parser: &Parser<'_>) -> bool
+    ensures { result ≡ begins clause.starts parser.now }
+{
+    parser.sees_one_of(&[
+        b"ORGANIZATION",
+        b"INDEXED",
+        b"ACCESS",
+        b"RECORD",
+        b"ALTERNATE",
+        b"FILE",
+        b"STATUS",
+    ])
+}
+
+#[tactic(auto, unfolding(crate::specs::FileControlEntry::clause, crate::specs::FileControlEntry::indexed, crate::specs::FileControlEntry::access, crate::specs::FileControlEntry::record_key, crate::specs::FileControlEntry::alternate, deck_words::specs::Notation::the))]
+fn clause(parser: &mut Parser<'_>, clauses: Clauses) -> Result<Clauses, Refusal>
+    ensures { Reads ((added_to clauses clause).reads parser.old) result parser.new }
+{
+    if parser.sees_one_of(&[b"ORGANIZATION", b"INDEXED"]) {
+        return indexed(parser, clauses);
+    }
+    if parser.sees(b"ACCESS") {
+        return access(parser, clauses);
+    }
+    if parser.sees(b"RECORD") {
+        return record_key(parser, clauses);
+    }
+    if parser.sees(b"ALTERNATE") {
+        return alternate(parser, clauses);
+    }
+    status(parser, clauses)
+}
+
+/// One clause or more.
+fn all_clauses(parser: &mut Parser<'_>, alloc: Global) -> Result<Clauses, Refusal>
+    ensures { Reads ((some_onto with_clause no_clauses clause).reads parser.old) result parser.new }
+{
+    let mut clauses = clause(parser, Clauses::new(alloc))?;
+    'more: while sees_clause(parser) {
+        clauses = clause(parser, clauses)?;
+    }
+    Ok(clauses)
+}
+
+/// The literal of ASSIGN.
+#[tactic(auto, unfolding(crate::specs::FileControlEntry::file_name))]
+fn file_name(parser: &mut Parser<'_>) -> Result<FileName, Refusal>
+    ensures { Reads (file_name.reads parser.old) (map_result (λ name. name.bytes) result) parser.new }
+{
+    let not_allowed = parser.fault(Cause::NotAllowed);
+    let text = parser.literal()?;
+    if is_file_name_text(text) {
+        Ok(file_name_of(text))
+    } else {
+        Err(not_allowed)
+    }
+}
+
+#[tactic(auto, unfolding(crate::specs::FileControlEntry::select_word, deck_words::specs::Notation::the))]
+fn select_word(parser: &mut Parser<'_>, earlier: &[Selected]) -> Result<(), Refusal>
+    ensures { Reads ((select_word earlier.now).reads parser.old) result parser.new }
+{
+    let limit = parser.fault(Cause::Limit);
+    parser.expect(b"SELECT")?;
+    if earlier.len() < FILE_LIMIT {
+        Ok(())
+    } else {
+        Err(limit)
+    }
+}
+
+#[tactic(auto, unfolding(crate::specs::FileControlEntry::new_name))]
+fn new_name(parser: &mut Parser<'_>, earlier: &[Selected]) -> Result<Name, Refusal>
+    ensures { Reads ((new_name earlier.now).reads parser.old) (map_result (λ name. name.bytes) result) parser.new }
+{
+    let twice = parser.fault(Cause::Twice);
+    let name = parser.name()?;
+    if is_selected_name(earlier, name.as_str().as_bytes()) {
+        Err(twice)
+    } else {
+        Ok(*name)
+    }
+}
+
+#[tactic(auto, unfolding(crate::specs::FileControlEntry::new_file_name))]
+fn new_file_name(parser: &mut Parser<'_>, earlier: &[Selected]) -> Result<FileName, Refusal>
+    ensures { Reads ((new_file_name earlier.now).reads parser.old) (map_result (λ name. name.bytes) result) parser.new }
+{
+    let twice = parser.fault(Cause::Twice);
+    let name = file_name(parser)?;
+    if is_assigned_name(earlier, name.as_str().as_bytes()) {
+        Err(twice)
+    } else {
+        Ok(name)
+    }
+}
+
+/// Takes an entry behind earlier ones of its deck: it has neither the name nor the file name of one of them.
+#[tactic(auto, unfolding(crate::specs::FileControlEntry::select_behind), using(deck_words::proofs::NotationLemmas::there_eaten))]
+pub fn select(
+    parser: &mut Parser<'_>,
+    alloc: Global,
+    earlier: &[Selected],
+) -> Result<Selected, Refusal>
+    ensures { Reads ((select_behind earlier.now).reads parser.old) result parser.new }
+{
+    let line = parser.line();
+    select_word(parser, earlier)?;
+    let optional = parser.eat(b"OPTIONAL");
+    let name = new_name(parser, earlier)?;
+    parser.expect(b"ASSIGN")?;
+    parser.eat(b"TO");
+    let file_name = new_file_name(parser, earlier)?;
+    let clauses = all_clauses(parser, alloc)?;
+    let end = parser.line();
+    parser.period()?;
+    let entry = clauses.entry(optional, name, file_name, end)?;
+    Ok(Selected { line, entry })
+}
+
+/// Whether one of the entries has this name.
+pub fn is_selected_name(earlier: &[Selected], name: &[u8]) -> bool
+    ensures { result ≡ is_selected earlier.now name.now }
+{
+    earlier.iter().any(|selected| selected.name() == name)
+}
+
+/// Whether one of the entries has this file name.
+fn is_assigned_name(earlier: &[Selected], file_name: &[u8]) -> bool
+    ensures { result ≡ is_assigned earlier.now file_name.now }
+{
+    earlier
+        .iter()
+        .any(|selected| selected.file_name() == file_name)
+}
+
+#[cfg(test)]
+mod tests;

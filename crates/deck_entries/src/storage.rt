@@ -1,0 +1,145 @@
+//! The items of the working storage.
+ghost use Rattle.std.specs.Prelude.{◌≡◌};
+ghost use Rattle.deck_words.specs.Class.{begins};
+ghost use Rattle.deck_words.specs.Rule.{where_it_gives};
+ghost use Rattle.deck_words.specs.Reading.{Reads};
+ghost use Rattle.deck_entries.specs.FileDescription.{storage_item, with_one};
+ghost use Rattle.deck_entries.specs.Divisions.{storage_items, storage_section};
+
+use crate::item::picture_clause;
+use crate::words::heading;
+use deck_words::{Parser, Refusal};
+use io_state::Name;
+use std::alloc::{AllocError, Global};
+use std::marker::Model;
+
+/// An item of the working storage, and the line of its level number. Contracts see the name and the picture.
+#[derive(Drop)]
+pub struct StorageItem {
+    pub line: u64,
+    pub name: Name,
+    pub picture: Name,
+}
+
+impl Model for StorageItem {
+    ghost use Rattle.deck_entries.specs.FileDescription.{StorageEntry, storage_of};
+
+    ghost Value = { StorageEntry };
+
+    ghost view = { λ item. storage_of (item.name.bytes, item.picture.bytes) };
+}
+
+impl StorageItem {
+    ghost use Rattle.std.specs.Prelude.{◌≡◌};
+
+    pub fn name_bytes(&self) -> &[u8]
+        ensures { result.now ≡ self.now.name }
+    {
+        self.name.as_str().as_bytes()
+    }
+
+    pub fn picture_bytes(&self) -> &[u8]
+        ensures { result.now ≡ self.now.picture }
+    {
+        self.picture.as_str().as_bytes()
+    }
+}
+
+/// The items of the working storage in their order, which contracts see as a list.
+#[derive(Drop)]
+pub struct StorageItems {
+    items: Vec<StorageItem>,
+}
+
+impl Model for StorageItems {
+    ghost use Rattle.std.specs.Prelude.{List};
+    ghost use Rattle.deck_entries.specs.FileDescription.{StorageEntry};
+
+    ghost Value = { List StorageEntry };
+
+    ghost view = { λ items. items.items.items };
+}
+
+impl StorageItems {
+    ghost use Rattle.std.specs.Prelude.{◌≡◌, [], ◌∷◌, ◌++◌, OnOk};
+
+    pub fn new(alloc: Global) -> Self
+        ensures { result ≡ [] }
+    {
+        StorageItems {
+            items: Vec::new(alloc),
+        }
+    }
+
+    fn push(&mut self, item: StorageItem) -> Result<(), AllocError>
+        ensures { OnOk result (self.new ≡ self.old ++ item ∷ []) }
+    {
+        self.items.push(item)?;
+        Ok(())
+    }
+
+    /// The items themselves.
+    pub fn as_slice(&self) -> &[StorageItem]
+        ensures { result.now ≡ self.now }
+    {
+        self.items.as_slice()
+    }
+}
+
+#[tactic(auto, unfolding(crate::specs::FileDescription::storage_item))]
+fn storage_item(parser: &mut Parser<'_>) -> Result<StorageItem, Refusal>
+    ensures { Reads (storage_item.reads parser.old) result parser.new }
+{
+    let line = parser.line();
+    parser.expect(b"77")?;
+    let name = *parser.name()?;
+    let picture = picture_clause(parser)?;
+    parser.period()?;
+    Ok(StorageItem {
+        line,
+        name,
+        picture,
+    })
+}
+
+/// The items with the next one.
+fn one_more(parser: &mut Parser<'_>, items: StorageItems) -> Result<StorageItems, Refusal>
+    ensures { Reads ((where_it_gives (with_one items) storage_item).reads parser.old) result parser.new }
+{
+    let item = storage_item(parser)?;
+    let mut items = items;
+    items.push(item)?;
+    Ok(items)
+}
+
+/// Whether an item comes next.
+#[tactic(auto, unfolding(crate::specs::FileDescription::storage_item, deck_words::specs::Notation::the))]
+fn sees_item(parser: &Parser<'_>) -> bool
+    ensures { result ≡ begins storage_item.starts parser.now }
+{
+    parser.sees(b"77")
+}
+
+/// The items that come next, if any.
+#[tactic(auto, unfolding(crate::specs::Divisions::storage_items))]
+fn items(parser: &mut Parser<'_>, alloc: Global) -> Result<StorageItems, Refusal>
+    ensures { Reads (storage_items.reads parser.old) result parser.new }
+{
+    let mut items = StorageItems::new(alloc);
+    'more: while sees_item(parser) {
+        items = one_more(parser, items)?;
+    }
+    Ok(items)
+}
+
+/// The working storage, if it comes next.
+#[tactic(auto, unfolding(crate::specs::Divisions::storage_section, deck_words::specs::Notation::the))]
+pub fn storage_section(parser: &mut Parser<'_>, alloc: Global) -> Result<StorageItems, Refusal>
+    ensures { Reads (storage_section.reads parser.old) result parser.new }
+{
+    if parser.sees(b"WORKING-STORAGE") {
+        heading(parser, b"WORKING-STORAGE", b"SECTION")?;
+        return items(parser, alloc);
+    }
+    Ok(StorageItems::new(alloc))
+}

@@ -1,0 +1,39 @@
+//! Words that stand for one another.
+ghost use Rattle.deck_words.specs.Notation.{the, ◌∣◌};
+ghost use Rattle.deck_words.specs.Reading.{Reads};
+ghost use Rattle.deck_entries.specs.FileDescription.{may_one};
+ghost use Rattle.deck_entries.specs.Divisions.{heading};
+
+use deck_words::{Parser, Refusal};
+
+/// Takes one of two words.
+#[tactic(auto, unfolding(deck_words::specs::Notation::the))]
+pub fn expect_one(parser: &mut Parser<'_>, first: &[u8], second: &[u8]) -> Result<(), Refusal>
+    ensures { Reads ((the first.now ∣ the second.now).reads parser.old) result parser.new }
+{
+    if parser.eat(first) {
+        return Ok(());
+    }
+    parser.expect(second)
+}
+
+/// Takes one of two words if it is next.
+#[tactic(auto, unfolding(deck_words::specs::Notation::the))]
+pub fn eat_one(parser: &mut Parser<'_>, first: &[u8], second: &[u8]) -> Result<(), Refusal>
+    ensures { Reads ((may_one first.now second.now).reads parser.old) result parser.new }
+{
+    if parser.sees_one_of(&[first, second]) {
+        expect_one(parser, first, second)?;
+    }
+    Ok(())
+}
+
+/// Takes the heading of a division or section.
+#[tactic(auto, unfolding(deck_words::specs::Notation::the))]
+pub fn heading(parser: &mut Parser<'_>, first: &[u8], second: &[u8]) -> Result<(), Refusal>
+    ensures { Reads ((heading first.now second.now).reads parser.old) result parser.new }
+{
+    parser.expect(first)?;
+    parser.expect(second)?;
+    parser.period()
+}

@@ -1,0 +1,161 @@
+-- How the pieces of a deck are cut off one after another, and that there is one way to do so.
+use Rattle.std.proofs.Common.{◌≡◌, ◌≤◌, ◌<◌, ◌+◌, ◌⊎◌, inl, inr, ◌++◌, ◌∷◌, [], length, List, ℕ, Option, Some, None, Err, subst, sym, ap, ◌∙◌, refl, arith, append_assoc, append-nil}
+use Rattle.std.specs.Option.{option_map}
+use Rattle.std.proofs.lemmas.Option.{same_Some}
+use Rattle.deck_words.specs.Word.{Word}
+use Rattle.deck_words.specs.declared.fault.Cause.{Cause}
+use Rattle.deck_words.specs.declared.fault.Cause.TheVariants.{BadWord, Expected, Unknown, Twice, NotAllowed, Limit, Layout}
+use Rattle.deck_words.specs.declared.fault.Refusal.{Refusal}
+use Rattle.deck_words.specs.declared.fault.Refusal.TheVariants.{Memory, Fault}
+use Rattle.deck_words.specs.Words.{Piece, written, Gives, line_after, Rest, rest_of, IsCut, HasWordsUpTo, HasWords, IsStuck, RefusesWords}
+use Rattle.deck_words.specs.Front.{Next, piece_at}
+use Rattle.deck_words.specs.Scanning.{Steps}
+use Rattle.deck_words.proofs.TestLemmas.{map_some}
+use Rattle.deck_words.proofs.FrontLemmas.{piece_sound, piece_complete, none_at_end}
+
+-- ---- one piece more
+
+-- a piece behind others is cut off too
+one_more : (from end after : Rest) (pieces : List Piece) (words new : List Word) → IsCut from pieces words end → piece_at end ≡ Some (new, after) → (all : List Piece) × IsCut from all (words ++ new) after
+one_more from end after [] words new c e =
+    let front = piece_sound end (new, after) e in
+    let same : rest_of (line_after end.line front.piece) after.bytes ≡ after = ap (λ line. rest_of line after.bytes) (sym front.line) in
+    let cut : IsCut end (front.piece ∷ []) new after = (new, [], after.bytes, front.there, front.gives, sym (append-nil new), (same, refl)) in
+    (front.piece ∷ [], subst (λ ws. IsCut from (front.piece ∷ []) (ws ++ new) after) (sym c.1) (subst (λ f. IsCut f (front.piece ∷ []) new after) (sym c.0) cut))
+one_more from end after (piece ∷ pieces) words new c e =
+    let rest = one_more (rest_of (line_after from.line piece) c.2) end after pieces c.1 new c.6 e in
+    (piece ∷ rest.0, (c.0, c.1 ++ new, c.2, c.3, c.4, ap (λ (ws : List Word). ws ++ new) c.5 ∙ append_assoc c.0 c.1 new, rest.1))
+
+-- ---- one way
+
+-- no piece stands at the front
+abbrev pub IsLast : Rest → Type 0
+IsLast rest = piece_at rest ≡ None
+
+abbrev IsSame : List Word → Rest → List Word → Rest → Type 0
+IsSame words end others last = (words ≡ others) × (end ≡ last)
+
+none_stands : (rest : Rest) (piece : Piece) (after : List ℕ) (new : List Word) → IsLast rest → rest.bytes ≡ written piece ++ after → Gives rest.line piece after new → ⊥
+none_stands rest piece after new e s g =
+    let k : ◌≡◌ {A = Option Next} None (Some (new, rest_of (line_after rest.line piece) after)) = sym e ∙ piece_complete rest piece after new s g in cc
+
+-- pieces up to where none stands are the only ones
+one_end : (from : Rest) (pieces : List Piece) (words : List Word) (end : Rest) → IsCut from pieces words end → IsLast end → (others : List Piece) (other_words : List Word) (last : Rest) → IsCut from others other_words last → IsLast last → IsSame words end other_words last
+one_end from [] words end c e [] other_words last d f = (c.1 ∙ sym d.1, sym c.0 ∙ d.0)
+one_end from [] words end c e (q ∷ others) other_words last d f =
+    absurd (none_stands from q d.2 d.0 (ap piece_at c.0 ∙ e) d.3 d.4)
+one_end from (p ∷ pieces) words end c e [] other_words last d f =
+    absurd (none_stands from p c.2 c.0 (ap piece_at d.0 ∙ f) c.3 c.4)
+one_end from (p ∷ pieces) words end c e (q ∷ others) other_words last d f =
+    let same = same_Some {A = Next} (d.0, rest_of (line_after from.line q) d.2) (c.0, rest_of (line_after from.line p) c.2) (sym (piece_complete from q d.2 d.0 d.3 d.4) ∙ piece_complete from p c.2 c.0 c.3 c.4) in
+    let again = one_end (rest_of (line_after from.line p) c.2) pieces c.1 end c.6 e others d.1 last (subst (λ f. IsCut f others d.1 last) (ap (λ (n : Next). n.1) same) d.6) f in
+    (c.5 ∙ (ap (λ (ws : List Word). c.0 ++ ws) again.0 ∙ ap (λ (n : Next). n.0 ++ d.1) (sym same)) ∙ sym d.5, again.1)
+
+stuck_is_last_by : (rest : Rest) (next : Option Next) → piece_at rest ≡ next → IsStuck rest → next ≡ None
+stuck_is_last_by rest None e stuck = refl
+stuck_is_last_by rest (Some next) e stuck =
+    let front = piece_sound rest next e in
+    absurd (stuck.1 front.piece next.1.bytes next.0 front.there front.gives)
+
+stuck_is_last : (rest : Rest) → IsStuck rest → IsLast rest
+stuck_is_last rest stuck = stuck_is_last_by rest (piece_at rest) refl stuck
+
+pub last_is_stuck : (rest : Rest) → 0 < length rest.bytes → IsLast rest → IsStuck rest
+last_is_stuck rest more e = (more, λ piece after words s g. none_stands rest piece after words e s g)
+
+pub one_end_of : (bytes : List ℕ) (words others : List Word) (end last : Rest) → HasWordsUpTo bytes words end → IsLast end → HasWordsUpTo bytes others last → IsLast last → IsSame words end others last
+one_end_of bytes words others end last a e b f = one_end (rest_of 1 bytes) a.1.0 words end a.1.1 e b.1.0 others last b.1.1 f
+
+pub words_are_one : (bytes : List ℕ) (a b : List Word) → HasWords bytes a → HasWords bytes b → a ≡ b
+words_are_one bytes a b h k = (one_end_of bytes a b (rest_of h.0 []) (rest_of k.0 []) h.1 (none_at_end _ refl) k.1 (none_at_end _ refl)).0
+
+no_more : (bytes : List ℕ) → bytes ≡ [] → 0 < length bytes → ⊥
+no_more [] e h = omega (arith, h)
+no_more (b ∷ bytes) e h = cc
+
+-- words and a fault exclude each other
+pub words_have_no_fault : (bytes : List ℕ) (words : List Word) (refusal : Refusal) → HasWords bytes words → RefusesWords bytes refusal → refusal ≡ Memory
+words_have_no_fault bytes words Memory h f = refl
+words_have_no_fault bytes words (Fault line Limit) h f = absurd (omega (arith, f.1, h.1.0))
+words_have_no_fault bytes words (Fault line BadWord) h f =
+    let same = one_end_of bytes words f.0 (rest_of h.0 []) (rest_of line f.1) h.1 (none_at_end _ refl) f.2 (stuck_is_last _ f.3) in
+    absurd (no_more f.1 (ap (λ (r : Rest). r.bytes) (sym same.1)) f.3.0)
+words_have_no_fault bytes words (Fault line Expected) h f = absurd f
+words_have_no_fault bytes words (Fault line Unknown) h f = absurd f
+words_have_no_fault bytes words (Fault line Twice) h f = absurd f
+words_have_no_fault bytes words (Fault line NotAllowed) h f = absurd f
+words_have_no_fault bytes words (Fault line Layout) h f = absurd f
+
+-- ---- the scanner
+
+-- the words so far are those of the pieces so far
+pub record SoFar (bytes : List ℕ) (words : List Word) (rest : Rest) : Type 0 where
+  pub upto : HasWordsUpTo bytes words rest
+  pub lines : rest.line + length rest.bytes ≤ 1 + length bytes
+
+pub start : (bytes : List ℕ) → length bytes ≤ 1048576 → SoFar bytes [] (rest_of 1 bytes)
+start bytes short = record { upto = (short, ([], (refl, refl))); lines = omega arith }
+
+pub step : (bytes : List ℕ) (words new : List Word) (rest after : Rest) → SoFar bytes words rest → option_map {U = Next} (λ n. (words ++ n.0, n.1)) (piece_at rest) ≡ Some (new, after) → after.line + length after.bytes ≤ rest.line + length rest.bytes → SoFar bytes new after
+step bytes words new rest after so e fewer =
+    let m = map_some {B = Next} (λ n. (words ++ n.0, n.1)) (piece_at rest) (new, after) e in
+    let n : Next = m.0 in
+    subst (λ (t : Next). t.1.line + length t.1.bytes ≤ rest.line + length rest.bytes → SoFar bytes t.0 t.1) m.2 (λ less. record {
+      upto = (so.upto.0, one_more (rest_of 1 bytes) rest m.0.1 so.upto.1.0 words m.0.0 so.upto.1.1 m.1);
+      lines = omega (arith, less, so.lines);
+    }) fewer
+
+pub refused : (bytes : List ℕ) (words new : List Word) (rest : Rest) (refusal : Refusal) → SoFar bytes words rest → 0 < length rest.bytes → Steps rest.line (piece_at rest) words (Err refusal) new → RefusesWords bytes refusal
+refused bytes words new rest Memory so more s = tt
+refused bytes words new rest (Fault line cause) so more s =
+    let told : RefusesWords bytes (Fault rest.line BadWord) = (words, rest.bytes, so.upto, last_is_stuck rest more s.0) in
+    subst (λ l. RefusesWords bytes (Fault l cause)) (sym s.1) (subst (λ k. RefusesWords bytes (Fault rest.line k)) (sym s.2) told)
+
+no_bytes : (rest : List ℕ) → length rest ≡ 0 → rest ≡ []
+no_bytes [] e = refl
+no_bytes (b ∷ rest) e = absurd (omega (arith, e))
+
+pub done : (bytes : List ℕ) (words : List Word) (line : ℕ) (rest : List ℕ) → SoFar bytes words (rest_of line rest) → length rest ≡ 0 → HasWords bytes words
+done bytes words line rest so e = (line, subst (λ r. HasWordsUpTo bytes words (rest_of line r)) (no_bytes rest e) so.upto)
+
+-- ---- faults
+
+abbrev IsTooLong : List ℕ → ℕ → Cause → Type 0
+IsTooLong bytes line cause = (cause ≡ Limit) × (line ≡ 1) × (1048576 < length bytes)
+
+abbrev IsBad : List ℕ → ℕ → Cause → Type 0
+IsBad bytes line cause = (cause ≡ BadWord) × RefusesWords bytes (Fault line BadWord)
+
+one_or_other : (bytes : List ℕ) (line : ℕ) (cause : Cause) → RefusesWords bytes (Fault line cause) → IsTooLong bytes line cause ⊎ IsBad bytes line cause
+one_or_other bytes line Limit f = inl (refl, f.0, f.1)
+one_or_other bytes line BadWord f = inr (refl, f)
+one_or_other bytes line Expected f = absurd f
+one_or_other bytes line Unknown f = absurd f
+one_or_other bytes line Twice f = absurd f
+one_or_other bytes line NotAllowed f = absurd f
+one_or_other bytes line Layout f = absurd f
+
+bad_is_one : (bytes : List ℕ) (line other : ℕ) → RefusesWords bytes (Fault line BadWord) → RefusesWords bytes (Fault other BadWord) → line ≡ other
+bad_is_one bytes line other f g =
+    ap (λ (r : Rest). r.line) (one_end_of bytes f.0 g.0 (rest_of line f.1) (rest_of other g.1) f.2 (stuck_is_last _ f.3) g.2 (stuck_is_last _ g.3)).1
+
+same_fault : (line other : ℕ) (cause another : Cause) → line ≡ other → cause ≡ another → Fault line cause ≡ Fault other another
+same_fault line other cause another e f = ap (λ l. Fault l cause) e ∙ ap (λ c. Fault other c) f
+
+pub faults_are_one : (bytes : List ℕ) (a b : Refusal) → RefusesWords bytes a → RefusesWords bytes b → (a ≡ Memory → ⊥) → (b ≡ Memory → ⊥) → a ≡ b
+faults_are_one bytes Memory b f g p q = absurd (p refl)
+faults_are_one bytes (Fault line cause) Memory f g p q = absurd (q refl)
+faults_are_one bytes (Fault line cause) (Fault other another) f g p q =
+    elim (one_or_other bytes line cause f) [
+      | inl f ↦ elim (one_or_other bytes other another g) [
+        | inl g ↦ same_fault line other cause another (f.1 ∙ sym g.1) (f.0 ∙ sym g.0)
+        | inr g ↦ absurd (omega (arith, f.2, g.1.2.0))
+      ]
+      | inr f ↦ elim (one_or_other bytes other another g) [
+        | inl g ↦ absurd (omega (arith, g.2, f.1.2.0))
+        | inr g ↦ same_fault line other cause another (bad_is_one bytes line other f.1 g.1) (f.0 ∙ sym g.0)
+      ]
+    ]
+
+pub something_left : (rest after : List ℕ) (byte : ℕ) → rest ≡ byte ∷ after → 0 < length rest
+something_left rest after byte e = omega (arith, ap (λ (bytes : List ℕ). length bytes) e)

@@ -1,0 +1,13 @@
+pub mod TestLemmas
+pub mod LiteralLemmas
+pub mod RunLemmas
+pub mod FrontLemmas
+pub mod CutLemmas
+pub mod ClassLemmas
+pub mod RuleLemmas
+pub mod RepeatLemmas
+pub mod TurnLemmas
+pub mod NotationLemmas
+pub mod OperandLemmas
+pub mod RestLemmas
+pub mod SignLemmas

@@ -1,0 +1,7 @@
+-- A text that is compared as equal is the same.
+use Rattle.std.proofs.Common.{◌≡◌, ℕ, true, List}
+use Rattle.std.specs.Str.{bytes_eq}
+use Rattle.std.proofs.lemmas.Slice.Eq.{bytes_eq-Decides}
+
+pub same_text : (a b : List ℕ) → bytes_eq a b ≡ true → a ≡ b
+same_text a b e = (bytes_eq-Decides a b).0 e

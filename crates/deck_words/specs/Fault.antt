@@ -1,0 +1,29 @@
+-- The faults of a deck, and what is told of them.
+use Rattle.std.specs.Prelude.{◌≡◌, ℕ}
+use Rattle.deck_words.specs.declared.fault.Cause.{Cause}
+use Rattle.deck_words.specs.declared.fault.Cause.TheVariants.{BadWord, Expected, Unknown, Twice, NotAllowed, Limit, Layout}
+use Rattle.deck_words.specs.declared.fault.DeckFault.{DeckFault}
+use Rattle.deck_words.specs.declared.fault.Refusal.{Refusal}
+use Rattle.deck_words.specs.declared.fault.Refusal.TheVariants.{Memory, Fault}
+
+abbrev pub code_of : Cause → ℕ
+code_of BadWord = 1
+code_of Expected = 2
+code_of Unknown = 3
+code_of Twice = 4
+code_of NotAllowed = 5
+code_of Limit = 6
+code_of Layout = 7
+
+-- a fault is told by its line and its code, and want of memory by line 0 and code 8
+abbrev pub told : Refusal → DeckFault
+told Memory = record { line = 0; code = 8 }
+told (Fault line cause) = record { line = line; code = code_of cause }
+
+abbrev pub IsFault : Refusal → Type 0
+IsFault Memory = ⊥
+IsFault (Fault line cause) = Unit {0}
+
+-- the fault is told of a refusal
+abbrev pub IsTold : DeckFault → Type 0
+IsTold fault = (refusal : Refusal) × (fault ≡ told refusal)

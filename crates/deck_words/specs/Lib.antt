@@ -1,0 +1,12 @@
+pub mod ByteClass
+pub mod Fault
+pub mod Name
+pub mod Word
+pub mod Words
+pub mod Front
+pub mod Scanning
+pub mod Class
+pub mod Rule
+pub mod Notation
+pub mod Operand
+pub mod Reading

@@ -1,0 +1,56 @@
+-- How rules are written: as in the grammar's own notation.
+use Rattle.std.specs.Prelude.{ℕ, Bool, true, false, List, Option, Some, None}
+use Rattle.deck_words.specs.Class.{this, names, literals, periods}
+use Rattle.deck_words.specs.Rule.{Rule, one, in_turn, optional, either, where_it_gives}
+
+-- this word
+unfoldable pub the : List ℕ → Rule (Unit {0})
+the text = where_it_gives (λ _. Some tt) (one (this text))
+
+unfoldable pub name : Rule (List ℕ)
+name = one names
+
+unfoldable pub literal : Rule (List ℕ)
+literal = one literals
+
+unfoldable pub period : Rule (Unit {0})
+period = where_it_gives (λ _. Some tt) (one periods)
+
+-- the first rule, and then the second, whose value counts
+infixr 6 ◌▸◌
+abbrev pub ◌▸◌ : {A B : Type 0} → Rule A → Rule B → Rule B
+p ▸ q = in_turn (λ _ y. y) p q
+
+-- the first rule, whose value counts, and then the second
+infixr 6 ◌◂◌
+abbrev pub ◌◂◌ : {A B : Type 0} → Rule A → Rule B → Rule A
+p ◂ q = in_turn (λ x _. x) p q
+
+-- the first rule and then the second, and both values
+infixr 6 ◌⊗◌
+abbrev pub ◌⊗◌ : {A B : Type 0} → Rule A → Rule B → Rule (A × B)
+p ⊗ q = in_turn (λ x y. (x, y)) p q
+
+-- one of the two
+infixr 5 ◌∣◌
+abbrev pub ◌∣◌ : {A : Type 0} → Rule A → Rule A → Rule A
+p ∣ q = either p q
+
+-- what a function makes of a rule's value
+infixr 4 ◌<$>◌
+abbrev pub ◌<$>◌ : {A B : Type 0} → (A → B) → Rule A → Rule B
+f <$> p = where_it_gives (λ x. Some (f x)) p
+
+-- whether it is there
+abbrev pub is_there : Option (Unit {0}) → Bool
+is_there None = false
+is_there (Some _) = true
+
+-- what was read of a word that may be left out
+abbrev pub eaten : Bool → Option (Unit {0})
+eaten true = Some tt
+eaten false = None
+
+-- a word that may be left out
+abbrev pub may : List ℕ → Rule (Option (Unit {0}))
+may text = optional (the text)

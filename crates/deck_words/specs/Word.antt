@@ -1,0 +1,54 @@
+-- A word of a deck, as contracts see it.
+use Rattle.std.specs.Prelude.{ℕ, Bool, true, false, if◌then◌else◌, List, codes, Option, Some, None}
+use Rattle.deck_words.specs.declared.word.Sign.{Sign as SignOf}
+use Rattle.deck_words.specs.declared.word.Sign.TheVariants.{Equal, Greater, GreaterOrEqual, Less}
+use Rattle.deck_words.specs.declared.word.WordText.{WordText}
+use Rattle.deck_words.specs.declared.word.WordText.TheVariants as says
+
+-- what a word is, by its bytes alone
+pub data WordKind : Type 0 where
+  Plain : WordKind
+  Literal : WordKind
+  Sign : WordKind
+  Period : WordKind
+
+-- a word, and the line of its first byte, from 1
+pub record Word : Type 0 where
+  pub line : ℕ
+  pub kind : WordKind
+  pub text : List ℕ
+
+abbrev pub word_of : ℕ → WordKind → List ℕ → Word
+word_of line kind text = record { line = line; kind = kind; text = text }
+
+abbrev pub sign_text : SignOf → List ℕ
+sign_text Equal = codes "="
+sign_text Greater = codes ">"
+sign_text GreaterOrEqual = codes ">="
+sign_text Less = codes "<"
+
+abbrev pub kind_of : WordText → WordKind
+kind_of (says.Plain name) = Plain
+kind_of (says.Literal text) = Literal
+kind_of (says.Sign sign) = Sign
+kind_of says.Period = Period
+
+abbrev pub text_of : WordText → List ℕ
+text_of (says.Plain name) = name.bytes
+text_of (says.Literal text) = text
+text_of (says.Sign sign) = sign_text sign
+text_of says.Period = codes "."
+
+abbrev pub is_same_kind : WordKind → WordKind → Bool
+is_same_kind Plain Plain = true
+is_same_kind Literal Literal = true
+is_same_kind Sign Sign = true
+is_same_kind Period Period = true
+is_same_kind _ _ = false
+
+-- the text of a plain word, and of a literal
+abbrev pub plain_text : Word → Option (List ℕ)
+plain_text word = if is_same_kind Plain word.kind then Some word.text else None
+
+abbrev pub literal_text : Word → Option (List ℕ)
+literal_text word = if is_same_kind Literal word.kind then Some word.text else None

@@ -1,0 +1,42 @@
+//! The classes of a deck's bytes.
+ghost use Rattle.std.specs.Prelude.{◌≡◌};
+ghost use Rattle.deck_words.specs.ByteClass.{is_space, is_mark, is_of_run, is_of_word, capital};
+
+/// Space, tab, line feed and carriage return.
+pub fn is_space_byte(byte: u8) -> bool
+    ensures { result ≡ is_space byte }
+{
+    matches!(byte, b' ' | b'\t' | b'\n' | b'\r')
+}
+
+/// A quotation mark or an apostrophe.
+pub fn is_mark_byte(byte: u8) -> bool
+    ensures { result ≡ is_mark byte }
+{
+    byte == b'"' || byte == b'\''
+}
+
+/// Neither white space nor a mark.
+pub fn is_run_byte(byte: u8) -> bool
+    ensures { result ≡ is_of_run byte }
+{
+    !is_space_byte(byte) && !is_mark_byte(byte)
+}
+
+/// A letter, a digit, a hyphen or a parenthesis.
+pub fn is_word_byte(byte: u8) -> bool
+    ensures { result ≡ is_of_word byte }
+{
+    byte.is_ascii_alphabetic() || byte.is_ascii_digit() || matches!(byte, b'-' | b'(' | b')')
+}
+
+/// The byte, or the capital of a small letter.
+pub fn capital_of(byte: u8) -> u8
+    ensures { result ≡ capital byte }
+{
+    if byte.is_ascii_lowercase() {
+        byte - 32
+    } else {
+        byte
+    }
+}

@@ -1,0 +1,392 @@
+//! The words that are still to be read, and the steps that read one.
+ghost use Rattle.std.specs.Prelude.{◌≡◌, ◌≢◌, [], ◌∷◌, map, Some, length, MatchResult};
+ghost use Rattle.std.specs.Bool.{OnTrue, OnFalse};
+ghost use Rattle.std.specs.List.{list_any};
+ghost use Rattle.deck_words.specs.Class.{begins, is_in, this, names, numbers, levels, pictures, signs, periods};
+ghost use Rattle.deck_words.specs.Rule.{one};
+ghost use Rattle.deck_words.specs.Scanning.{map_result};
+ghost use Rattle.deck_words.specs.Notation.{the, may, eaten, name, literal, period};
+ghost use Rattle.deck_words.specs.Operand.{sign, digits};
+ghost use Rattle.deck_words.specs.Reading.{Reads};
+ghost use Rattle.deck_words.specs.Fault.{IsFault};
+
+use crate::fault::{Cause, Refusal};
+use crate::name::{is_name_text, is_number_text};
+use crate::word::{Word, WordText};
+use io_state::Name;
+use std::marker::Model;
+
+/// The most digits of a number.
+const DIGIT_LIMIT: usize = 18;
+
+/// The words that are still to be read, and the line of the last one. Contracts see the words.
+#[derive(Drop)]
+pub struct Parser<'a> {
+    words: &'a [Word],
+    last_line: u64,
+}
+
+impl<'a> Model for Parser<'a> {
+    ghost use Rattle.std.specs.Prelude.{List};
+    ghost use Rattle.deck_words.specs.Word.{Word};
+
+    ghost Value = { List Word };
+
+    ghost view = { λ parser. parser.words.now };
+}
+
+fn is_this(word: &Word, text: &[u8]) -> bool
+    ensures { result ≡ is_in (this text.now) word.now }
+{
+    match word.plain() {
+        Some(own) => own.as_str().as_bytes() == text,
+        None => false,
+    }
+}
+
+fn is_one_of(word: &Word, texts: &[&[u8]]) -> bool
+    ensures { result ≡ list_any (λ text. is_in (this text.now) word.now) texts.now }
+{
+    texts.iter().any(|text| is_this(word, text))
+}
+
+fn is_name(word: &Word) -> bool
+    ensures { result ≡ is_in names word.now }
+{
+    match word.plain() {
+        Some(text) => is_name_text(text.as_str().as_bytes()),
+        None => false,
+    }
+}
+
+fn is_number(word: &Word) -> bool
+    ensures { result ≡ is_in numbers word.now }
+{
+    match word.plain() {
+        Some(text) => is_number_text(text.as_str().as_bytes()),
+        None => false,
+    }
+}
+
+fn is_level(word: &Word) -> bool
+    ensures { result ≡ is_in levels word.now }
+{
+    match word.plain() {
+        Some(text) => is_number_text(text.as_str().as_bytes()) && text.as_str().len() <= 2,
+        None => false,
+    }
+}
+
+fn is_picture(word: &Word) -> bool
+    ensures { result ≡ is_in pictures word.now }
+{
+    match word.plain() {
+        Some(text) => text.as_str().as_bytes() != b"IS".as_slice(),
+        None => false,
+    }
+}
+
+fn is_sign(word: &Word, text: &[u8]) -> bool
+    ensures { result ≡ is_in (signs text.now) word.now }
+{
+    match &word.text {
+        WordText::Sign(sign) => sign.text() == text,
+        _ => false,
+    }
+}
+
+fn is_period(word: &Word) -> bool
+    ensures { result ≡ is_in periods word.now }
+{
+    matches!(&word.text, WordText::Period)
+}
+
+impl<'a> Parser<'a> {
+    /// All of the words are to be read.
+    pub fn new(words: &'a [Word]) -> Self
+        ensures { result ≡ words.now }
+    {
+        let last_line = match words.last() {
+            Some(word) => word.line,
+            None => 1,
+        };
+        Parser { words, last_line }
+    }
+
+    /// The line of the next word, or of the last one.
+    pub fn line(&self) -> u64 {
+        match self.words.first() {
+            Some(word) => word.line,
+            None => self.last_line,
+        }
+    }
+
+    /// A fault at the next word, or at the end.
+    pub fn fault(&self, cause: Cause) -> Refusal
+        ensures { IsFault result }
+    {
+        Refusal::Fault(self.line(), cause)
+    }
+
+    /// Whether this word is next.
+    pub fn sees(&self, text: &[u8]) -> bool
+        ensures { result ≡ begins (this text.now ∷ []) self.now }
+    {
+        match self.words.first() {
+            Some(word) => is_this(word, text),
+            None => false,
+        }
+    }
+
+    /// Whether one of these words is next.
+    #[tactic(auto, using(crate::proofs::ClassLemmas::any_of_map))]
+    pub fn sees_one_of(&self, texts: &[&[u8]]) -> bool
+        ensures { result ≡ begins (map (λ text. this text.now) texts.now) self.now }
+    {
+        match self.words.first() {
+            Some(word) => is_one_of(word, texts),
+            None => false,
+        }
+    }
+
+    /// Whether a name is next.
+    pub fn sees_name(&self) -> bool
+        ensures { result ≡ begins (names ∷ []) self.now }
+    {
+        match self.words.first() {
+            Some(word) => is_name(word),
+            None => false,
+        }
+    }
+
+    /// Whether a name or this word is next.
+    pub fn sees_name_or(&self, text: &[u8]) -> bool
+        ensures { result ≡ begins (names ∷ this text.now ∷ []) self.now }
+    {
+        match self.words.first() {
+            Some(word) => is_name(word) || is_this(word, text),
+            None => false,
+        }
+    }
+
+    /// Whether a level number is next.
+    pub fn sees_level(&self) -> bool
+        ensures { result ≡ begins (levels ∷ []) self.now }
+    {
+        match self.words.first() {
+            Some(word) => is_level(word),
+            None => false,
+        }
+    }
+
+    /// How many words are still to be read.
+    pub fn left(&self) -> usize
+        ensures { result ≡ length self.now }
+    {
+        self.words.len()
+    }
+
+    /// Takes this word.
+    #[tactic(auto, unfolding(crate::specs::Notation::the))]
+    pub fn expect(&mut self, text: &[u8]) -> Result<(), Refusal>
+        ensures { Reads ((the text.now).reads self.old) result self.new }
+    {
+        match self.words.split_first() {
+            Some((word, rest)) if is_this(word, text) => {
+                self.words = rest;
+                Ok(())
+            }
+            _ => Err(self.fault(Cause::Expected)),
+        }
+    }
+
+    /// Takes this word if it is next.
+    #[tactic(auto, unfolding(crate::specs::Notation::the))]
+    pub fn eat(&mut self, text: &[u8]) -> bool
+        ensures may { (may text.now).reads self.old ≡ Some (eaten result, self.new) }
+        ensures seen { result ≡ begins (this text.now ∷ []) self.old }
+        ensures taken { OnTrue result ((the text.now).reads self.old ≡ Some (tt, self.new)) }
+        ensures kept { OnFalse result (self.new ≡ self.old) }
+    {
+        match self.words.split_first() {
+            Some((word, rest)) if is_this(word, text) => {
+                self.words = rest;
+                true
+            }
+            _ => false,
+        }
+    }
+
+    /// A name.
+    #[tactic(auto, unfolding(crate::specs::Notation::name))]
+    pub fn name(&mut self) -> Result<&'a Name, Refusal>
+        ensures { Reads (name.reads self.old) (map_result (λ name. name.now.bytes) result) self.new }
+    {
+        let fault = self.fault(Cause::Expected);
+        let Some((word, rest)) = self.words.split_first() else {
+            return Err(fault);
+        };
+        match word.plain() {
+            Some(text) if is_name(word) => {
+                self.words = rest;
+                Ok(text)
+            }
+            _ => Err(fault),
+        }
+    }
+
+    /// The one or two digits of a level number.
+    pub fn level(&mut self) -> Result<&'a Name, Refusal>
+        ensures { Reads ((one levels).reads self.old) (map_result (λ level. level.now.bytes) result) self.new }
+    {
+        let fault = self.fault(Cause::Expected);
+        let Some((word, rest)) = self.words.split_first() else {
+            return Err(fault);
+        };
+        match word.plain() {
+            Some(text) if is_level(word) => {
+                self.words = rest;
+                Ok(text)
+            }
+            _ => Err(fault),
+        }
+    }
+
+    /// Any plain word but IS.
+    pub fn picture(&mut self) -> Result<&'a Name, Refusal>
+        ensures { Reads ((one pictures).reads self.old) (map_result (λ text. text.now.bytes) result) self.new }
+    {
+        let fault = self.fault(Cause::Expected);
+        let Some((word, rest)) = self.words.split_first() else {
+            return Err(fault);
+        };
+        match word.plain() {
+            Some(text) if is_picture(word) => {
+                self.words = rest;
+                Ok(text)
+            }
+            _ => Err(fault),
+        }
+    }
+
+    /// The digits of a number. A number of more than 18 of them is past the limit.
+    #[tactic(auto, unfolding(crate::specs::Operand::digits))]
+    pub fn digits(&mut self) -> Result<&'a [u8], Refusal>
+        ensures { Reads (digits.reads self.old) (map_result (λ text. text.now) result) self.new }
+    {
+        let fault = self.fault(Cause::Expected);
+        let limit = self.fault(Cause::Limit);
+        let Some((word, rest)) = self.words.split_first() else {
+            return Err(fault);
+        };
+        match word.plain() {
+            Some(text) if is_number(word) => {
+                let digits = text.as_str().as_bytes();
+                if digits.len() > DIGIT_LIMIT {
+                    return Err(limit);
+                }
+                self.words = rest;
+                Ok(digits)
+            }
+            _ => Err(fault),
+        }
+    }
+
+    /// What stands between the marks of a literal.
+    #[tactic(auto, unfolding(crate::specs::Notation::literal))]
+    pub fn literal(&mut self) -> Result<&'a [u8], Refusal>
+        ensures { Reads (literal.reads self.old) (map_result (λ text. text.now) result) self.new }
+    {
+        let fault = self.fault(Cause::Expected);
+        let Some((word, rest)) = self.words.split_first() else {
+            return Err(fault);
+        };
+        match word.literal() {
+            Some(text) => {
+                self.words = rest;
+                Ok(text)
+            }
+            None => Err(fault),
+        }
+    }
+
+    /// Takes a period.
+    #[tactic(auto, unfolding(crate::specs::Notation::period))]
+    pub fn period(&mut self) -> Result<(), Refusal>
+        ensures { Reads (period.reads self.old) result self.new }
+    {
+        match self.words.split_first() {
+            Some((word, rest)) if is_period(word) => {
+                self.words = rest;
+                Ok(())
+            }
+            _ => Err(self.fault(Cause::Expected)),
+        }
+    }
+
+    /// Whether a literal is next.
+    #[tactic(auto, unfolding(crate::specs::Notation::literal))]
+    pub fn sees_literal(&self) -> bool
+        ensures { result ≡ begins literal.starts self.now }
+    {
+        match self.words.first() {
+            Some(word) => matches!(&word.text, WordText::Literal(_)),
+            None => false,
+        }
+    }
+
+    /// Whether a number is next.
+    #[tactic(auto, unfolding(crate::specs::Operand::digits))]
+    pub fn sees_digits(&self) -> bool
+        ensures { result ≡ begins digits.starts self.now }
+    {
+        match self.words.first() {
+            Some(word) => is_number(word),
+            None => false,
+        }
+    }
+
+    /// Takes this sign.
+    #[tactic(auto, unfolding(crate::specs::Operand::sign))]
+    pub fn expect_sign(&mut self, text: &[u8]) -> Result<(), Refusal>
+        ensures { Reads ((sign text.now).reads self.old) result self.new }
+    {
+        match self.words.split_first() {
+            Some((word, rest)) if is_sign(word, text) => {
+                self.words = rest;
+                Ok(())
+            }
+            _ => Err(self.fault(Cause::Expected)),
+        }
+    }
+
+    /// Takes this sign if it is next.
+    #[tactic(auto, unfolding(crate::specs::Operand::sign))]
+    pub fn eat_sign(&mut self, text: &[u8]) -> bool
+        ensures seen { result ≡ begins (signs text.now ∷ []) self.old }
+        ensures taken { OnTrue result ((sign text.now).reads self.old ≡ Some (tt, self.new)) }
+        ensures kept { OnFalse result (self.new ≡ self.old) }
+    {
+        match self.words.split_first() {
+            Some((word, rest)) if is_sign(word, text) => {
+                self.words = rest;
+                true
+            }
+            _ => false,
+        }
+    }
+
+    /// All words have been read.
+    pub fn end(&self) -> Result<(), Refusal>
+        ensures { MatchResult result (λ _. self.now ≡ []) (λ _. self.now ≢ []) }
+    {
+        if self.words.is_empty() {
+            Ok(())
+        } else {
+            Err(self.fault(Cause::Expected))
+        }
+    }
+}
+
+#[cfg(test)]
+mod tests;

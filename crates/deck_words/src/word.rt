@@ -1,0 +1,78 @@
+//! A word of a deck.
+ghost use Rattle.std.specs.Prelude.{◌≡◌, option_map};
+ghost use Rattle.deck_words.specs.Word.{sign_text, plain_text, literal_text};
+
+use io_state::Name;
+use record_layout::Bytes;
+use std::marker::Model;
+
+/// What a word says.
+#[derive(Drop)]
+pub enum WordText {
+    /// Letters, digits, hyphens and parentheses, in capitals: a name, a reserved word, a number or a picture.
+    Plain(Name),
+    /// What stood between two marks, in which a doubled mark stands once.
+    Literal(Bytes),
+    Sign(Sign),
+    Period,
+}
+
+/// A sign of comparison: `=` `>` `>=` `<`.
+#[derive(Clone, Copy, Debug, PartialEq, Eq)]
+pub enum Sign {
+    Equal,
+    Greater,
+    GreaterOrEqual,
+    Less,
+}
+
+/// A word, and the line of its first byte, from 1. Contracts see its line, its kind and its text.
+#[derive(Drop)]
+pub struct Word {
+    pub line: u64,
+    pub text: WordText,
+}
+
+impl Model for Word {
+    ghost use Rattle.deck_words.specs.Word.{Word as Seen, word_of, kind_of, text_of};
+
+    ghost Value = { Seen };
+
+    ghost view = { λ word. word_of word.line (kind_of word.text) (text_of word.text) };
+}
+
+impl Sign {
+    /// How it is written.
+    pub fn text(self) -> &'static [u8]
+        ensures { result.now ≡ sign_text self }
+    {
+        match self {
+            Sign::Equal => b"=".as_slice(),
+            Sign::Greater => b">".as_slice(),
+            Sign::GreaterOrEqual => b">=".as_slice(),
+            Sign::Less => b"<".as_slice(),
+        }
+    }
+}
+
+impl Word {
+    /// The text of a plain word.
+    pub fn plain(&self) -> Option<&Name>
+        ensures { option_map (λ name. name.now.bytes) result ≡ plain_text self.now }
+    {
+        match &self.text {
+            WordText::Plain(name) => Some(name),
+            WordText::Literal(_) | WordText::Sign(_) | WordText::Period => None,
+        }
+    }
+
+    /// What stands between the marks of a literal.
+    pub fn literal(&self) -> Option<&[u8]>
+        ensures { option_map (λ text. text.now) result ≡ literal_text self.now }
+    {
+        match &self.text {
+            WordText::Literal(text) => Some(text.as_slice()),
+            WordText::Plain(_) | WordText::Sign(_) | WordText::Period => None,
+        }
+    }
+}

@@ -1,0 +1,77 @@
+-- What a file's checks say of it.
+use Rattle.std.proofs.Common.{◌≡◌, ℕ, ◌≤◌, Bool, true, false, ◌&&◌, cond, eqb, leb, ltb, List, [], ◌∷◌, ◌++◌, length, Option, Some, None, refl, sym, ap, ◌∙◌, arith}
+use Rattle.std.specs.Prelude.{Result, Ok, Err}
+use Rattle.std.specs.List.{list_all}
+use Rattle.std.proofs.lemmas.Bool.Decides.{nat_tests}
+use Rattle.std.proofs.lemmas.Option.{same_Some}
+use Rattle.record_layout.specs.declared.fault.SchemaFault.{SchemaFault}
+use Rattle.record_layout.specs.declared.item.Field.{Field}
+use Rattle.record_layout.specs.declared.schema.KeyPart.{KeyPart}
+use Rattle.record_layout.specs.Layout.{Entry, Placed, IsLayout, is_name_of, field_of}
+use Rattle.record_layout.specs.SchemaFault.{KeyClause, key_of_item, key_of_clause, where_a_key, keys_behind, GivesSchema}
+use Rattle.record_layout.specs.Schema.{Schema}
+use Rattle.deck_words.proofs.TestLemmas.{both_true, both_are, then_some}
+use Rattle.deck_entries.specs.FileControlEntry.{FileControlEntry}
+use Rattle.deck_entries.specs.declared.record_length.RecordLength.{RecordLength}
+use Rattle.deck_entries.specs.declared.record_length.RecordLength.TheVariants.{Fixed, Varying}
+use Rattle.deck_entries.specs.RecordLength.{VaryingLength}
+use Rattle.file_control.specs.Description.{least_length}
+use Rattle.file_control.specs.Checks.{are_keys_named}
+use Rattle.file_control.proofs.LayoutLemmas.{no_field}
+
+-- ---- keys are items
+
+key_found : (least : ℕ) (keys : List KeyPart) (duplicates : Bool) (found : Option Field) (key : KeyPart) → key_of_item least keys duplicates found ≡ Ok key → (field : Field) × (found ≡ Some field)
+key_found least keys duplicates None key e = absurd (cc)
+key_found least keys duplicates (Some field) key e = (field, refl)
+
+then_key : (r : Result KeyPart SchemaFault) (follows : KeyPart → Result (List KeyPart) SchemaFault) (all : List KeyPart) → where_a_key r follows ≡ Ok all → (key : KeyPart) × (r ≡ Ok key) × (follows key ≡ Ok all)
+then_key (Err fault) follows all e = absurd (cc)
+then_key (Ok key) follows all e = (key, refl, e)
+
+named_by : (entries : List Entry) (layout : List Placed) (name : List ℕ) (field : Field) → IsLayout entries layout → field_of layout name ≡ Some field → is_name_of entries (Some name) ≡ true
+named_by entries layout name field is e = by_test (is_name_of entries (Some name)) refl
+  where
+    by_test : (b : Bool) → is_name_of entries (Some name) ≡ b → b ≡ true
+    by_test true k = refl
+    by_test false k = let none = sym (no_field entries layout name is k) ∙ e in absurd (cc)
+
+all_named : (entries : List Entry) (layout : List Placed) (least : ℕ) (clauses : List KeyClause) (keys all : List KeyPart) → IsLayout entries layout → keys_behind layout least keys clauses ≡ Ok all → list_all (λ clause. is_name_of entries (Some clause.name)) clauses ≡ true
+all_named entries layout least [] keys all is e = refl
+all_named entries layout least (clause ∷ clauses) keys all is e =
+    let t = then_key (key_of_clause layout least keys clause) (λ key. keys_behind layout least (keys ++ key ∷ []) clauses) all e in
+    let f = key_found least keys clause.duplicates (field_of layout clause.name) t.0 t.1 in
+    both_are (is_name_of entries (Some clause.name)) _ (named_by entries layout clause.name f.0 is f.1) (all_named entries layout least clauses (keys ++ t.0 ∷ []) all is t.2)
+
+passed : (b : Bool) (fault : SchemaFault) (r : Result (List KeyPart) SchemaFault) (all : List KeyPart) → cond b (Err fault) r ≡ Ok all → r ≡ Ok all
+passed true fault r all e = absurd (cc)
+passed false fault r all e = e
+
+-- where there is a schema, each key is an item
+pub keys_are_named : (entries : List Entry) (layout : List Placed) (least : ℕ) (entry : FileControlEntry) (schema : Schema) → IsLayout entries layout → GivesSchema layout least entry.record_key entry.alternate_keys schema → are_keys_named entries entry ≡ true
+keys_are_named entries layout least entry schema is given =
+    let clauses = entry.alternate_keys in
+    let all = all_named entries layout least (record { name = entry.record_key; duplicates = false } ∷ clauses) [] given.0 is (passed (ltb 8 (length clauses)) _ _ given.0 given.1) in
+    let p = both_true (is_name_of entries (Some entry.record_key)) (list_all (λ (clause : KeyClause). is_name_of entries (Some clause.name)) clauses) all in
+    both_are (is_name_of entries (Some entry.record_key)) _ p.0 p.1
+
+-- ---- lengths
+
+pub least_within : (lengths : Option RecordLength) (greatest least : ℕ) → 1 ≤ greatest → least_length lengths greatest ≡ Some least → (1 ≤ least) × (least ≤ greatest)
+least_within None greatest least some e = let same = same_Some greatest least e in (omega (arith, some, same), omega (arith, same))
+least_within (Some (Fixed n)) greatest least some e =
+    let same = same_Some greatest least (then_some (eqb n greatest) (Some greatest) least e).1 in (omega (arith, some, same), omega (arith, same))
+least_within (Some (Varying lengths)) greatest least some e =
+    let from = lengths.least in
+    let to = lengths.greatest in
+    let t = then_some (leb 1 from && (leb from to && eqb to greatest)) (Some from) least e in
+    let same : from ≡ least = same_Some from least t.1 in
+    let a = both_true (leb 1 from) (leb from to && eqb to greatest) t.0 in
+    let b = both_true (leb from to) (eqb to greatest) a.1 in
+    (low from least a.0 same, high from to greatest least b.0 b.1 same)
+  where
+    low : (from least : ℕ) → leb 1 from ≡ true → from ≡ least → 1 ≤ least
+    low from least e same = grind (arith, nat_tests)
+
+    high : (from to greatest least : ℕ) → leb from to ≡ true → eqb to greatest ≡ true → from ≡ least → least ≤ greatest
+    high from to greatest least k m same = grind (arith, nat_tests)

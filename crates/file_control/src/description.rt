@@ -1,0 +1,95 @@
+//! The description of a deck, read whole.
+ghost use Rattle.std.specs.Prelude.{◌≡◌, ◌≢◌, List, IfOk, IfErr};
+ghost use Rattle.deck_words.specs.Fault.{IsFault, IsTold};
+ghost use Rattle.deck_words.specs.Word.{Word};
+ghost use Rattle.file_control.specs.declared.description.Description.{Description};
+ghost use Rattle.file_control.specs.Description.{FileDesc as File, LengthItem as Digits};
+ghost use Rattle.file_control.specs.Whole.{Describe, IsDescription};
+ghost use Rattle.file_control.specs.Described.{AreDescribed};
+
+use crate::data_names::DataNames;
+use crate::files::{FileList, ItemList, files_of, items_of};
+use deck_entries::{Divisions, read_divisions};
+use deck_words::{Cause, DeckFault, Parser, Refusal, Word};
+use std::alloc::Global;
+
+/// The files of a deck in the order of their SELECT entries, its 77-level items, and how many words were read: the word
+/// behind them is PROCEDURE.
+#[derive(Drop)]
+pub struct Description {
+    pub files: FileList,
+    pub items: ItemList,
+    pub words: usize,
+}
+
+/// Files and 77-level items.
+#[derive(Drop)]
+struct Contents {
+    files: FileList,
+    items: ItemList,
+}
+
+/// What the divisions describe.
+fn contents_of(alloc: Global, divisions: &Divisions) -> Result<Contents, Refusal>
+    ensures contents { IfOk result (λ contents. Describe divisions.now contents.files contents.items) }
+    ensures none { IfErr result (λ refusal. IsFault refusal → (files : List File) (items : List Digits) →
+        Describe divisions.now files items → ⊥) }
+{
+    let mut names = DataNames::new(alloc);
+    let files = files_of(
+        alloc,
+        divisions.entries.as_slice(),
+        divisions.descriptions.as_slice(),
+        divisions.storage.as_slice(),
+        &mut names,
+    )?;
+    let items = items_of(alloc, divisions.storage.as_slice(), &mut names)?;
+    Ok(Contents { files, items })
+}
+
+fn read(alloc: Global, words: &[Word]) -> Result<Description, Refusal>
+    ensures description { IfOk result (IsDescription words.now) }
+    ensures none { IfErr result (λ refusal. IsFault refusal →
+        (description : Description) → IsDescription words.now description → ⊥) }
+{
+    let mut parser = Parser::new(words);
+    let divisions = read_divisions(&mut parser, alloc)?;
+    if !parser.sees(b"PROCEDURE") {
+        return Err(parser.fault(Cause::Expected));
+    }
+    let contents = contents_of(alloc, &divisions)?;
+    let Contents { files, items } = contents;
+    Ok(Description {
+        files,
+        items,
+        words: words.len().saturating_sub(parser.left()),
+    })
+}
+
+/// The description that the words up to PROCEDURE are, or the first fault. The faults of the words come first, in their order: code
+/// 2 for a word with which no deck goes on, 4 for a clause, a name or a file name a second time, 6 for a ninth entry, a ninth alternate
+/// key and a number of more than 18 digits, 5 for a literal that is no file name, 3 for a description of a file without an
+/// entry. Then those of each file, in the order of the entries, and of the 77-level items: 3 for a name that nothing has, 7 for
+/// items, lengths and keys that are none, 4 for a data name that is there already. Or code 8.
+pub fn read_description(alloc: Global, words: &[Word]) -> Result<Description, DeckFault>
+    ensures description { IfOk result (IsDescription words.now) }
+    ensures none { IfErr result (λ fault. fault.code ≢ 8 →
+        (description : Description) → IsDescription words.now description → ⊥) }
+    ensures told { IfErr result IsTold }
+{
+    Ok(read(alloc, words)?)
+}
+
+/// The files and items of a description are what a run can rely on.
+pub fn are_described()
+    ensures { (words : List Word) (description : Description) → IsDescription words description →
+        AreDescribed description.files description.items }
+{}
+
+/// No words have two descriptions.
+pub fn one_description()
+    ensures { (a b : Description) (words : List Word) → IsDescription words a → IsDescription words b → a ≡ b }
+{}
+
+#[cfg(test)]
+mod tests;

@@ -1,0 +1,293 @@
+//! A file, as its entry and its description describe it.
+ghost use Rattle.std.specs.Prelude.{◌≡◌, ◌≤◌, ◌≢◌, ℕ, false, List, Option, map, option_map, OnErr, IfOk, IfErr};
+ghost use Rattle.record_layout.specs.Layout.{Placed as PlacedItem, entry_of, IsLayout, length_of};
+ghost use Rattle.record_layout.specs.Schema.{Schema as Keys, IsSchema};
+ghost use Rattle.record_layout.specs.SchemaFault.{GivesSchema};
+ghost use Rattle.record_layout.specs.declared.fault.LayoutFault.{LayoutFault};
+ghost use Rattle.deck_words.specs.Fault.{IsFault};
+ghost use Rattle.file_control.specs.Description.{FileDesc as File, record_name, least_length, DependsOn, IsFile, are_new};
+ghost use Rattle.file_control.specs.Checks.{are_keys_named};
+
+use crate::data_names::{DataNames, are_new};
+use crate::keys::are_keys_named;
+use crate::length_item::length_item;
+use deck_entries::{Described, FileControlEntry, RecordLength, Selected, StorageItem};
+use deck_words::{Cause, Refusal};
+use io_state::{Access, FileName, Name};
+use record_layout::{Item, Layout, LayoutFault, Schema, one_outcome};
+use std::alloc::Global;
+use std::marker::Model;
+
+/// A file of a deck: its name in the program, the name of its file in the folder, the name of its record, the places of the
+/// items, the keys, and the place among the 77-level items of the one that a record's length depends on.
+#[derive(Drop)]
+pub struct FileDesc {
+    pub name: Name,
+    pub file: FileName,
+    pub access: Access,
+    pub optional: bool,
+    pub entry: Option<Name>,
+    pub layout: Layout,
+    pub schema: Schema,
+    pub depends_on: Option<usize>,
+}
+
+impl Model for FileDesc {
+    ghost use Rattle.std.specs.Prelude.{option_map};
+    ghost use Rattle.file_control.specs.Description.{FileDesc as File};
+
+    ghost Value = { File };
+
+    ghost view = { λ f. record { name = f.name.bytes; file = f.file.bytes; access = f.access; optional = f.optional; entry = option_map (λ name. name.bytes) f.entry; layout = f.layout; schema = f.schema; depends_on = f.depends_on } };
+}
+
+/// Looks at the keys of an entry: each is an item.
+fn check_entry(selected: &Selected, described: &Described) -> Result<(), Refusal>
+    ensures { OnErr result (are_keys_named described.now.items selected.now ≡ false) }
+{
+    if !are_keys_named(described.items(), &selected.entry) {
+        return Err(Refusal::Fault(selected.line, Cause::Unknown));
+    }
+    Ok(())
+}
+
+fn layout_refusal(line: u64, fault: LayoutFault) -> Refusal
+    ensures { IsFault result → fault ≢ LayoutFault.Memory }
+{
+    if fault == LayoutFault::Memory {
+        Refusal::Memory
+    } else {
+        Refusal::Fault(line, Cause::Layout)
+    }
+}
+
+fn layout_of(alloc: Global, line: u64, items: &[Item]) -> Result<Layout, Refusal>
+    ensures laid { IfOk result (IsLayout (map entry_of items.now)) }
+    ensures none { IfErr result (λ refusal. IsFault refusal →
+        (layout : List PlacedItem) → IsLayout (map entry_of items.now) layout → ⊥) }
+{
+    one_outcome();
+    match Layout::build(alloc, items) {
+        Ok(layout) => Ok(layout),
+        Err(fault) => Err(layout_refusal(line, fault)),
+    }
+}
+
+fn described_layout(alloc: Global, described: &Described) -> Result<Layout, Refusal>
+    ensures laid { IfOk result (IsLayout described.now.items) }
+    ensures none { IfErr result (λ refusal. IsFault refusal →
+        (layout : List PlacedItem) → IsLayout described.now.items layout → ⊥) }
+{
+    layout_of(alloc, described.line, described.items())
+}
+
+fn least_of(described: &Described, layout: &Layout) -> Option<u16>
+    ensures least { result ≡ least_length described.now.lengths (length_of layout.now) }
+    ensures some { 1 ≤ length_of layout.now }
+{
+    least_length(&described.lengths, layout.length())
+}
+
+fn are_names_new(names: &DataNames, described: &Described) -> bool
+    ensures { result ≡ are_new names.now described.now.items }
+{
+    are_new(names, described.items())
+}
+
+fn place_of(storage: &[StorageItem], described: &Described) -> Result<Option<usize>, Cause>
+    ensures place { IfOk result (DependsOn storage.now described.now.lengths) }
+    ensures none { IfErr result (λ cause. (place : Option ℕ) → DependsOn storage.now described.now.lengths place → ⊥) }
+{
+    depends_on(storage, &described.lengths)
+}
+
+/// The least length of the records, where the lengths that are described end with that of the record.
+fn least_length(lengths: &Option<RecordLength>, greatest: u16) -> Option<u16>
+    ensures { result ≡ least_length lengths.now greatest }
+{
+    match lengths {
+        None => Some(greatest),
+        Some(RecordLength::Fixed(length)) => {
+            if *length == u64::from(greatest) {
+                Some(greatest)
+            } else {
+                None
+            }
+        }
+        Some(RecordLength::Varying(lengths)) => {
+            let least = lengths.least;
+            let to = lengths.greatest;
+            if least >= 1 && least <= to && to == u64::from(greatest) {
+                Some(least as u16)
+            } else {
+                None
+            }
+        }
+    }
+}
+
+/// The place of the item that a record's length depends on, if its length varies.
+fn depends_on(
+    storage: &[StorageItem],
+    lengths: &Option<RecordLength>,
+) -> Result<Option<usize>, Cause>
+    ensures place { IfOk result (DependsOn storage.now lengths.now) }
+    ensures none { IfErr result (λ cause. (place : Option ℕ) → DependsOn storage.now lengths.now place → ⊥) }
+{
+    match lengths {
+        Some(RecordLength::Varying(lengths)) => match length_item(
+            storage,
+            lengths.item_bytes(),
+            lengths.greatest,
+        ) {
+            Ok(place) => Ok(Some(place)),
+            Err(cause) => Err(cause),
+        },
+        Some(RecordLength::Fixed(_)) => Ok(None),
+        None => Ok(None),
+    }
+}
+
+/// What is known of each schema.
+fn know(schema: &Schema)
+    ensures { IsSchema schema.now }
+{
+    schema.greatest();
+}
+
+fn schema_of(
+    alloc: Global,
+    line: u64,
+    layout: &Layout,
+    least: u16,
+    entry: &FileControlEntry,
+) -> Result<Schema, Refusal>
+    requires some { 1 ≤ least }
+    requires within { least ≤ length_of layout.now }
+    ensures given { IfOk result (λ schema. IsSchema schema ×
+        GivesSchema layout.now least entry.now.record_key entry.now.alternate_keys schema) }
+    ensures none { IfErr result (λ refusal. IsFault refusal → (schema : Keys) →
+        GivesSchema layout.now least entry.now.record_key entry.now.alternate_keys schema → ⊥) }
+{
+    let prime = entry.record_key.as_str();
+    match Schema::varying(layout, least, prime, entry.alternate_keys.as_slice()) {
+        Ok(schema) => {
+            know(&schema);
+            Ok(schema)
+        }
+        Err(_) => Err(Refusal::Fault(line, Cause::Layout)),
+    }
+}
+
+/// The name of the record, which is the first item.
+fn record_name(items: &[Item]) -> Option<Name>
+    ensures { option_map (λ name. name.bytes) result ≡ record_name (map entry_of items.now) }
+{
+    match items.first() {
+        Some(item) => item.name,
+        None => None,
+    }
+}
+
+fn file_of(
+    entry: &FileControlEntry,
+    items: &[Item],
+    layout: Layout,
+    schema: Schema,
+    depends_on: Option<usize>,
+) -> FileDesc
+    ensures { result ≡ record {
+      name = entry.now.name;
+      file = entry.now.file_name;
+      access = entry.now.access;
+      optional = entry.now.optional;
+      entry = record_name (map entry_of items.now);
+      layout = layout;
+      schema = schema;
+      depends_on = depends_on;
+    } }
+{
+    FileDesc {
+        name: entry.name,
+        file: entry.file_name,
+        access: entry.access,
+        optional: entry.optional,
+        entry: record_name(items),
+        layout,
+        schema,
+        depends_on,
+    }
+}
+
+fn selected_schema(
+    alloc: Global,
+    selected: &Selected,
+    layout: &Layout,
+    least: u16,
+) -> Result<Schema, Refusal>
+    requires some { 1 ≤ least }
+    requires within { least ≤ length_of layout.now }
+    ensures given { IfOk result (λ schema. IsSchema schema ×
+        GivesSchema layout.now least selected.now.record_key selected.now.alternate_keys schema) }
+    ensures none { IfErr result (λ refusal. IsFault refusal → (schema : Keys) →
+        GivesSchema layout.now least selected.now.record_key selected.now.alternate_keys schema → ⊥) }
+{
+    schema_of(alloc, selected.line, layout, least, &selected.entry)
+}
+
+fn whole_file(
+    selected: &Selected,
+    described: &Described,
+    layout: Layout,
+    schema: Schema,
+    depends_on: Option<usize>,
+) -> FileDesc
+    ensures { result ≡ record {
+      name = selected.now.name;
+      file = selected.now.file_name;
+      access = selected.now.access;
+      optional = selected.now.optional;
+      entry = record_name described.now.items;
+      layout = layout;
+      schema = schema;
+      depends_on = depends_on;
+    } }
+{
+    file_of(
+        &selected.entry,
+        described.items(),
+        layout,
+        schema,
+        depends_on,
+    )
+}
+
+/// The file of an entry and its description, behind the data names of earlier files. The faults are looked for in this order:
+/// a key that names no item, items that are no layout, lengths that are not the record's, a data name that is there, an item
+/// that cannot hold a record's length, and any other fault of the keys.
+pub fn file(
+    alloc: Global,
+    selected: &Selected,
+    described: &Described,
+    storage: &[StorageItem],
+    names: &DataNames,
+) -> Result<FileDesc, Refusal>
+    ensures file { IfOk result (IsFile names.now storage.now selected.now described.now) }
+    ensures none { IfErr result (λ refusal. IsFault refusal →
+        (file : File) → IsFile names.now storage.now selected.now described.now file → ⊥) }
+{
+    check_entry(selected, described)?;
+    let layout = described_layout(alloc, described)?;
+    let Some(least) = least_of(described, &layout) else {
+        return Err(Refusal::Fault(described.line, Cause::Layout));
+    };
+    if !are_names_new(names, described) {
+        return Err(Refusal::Fault(described.line, Cause::Twice));
+    }
+    let place = match place_of(storage, described) {
+        Ok(place) => place,
+        Err(cause) => return Err(Refusal::Fault(described.line, cause)),
+    };
+    let schema = selected_schema(alloc, selected, &layout, least)?;
+    Ok(whole_file(selected, described, layout, schema, place))
+}

@@ -1,0 +1,180 @@
+//! The files of a deck, and its 77-level items.
+ghost use Rattle.std.specs.Prelude.{◌≡◌, ℕ, true, false, List, [], ◌∷◌, option_map, IfOk, IfErr};
+ghost use Rattle.std.specs.Str.{bytes_eq};
+ghost use Rattle.deck_words.specs.Fault.{IsFault};
+ghost use Rattle.file_control.specs.Description.{FileDesc as File, LengthItem as Digits, description_of_file, IsFile, AreFiles, AreItems, HasDigits, has_name, with_names};
+
+use crate::data_names::DataNames;
+use crate::file::{FileDesc, file};
+use crate::length_item::digits_of_item;
+use deck_entries::{Described, Selected, StorageItem};
+use deck_words::{Cause, Refusal};
+use io_state::Name;
+use std::alloc::{AllocError, Global};
+use std::marker::Model;
+
+/// Files in the order of their SELECT entries, which contracts see as a list.
+#[derive(Drop)]
+pub struct FileList {
+    files: Vec<FileDesc>,
+}
+
+impl Model for FileList {
+    ghost use Rattle.std.specs.Prelude.{List};
+    ghost use Rattle.file_control.specs.Description.{FileDesc};
+
+    ghost Value = { List FileDesc };
+
+    ghost view = { λ f. f.files.items };
+}
+
+/// A 77-level item, and how many digits it has.
+#[derive(Drop)]
+pub struct LengthItem {
+    pub name: Name,
+    pub digits: u16,
+}
+
+impl Model for LengthItem {
+    ghost use Rattle.file_control.specs.Description.{LengthItem as Item};
+
+    ghost Value = { Item };
+
+    ghost view = { λ i. record { name = i.name.bytes; digits = i.digits } };
+}
+
+/// 77-level items in their order, which contracts see as a list.
+#[derive(Drop)]
+pub struct ItemList {
+    items: Vec<LengthItem>,
+}
+
+impl Model for ItemList {
+    ghost use Rattle.std.specs.Prelude.{List};
+    ghost use Rattle.file_control.specs.Description.{LengthItem};
+
+    ghost Value = { List LengthItem };
+
+    ghost view = { λ i. i.items.items };
+}
+
+impl FileList {
+    ghost use Rattle.std.specs.Prelude.{◌≡◌, [], ◌∷◌, ◌++◌, OnOk};
+
+    fn new(alloc: Global) -> Self
+        ensures { result ≡ [] }
+    {
+        FileList {
+            files: Vec::new(alloc),
+        }
+    }
+
+    fn push(&mut self, file: FileDesc) -> Result<(), AllocError>
+        ensures { OnOk result (self.new ≡ self.old ++ file ∷ []) }
+    {
+        self.files.push(file)?;
+        Ok(())
+    }
+
+    /// The files themselves.
+    pub fn as_slice(&self) -> &[FileDesc]
+        ensures { result.now ≡ self.now }
+    {
+        self.files.as_slice()
+    }
+}
+
+impl ItemList {
+    ghost use Rattle.std.specs.Prelude.{◌≡◌, [], ◌∷◌, ◌++◌, OnOk};
+
+    fn new(alloc: Global) -> Self
+        ensures { result ≡ [] }
+    {
+        ItemList {
+            items: Vec::new(alloc),
+        }
+    }
+
+    fn push(&mut self, item: LengthItem) -> Result<(), AllocError>
+        ensures { OnOk result (self.new ≡ self.old ++ item ∷ []) }
+    {
+        self.items.push(item)?;
+        Ok(())
+    }
+
+    /// The items themselves.
+    pub fn as_slice(&self) -> &[LengthItem]
+        ensures { result.now ≡ self.now }
+    {
+        self.items.as_slice()
+    }
+}
+
+fn is_of(description: &Described, name: &[u8]) -> bool
+    ensures { result ≡ bytes_eq description.now.name name.now }
+{
+    description.name() == name
+}
+
+/// The description of a file.
+fn described_as<'a>(descriptions: &'a [Described], name: &[u8]) -> Option<&'a Described>
+    ensures { option_map (λ d. d.now) result ≡ description_of_file descriptions.now name.now }
+{
+    descriptions
+        .iter()
+        .find(|description| is_of(description, name))
+}
+
+/// The files of entries, in their order, whose data names are added to the ones before.
+pub fn files_of(
+    alloc: Global,
+    entries: &[Selected],
+    descriptions: &[Described],
+    storage: &[StorageItem],
+    names: &mut DataNames,
+) -> Result<FileList, Refusal>
+    ensures files { IfOk result (λ files. AreFiles descriptions.now storage.now names.old entries.now files names.new) }
+    ensures none { IfErr result (λ refusal. IsFault refusal → (files : List File) (after : List (List ℕ)) →
+        AreFiles descriptions.now storage.now names.old entries.now files after → ⊥) }
+{
+    let mut files = FileList::new(alloc);
+    let mut rest = entries;
+    'more: while let Some((selected, after)) = rest.split_first() {
+        let Some(described) = described_as(descriptions, selected.name()) else {
+            return Err(Refusal::Fault(selected.line, Cause::Unknown));
+        };
+        let next = file(alloc, selected, described, storage, names)?;
+        names.add_all(described.items())?;
+        files.push(next)?;
+        rest = after;
+    }
+    Ok(files)
+}
+
+/// The 77-level items, whose names are new behind these.
+pub fn items_of(
+    alloc: Global,
+    storage: &[StorageItem],
+    names: &mut DataNames,
+) -> Result<ItemList, Refusal>
+    ensures items { IfOk result (AreItems names.old storage.now) }
+    ensures none { IfErr result (λ refusal. IsFault refusal → (items : List Digits) → AreItems names.old storage.now items → ⊥) }
+{
+    let mut items = ItemList::new(alloc);
+    let mut rest = storage;
+    'more: while let Some((item, after)) = rest.split_first() {
+        if names.has(item.name_bytes()) {
+            return Err(Refusal::Fault(item.line, Cause::Twice));
+        }
+        let Some(digits) = digits_of_item(item) else {
+            return Err(Refusal::Fault(item.line, Cause::Layout));
+        };
+        names.push(item.name)?;
+        items.push(LengthItem {
+            name: item.name,
+            digits,
+        })?;
+        rest = after;
+    }
+    Ok(items)
+}

@@ -1,7 +1,0 @@
-use Rattle.std.proofs.Common.{◌≡◌, take}
-use Rattle.record_layout.specs.Picture.{number}
-use Rattle.record_layout.specs.Reading.{capped}
-use Rattle.file_description.proofs.record_length.number_of.Given as goal
-
-abbrev pub invariant-loop-digit : goal.invariant-loop-digit
-invariant-loop-digit l = l.n ≡ capped (number (take l.digit-index l.digits))

@@ -1,6 +1,0 @@
-pub mod FileDescription
-pub mod Divisions
-pub mod Description
-pub mod Checks
-pub mod Whole
-pub mod Described

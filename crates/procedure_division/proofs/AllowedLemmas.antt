@@ -1,0 +1,374 @@
+-- The statements of a procedure are allowed.
+use Rattle.std.proofs.Common.{◌≡◌, ℕ, cond, ◌+◌, ◌<◌, ◌≤◌, ◌==◌, Bool, true, false, not, ◌&&◌, ◌||◌, List, [], ◌∷◌, length, Option, Some, None, refl, sym, ap, ◌∙◌, subst, arith}
+use Rattle.std.specs.Prelude.{codes, nat_le, bytes_eq, is_some, slice_get, option_and_then, All, IsFalse}
+use Rattle.std.specs.Option.{option_map, option_map_or}
+use Rattle.std.proofs.lemmas.Bool.{false≢true}
+use Rattle.std.proofs.lemmas.Option.{get_or_from_slice_get, slice_get_within, same_Some}
+use Rattle.deck_words.specs.Rule.{Rule, optional, onto, where_it_gives}
+use Rattle.deck_words.specs.Notation.{the, name, period, may, is_there, ◌▸◌, ◌◂◌, ◌⊗◌, ◌∣◌}
+use Rattle.deck_words.proofs.TestLemmas.{both_true, bind_some, map_some, then_some, not_is}
+use Rattle.io_state.specs.declared.modes.Access.{Access}
+use Rattle.io_state.specs.declared.modes.Access.TheVariants.{Sequential, Random, Dynamic}
+use Rattle.io_state.specs.declared.modes.OpenMode.{OpenMode}
+use Rattle.io_state.specs.declared.modes.OpenMode.TheVariants.{Input, Output, InputOutput, Extend}
+use Rattle.io_state.specs.Permission.{is_sequential, is_random, may_open}
+use Rattle.record_layout.specs.declared.item.Field.{Field}
+use Rattle.record_layout.specs.declared.schema.KeyPart.{KeyPart}
+use Rattle.record_layout.specs.Layout.{Placed, is_named, field_of, length_of, IsRecord}
+use Rattle.record_layout.specs.Schema.{AreKeys, IsSchema, key_at, key_of_field, key_led_by}
+use Rattle.record_layout.specs.Area.{is_taken_by}
+use Rattle.record_layout.specs.declared.area.Source.{Source}
+use Rattle.record_layout.specs.declared.area.Source.TheVariants.{Fill}
+use Rattle.record_layout.specs.declared.area.Figure.TheVariants.{Zero}
+use Rattle.io_state.specs.declared.modes.Relation.{Relation}
+use Rattle.std.proofs.lemmas.Bool.Decides.{nat_tests}
+use Rattle.io_state.specs.declared.statement.FileStatement.TheVariants.{Open, Close, Write, Rewrite, Delete}
+use Rattle.procedure_division.specs.declared.statement.Statement.{Statement}
+use Rattle.procedure_division.specs.declared.statement.Statement.TheVariants.{Perform, Move, MoveLength, StopRun}
+use Rattle.file_control.specs.Description.{FileDesc}
+use Rattle.file_control.specs.Described.{IsDescribedFile, AreDescribed}
+use Rattle.procedure_division.specs.Allowed.{IsAllowedOn, IsAllowed}
+use Rattle.procedure_division.specs.Following.{followed, where_allowed}
+use Rattle.procedure_division.specs.Names.{Names, file_of, record_of, item_in, holder_of, item_of, length_item_of, access_at, prime_length, key_of, led_key_of}
+use Rattle.procedure_division.specs.Procedure.{statement, sentence, paragraph, paragraph_or_sentence, procedure}
+use Rattle.procedure_division.specs.StatementRules.{joined, some_of, perform, file, record_name, file_to_open, opened, opening, open_statement, lock, closed, close_statement, next, key_named, key, key_phrase, read_by, read_operand, read_phrases, read_statement, relation, file_to_start_named, file_to_start, led_key_named, led_key, start_by, start_phrase, start_operand, start_statement, source, moved_to, moved_to_named, receiver, receivers, move_statement, write_statement, rewrite_statement, delete_statement, stop_statement}
+use Rattle.procedure_division.proofs.GivesLemmas.{Gives, gives_second, gives_first, gives_pair, gives_either, gives_as, gives_followed, IfThere, gives_optional, joined_all, gives_some, found, all_at, one_all, field_found, keys_there}
+use Rattle.procedure_division.proofs.SourceLemmas.{HasDigits, gives_source, taken_is_number}
+
+-- ---- the file of a place
+
+abbrev pub IsFileOf : Names → ℕ → Type 0
+IsFileOf names u = (known : FileDesc) × (slice_get names.files u ≡ Some known)
+
+pub gives_file : (names : Names) → Gives (IsFileOf names) (file names)
+unfolding file
+gives_file names = gives_as (λ _. Unit {0}) (IsFileOf names) (file_of names) name (λ _ _ _ _. tt) (λ text u _ e. let f = found (λ known. bytes_eq known.name text) names.files u e in (f.0, f.1))
+
+pub gives_record_name : (names : Names) → Gives (IsFileOf names) (record_name names)
+unfolding record_name
+gives_record_name names = gives_as (λ _. Unit {0}) (IsFileOf names) (record_of names) name (λ _ _ _ _. tt) (λ text u _ e. let f = found (λ known. is_named text known.entry) names.files u e in (f.0, f.1))
+
+-- a rule whose value is one statement
+gives_one : {A : Type 0} (names : Names) (P : A → Type 0) (g : A → Statement) (p : Rule A) → Gives P p → ((x : A) → P x → IsAllowed names (g x)) → Gives (All (IsAllowed names)) (where_it_gives (λ x. Some (g x ∷ [])) p)
+gives_one names P g p h k =
+    gives_as P (All (IsAllowed names)) (λ x. Some (g x ∷ [])) p h (λ x y px e. subst (All (IsAllowed names)) (same_Some (g x ∷ []) y e) (one_all (IsAllowed names) (g x) (k x px)))
+
+access_is : (names : Names) (u : ℕ) (known : FileDesc) → slice_get names.files u ≡ Some known → access_at names u ≡ known.access
+access_is names u known e = ap (λ o. option_map_or (λ file. file.access) o Sequential) e
+
+-- ---- OPEN and CLOSE
+
+open_allowed : (names : Names) (mode : OpenMode) (text : List ℕ) (statements : List Statement) → file_to_open names mode text ≡ Some statements → All (IsAllowed names) statements
+open_allowed names mode text statements e =
+    let a = bind_some (λ u. cond (may_open (access_at names u) mode) (Some (perform u (Open mode))) None) (file_of names text) statements e in
+    let t = then_some (may_open (access_at names a.0) mode) (Some (perform a.0 (Open mode))) statements a.2 in
+    let f = found (λ known. bytes_eq known.name text) names.files a.0 a.1 in
+    subst (All (IsAllowed names)) (same_Some (perform a.0 (Open mode)) statements t.1)
+    (one_all (IsAllowed names) (Perform a.0 (Open mode)) (f.0, f.1, subst (λ access. may_open access mode ≡ true) (access_is names a.0 f.0 f.1) t.0))
+
+pub gives_opened : (names : Names) (mode : OpenMode) → Gives (All (IsAllowed names)) (opened names mode)
+unfolding opened
+gives_opened names mode = gives_as (λ _. Unit {0}) (All (IsAllowed names)) (file_to_open names mode) name (λ _ _ _ _. tt) (λ text statements _ e. open_allowed names mode text statements e)
+
+opened_all : (names : Names) (text : List ℕ) (mode : OpenMode) → Gives (All (IsAllowed names)) (the text ▸ some_of (opened names mode))
+opened_all names text mode =
+    gives_second (All (IsAllowed names)) (the text) (some_of (opened names mode)) (gives_some (IsAllowed names) (opened names mode) (gives_opened names mode))
+
+pub gives_opening : (names : Names) → Gives (All (IsAllowed names)) (opening names)
+unfolding opening
+gives_opening names =
+    let P = All (IsAllowed names) in
+    let input = the (codes "INPUT") ▸ some_of (opened names Input) in
+    let output = the (codes "OUTPUT") ▸ some_of (opened names Output) in
+    let update = the (codes "I-O") ▸ some_of (opened names InputOutput) in
+    let extend = the (codes "EXTEND") ▸ some_of (opened names Extend) in
+    gives_either P input (output ∣ update ∣ extend) (opened_all names (codes "INPUT") Input)
+    (gives_either P output (update ∣ extend) (opened_all names (codes "OUTPUT") Output)
+    (gives_either P update extend (opened_all names (codes "I-O") InputOutput) (opened_all names (codes "EXTEND") Extend)))
+
+pub gives_open : (names : Names) → Gives (All (IsAllowed names)) (open_statement names)
+unfolding open_statement
+gives_open names =
+    gives_second (All (IsAllowed names)) (the (codes "OPEN")) (some_of (opening names)) (gives_some (IsAllowed names) (opening names) (gives_opening names))
+
+pub gives_closed : (names : Names) → Gives (All (IsAllowed names)) (closed names)
+unfolding closed
+gives_closed names =
+    gives_one names (λ c. IsFileOf names c.0 × Unit {0}) (λ c. Perform c.0 (Close c.1)) (file names ⊗ lock)
+    (gives_pair (IsFileOf names) (λ _. Unit {0}) (file names) lock (gives_file names) (λ _ _ _ _. tt)) (λ c p. (p.0.0, p.0.1, tt))
+
+pub gives_close : (names : Names) → Gives (All (IsAllowed names)) (close_statement names)
+unfolding close_statement
+gives_close names =
+    gives_second (All (IsAllowed names)) (the (codes "CLOSE")) (some_of (closed names)) (gives_some (IsAllowed names) (closed names) (gives_closed names))
+
+-- ---- WRITE, REWRITE, DELETE and STOP
+
+pub gives_write : (names : Names) → Gives (All (IsAllowed names)) (write_statement names)
+unfolding write_statement
+gives_write names =
+    gives_one names (IsFileOf names) (λ u. Perform u Write) (the (codes "WRITE") ▸ record_name names)
+    (gives_second (IsFileOf names) (the (codes "WRITE")) (record_name names) (gives_record_name names)) (λ u p. (p.0, p.1, tt))
+
+pub gives_rewrite : (names : Names) → Gives (All (IsAllowed names)) (rewrite_statement names)
+unfolding rewrite_statement
+gives_rewrite names =
+    gives_one names (IsFileOf names) (λ u. Perform u Rewrite) (the (codes "REWRITE") ▸ record_name names)
+    (gives_second (IsFileOf names) (the (codes "REWRITE")) (record_name names) (gives_record_name names)) (λ u p. (p.0, p.1, tt))
+
+pub gives_delete : (names : Names) → Gives (All (IsAllowed names)) (delete_statement names)
+unfolding delete_statement
+gives_delete names =
+    gives_one names (IsFileOf names) (λ u. Perform u Delete) (the (codes "DELETE") ▸ file names ◂ may (codes "RECORD"))
+    (gives_second (IsFileOf names) (the (codes "DELETE")) (file names ◂ may (codes "RECORD"))
+    (gives_first (IsFileOf names) (file names) (may (codes "RECORD")) (gives_file names))) (λ u p. (p.0, p.1, tt))
+
+pub gives_stop : (names : Names) → Gives (All (IsAllowed names)) stop_statement
+unfolding stop_statement
+gives_stop names = gives_one names (λ _. Unit {0}) (λ _. StopRun) (the (codes "STOP") ▸ the (codes "RUN")) (λ _ _ _ _. tt) (λ _ _. tt)
+
+-- ---- READ
+
+-- what a READ that is sequential, or not, asks of the access mode
+abbrev pub IsWay : Access → Bool → Type 0
+IsWay access true = IsFalse (is_random access)
+IsWay access false = IsFalse (is_sequential access)
+
+way_of : (access : Access) (n : Option (Unit {0})) → IfThere (λ _. not (is_random access) ≡ true) n → IsWay access (is_sequential access || is_there n)
+way_of Sequential n h = refl
+way_of Random None h = refl
+way_of Random (Some _) h = absurd (false≢true h)
+way_of Dynamic None h = refl
+way_of Dynamic (Some _) h = refl
+
+pub gives_next : (access : Access) → Gives (IsWay access) (next access)
+unfolding next
+gives_next access =
+    let word = where_allowed (not (is_random access)) (the (codes "NEXT")) in
+    gives_as (IfThere (λ _. not (is_random access) ≡ true)) (IsWay access) (λ n. Some (is_sequential access || is_there n)) (optional word)
+    (gives_optional (λ _. not (is_random access) ≡ true) word
+    (gives_as (λ _. Unit {0}) (λ _. not (is_random access) ≡ true) (λ x. cond (not (is_random access)) (Some x) None) (the (codes "NEXT")) (λ _ _ _ _. tt)
+    (λ x y _ e. (then_some (not (is_random access)) (Some x) y e).0)))
+    (λ n y h e. subst (IsWay access) (same_Some (is_sequential access || is_there n) y e) (way_of access n h))
+
+module _ (names : Names) (u : ℕ) (known : FileDesc) (at : slice_get names.files u ≡ Some known) where
+  item_in_is : (text : List ℕ) → item_in names u text ≡ field_of known.layout text
+  item_in_is text = ap (λ o. option_and_then (λ file. field_of file.layout text) o) at
+
+  key_of_is : (field : Field) → key_of names u field ≡ key_of_field known.schema field
+  key_of_is field = ap (λ o. option_and_then (λ file. key_of_field file.schema field) o) at
+
+  pub gives_key : Gives (λ k. k < length known.schema.keys) (key names u)
+  unfolding key
+  gives_key = gives_as (λ _. Unit {0}) (λ k. k < length known.schema.keys) (key_named names u) name (λ _ _ _ _. tt) (λ text k _ e.
+      let a = bind_some (key_of names u) (item_in names u text) k e in
+      let f = found (λ part. (part.offset == a.0.offset) && (part.length == a.0.length)) known.schema.keys k (sym (key_of_is a.0) ∙ a.2) in
+      slice_get_within known.schema.keys k f.0 f.1)
+
+  pub gives_key_phrase : (sequential : Bool) → Gives (IfThere (λ k. (sequential ≡ false) × (k < length known.schema.keys))) (key_phrase names u sequential)
+  unfolding key_phrase
+  gives_key_phrase sequential =
+      let Q = λ (k : ℕ). (sequential ≡ false) × (k < length known.schema.keys) in
+      let word = where_allowed (not sequential) (the (codes "KEY")) in
+      let rest = may (codes "IS") ▸ key names u in
+      gives_optional Q (word ▸ rest) (λ k words after s. (
+        not_is sequential (then_some (not sequential) (Some s.4.0) s.0 s.4.1).0,
+        gives_second (λ k. k < length known.schema.keys) word rest (gives_second (λ k. k < length known.schema.keys) (may (codes "IS")) (key names u) gives_key) k words after s,
+      ))
+
+  read_allowed : AreKeys known.schema.keys → (sequential : Bool) (k : Option ℕ) → IsWay known.access sequential → IfThere (λ k. (sequential ≡ false) × (k < length known.schema.keys)) k → IsAllowedOn known (read_by sequential k)
+  read_allowed keys true None way h = way
+  read_allowed keys false None way h = (way, keys_there known.schema.keys keys)
+  read_allowed keys true (Some k) way h = absurd (false≢true (sym h.0))
+  read_allowed keys false (Some k) way h = (way, h.1)
+
+  pub gives_read_operand : AreKeys known.schema.keys → (sequential : Bool) → IsWay known.access sequential → Gives (All (IsAllowed names)) (read_operand names u sequential)
+  unfolding read_operand
+  gives_read_operand keys sequential way =
+      let Q = IfThere (λ (k : ℕ). (sequential ≡ false) × (k < length known.schema.keys)) in
+      gives_one names Q (λ k. Perform u (read_by sequential k)) (may (codes "RECORD") ▸ key_phrase names u sequential)
+      (gives_second Q (may (codes "RECORD")) (key_phrase names u sequential) (gives_key_phrase sequential))
+      (λ k h. (known, at, read_allowed keys sequential k way h))
+
+  pub gives_read_phrases : AreKeys known.schema.keys → Gives (All (IsAllowed names)) (read_phrases names u)
+  unfolding read_phrases
+  gives_read_phrases keys =
+      gives_followed (IsWay (access_at names u)) (All (IsAllowed names)) false (next (access_at names u)) (read_operand names u) (gives_next (access_at names u))
+      (λ sequential way. gives_read_operand keys sequential (subst (λ access. IsWay access sequential) (access_is names u known at) way))
+
+keys_of : (names : Names) → AreDescribed names.files names.items → (u : ℕ) (known : FileDesc) → slice_get names.files u ≡ Some known → IsSchema known.schema
+keys_of names described u known at = (all_at (IsDescribedFile (length names.items)) names.files u known described.files_are at).schema
+
+pub gives_read : (names : Names) → AreDescribed names.files names.items → Gives (All (IsAllowed names)) (read_statement names)
+unfolding read_statement
+gives_read names described =
+    gives_second (All (IsAllowed names)) (the (codes "READ")) (followed 0 (file names) (read_phrases names))
+    (gives_followed (IsFileOf names) (All (IsAllowed names)) 0 (file names) (read_phrases names) (gives_file names)
+    (λ u f. gives_read_phrases names u f.0 f.1 (keys_of names described u f.0 f.1).keys))
+
+-- ---- START
+
+not_random : (b : Bool) (u v : ℕ) → cond b None (Some u) ≡ Some v → (b ≡ false) × (u ≡ v)
+not_random true u v e = absurd (cc)
+not_random false u v e = (refl, same_Some u v e)
+
+pub gives_file_to_start : (names : Names) → Gives (λ u. (known : FileDesc) × (slice_get names.files u ≡ Some known) × IsFalse (is_random known.access)) (file_to_start names)
+unfolding file_to_start
+gives_file_to_start names =
+    gives_as (λ _. Unit {0}) (λ u. (known : FileDesc) × (slice_get names.files u ≡ Some known) × IsFalse (is_random known.access)) (file_to_start_named names) name (λ _ _ _ _. tt) (λ text v _ e.
+    let a = bind_some (λ u. cond (is_random (access_at names u)) None (Some u)) (file_of names text) v e in
+    let b = not_random (is_random (access_at names a.0)) a.0 v a.2 in
+    let f = found (λ known. bytes_eq known.name text) names.files a.0 a.1 in
+    (f.0, subst (λ u. slice_get names.files u ≡ Some f.0) b.1 f.1, subst (λ access. is_random access ≡ false) (access_is names a.0 f.0 f.1) b.0))
+
+at_most : (a b : ℕ) → nat_le a b ≡ true → a ≤ b
+at_most a b e = grind (arith, nat_tests)
+
+-- what is true of an item of a record
+item_fits : (layout : List Placed) → IsRecord layout → (text : List ℕ) (field : Field) → field_of layout text ≡ Some field → (1 ≤ field.length) × (field.offset + field.length ≤ length_of layout)
+item_fits layout described text field e =
+    let f = field_found layout text field e in
+    subst (λ (field : Field). (1 ≤ field.length) × (field.offset + field.length ≤ length_of layout)) f.3
+    (all_at (λ item. (1 ≤ item.field.length) × (item.field.offset + item.field.length ≤ length_of layout)) layout f.1 f.0 described.within f.2)
+
+abbrev pub IsLed : FileDesc → ℕ → ℕ → Type 0
+IsLed known k n = (k < length known.schema.keys) × (1 ≤ n) × (n ≤ (key_at known.schema k).length)
+
+module _ (names : Names) (u : ℕ) (known : FileDesc) (at : slice_get names.files u ≡ Some known) where
+  led_key_is : (field : Field) → led_key_of names u field ≡ option_map {U = ℕ × ℕ} (λ k. (k, field.length)) (key_led_by known.schema field)
+  led_key_is field = ap (λ o. option_and_then (λ file. option_map {U = ℕ × ℕ} (λ k. (k, field.length)) (key_led_by file.schema field)) o) at
+
+  led_of : IsRecord known.layout → (text : List ℕ) (led : ℕ × ℕ) → led_key_named names u text ≡ Some led → IsLed known led.0 led.1
+  led_of described text led e =
+      let a = bind_some (led_key_of names u) (item_in names u text) led e in
+      let b = map_some (λ k. (k, a.0.length)) (key_led_by known.schema a.0) led (sym (led_key_is a.0) ∙ a.2) in
+      let f = found (λ part. (part.offset == a.0.offset) && nat_le a.0.length part.length) known.schema.keys b.0 b.1 in
+      let test = (both_true (f.0.offset == a.0.offset) (nat_le a.0.length f.0.length) f.2).1 in
+      let part = get_or_from_slice_get known.schema.keys b.0 f.0 (record { offset = 0; length = 0; duplicates = false }) f.1 in
+      subst (λ (led : ℕ × ℕ). IsLed known led.0 led.1) b.2
+      (slice_get_within known.schema.keys b.0 f.0 f.1, (item_fits known.layout described text a.0 (sym (item_in_is names u known at text) ∙ a.1)).0, subst (λ (part : KeyPart). a.0.length ≤ part.length) (sym part) (at_most a.0.length f.0.length test))
+
+  pub gives_led_key : IsRecord known.layout → Gives (λ led. IsLed known led.0 led.1) (led_key names u)
+  unfolding led_key
+  gives_led_key described = gives_as (λ _. Unit {0}) (λ led. IsLed known led.0 led.1) (led_key_named names u) name (λ _ _ _ _. tt) (λ text led _ e. led_of described text led e)
+
+  pub gives_start_phrase : IsRecord known.layout → Gives (IfThere (λ operand. IsLed known operand.1.0 operand.1.1)) (start_phrase names u)
+  unfolding start_phrase
+  gives_start_phrase described =
+      let Q = λ (operand : Relation × (ℕ × ℕ)). IsLed known operand.1.0 operand.1.1 in
+      let pair = relation ⊗ led_key names u in
+      gives_optional Q (the (codes "KEY") ▸ may (codes "IS") ▸ pair)
+      (gives_second Q (the (codes "KEY")) (may (codes "IS") ▸ pair) (gives_second Q (may (codes "IS")) pair
+      (λ z words rest s. (gives_pair (λ _. Unit {0}) (λ led. IsLed known led.0 led.1) relation (led_key names u) (λ _ _ _ _. tt) (gives_led_key described) z words rest s).1)))
+
+  prime_led : IsSchema known.schema → IsLed known 0 (prime_length names u)
+  prime_led described =
+      let there = keys_there known.schema.keys described.keys in
+      let length_is : prime_length names u ≡ (key_at known.schema 0).length = ap (λ o. option_map_or (λ file. (key_at file.schema 0).length) o 0) at in
+      (there, subst (λ n. 1 ≤ n) (sym length_is) (described.whole 0 (record { offset = 0; length = 0; duplicates = false }) there).some, omega (arith, length_is))
+
+  start_allowed : IsSchema known.schema → IsFalse (is_random known.access) → (operand : Option (Relation × (ℕ × ℕ))) → IfThere (λ operand. IsLed known operand.1.0 operand.1.1) operand → IsAllowedOn known (start_by names u operand)
+  start_allowed described way None h = let p = prime_led described in (way, p.0, p.1, p.2)
+  start_allowed described way (Some operand) h = (way, h.0, h.1, h.2)
+
+  pub gives_start_operand : IsRecord known.layout → IsSchema known.schema → IsFalse (is_random known.access) → Gives (All (IsAllowed names)) (start_operand names u)
+  unfolding start_operand
+  gives_start_operand record_is schema_is way =
+      gives_one names (IfThere (λ operand. IsLed known operand.1.0 operand.1.1)) (λ operand. Perform u (start_by names u operand)) (start_phrase names u) (gives_start_phrase record_is)
+      (λ operand h. (known, at, start_allowed schema_is way operand h))
+
+pub gives_start : (names : Names) → AreDescribed names.files names.items → Gives (All (IsAllowed names)) (start_statement names)
+unfolding start_statement
+gives_start names described =
+    gives_second (All (IsAllowed names)) (the (codes "START")) (followed 0 (file_to_start names) (start_operand names))
+    (gives_followed (λ u. (known : FileDesc) × (slice_get names.files u ≡ Some known) × IsFalse (is_random known.access)) (All (IsAllowed names)) 0 (file_to_start names) (start_operand names) (gives_file_to_start names)
+    (λ u f. let d = all_at (IsDescribedFile (length names.items)) names.files u f.0 described.files_are f.1 in gives_start_operand names u f.0 f.1 d.layout d.schema f.2))
+
+-- ---- MOVE
+
+move_allowed : (names : Names) → AreDescribed names.files names.items → (sent : Source (List ℕ)) → HasDigits sent → (text : List ℕ) (item : Option (ℕ × Field)) (place : Option ℕ) (statements : List Statement) → item_of names text ≡ item → length_item_of names text ≡ place → moved_to sent item place ≡ Some statements → All (IsAllowed names) statements
+move_allowed names described sent numeral text (Some item) place statements e p m =
+    let t = then_some (is_taken_by item.1.numeric sent) (Some (Move item.0 item.1 sent ∷ [])) statements m in
+    let a = bind_some (λ u. option_map {U = ℕ × Field} (λ field. (u, field)) (item_in names u text)) (holder_of names text) item e in
+    let b = map_some (λ field. (a.0, field)) (item_in names a.0 text) item a.2 in
+    let f = found (λ known. is_some (field_of known.layout text)) names.files a.0 a.1 in
+    let d = all_at (IsDescribedFile (length names.items)) names.files a.0 f.0 described.files_are f.1 in
+    let fits = item_fits f.0.layout d.layout text b.0 (sym (item_in_is names a.0 f.0 f.1 text) ∙ b.1) in
+    let at : slice_get names.files item.0 ≡ Some f.0 = subst (λ (item : ℕ × Field). slice_get names.files item.0 ≡ Some f.0) b.2 f.1 in
+    let within : item.1.offset + item.1.length ≤ length_of f.0.layout = subst (λ (item : ℕ × Field). item.1.offset + item.1.length ≤ length_of f.0.layout) b.2 fits.1 in
+    subst (All (IsAllowed names)) (same_Some (Move item.0 item.1 sent ∷ []) statements t.1) (one_all (IsAllowed names) (Move item.0 item.1 sent) (f.0, at, within, t.0))
+move_allowed names described sent numeral text None (Some i) statements e p m =
+    let t = then_some (is_taken_by true sent) (Some (MoveLength i sent ∷ [])) statements m in
+    let f = found (λ item. bytes_eq item.name text) names.items i p in
+    subst (All (IsAllowed names)) (same_Some (MoveLength i sent ∷ []) statements t.1) (one_all (IsAllowed names) (MoveLength i sent) (slice_get_within names.items i f.0 f.1, taken_is_number sent numeral t.0))
+move_allowed names described sent numeral text None None statements e p m = absurd (cc)
+
+pub gives_receiver : (names : Names) → AreDescribed names.files names.items → (sent : Source (List ℕ)) → HasDigits sent → Gives (All (IsAllowed names)) (receiver names sent)
+unfolding receiver
+gives_receiver names described sent numeral =
+    gives_as (λ _. Unit {0}) (All (IsAllowed names)) (moved_to_named names sent) name (λ _ _ _ _. tt)
+    (λ text statements _ e. move_allowed names described sent numeral text (item_of names text) (length_item_of names text) statements refl refl e)
+
+pub gives_receivers : (names : Names) → AreDescribed names.files names.items → (sent : Source (List ℕ)) → HasDigits sent → Gives (All (IsAllowed names)) (receivers names sent)
+unfolding receivers
+gives_receivers names described sent numeral =
+    gives_second (All (IsAllowed names)) (the (codes "TO")) (some_of (receiver names sent)) (gives_some (IsAllowed names) (receiver names sent) (gives_receiver names described sent numeral))
+
+pub gives_move : (names : Names) → AreDescribed names.files names.items → Gives (All (IsAllowed names)) (move_statement names)
+unfolding move_statement
+gives_move names described =
+    gives_second (All (IsAllowed names)) (the (codes "MOVE")) (followed (Fill Zero) source (receivers names))
+    (gives_followed HasDigits (All (IsAllowed names)) (Fill Zero) source (receivers names) gives_source (gives_receivers names described))
+
+-- ---- the procedure
+
+pub gives_statement : (names : Names) → AreDescribed names.files names.items → Gives (All (IsAllowed names)) (statement names)
+unfolding statement
+gives_statement names described =
+    let P = All (IsAllowed names) in
+    let last = stop_statement in
+    let eight = move_statement names ∣ last in
+    let seven = delete_statement names ∣ eight in
+    let six = rewrite_statement names ∣ seven in
+    let five = write_statement names ∣ six in
+    let four = start_statement names ∣ five in
+    let three = read_statement names ∣ four in
+    let two = close_statement names ∣ three in
+    gives_either P (open_statement names) two (gives_open names)
+    (gives_either P (close_statement names) three (gives_close names)
+    (gives_either P (read_statement names) four (gives_read names described)
+    (gives_either P (start_statement names) five (gives_start names described)
+    (gives_either P (write_statement names) six (gives_write names)
+    (gives_either P (rewrite_statement names) seven (gives_rewrite names)
+    (gives_either P (delete_statement names) eight (gives_delete names)
+    (gives_either P (move_statement names) last (gives_move names described) (gives_stop names))))))))
+
+pub gives_sentence : (names : Names) → AreDescribed names.files names.items → Gives (All (IsAllowed names)) (sentence names)
+unfolding sentence
+gives_sentence names described =
+    gives_first (All (IsAllowed names)) (some_of (statement names)) period (gives_some (IsAllowed names) (statement names) (gives_statement names described))
+
+nothing_all : (P : Statement → Type 0) → All P []
+nothing_all P = λ i d within. absurd (omega (arith, within))
+
+pub gives_paragraph : (names : Names) → Gives (All (IsAllowed names)) paragraph
+unfolding paragraph
+gives_paragraph names =
+    gives_as (λ _. Unit {0}) (All (IsAllowed names)) (λ _. Some []) (name ▸ period) (λ _ _ _ _. tt)
+    (λ _ statements _ e. subst (All (IsAllowed names)) (same_Some {A = List Statement} [] statements e) (nothing_all (IsAllowed names)))
+
+pub gives_turn : (names : Names) → AreDescribed names.files names.items → Gives (All (IsAllowed names)) (paragraph_or_sentence names)
+unfolding paragraph_or_sentence
+gives_turn names described =
+    gives_either (All (IsAllowed names)) paragraph (sentence names) (gives_paragraph names) (gives_sentence names described)
+
+-- every statement of a procedure is allowed
+pub all_allowed : (names : Names) → AreDescribed names.files names.items → Gives (All (IsAllowed names)) (procedure names)
+unfolding procedure
+all_allowed names described =
+    let P = All (IsAllowed names) in
+    let turns = onto joined [] (paragraph_or_sentence names) in
+    gives_second P (the (codes "PROCEDURE")) (the (codes "DIVISION") ▸ period ▸ turns)
+    (gives_second P (the (codes "DIVISION")) (period ▸ turns)
+    (gives_second P period turns (λ statements words rest s.
+    joined_all (IsAllowed names) (paragraph_or_sentence names) (gives_turn names described) [] statements s.0 words rest (nothing_all (IsAllowed names)) s.1 s.2)))
