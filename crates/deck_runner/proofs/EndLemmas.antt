@@ -6,7 +6,7 @@ use Rattle.std.proofs.lemmas.Slice.Eq.{bytes_eq-Decides}
 use Rattle.indexed_file.specs.World.{World, FileUnit, Named, Absent, Shut, name_in}
 use Rattle.indexed_file.specs.declared.library.Library.{Ghosts}
 use Rattle.indexed_file.proofs.TestLemmas.{either}
-use Rattle.file_description.specs.Described.{file_names}
+use Rattle.file_control.specs.Described.{file_names}
 use Rattle.record_layout.specs.Schema.{Schema}
 use Rattle.deck_reader.specs.declared.deck.Deck.{Deck}
 use Rattle.deck_reader.specs.Deck.{CanBeRun}

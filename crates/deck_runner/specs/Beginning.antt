@@ -7,8 +7,8 @@ use Rattle.indexed_file.specs.World.{World, named_in}
 use Rattle.indexed_file.specs.declared.library.Library.{Ghosts}
 use Rattle.verbs.specs.Connector.{closed_connector}
 use Rattle.verbs.specs.Held.{held_at_start}
-use Rattle.file_description.specs.Description.{FileDesc, LengthItem as LengthEntry}
-use Rattle.file_description.specs.Described.{file_names}
+use Rattle.file_control.specs.Description.{FileDesc, LengthItem as LengthEntry}
+use Rattle.file_control.specs.Described.{file_names}
 use Rattle.deck_reader.specs.declared.deck.Deck.{Deck}
 use Rattle.deck_runner.specs.Line.{Line}
 use Rattle.deck_runner.specs.Run.{RunFile, LengthItem, Run}

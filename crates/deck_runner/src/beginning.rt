@@ -2,7 +2,7 @@
 ghost use Rattle.std.specs.Prelude.{◌≡◌, ◌≤◌, List, All, IfOk, IfErr, length, map};
 ghost use Rattle.record_layout.specs.Area.{blank_area};
 ghost use Rattle.record_layout.specs.Layout.{length_of};
-ghost use Rattle.file_description.specs.Described.{file_names};
+ghost use Rattle.file_control.specs.Described.{file_names};
 ghost use Rattle.indexed_file.specs.Calls.{Keeps};
 ghost use Rattle.deck_reader.specs.Deck.{CanBeRun};
 ghost use Rattle.deck_runner.specs.Beginning.{running_before, item_before, SameNames, IsBegun};
@@ -12,7 +12,7 @@ use crate::running_file::RunningFile;
 use crate::start::attach;
 use arrayvec::ArrayVec;
 use deck_reader::Deck;
-use file_description::{FileDesc, LengthItem as LengthEntry};
+use file_control::{FileDesc, LengthItem as LengthEntry};
 use indexed_file::Library;
 use io_state::{Fault, FileName};
 use record_layout::Layout;
