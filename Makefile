@@ -1,21 +1,27 @@
-# cobix: `make run` proves and builds the program and runs an example deck; `make try` runs it in half a minute, without the proofs;
-# `make test` proves and tests everything, and runs the cases.
-.PHONY: run try test
+# cobix: `make try` runs a deck in half a minute, without the proofs; `make run` proves and builds the program, and runs a deck; `make test` proves and tests
+# everything, and runs the examples and the cases; `make install` puts the program that one of the last two built into PREFIX/bin.
+.PHONY: try run test install
 
 SHELL = /bin/bash -o pipefail
-EXAMPLE = examples/written-and-read-back
-
-run:
-	@echo "== $(EXAMPLE).deck"
-	@cat $(EXAMPLE).deck
-	@echo "== cobix run $(EXAMPLE).deck --folder crates/cobix/out"
-	@cd crates/cobix && rt run -- run ../../$(EXAMPLE).deck --folder out
+DECK = examples/payroll.deck
+DIR = .
+PREFIX = /usr/local
+PROGRAM = crates/cobix/out/cobix
 
 try:
-	@cat $(EXAMPLE).deck
-	@cd crates/cobix && rt try --data example.deck=../../$(EXAMPLE).deck -- run example.deck --folder .
+	@cd crates/cobix && rt try --data deck=$(abspath $(DECK)) -- run deck --folder $(abspath $(DIR))
+
+run:
+	@cd crates/cobix && rt run -- run $(abspath $(DECK)) --folder $(abspath $(DIR))
 
 # A gate that passes leaves the program that it built in crates/cobix/out.
 test:
+	docs/believed
 	rt ci
-	cases/run crates/cobix/out/cobix
+	cases/run $(PROGRAM)
+
+install: $(PROGRAM)
+	install -D $(PROGRAM) $(PREFIX)/bin/cobix
+
+$(PROGRAM):
+	@echo "make run or make test builds the program, with its proof"; false
