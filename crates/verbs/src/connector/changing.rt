@@ -15,6 +15,8 @@ ghost use Rattle.verbs.specs.Full.{TellsRoom, lacks_room};
 ghost use Rattle.verbs.specs.Faults.{is_boundary_violation};
 ghost use Rattle.verbs.specs.Held.{Performs, Decides, Changes, state_of, silent, unread, bytes_of, rewritten_as, prime_by};
 ghost use Rattle.verbs.specs.Fits.{Fits, IsStanding, HasCause, has_failed, last_read_of, updates};
+ghost use Rattle.indexed_file.specs.Images.{CallGoes};
+ghost use Rattle.verbs.specs.Traces.{trace_of_change_by};
 
 use super::Connector;
 use crate::checks::{
@@ -48,6 +50,8 @@ impl Connector {
             → IsStanding self.new (L.world lib.new) u) }
         ensures only { OnlyAt u (L.world lib.old) (L.world lib.new) }
         ensures cause { HasCause result false (L.fault_count lib.old) (L.fault_count lib.new) }
+        ensures images { CallGoes L.is_honest L.IsShownTruly L.world L.Throughout u
+            (trace_of_change_by result) lib.old lib.new }
         ensures keeps { Keeps L.is_honest L.IsShownTruly L.fault_count lib.old lib.new }
     {
         let Some(mode) = self.mode else {
@@ -103,6 +107,8 @@ impl Connector {
             → IsStanding self.new (L.world lib.new) u) }
         ensures only { OnlyAt u (L.world lib.old) (L.world lib.new) }
         ensures cause { HasCause result false (L.fault_count lib.old) (L.fault_count lib.new) }
+        ensures images { CallGoes L.is_honest L.IsShownTruly L.world L.Throughout u
+            (trace_of_change_by result) lib.old lib.new }
         ensures keeps { Keeps L.is_honest L.IsShownTruly L.fault_count lib.old lib.new }
     {
         match lib.replace(u, bytes) {
@@ -136,6 +142,8 @@ impl Connector {
             → IsStanding self.new (L.world lib.new) u) }
         ensures only { OnlyAt u (L.world lib.old) (L.world lib.new) }
         ensures cause { HasCause result false (L.fault_count lib.old) (L.fault_count lib.new) }
+        ensures images { CallGoes L.is_honest L.IsShownTruly L.world L.Throughout u
+            (trace_of_change_by result) lib.old lib.new }
         ensures keeps { Keeps L.is_honest L.IsShownTruly L.fault_count lib.old lib.new }
     {
         let Some(mode) = self.mode else {
@@ -193,6 +201,8 @@ impl Connector {
             → IsStanding self.new (L.world lib.new) u) }
         ensures only { OnlyAt u (L.world lib.old) (L.world lib.new) }
         ensures cause { HasCause result false (L.fault_count lib.old) (L.fault_count lib.new) }
+        ensures images { CallGoes L.is_honest L.IsShownTruly L.world L.Throughout u
+            (trace_of_change_by result) lib.old lib.new }
         ensures keeps { Keeps L.is_honest L.IsShownTruly L.fault_count lib.old lib.new }
     {
         match lib.remove(u, prime) {

@@ -8,6 +8,9 @@ ghost use Rattle.verbs.specs.Refusals.{is_early};
 ghost use Rattle.verbs.specs.Faults.{is_boundary_violation};
 ghost use Rattle.verbs.specs.Held.{Performs, Decides, state_of, silent};
 ghost use Rattle.verbs.specs.Fits.{Fits, IsStanding, HasCause, has_failed, asks};
+ghost use Rattle.std.specs.Prelude.{[]};
+ghost use Rattle.indexed_file.specs.Images.{ImagesGo};
+ghost use Rattle.verbs.specs.Traces.{trace_of};
 
 use super::Connector;
 use crate::checks::{close_fault, close_status};
@@ -34,6 +37,9 @@ impl Connector {
         ensures standing { IsStanding self.new (L.world lib.new) u }
         ensures only { OnlyAt u (L.world lib.old) (L.world lib.new) }
         ensures cause { HasCause result (has_failed self.old.connector.session) (L.fault_count lib.old) (L.fault_count lib.new) }
+        ensures images { Believed L.is_honest L.IsShownTruly L.world u lib.old lib.new (IsStanding self.old (L.world lib.old) u
+            → ImagesGo L.Throughout (name_at (L.world lib.old) u)
+            (trace_of (Close lock) (state_of self.old (L.world lib.old) u []) result) lib.old lib.new) }
         ensures keeps { Keeps L.is_honest L.IsShownTruly L.fault_count lib.old lib.new }
     {
         let Some(_mode) = self.mode else {

@@ -15,6 +15,8 @@ ghost use Rattle.verbs.specs.Refusals.{is_early};
 ghost use Rattle.verbs.specs.Faults.{is_boundary_violation};
 ghost use Rattle.verbs.specs.Held.{Performs, Decides, Changes, state_of, silent};
 ghost use Rattle.verbs.specs.Fits.{Fits, IsStanding, HasCause, is_output};
+ghost use Rattle.indexed_file.specs.Images.{CallGoes, untouched};
+ghost use Rattle.verbs.specs.Traces.{trace_of_open};
 
 use super::Connector;
 use crate::checks::{is_input, is_output, status_of};
@@ -43,6 +45,8 @@ impl Connector {
             → IsStanding self.new (L.world lib.new) u) }
         ensures only { OnlyAt u (L.world lib.old) (L.world lib.new) }
         ensures cause { HasCause result false (L.fault_count lib.old) (L.fault_count lib.new) }
+        ensures images { CallGoes L.is_honest L.IsShownTruly L.world L.Throughout u
+            (trace_of_open (creates mode self.old.connector.optional (named_at (L.world lib.old) u)) result) lib.old lib.new }
         ensures keeps { Keeps L.is_honest L.IsShownTruly L.fault_count lib.old lib.new }
     {
         if self.mode.is_some() {
@@ -82,6 +86,8 @@ impl Connector {
             → IsStanding self.new (L.world lib.new) u }
         ensures only { OnlyAt u (L.world lib.old) (L.world lib.new) }
         ensures cause { HasCause result false (L.fault_count lib.old) (L.fault_count lib.new) }
+        ensures images { CallGoes L.is_honest L.IsShownTruly L.world L.Throughout u
+            (trace_of_open (creates mode self.old.connector.optional Absent) result) lib.old lib.new }
         ensures keeps { Keeps L.is_honest L.IsShownTruly L.fault_count lib.old lib.new }
     {
         if !self.optional {
@@ -121,6 +127,8 @@ impl Connector {
             → IsStanding self.new (L.world lib.new) u }
         ensures only { OnlyAt u (L.world lib.old) (L.world lib.new) }
         ensures cause { HasCause result false (L.fault_count lib.old) (L.fault_count lib.new) }
+        ensures images { CallGoes L.is_honest L.IsShownTruly L.world L.Throughout u
+            untouched lib.old lib.new }
         ensures keeps { Keeps L.is_honest L.IsShownTruly L.fault_count lib.old lib.new }
     {
         let same = schema.same(&self.schema);
@@ -160,6 +168,8 @@ impl Connector {
             → IsStanding self.new (L.world lib.new) u }
         ensures only { OnlyAt u (L.world lib.old) (L.world lib.new) }
         ensures cause { HasCause result false (L.fault_count lib.old) (L.fault_count lib.new) }
+        ensures images { CallGoes L.is_honest L.IsShownTruly L.world L.Throughout u
+            (trace_of_open true result) lib.old lib.new }
         ensures keeps { Keeps L.is_honest L.IsShownTruly L.fault_count lib.old lib.new }
     {
         match lib.create(u, &self.schema) {

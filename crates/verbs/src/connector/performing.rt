@@ -8,6 +8,8 @@ ghost use Rattle.verbs.specs.Verbs.{perform};
 ghost use Rattle.verbs.specs.Full.{TellsRoom, lacks_room};
 ghost use Rattle.verbs.specs.Held.{Performs, Decides, state_of, silent};
 ghost use Rattle.verbs.specs.Fits.{Fits, IsStanding, HasCause, HasOperands, closes_failed, asks};
+ghost use Rattle.indexed_file.specs.Images.{ImagesGo};
+ghost use Rattle.verbs.specs.Traces.{trace_of};
 
 use super::Connector;
 use crate::answer::Answer;
@@ -50,6 +52,9 @@ impl Connector {
         ensures only { OnlyAt u (L.world lib.old) (L.world lib.new) }
         ensures cause { HasCause result.status (closes_failed statement.now self.old.connector.session)
             (L.fault_count lib.old) (L.fault_count lib.new) }
+        ensures images { Believed L.is_honest L.IsShownTruly L.world u lib.old lib.new (IsStanding self.old (L.world lib.old) u
+            → ImagesGo L.Throughout (name_at (L.world lib.old) u)
+            (trace_of statement.now (state_of self.old (L.world lib.old) u area.old) result.status) lib.old lib.new) }
         ensures keeps { Keeps L.is_honest L.IsShownTruly L.fault_count lib.old lib.new }
     {
         match *statement {

@@ -8,6 +8,7 @@ ghost use Rattle.verbs.specs.Refusals.{is_early};
 ghost use Rattle.verbs.specs.Faults.{is_boundary_violation};
 ghost use Rattle.verbs.specs.Held.{Performs, Decides, state_of, silent};
 ghost use Rattle.verbs.specs.Fits.{Fits, IsStanding, HasCause};
+ghost use Rattle.indexed_file.specs.Images.{CallGoes, untouched};
 
 use super::Connector;
 use crate::answer::Answer;
@@ -37,6 +38,8 @@ impl Connector {
             → IsStanding self.new (L.world lib.new) u) }
         ensures only { OnlyAt u (L.world lib.old) (L.world lib.new) }
         ensures cause { HasCause result.status false (L.fault_count lib.old) (L.fault_count lib.new) }
+        ensures images { CallGoes L.is_honest L.IsShownTruly L.world L.Throughout u
+            untouched lib.old lib.new }
         ensures keeps { Keeps L.is_honest L.IsShownTruly L.fault_count lib.old lib.new }
     {
         let Some(mode) = self.mode else {
@@ -87,6 +90,8 @@ impl Connector {
             → IsStanding self.new (L.world lib.new) u) }
         ensures only { OnlyAt u (L.world lib.old) (L.world lib.new) }
         ensures cause { HasCause result.status false (L.fault_count lib.old) (L.fault_count lib.new) }
+        ensures images { CallGoes L.is_honest L.IsShownTruly L.world L.Throughout u
+            untouched lib.old lib.new }
         ensures keeps { Keeps L.is_honest L.IsShownTruly L.fault_count lib.old lib.new }
     {
         let Some(mode) = self.mode else {
@@ -140,6 +145,8 @@ impl Connector {
             → IsStanding self.new (L.world lib.new) u) }
         ensures only { OnlyAt u (L.world lib.old) (L.world lib.new) }
         ensures cause { HasCause result false (L.fault_count lib.old) (L.fault_count lib.new) }
+        ensures images { CallGoes L.is_honest L.IsShownTruly L.world L.Throughout u
+            untouched lib.old lib.new }
         ensures keeps { Keeps L.is_honest L.IsShownTruly L.fault_count lib.old lib.new }
     {
         let Some(mode) = self.mode else {

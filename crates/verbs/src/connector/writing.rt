@@ -16,6 +16,8 @@ ghost use Rattle.verbs.specs.Refusals.{is_early};
 ghost use Rattle.verbs.specs.Full.{TellsRoom, lacks_room};
 ghost use Rattle.verbs.specs.Held.{Performs, Decides, Changes, state_of, silent, unread, held_after_store};
 ghost use Rattle.verbs.specs.Fits.{Fits, IsStanding, IsHighestOf, HasCause, has_failed, last_read_of, writes};
+ghost use Rattle.indexed_file.specs.Images.{CallGoes, untouched};
+ghost use Rattle.verbs.specs.Traces.{trace_of_change_by};
 
 use super::Connector;
 use crate::checks::{is_length, is_not_above, is_sequential, status_by};
@@ -46,6 +48,8 @@ impl Connector {
             → IsStanding self.new (L.world lib.new) u) }
         ensures only { OnlyAt u (L.world lib.old) (L.world lib.new) }
         ensures cause { HasCause result false (L.fault_count lib.old) (L.fault_count lib.new) }
+        ensures images { CallGoes L.is_honest L.IsShownTruly L.world L.Throughout u
+            (trace_of_change_by result) lib.old lib.new }
         ensures keeps { Keeps L.is_honest L.IsShownTruly L.fault_count lib.old lib.new }
     {
         let Some(mode) = self.mode else {
@@ -93,6 +97,8 @@ impl Connector {
             → IsStanding self.new (L.world lib.new) u) }
         ensures only { OnlyAt u (L.world lib.old) (L.world lib.new) }
         ensures cause { HasCause result false (L.fault_count lib.old) (L.fault_count lib.new) }
+        ensures images { CallGoes L.is_honest L.IsShownTruly L.world L.Throughout u
+            (trace_of_change_by result) lib.old lib.new }
         ensures keeps { Keeps L.is_honest L.IsShownTruly L.fault_count lib.old lib.new }
     {
         let sequential = is_sequential(self.access);
@@ -125,6 +131,8 @@ impl Connector {
         ensures room { L.room lib.new u ≡ L.room lib.old u }
         ensures fault { IfErr result (MayFail (is_broken (holding_at (L.world lib.old) u)) (L.is_honest lib.new)
             (L.IsShownTruly lib.old (name_at (L.world lib.old) u)) (L.fault_count lib.old) (L.fault_count lib.new)) }
+        ensures images { CallGoes L.is_honest L.IsShownTruly L.world L.Throughout u
+            untouched lib.old lib.new }
         ensures keeps { Keeps L.is_honest L.IsShownTruly L.fault_count lib.old lib.new }
     {
         if self.highest.is_some() {
@@ -173,6 +181,8 @@ impl Connector {
             → IsStanding self.new (L.world lib.new) u) }
         ensures only { OnlyAt u (L.world lib.old) (L.world lib.new) }
         ensures cause { HasCause result false (L.fault_count lib.old) (L.fault_count lib.new) }
+        ensures images { CallGoes L.is_honest L.IsShownTruly L.world L.Throughout u
+            (trace_of_change_by result) lib.old lib.new }
         ensures keeps { Keeps L.is_honest L.IsShownTruly L.fault_count lib.old lib.new }
     {
         match lib.add(u, bytes) {
