@@ -5,7 +5,8 @@ ghost use Rattle.indexed_file.specs.Rank.{highest_of};
 ghost use Rattle.indexed_file.specs.Change.{row_of};
 ghost use Rattle.indexed_file.specs.World.{OnlyAt, name_at, holding_at, schema_at, file_at, is_open, is_broken};
 ghost use Rattle.indexed_file.specs.Room.{is_full_to_replace};
-ghost use Rattle.indexed_file.specs.Calls.{Keeps, Believed, OnlyReads, MayFail};
+ghost use Rattle.indexed_file.specs.Believed.{Believed};
+ghost use Rattle.indexed_file.specs.Calls.{Keeps, OnlyReads, MayFail};
 ghost use Rattle.io_state.specs.declared.statement.FileStatement.TheVariants.{Rewrite, Delete};
 ghost use Rattle.verbs.specs.Connector.{Session};
 ghost use Rattle.verbs.specs.Writing.{deleted};
@@ -28,31 +29,31 @@ use io_state::{Fault, Key, Status};
 impl Connector {
     /// REWRITE by the record in the first `length` bytes of the area.
     pub fn rewrite<L: Library>(&mut self, lib: &mut L, u: usize, area: &[u8], length: u16) -> Status
-        requires fits { Fits self.old (L.world lib.old) u }
+        requires fits { Fits self.old (L.shown.world lib.old) u }
         requires area { count_of area.now ≡ self.old.connector.schema.greatest }
-        ensures fits { Fits self.new (L.world lib.new) u }
+        ensures fits { Fits self.new (L.shown.world lib.new) u }
         ensures schema { self.new.connector.schema ≡ self.old.connector.schema }
-        ensures step { Believed L.is_honest L.IsShownTruly L.world u lib.old lib.new
-            (IsStanding self.old (L.world lib.old) u
-            → Performs Rewrite length (state_of self.old (L.world lib.old) u area.now)
-            (silent result) (state_of self.new (L.world lib.new) u area.now)) }
-        ensures early { reaches Rewrite length (state_of self.old (L.world lib.old) u area.now) ≡ false
-            → (lib.new ≡ lib.old) × Decides Rewrite length (state_of self.old (L.world lib.old) u area.now)
-            (silent result) (state_of self.new (L.world lib.new) u area.now) }
+        ensures step { Believed L.shown u lib.old lib.new
+            (IsStanding self.old (L.shown.world lib.old) u
+            → Performs Rewrite length (state_of self.old (L.shown.world lib.old) u area.now)
+            (silent result) (state_of self.new (L.shown.world lib.new) u area.now)) }
+        ensures early { reaches Rewrite length (state_of self.old (L.shown.world lib.old) u area.now) ≡ false
+            → (lib.new ≡ lib.old) × Decides Rewrite length (state_of self.old (L.shown.world lib.old) u area.now)
+            (silent result) (state_of self.new (L.shown.world lib.new) u area.now) }
         ensures refusal { IsTrue (is_refusal Rewrite result)
-            → reaches Rewrite length (state_of self.old (L.world lib.old) u area.now) ≡ false }
-        ensures room { Believed L.is_honest L.IsShownTruly L.world u lib.old lib.new
-            (IsStanding self.old (L.world lib.old) u
-            → TellsRoom (perform Rewrite length (state_of self.old (L.world lib.old) u area.now))
-            (lacks_room Rewrite length (L.room lib.old u) (state_of self.old (L.world lib.old) u area.now)) result) }
-        ensures standing { Believed L.is_honest L.IsShownTruly L.world u lib.old lib.new
-            (IsStanding self.old (L.world lib.old) u
-            → IsStanding self.new (L.world lib.new) u) }
-        ensures only { OnlyAt u (L.world lib.old) (L.world lib.new) }
-        ensures cause { HasCause result false (L.fault_count lib.old) (L.fault_count lib.new) }
-        ensures images { CallGoes L.is_honest L.IsShownTruly L.world L.Throughout u
+            → reaches Rewrite length (state_of self.old (L.shown.world lib.old) u area.now) ≡ false }
+        ensures room { Believed L.shown u lib.old lib.new
+            (IsStanding self.old (L.shown.world lib.old) u
+            → TellsRoom (perform Rewrite length (state_of self.old (L.shown.world lib.old) u area.now))
+            (lacks_room Rewrite length (L.shown.room lib.old u) (state_of self.old (L.shown.world lib.old) u area.now)) result) }
+        ensures standing { Believed L.shown u lib.old lib.new
+            (IsStanding self.old (L.shown.world lib.old) u
+            → IsStanding self.new (L.shown.world lib.new) u) }
+        ensures only { OnlyAt u (L.shown.world lib.old) (L.shown.world lib.new) }
+        ensures cause { HasCause result false (L.shown.fault_count lib.old) (L.shown.fault_count lib.new) }
+        ensures images { CallGoes L.shown u
             (trace_of_change_by result) lib.old lib.new }
-        ensures keeps { Keeps L.is_honest L.IsShownTruly L.fault_count lib.old lib.new }
+        ensures keeps { Keeps L.shown lib.old lib.new }
     {
         let Some(mode) = self.mode else {
             return Status::NotOpenForUpdating;
@@ -84,32 +85,32 @@ impl Connector {
 
     /// Puts a record in the place of that of its prime value.
     fn substitute<L: Library>(&mut self, lib: &mut L, u: usize, bytes: &[u8]) -> Status
-        requires fits { Fits self.old (L.world lib.old) u }
-        requires open { IsTrue (is_open (holding_at (L.world lib.old) u)) }
+        requires fits { Fits self.old (L.shown.world lib.old) u }
+        requires open { IsTrue (is_open (holding_at (L.shown.world lib.old) u)) }
         requires works { has_failed self.old.connector.session ≡ false }
         requires unread { last_read_of self.old.connector.session ≡ None }
         requires updates { updates self.old.connector.session ≡ true }
         requires least { self.old.connector.schema.least ≤ count_of bytes.now }
         requires greatest { count_of bytes.now ≤ self.old.connector.schema.greatest }
-        ensures fits { Fits self.new (L.world lib.new) u }
+        ensures fits { Fits self.new (L.shown.world lib.new) u }
         ensures schema { self.new.connector.schema ≡ self.old.connector.schema }
         ensures step { (area : List ℕ) → (session : Session) → self.old.connector.session ≡ Some (unread session)
-            → Believed L.is_honest L.IsShownTruly L.world u lib.old lib.new
-            (Changes Rewrite (rewritten_as bytes.now (state_of self.old (L.world lib.old) u area) session)
-            (state_of self.old (L.world lib.old) u area)
-            result (state_of self.new (L.world lib.new) u area)) }
+            → Believed L.shown u lib.old lib.new
+            (Changes Rewrite (rewritten_as bytes.now (state_of self.old (L.shown.world lib.old) u area) session)
+            (state_of self.old (L.shown.world lib.old) u area)
+            result (state_of self.new (L.shown.world lib.new) u area)) }
         ensures late { is_refusal Rewrite result ≡ false }
-        ensures room { (area : List ℕ) → (session : Session) → Believed L.is_honest L.IsShownTruly L.world u lib.old lib.new
-            (TellsRoom (rewritten_as bytes.now (state_of self.old (L.world lib.old) u area) session)
-            (is_full_to_replace (L.room lib.old u) self.old.connector.schema bytes.now (file_at (L.world lib.old) u)) result) }
-        ensures standing { Believed L.is_honest L.IsShownTruly L.world u lib.old lib.new
-            (IsStanding self.old (L.world lib.old) u
-            → IsStanding self.new (L.world lib.new) u) }
-        ensures only { OnlyAt u (L.world lib.old) (L.world lib.new) }
-        ensures cause { HasCause result false (L.fault_count lib.old) (L.fault_count lib.new) }
-        ensures images { CallGoes L.is_honest L.IsShownTruly L.world L.Throughout u
+        ensures room { (area : List ℕ) → (session : Session) → Believed L.shown u lib.old lib.new
+            (TellsRoom (rewritten_as bytes.now (state_of self.old (L.shown.world lib.old) u area) session)
+            (is_full_to_replace (L.shown.room lib.old u) self.old.connector.schema bytes.now (file_at (L.shown.world lib.old) u)) result) }
+        ensures standing { Believed L.shown u lib.old lib.new
+            (IsStanding self.old (L.shown.world lib.old) u
+            → IsStanding self.new (L.shown.world lib.new) u) }
+        ensures only { OnlyAt u (L.shown.world lib.old) (L.shown.world lib.new) }
+        ensures cause { HasCause result false (L.shown.fault_count lib.old) (L.shown.fault_count lib.new) }
+        ensures images { CallGoes L.shown u
             (trace_of_change_by result) lib.old lib.new }
-        ensures keeps { Keeps L.is_honest L.IsShownTruly L.fault_count lib.old lib.new }
+        ensures keeps { Keeps L.shown lib.old lib.new }
     {
         match lib.replace(u, bytes) {
             Ok(Replaced::Done { repeated }) => {
@@ -125,26 +126,26 @@ impl Connector {
 
     /// DELETE: in sequential access of the record read last, else of the record of the prime value that stands in the area.
     pub fn delete<L: Library>(&mut self, lib: &mut L, u: usize, area: &[u8]) -> Status
-        requires fits { Fits self.old (L.world lib.old) u }
-        ensures fits { Fits self.new (L.world lib.new) u }
+        requires fits { Fits self.old (L.shown.world lib.old) u }
+        ensures fits { Fits self.new (L.shown.world lib.new) u }
         ensures schema { self.new.connector.schema ≡ self.old.connector.schema }
-        ensures step { (n : ℕ) → Believed L.is_honest L.IsShownTruly L.world u lib.old lib.new
-            (IsStanding self.old (L.world lib.old) u
-            → Performs Delete n (state_of self.old (L.world lib.old) u area.now)
-            (silent result) (state_of self.new (L.world lib.new) u area.now)) }
-        ensures early { (n : ℕ) → reaches Delete n (state_of self.old (L.world lib.old) u area.now) ≡ false
-            → (lib.new ≡ lib.old) × Decides Delete n (state_of self.old (L.world lib.old) u area.now)
-            (silent result) (state_of self.new (L.world lib.new) u area.now) }
-        ensures refusal { (n : ℕ) → IsTrue (is_early result) → reaches Delete n (state_of self.old (L.world lib.old) u area.now) ≡ false }
+        ensures step { (n : ℕ) → Believed L.shown u lib.old lib.new
+            (IsStanding self.old (L.shown.world lib.old) u
+            → Performs Delete n (state_of self.old (L.shown.world lib.old) u area.now)
+            (silent result) (state_of self.new (L.shown.world lib.new) u area.now)) }
+        ensures early { (n : ℕ) → reaches Delete n (state_of self.old (L.shown.world lib.old) u area.now) ≡ false
+            → (lib.new ≡ lib.old) × Decides Delete n (state_of self.old (L.shown.world lib.old) u area.now)
+            (silent result) (state_of self.new (L.shown.world lib.new) u area.now) }
+        ensures refusal { (n : ℕ) → IsTrue (is_early result) → reaches Delete n (state_of self.old (L.shown.world lib.old) u area.now) ≡ false }
         ensures not_full { is_boundary_violation result ≡ false }
-        ensures standing { Believed L.is_honest L.IsShownTruly L.world u lib.old lib.new
-            (IsStanding self.old (L.world lib.old) u
-            → IsStanding self.new (L.world lib.new) u) }
-        ensures only { OnlyAt u (L.world lib.old) (L.world lib.new) }
-        ensures cause { HasCause result false (L.fault_count lib.old) (L.fault_count lib.new) }
-        ensures images { CallGoes L.is_honest L.IsShownTruly L.world L.Throughout u
+        ensures standing { Believed L.shown u lib.old lib.new
+            (IsStanding self.old (L.shown.world lib.old) u
+            → IsStanding self.new (L.shown.world lib.new) u) }
+        ensures only { OnlyAt u (L.shown.world lib.old) (L.shown.world lib.new) }
+        ensures cause { HasCause result false (L.shown.fault_count lib.old) (L.shown.fault_count lib.new) }
+        ensures images { CallGoes L.shown u
             (trace_of_change_by result) lib.old lib.new }
-        ensures keeps { Keeps L.is_honest L.IsShownTruly L.fault_count lib.old lib.new }
+        ensures keeps { Keeps L.shown lib.old lib.new }
     {
         let Some(mode) = self.mode else {
             return Status::NotOpenForUpdating;
@@ -182,28 +183,28 @@ impl Connector {
 
     /// Takes out the record of a prime value.
     fn take_out<L: Library>(&mut self, lib: &mut L, u: usize, prime: &Key) -> Status
-        requires fits { Fits self.old (L.world lib.old) u }
-        requires open { IsTrue (is_open (holding_at (L.world lib.old) u)) }
+        requires fits { Fits self.old (L.shown.world lib.old) u }
+        requires open { IsTrue (is_open (holding_at (L.shown.world lib.old) u)) }
         requires works { has_failed self.old.connector.session ≡ false }
         requires unread { last_read_of self.old.connector.session ≡ None }
         requires updates { updates self.old.connector.session ≡ true }
-        ensures fits { Fits self.new (L.world lib.new) u }
+        ensures fits { Fits self.new (L.shown.world lib.new) u }
         ensures schema { self.new.connector.schema ≡ self.old.connector.schema }
         ensures step { (area : List ℕ) → (session : Session) → self.old.connector.session ≡ Some (unread session)
-            → Believed L.is_honest L.IsShownTruly L.world u lib.old lib.new
-            (Changes Delete (deleted prime.now.items (state_of self.old (L.world lib.old) u area) session)
-            (state_of self.old (L.world lib.old) u area)
-            result (state_of self.new (L.world lib.new) u area)) }
+            → Believed L.shown u lib.old lib.new
+            (Changes Delete (deleted prime.now.items (state_of self.old (L.shown.world lib.old) u area) session)
+            (state_of self.old (L.shown.world lib.old) u area)
+            result (state_of self.new (L.shown.world lib.new) u area)) }
         ensures late { is_early result ≡ false }
         ensures not_full { is_boundary_violation result ≡ false }
-        ensures standing { Believed L.is_honest L.IsShownTruly L.world u lib.old lib.new
-            (IsStanding self.old (L.world lib.old) u
-            → IsStanding self.new (L.world lib.new) u) }
-        ensures only { OnlyAt u (L.world lib.old) (L.world lib.new) }
-        ensures cause { HasCause result false (L.fault_count lib.old) (L.fault_count lib.new) }
-        ensures images { CallGoes L.is_honest L.IsShownTruly L.world L.Throughout u
+        ensures standing { Believed L.shown u lib.old lib.new
+            (IsStanding self.old (L.shown.world lib.old) u
+            → IsStanding self.new (L.shown.world lib.new) u) }
+        ensures only { OnlyAt u (L.shown.world lib.old) (L.shown.world lib.new) }
+        ensures cause { HasCause result false (L.shown.fault_count lib.old) (L.shown.fault_count lib.new) }
+        ensures images { CallGoes L.shown u
             (trace_of_change_by result) lib.old lib.new }
-        ensures keeps { Keeps L.is_honest L.IsShownTruly L.fault_count lib.old lib.new }
+        ensures keeps { Keeps L.shown lib.old lib.new }
     {
         match lib.remove(u, prime) {
             Ok(true) => {

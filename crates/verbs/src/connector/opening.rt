@@ -5,7 +5,8 @@ ghost use Rattle.io_state.specs.Status.{is_successful};
 ghost use Rattle.indexed_file.specs.declared.answer.Seen.TheVariants.{Sound};
 ghost use Rattle.indexed_file.specs.Answers.{seen_of};
 ghost use Rattle.indexed_file.specs.World.{OnlyAt, Absent, name_at, holding_at, named_at, schema_at, is_looked};
-ghost use Rattle.indexed_file.specs.Calls.{Keeps, Believed};
+ghost use Rattle.indexed_file.specs.Believed.{Believed};
+ghost use Rattle.indexed_file.specs.Calls.{Keeps};
 ghost use Rattle.io_state.specs.declared.statement.FileStatement.TheVariants.{Open};
 ghost use Rattle.verbs.specs.Connector.{answers};
 ghost use Rattle.verbs.specs.Opening.{created, open_absent, open_named};
@@ -27,27 +28,27 @@ use record_layout::Schema;
 impl Connector {
     /// OPEN.
     pub fn open<L: Library>(&mut self, lib: &mut L, u: usize, mode: OpenMode) -> Status
-        requires fits { Fits self.old (L.world lib.old) u }
-        ensures fits { Fits self.new (L.world lib.new) u }
+        requires fits { Fits self.old (L.shown.world lib.old) u }
+        ensures fits { Fits self.new (L.shown.world lib.new) u }
         ensures schema { self.new.connector.schema ≡ self.old.connector.schema }
-        ensures step { (n : ℕ) → (area : List ℕ) → Believed L.is_honest L.IsShownTruly L.world u lib.old lib.new
-            (IsStanding self.old (L.world lib.old) u
-            → Performs (Open mode) n (state_of self.old (L.world lib.old) u area)
-            (silent result) (state_of self.new (L.world lib.new) u area)) }
-        ensures early { (n : ℕ) → (area : List ℕ) → reaches (Open mode) n (state_of self.old (L.world lib.old) u area) ≡ false
-            → (lib.new ≡ lib.old) × Decides (Open mode) n (state_of self.old (L.world lib.old) u area)
-            (silent result) (state_of self.new (L.world lib.new) u area) }
+        ensures step { (n : ℕ) → (area : List ℕ) → Believed L.shown u lib.old lib.new
+            (IsStanding self.old (L.shown.world lib.old) u
+            → Performs (Open mode) n (state_of self.old (L.shown.world lib.old) u area)
+            (silent result) (state_of self.new (L.shown.world lib.new) u area)) }
+        ensures early { (n : ℕ) → (area : List ℕ) → reaches (Open mode) n (state_of self.old (L.shown.world lib.old) u area) ≡ false
+            → (lib.new ≡ lib.old) × Decides (Open mode) n (state_of self.old (L.shown.world lib.old) u area)
+            (silent result) (state_of self.new (L.shown.world lib.new) u area) }
         ensures refusal { (n : ℕ) → (area : List ℕ) → IsTrue (is_early result)
-            → reaches (Open mode) n (state_of self.old (L.world lib.old) u area) ≡ false }
+            → reaches (Open mode) n (state_of self.old (L.shown.world lib.old) u area) ≡ false }
         ensures not_full { is_boundary_violation result ≡ false }
-        ensures standing { Believed L.is_honest L.IsShownTruly L.world u lib.old lib.new
-            (IsStanding self.old (L.world lib.old) u
-            → IsStanding self.new (L.world lib.new) u) }
-        ensures only { OnlyAt u (L.world lib.old) (L.world lib.new) }
-        ensures cause { HasCause result false (L.fault_count lib.old) (L.fault_count lib.new) }
-        ensures images { CallGoes L.is_honest L.IsShownTruly L.world L.Throughout u
-            (trace_of_open (creates mode self.old.connector.optional (named_at (L.world lib.old) u)) result) lib.old lib.new }
-        ensures keeps { Keeps L.is_honest L.IsShownTruly L.fault_count lib.old lib.new }
+        ensures standing { Believed L.shown u lib.old lib.new
+            (IsStanding self.old (L.shown.world lib.old) u
+            → IsStanding self.new (L.shown.world lib.new) u) }
+        ensures only { OnlyAt u (L.shown.world lib.old) (L.shown.world lib.new) }
+        ensures cause { HasCause result false (L.shown.fault_count lib.old) (L.shown.fault_count lib.new) }
+        ensures images { CallGoes L.shown u
+            (trace_of_open (creates mode self.old.connector.optional (named_at (L.shown.world lib.old) u)) result) lib.old lib.new }
+        ensures keeps { Keeps L.shown lib.old lib.new }
     {
         if self.mode.is_some() {
             self.last_read = None;
@@ -70,25 +71,25 @@ impl Connector {
 
     /// OPEN of a file that is absent, other than OUTPUT.
     fn open_absent<L: Library>(&mut self, lib: &mut L, u: usize, mode: OpenMode) -> Status
-        requires fits { Fits self.old (L.world lib.old) u }
+        requires fits { Fits self.old (L.shown.world lib.old) u }
         requires closed { self.old.connector.session ≡ None }
         requires mode { is_output mode ≡ false }
-        ensures fits { Fits self.new (L.world lib.new) u }
+        ensures fits { Fits self.new (L.shown.world lib.new) u }
         ensures schema { self.new.connector.schema ≡ self.old.connector.schema }
-        ensures step { (area : List ℕ) → Believed L.is_honest L.IsShownTruly L.world u lib.old lib.new
-            (named_at (L.world lib.old) u ≡ Absent
-            → Changes (Open mode) (open_absent mode (state_of self.old (L.world lib.old) u area))
-            (state_of self.old (L.world lib.old) u area)
-            result (state_of self.new (L.world lib.new) u area)) }
+        ensures step { (area : List ℕ) → Believed L.shown u lib.old lib.new
+            (named_at (L.shown.world lib.old) u ≡ Absent
+            → Changes (Open mode) (open_absent mode (state_of self.old (L.shown.world lib.old) u area))
+            (state_of self.old (L.shown.world lib.old) u area)
+            result (state_of self.new (L.shown.world lib.new) u area)) }
         ensures late { is_early result ≡ false }
         ensures not_full { is_boundary_violation result ≡ false }
-        ensures standing { IsTrue (L.is_honest lib.new) → named_at (L.world lib.old) u ≡ Absent
-            → IsStanding self.new (L.world lib.new) u }
-        ensures only { OnlyAt u (L.world lib.old) (L.world lib.new) }
-        ensures cause { HasCause result false (L.fault_count lib.old) (L.fault_count lib.new) }
-        ensures images { CallGoes L.is_honest L.IsShownTruly L.world L.Throughout u
+        ensures standing { IsTrue (L.shown.is_honest lib.new) → named_at (L.shown.world lib.old) u ≡ Absent
+            → IsStanding self.new (L.shown.world lib.new) u }
+        ensures only { OnlyAt u (L.shown.world lib.old) (L.shown.world lib.new) }
+        ensures cause { HasCause result false (L.shown.fault_count lib.old) (L.shown.fault_count lib.new) }
+        ensures images { CallGoes L.shown u
             (trace_of_open (creates mode self.old.connector.optional Absent) result) lib.old lib.new }
-        ensures keeps { Keeps L.is_honest L.IsShownTruly L.fault_count lib.old lib.new }
+        ensures keeps { Keeps L.shown lib.old lib.new }
     {
         if !self.optional {
             return Status::FileAbsent;
@@ -109,27 +110,27 @@ impl Connector {
         mode: OpenMode,
         schema: &Schema,
     ) -> Status
-        requires fits { Fits self.old (L.world lib.old) u }
+        requires fits { Fits self.old (L.shown.world lib.old) u }
         requires closed { self.old.connector.session ≡ None }
         requires mode { is_output mode ≡ false }
-        requires looked { IsTrue (is_looked (holding_at (L.world lib.old) u)) }
-        requires schema { schema_at (L.world lib.old) u ≡ schema.now }
-        ensures fits { Fits self.new (L.world lib.new) u }
+        requires looked { IsTrue (is_looked (holding_at (L.shown.world lib.old) u)) }
+        requires schema { schema_at (L.shown.world lib.old) u ≡ schema.now }
+        ensures fits { Fits self.new (L.shown.world lib.new) u }
         ensures schema { self.new.connector.schema ≡ self.old.connector.schema }
-        ensures step { (area : List ℕ) → Believed L.is_honest L.IsShownTruly L.world u lib.old lib.new
-            (Sound schema.now ≡ seen_of (named_at (L.world lib.old) u)
-            → Changes (Open mode) (open_named mode (named_at (L.world lib.old) u) (state_of self.old (L.world lib.old) u area))
-            (state_of self.old (L.world lib.old) u area)
-            result (state_of self.new (L.world lib.new) u area)) }
+        ensures step { (area : List ℕ) → Believed L.shown u lib.old lib.new
+            (Sound schema.now ≡ seen_of (named_at (L.shown.world lib.old) u)
+            → Changes (Open mode) (open_named mode (named_at (L.shown.world lib.old) u) (state_of self.old (L.shown.world lib.old) u area))
+            (state_of self.old (L.shown.world lib.old) u area)
+            result (state_of self.new (L.shown.world lib.new) u area)) }
         ensures late { is_early result ≡ false }
         ensures not_full { is_boundary_violation result ≡ false }
-        ensures standing { IsTrue (L.is_honest lib.new) → Sound schema.now ≡ seen_of (named_at (L.world lib.old) u)
-            → IsStanding self.new (L.world lib.new) u }
-        ensures only { OnlyAt u (L.world lib.old) (L.world lib.new) }
-        ensures cause { HasCause result false (L.fault_count lib.old) (L.fault_count lib.new) }
-        ensures images { CallGoes L.is_honest L.IsShownTruly L.world L.Throughout u
+        ensures standing { IsTrue (L.shown.is_honest lib.new) → Sound schema.now ≡ seen_of (named_at (L.shown.world lib.old) u)
+            → IsStanding self.new (L.shown.world lib.new) u }
+        ensures only { OnlyAt u (L.shown.world lib.old) (L.shown.world lib.new) }
+        ensures cause { HasCause result false (L.shown.fault_count lib.old) (L.shown.fault_count lib.new) }
+        ensures images { CallGoes L.shown u
             untouched lib.old lib.new }
-        ensures keeps { Keeps L.is_honest L.IsShownTruly L.fault_count lib.old lib.new }
+        ensures keeps { Keeps L.shown lib.old lib.new }
     {
         let same = schema.same(&self.schema);
         if !same {
@@ -152,25 +153,25 @@ impl Connector {
         mode: OpenMode,
         status: Status,
     ) -> Status
-        requires fits { Fits self.old (L.world lib.old) u }
+        requires fits { Fits self.old (L.shown.world lib.old) u }
         requires closed { self.old.connector.session ≡ None }
         requires status { IsTrue (is_successful status) }
-        ensures fits { Fits self.new (L.world lib.new) u }
+        ensures fits { Fits self.new (L.shown.world lib.new) u }
         ensures schema { self.new.connector.schema ≡ self.old.connector.schema }
-        ensures step { (area : List ℕ) → Believed L.is_honest L.IsShownTruly L.world u lib.old lib.new
-            (IsTrue (creates mode self.old.connector.optional (named_at (L.world lib.old) u))
-            → Changes (Open mode) (answers status (created mode (state_of self.old (L.world lib.old) u area)))
-            (state_of self.old (L.world lib.old) u area)
-            result (state_of self.new (L.world lib.new) u area)) }
+        ensures step { (area : List ℕ) → Believed L.shown u lib.old lib.new
+            (IsTrue (creates mode self.old.connector.optional (named_at (L.shown.world lib.old) u))
+            → Changes (Open mode) (answers status (created mode (state_of self.old (L.shown.world lib.old) u area)))
+            (state_of self.old (L.shown.world lib.old) u area)
+            result (state_of self.new (L.shown.world lib.new) u area)) }
         ensures late { is_early result ≡ false }
         ensures not_full { is_boundary_violation result ≡ false }
-        ensures standing { IsTrue (L.is_honest lib.new) → IsTrue (creates mode self.old.connector.optional (named_at (L.world lib.old) u))
-            → IsStanding self.new (L.world lib.new) u }
-        ensures only { OnlyAt u (L.world lib.old) (L.world lib.new) }
-        ensures cause { HasCause result false (L.fault_count lib.old) (L.fault_count lib.new) }
-        ensures images { CallGoes L.is_honest L.IsShownTruly L.world L.Throughout u
+        ensures standing { IsTrue (L.shown.is_honest lib.new) → IsTrue (creates mode self.old.connector.optional (named_at (L.shown.world lib.old) u))
+            → IsStanding self.new (L.shown.world lib.new) u }
+        ensures only { OnlyAt u (L.shown.world lib.old) (L.shown.world lib.new) }
+        ensures cause { HasCause result false (L.shown.fault_count lib.old) (L.shown.fault_count lib.new) }
+        ensures images { CallGoes L.shown u
             (trace_of_open true result) lib.old lib.new }
-        ensures keeps { Keeps L.is_honest L.IsShownTruly L.fault_count lib.old lib.new }
+        ensures keeps { Keeps L.shown lib.old lib.new }
     {
         match lib.create(u, &self.schema) {
             Ok(()) => {

@@ -2,7 +2,8 @@
 ghost use Rattle.std.specs.Prelude.{◌≡◌, ℕ, List, length as count_of, IsTrue, true, false};
 ghost use Rattle.io_state.specs.declared.status.Status.TheVariants.{PermanentError};
 ghost use Rattle.indexed_file.specs.World.{OnlyAt, name_at};
-ghost use Rattle.indexed_file.specs.Calls.{Keeps, Believed};
+ghost use Rattle.indexed_file.specs.Believed.{Believed};
+ghost use Rattle.indexed_file.specs.Calls.{Keeps};
 ghost use Rattle.verbs.specs.Refusals.{is_refusal};
 ghost use Rattle.verbs.specs.Verbs.{perform};
 ghost use Rattle.verbs.specs.Full.{TellsRoom, lacks_room};
@@ -27,35 +28,35 @@ impl Connector {
         length: u16,
         area: &mut [u8],
     ) -> Answer
-        requires fits { Fits self.old (L.world lib.old) u }
+        requires fits { Fits self.old (L.shown.world lib.old) u }
         requires operands { HasOperands self.old.connector.schema statement.now }
         requires area { count_of area.old ≡ self.old.connector.schema.greatest }
-        ensures fits { Fits self.new (L.world lib.new) u }
+        ensures fits { Fits self.new (L.shown.world lib.new) u }
         ensures schema { self.new.connector.schema ≡ self.old.connector.schema }
-        ensures step { Believed L.is_honest L.IsShownTruly L.world u lib.old lib.new
-            (IsStanding self.old (L.world lib.old) u
-            → Performs statement.now length (state_of self.old (L.world lib.old) u area.old)
-            result (state_of self.new (L.world lib.new) u area.new)) }
-        ensures early { asks statement.now length (state_of self.old (L.world lib.old) u area.old) ≡ false
-            → (lib.new ≡ lib.old) × Decides statement.now length (state_of self.old (L.world lib.old) u area.old)
-            result (state_of self.new (L.world lib.new) u area.new) }
+        ensures step { Believed L.shown u lib.old lib.new
+            (IsStanding self.old (L.shown.world lib.old) u
+            → Performs statement.now length (state_of self.old (L.shown.world lib.old) u area.old)
+            result (state_of self.new (L.shown.world lib.new) u area.new)) }
+        ensures early { asks statement.now length (state_of self.old (L.shown.world lib.old) u area.old) ≡ false
+            → (lib.new ≡ lib.old) × Decides statement.now length (state_of self.old (L.shown.world lib.old) u area.old)
+            result (state_of self.new (L.shown.world lib.new) u area.new) }
         ensures failed_close { closes_failed statement.now self.old.connector.session ≡ true → result ≡ silent PermanentError }
         ensures refusal { IsTrue (is_refusal statement.now result.status)
-            → asks statement.now length (state_of self.old (L.world lib.old) u area.old) ≡ false }
-        ensures room { Believed L.is_honest L.IsShownTruly L.world u lib.old lib.new
-            (IsStanding self.old (L.world lib.old) u
-            → TellsRoom (perform statement.now length (state_of self.old (L.world lib.old) u area.old))
-            (lacks_room statement.now length (L.room lib.old u) (state_of self.old (L.world lib.old) u area.old)) result.status) }
-        ensures standing { Believed L.is_honest L.IsShownTruly L.world u lib.old lib.new
-            (IsStanding self.old (L.world lib.old) u
-            → IsStanding self.new (L.world lib.new) u) }
-        ensures only { OnlyAt u (L.world lib.old) (L.world lib.new) }
+            → asks statement.now length (state_of self.old (L.shown.world lib.old) u area.old) ≡ false }
+        ensures room { Believed L.shown u lib.old lib.new
+            (IsStanding self.old (L.shown.world lib.old) u
+            → TellsRoom (perform statement.now length (state_of self.old (L.shown.world lib.old) u area.old))
+            (lacks_room statement.now length (L.shown.room lib.old u) (state_of self.old (L.shown.world lib.old) u area.old)) result.status) }
+        ensures standing { Believed L.shown u lib.old lib.new
+            (IsStanding self.old (L.shown.world lib.old) u
+            → IsStanding self.new (L.shown.world lib.new) u) }
+        ensures only { OnlyAt u (L.shown.world lib.old) (L.shown.world lib.new) }
         ensures cause { HasCause result.status (closes_failed statement.now self.old.connector.session)
-            (L.fault_count lib.old) (L.fault_count lib.new) }
-        ensures images { Believed L.is_honest L.IsShownTruly L.world u lib.old lib.new (IsStanding self.old (L.world lib.old) u
-            → ImagesGo L.Throughout (name_at (L.world lib.old) u)
-            (trace_of statement.now (state_of self.old (L.world lib.old) u area.old) result.status) lib.old lib.new) }
-        ensures keeps { Keeps L.is_honest L.IsShownTruly L.fault_count lib.old lib.new }
+            (L.shown.fault_count lib.old) (L.shown.fault_count lib.new) }
+        ensures images { Believed L.shown u lib.old lib.new (IsStanding self.old (L.shown.world lib.old) u
+            → ImagesGo L.shown.Throughout (name_at (L.shown.world lib.old) u)
+            (trace_of statement.now (state_of self.old (L.shown.world lib.old) u area.old) result.status) lib.old lib.new) }
+        ensures keeps { Keeps L.shown lib.old lib.new }
     {
         match *statement {
             FileStatement::Open(mode) => Answer::silent(self.open(lib, u, mode)),

@@ -1,7 +1,8 @@
 //! READ and START.
 ghost use Rattle.std.specs.Prelude.{◌≡◌, ◌<◌, ℕ, List, length, length as count_of, IsTrue, false};
 ghost use Rattle.indexed_file.specs.World.{OnlyAt, name_at};
-ghost use Rattle.indexed_file.specs.Calls.{Keeps, Believed};
+ghost use Rattle.indexed_file.specs.Believed.{Believed};
+ghost use Rattle.indexed_file.specs.Calls.{Keeps};
 ghost use Rattle.io_state.specs.declared.statement.FileStatement.TheVariants.{ReadNext, Read, Start};
 ghost use Rattle.verbs.specs.Verbs.{reaches};
 ghost use Rattle.verbs.specs.Refusals.{is_early};
@@ -19,28 +20,28 @@ use io_state::{Relation, Status};
 impl Connector {
     /// READ, sequential: the next record by the key of reference.
     pub fn read_next<L: Library>(&mut self, lib: &mut L, u: usize, area: &mut [u8]) -> Answer
-        requires fits { Fits self.old (L.world lib.old) u }
+        requires fits { Fits self.old (L.shown.world lib.old) u }
         requires area { length area.old ≡ self.old.connector.schema.greatest }
-        ensures fits { Fits self.new (L.world lib.new) u }
+        ensures fits { Fits self.new (L.shown.world lib.new) u }
         ensures schema { self.new.connector.schema ≡ self.old.connector.schema }
-        ensures step { (n : ℕ) → Believed L.is_honest L.IsShownTruly L.world u lib.old lib.new
-            (IsStanding self.old (L.world lib.old) u
-            → Performs ReadNext n (state_of self.old (L.world lib.old) u area.old)
-            result (state_of self.new (L.world lib.new) u area.new)) }
-        ensures early { (n : ℕ) → reaches ReadNext n (state_of self.old (L.world lib.old) u area.old) ≡ false
-            → (lib.new ≡ lib.old) × Decides ReadNext n (state_of self.old (L.world lib.old) u area.old)
-            result (state_of self.new (L.world lib.new) u area.new) }
+        ensures step { (n : ℕ) → Believed L.shown u lib.old lib.new
+            (IsStanding self.old (L.shown.world lib.old) u
+            → Performs ReadNext n (state_of self.old (L.shown.world lib.old) u area.old)
+            result (state_of self.new (L.shown.world lib.new) u area.new)) }
+        ensures early { (n : ℕ) → reaches ReadNext n (state_of self.old (L.shown.world lib.old) u area.old) ≡ false
+            → (lib.new ≡ lib.old) × Decides ReadNext n (state_of self.old (L.shown.world lib.old) u area.old)
+            result (state_of self.new (L.shown.world lib.new) u area.new) }
         ensures refusal { (n : ℕ) → IsTrue (is_early result.status)
-            → reaches ReadNext n (state_of self.old (L.world lib.old) u area.old) ≡ false }
+            → reaches ReadNext n (state_of self.old (L.shown.world lib.old) u area.old) ≡ false }
         ensures not_full { is_boundary_violation result.status ≡ false }
-        ensures standing { Believed L.is_honest L.IsShownTruly L.world u lib.old lib.new
-            (IsStanding self.old (L.world lib.old) u
-            → IsStanding self.new (L.world lib.new) u) }
-        ensures only { OnlyAt u (L.world lib.old) (L.world lib.new) }
-        ensures cause { HasCause result.status false (L.fault_count lib.old) (L.fault_count lib.new) }
-        ensures images { CallGoes L.is_honest L.IsShownTruly L.world L.Throughout u
+        ensures standing { Believed L.shown u lib.old lib.new
+            (IsStanding self.old (L.shown.world lib.old) u
+            → IsStanding self.new (L.shown.world lib.new) u) }
+        ensures only { OnlyAt u (L.shown.world lib.old) (L.shown.world lib.new) }
+        ensures cause { HasCause result.status false (L.shown.fault_count lib.old) (L.shown.fault_count lib.new) }
+        ensures images { CallGoes L.shown u
             untouched lib.old lib.new }
-        ensures keeps { Keeps L.is_honest L.IsShownTruly L.fault_count lib.old lib.new }
+        ensures keeps { Keeps L.shown lib.old lib.new }
     {
         let Some(mode) = self.mode else {
             return Answer::silent(Status::NotOpenForReading);
@@ -70,29 +71,29 @@ impl Connector {
 
     /// READ by a key: the first record whose key has the value that stands in the area.
     pub fn read<L: Library>(&mut self, lib: &mut L, u: usize, k: u8, area: &mut [u8]) -> Answer
-        requires fits { Fits self.old (L.world lib.old) u }
+        requires fits { Fits self.old (L.shown.world lib.old) u }
         requires key { k < length self.old.connector.schema.keys }
         requires area { length area.old ≡ self.old.connector.schema.greatest }
-        ensures fits { Fits self.new (L.world lib.new) u }
+        ensures fits { Fits self.new (L.shown.world lib.new) u }
         ensures schema { self.new.connector.schema ≡ self.old.connector.schema }
-        ensures step { (n : ℕ) → Believed L.is_honest L.IsShownTruly L.world u lib.old lib.new
-            (IsStanding self.old (L.world lib.old) u
-            → Performs (Read k) n (state_of self.old (L.world lib.old) u area.old)
-            result (state_of self.new (L.world lib.new) u area.new)) }
-        ensures early { (n : ℕ) → reaches (Read k) n (state_of self.old (L.world lib.old) u area.old) ≡ false
-            → (lib.new ≡ lib.old) × Decides (Read k) n (state_of self.old (L.world lib.old) u area.old)
-            result (state_of self.new (L.world lib.new) u area.new) }
+        ensures step { (n : ℕ) → Believed L.shown u lib.old lib.new
+            (IsStanding self.old (L.shown.world lib.old) u
+            → Performs (Read k) n (state_of self.old (L.shown.world lib.old) u area.old)
+            result (state_of self.new (L.shown.world lib.new) u area.new)) }
+        ensures early { (n : ℕ) → reaches (Read k) n (state_of self.old (L.shown.world lib.old) u area.old) ≡ false
+            → (lib.new ≡ lib.old) × Decides (Read k) n (state_of self.old (L.shown.world lib.old) u area.old)
+            result (state_of self.new (L.shown.world lib.new) u area.new) }
         ensures refusal { (n : ℕ) → IsTrue (is_early result.status)
-            → reaches (Read k) n (state_of self.old (L.world lib.old) u area.old) ≡ false }
+            → reaches (Read k) n (state_of self.old (L.shown.world lib.old) u area.old) ≡ false }
         ensures not_full { is_boundary_violation result.status ≡ false }
-        ensures standing { Believed L.is_honest L.IsShownTruly L.world u lib.old lib.new
-            (IsStanding self.old (L.world lib.old) u
-            → IsStanding self.new (L.world lib.new) u) }
-        ensures only { OnlyAt u (L.world lib.old) (L.world lib.new) }
-        ensures cause { HasCause result.status false (L.fault_count lib.old) (L.fault_count lib.new) }
-        ensures images { CallGoes L.is_honest L.IsShownTruly L.world L.Throughout u
+        ensures standing { Believed L.shown u lib.old lib.new
+            (IsStanding self.old (L.shown.world lib.old) u
+            → IsStanding self.new (L.shown.world lib.new) u) }
+        ensures only { OnlyAt u (L.shown.world lib.old) (L.shown.world lib.new) }
+        ensures cause { HasCause result.status false (L.shown.fault_count lib.old) (L.shown.fault_count lib.new) }
+        ensures images { CallGoes L.shown u
             untouched lib.old lib.new }
-        ensures keeps { Keeps L.is_honest L.IsShownTruly L.fault_count lib.old lib.new }
+        ensures keeps { Keeps L.shown lib.old lib.new }
     {
         let Some(mode) = self.mode else {
             return Answer::silent(Status::NotOpenForReading);
@@ -126,28 +127,28 @@ impl Connector {
         relation: Relation,
         area: &[u8],
     ) -> Status
-        requires fits { Fits self.old (L.world lib.old) u }
+        requires fits { Fits self.old (L.shown.world lib.old) u }
         requires key { k < count_of self.old.connector.schema.keys }
-        ensures fits { Fits self.new (L.world lib.new) u }
+        ensures fits { Fits self.new (L.shown.world lib.new) u }
         ensures schema { self.new.connector.schema ≡ self.old.connector.schema }
-        ensures step { (n : ℕ) → Believed L.is_honest L.IsShownTruly L.world u lib.old lib.new
-            (IsStanding self.old (L.world lib.old) u
-            → Performs (Start k length relation) n (state_of self.old (L.world lib.old) u area.now)
-            (silent result) (state_of self.new (L.world lib.new) u area.now)) }
-        ensures early { (n : ℕ) → reaches (Start k length relation) n (state_of self.old (L.world lib.old) u area.now) ≡ false
-            → (lib.new ≡ lib.old) × Decides (Start k length relation) n (state_of self.old (L.world lib.old) u area.now)
-            (silent result) (state_of self.new (L.world lib.new) u area.now) }
+        ensures step { (n : ℕ) → Believed L.shown u lib.old lib.new
+            (IsStanding self.old (L.shown.world lib.old) u
+            → Performs (Start k length relation) n (state_of self.old (L.shown.world lib.old) u area.now)
+            (silent result) (state_of self.new (L.shown.world lib.new) u area.now)) }
+        ensures early { (n : ℕ) → reaches (Start k length relation) n (state_of self.old (L.shown.world lib.old) u area.now) ≡ false
+            → (lib.new ≡ lib.old) × Decides (Start k length relation) n (state_of self.old (L.shown.world lib.old) u area.now)
+            (silent result) (state_of self.new (L.shown.world lib.new) u area.now) }
         ensures refusal { (n : ℕ) → IsTrue (is_early result)
-            → reaches (Start k length relation) n (state_of self.old (L.world lib.old) u area.now) ≡ false }
+            → reaches (Start k length relation) n (state_of self.old (L.shown.world lib.old) u area.now) ≡ false }
         ensures not_full { is_boundary_violation result ≡ false }
-        ensures standing { Believed L.is_honest L.IsShownTruly L.world u lib.old lib.new
-            (IsStanding self.old (L.world lib.old) u
-            → IsStanding self.new (L.world lib.new) u) }
-        ensures only { OnlyAt u (L.world lib.old) (L.world lib.new) }
-        ensures cause { HasCause result false (L.fault_count lib.old) (L.fault_count lib.new) }
-        ensures images { CallGoes L.is_honest L.IsShownTruly L.world L.Throughout u
+        ensures standing { Believed L.shown u lib.old lib.new
+            (IsStanding self.old (L.shown.world lib.old) u
+            → IsStanding self.new (L.shown.world lib.new) u) }
+        ensures only { OnlyAt u (L.shown.world lib.old) (L.shown.world lib.new) }
+        ensures cause { HasCause result false (L.shown.fault_count lib.old) (L.shown.fault_count lib.new) }
+        ensures images { CallGoes L.shown u
             untouched lib.old lib.new }
-        ensures keeps { Keeps L.is_honest L.IsShownTruly L.fault_count lib.old lib.new }
+        ensures keeps { Keeps L.shown lib.old lib.new }
     {
         let Some(mode) = self.mode else {
             return Status::NotOpenForReading;

@@ -5,7 +5,8 @@ ghost use Rattle.record_layout.specs.Schema.{prime_of};
 ghost use Rattle.indexed_file.specs.Rank.{highest_of};
 ghost use Rattle.indexed_file.specs.Change.{row_of};
 ghost use Rattle.indexed_file.specs.World.{OnlyAt, name_at, holding_at, schema_at, file_at, is_open, is_broken};
-ghost use Rattle.indexed_file.specs.Calls.{Keeps, Believed, OnlyReads, MayFail};
+ghost use Rattle.indexed_file.specs.Believed.{Believed};
+ghost use Rattle.indexed_file.specs.Calls.{Keeps, OnlyReads, MayFail};
 ghost use Rattle.indexed_file.specs.UnitAnswers.{adding_is_full};
 ghost use Rattle.io_state.specs.Permission.{is_sequential};
 ghost use Rattle.io_state.specs.declared.statement.FileStatement.TheVariants.{Write};
@@ -27,30 +28,30 @@ use io_state::{Fault, Status, Verb, permits};
 impl Connector {
     /// WRITE of the record in the first `length` bytes of the area.
     pub fn write<L: Library>(&mut self, lib: &mut L, u: usize, area: &[u8], length: u16) -> Status
-        requires fits { Fits self.old (L.world lib.old) u }
+        requires fits { Fits self.old (L.shown.world lib.old) u }
         requires area { count_of area.now ≡ self.old.connector.schema.greatest }
-        ensures fits { Fits self.new (L.world lib.new) u }
+        ensures fits { Fits self.new (L.shown.world lib.new) u }
         ensures schema { self.new.connector.schema ≡ self.old.connector.schema }
-        ensures step { Believed L.is_honest L.IsShownTruly L.world u lib.old lib.new
-            (IsStanding self.old (L.world lib.old) u
-            → Performs Write length (state_of self.old (L.world lib.old) u area.now)
-            (silent result) (state_of self.new (L.world lib.new) u area.now)) }
-        ensures early { reaches Write length (state_of self.old (L.world lib.old) u area.now) ≡ false
-            → (lib.new ≡ lib.old) × Decides Write length (state_of self.old (L.world lib.old) u area.now)
-            (silent result) (state_of self.new (L.world lib.new) u area.now) }
-        ensures refusal { IsTrue (is_early result) → reaches Write length (state_of self.old (L.world lib.old) u area.now) ≡ false }
-        ensures room { Believed L.is_honest L.IsShownTruly L.world u lib.old lib.new
-            (IsStanding self.old (L.world lib.old) u
-            → TellsRoom (perform Write length (state_of self.old (L.world lib.old) u area.now))
-            (lacks_room Write length (L.room lib.old u) (state_of self.old (L.world lib.old) u area.now)) result) }
-        ensures standing { Believed L.is_honest L.IsShownTruly L.world u lib.old lib.new
-            (IsStanding self.old (L.world lib.old) u
-            → IsStanding self.new (L.world lib.new) u) }
-        ensures only { OnlyAt u (L.world lib.old) (L.world lib.new) }
-        ensures cause { HasCause result false (L.fault_count lib.old) (L.fault_count lib.new) }
-        ensures images { CallGoes L.is_honest L.IsShownTruly L.world L.Throughout u
+        ensures step { Believed L.shown u lib.old lib.new
+            (IsStanding self.old (L.shown.world lib.old) u
+            → Performs Write length (state_of self.old (L.shown.world lib.old) u area.now)
+            (silent result) (state_of self.new (L.shown.world lib.new) u area.now)) }
+        ensures early { reaches Write length (state_of self.old (L.shown.world lib.old) u area.now) ≡ false
+            → (lib.new ≡ lib.old) × Decides Write length (state_of self.old (L.shown.world lib.old) u area.now)
+            (silent result) (state_of self.new (L.shown.world lib.new) u area.now) }
+        ensures refusal { IsTrue (is_early result) → reaches Write length (state_of self.old (L.shown.world lib.old) u area.now) ≡ false }
+        ensures room { Believed L.shown u lib.old lib.new
+            (IsStanding self.old (L.shown.world lib.old) u
+            → TellsRoom (perform Write length (state_of self.old (L.shown.world lib.old) u area.now))
+            (lacks_room Write length (L.shown.room lib.old u) (state_of self.old (L.shown.world lib.old) u area.now)) result) }
+        ensures standing { Believed L.shown u lib.old lib.new
+            (IsStanding self.old (L.shown.world lib.old) u
+            → IsStanding self.new (L.shown.world lib.new) u) }
+        ensures only { OnlyAt u (L.shown.world lib.old) (L.shown.world lib.new) }
+        ensures cause { HasCause result false (L.shown.fault_count lib.old) (L.shown.fault_count lib.new) }
+        ensures images { CallGoes L.shown u
             (trace_of_change_by result) lib.old lib.new }
-        ensures keeps { Keeps L.is_honest L.IsShownTruly L.fault_count lib.old lib.new }
+        ensures keeps { Keeps L.shown lib.old lib.new }
     {
         let Some(mode) = self.mode else {
             return Status::NotOpenForWriting;
@@ -72,34 +73,34 @@ impl Connector {
 
     /// Adds a record, whose prime value has to be above the greatest of the file in sequential access.
     fn put<L: Library>(&mut self, lib: &mut L, u: usize, bytes: &[u8]) -> Status
-        requires fits { Fits self.old (L.world lib.old) u }
-        requires open { IsTrue (is_open (holding_at (L.world lib.old) u)) }
+        requires fits { Fits self.old (L.shown.world lib.old) u }
+        requires open { IsTrue (is_open (holding_at (L.shown.world lib.old) u)) }
         requires works { has_failed self.old.connector.session ≡ false }
         requires writes { writes self.old.connector.access self.old.connector.session ≡ true }
         requires unread { last_read_of self.old.connector.session ≡ None }
         requires least { self.old.connector.schema.least ≤ count_of bytes.now }
         requires greatest { count_of bytes.now ≤ self.old.connector.schema.greatest }
-        ensures fits { Fits self.new (L.world lib.new) u }
+        ensures fits { Fits self.new (L.shown.world lib.new) u }
         ensures schema { self.new.connector.schema ≡ self.old.connector.schema }
         ensures step { (area : List ℕ) → (session : Session) → self.old.connector.session ≡ Some (unread session)
-            → Believed L.is_honest L.IsShownTruly L.world u lib.old lib.new
-            (IsStanding self.old (L.world lib.old) u
-            → Changes Write (written bytes.now (state_of self.old (L.world lib.old) u area) session)
-            (state_of self.old (L.world lib.old) u area)
-            result (state_of self.new (L.world lib.new) u area)) }
+            → Believed L.shown u lib.old lib.new
+            (IsStanding self.old (L.shown.world lib.old) u
+            → Changes Write (written bytes.now (state_of self.old (L.shown.world lib.old) u area) session)
+            (state_of self.old (L.shown.world lib.old) u area)
+            result (state_of self.new (L.shown.world lib.new) u area)) }
         ensures late { is_early result ≡ false }
-        ensures room { (area : List ℕ) → (session : Session) → Believed L.is_honest L.IsShownTruly L.world u lib.old lib.new
-            (IsStanding self.old (L.world lib.old) u
-            → TellsRoom (written bytes.now (state_of self.old (L.world lib.old) u area) session)
-            (adding_is_full (L.room lib.old u) (L.world lib.old) u) result) }
-        ensures standing { Believed L.is_honest L.IsShownTruly L.world u lib.old lib.new
-            (IsStanding self.old (L.world lib.old) u
-            → IsStanding self.new (L.world lib.new) u) }
-        ensures only { OnlyAt u (L.world lib.old) (L.world lib.new) }
-        ensures cause { HasCause result false (L.fault_count lib.old) (L.fault_count lib.new) }
-        ensures images { CallGoes L.is_honest L.IsShownTruly L.world L.Throughout u
+        ensures room { (area : List ℕ) → (session : Session) → Believed L.shown u lib.old lib.new
+            (IsStanding self.old (L.shown.world lib.old) u
+            → TellsRoom (written bytes.now (state_of self.old (L.shown.world lib.old) u area) session)
+            (adding_is_full (L.shown.room lib.old u) (L.shown.world lib.old) u) result) }
+        ensures standing { Believed L.shown u lib.old lib.new
+            (IsStanding self.old (L.shown.world lib.old) u
+            → IsStanding self.new (L.shown.world lib.new) u) }
+        ensures only { OnlyAt u (L.shown.world lib.old) (L.shown.world lib.new) }
+        ensures cause { HasCause result false (L.shown.fault_count lib.old) (L.shown.fault_count lib.new) }
+        ensures images { CallGoes L.shown u
             (trace_of_change_by result) lib.old lib.new }
-        ensures keeps { Keeps L.is_honest L.IsShownTruly L.fault_count lib.old lib.new }
+        ensures keeps { Keeps L.shown lib.old lib.new }
     {
         let sequential = is_sequential(self.access);
         if !sequential {
@@ -117,23 +118,23 @@ impl Connector {
 
     /// Asks for the greatest prime value of the file, unless it is known.
     fn learn_highest<L: Library>(&mut self, lib: &mut L, u: usize) -> Result<(), Fault>
-        requires fits { Fits self.old (L.world lib.old) u }
-        requires open { IsTrue (is_open (holding_at (L.world lib.old) u)) }
+        requires fits { Fits self.old (L.shown.world lib.old) u }
+        requires open { IsTrue (is_open (holding_at (L.shown.world lib.old) u)) }
         requires works { has_failed self.old.connector.session ≡ false }
         requires unread { last_read_of self.old.connector.session ≡ None }
-        ensures fits { Fits self.new (L.world lib.new) u }
+        ensures fits { Fits self.new (L.shown.world lib.new) u }
         ensures connector { self.new.connector ≡ self.old.connector }
-        ensures known { Believed L.is_honest L.IsShownTruly L.world u lib.old lib.new
-            (IsHighestOf self.old.connector.schema (file_at (L.world lib.old) u) self.old.highest
-            → OnOk result (self.new.highest ≡ Some (highest_of self.old.connector.schema (file_at (L.world lib.old) u).rows))) }
+        ensures known { Believed L.shown u lib.old lib.new
+            (IsHighestOf self.old.connector.schema (file_at (L.shown.world lib.old) u) self.old.highest
+            → OnOk result (self.new.highest ≡ Some (highest_of self.old.connector.schema (file_at (L.shown.world lib.old) u).rows))) }
         ensures err { OnErr result ((self.new ≡ self.old) × (self.old.highest ≡ None)) }
-        ensures reads { OnlyReads u (L.is_honest lib.new) (L.world lib.old) (L.world lib.new) }
-        ensures room { L.room lib.new u ≡ L.room lib.old u }
-        ensures fault { IfErr result (MayFail (is_broken (holding_at (L.world lib.old) u)) (L.is_honest lib.new)
-            (L.IsShownTruly lib.old (name_at (L.world lib.old) u)) (L.fault_count lib.old) (L.fault_count lib.new)) }
-        ensures images { CallGoes L.is_honest L.IsShownTruly L.world L.Throughout u
+        ensures reads { OnlyReads u (L.shown.is_honest lib.new) (L.shown.world lib.old) (L.shown.world lib.new) }
+        ensures room { L.shown.room lib.new u ≡ L.shown.room lib.old u }
+        ensures fault { IfErr result (MayFail (is_broken (holding_at (L.shown.world lib.old) u)) (L.shown.is_honest lib.new)
+            (L.shown.IsShownTruly lib.old (name_at (L.shown.world lib.old) u)) (L.shown.fault_count lib.old) (L.shown.fault_count lib.new)) }
+        ensures images { CallGoes L.shown u
             untouched lib.old lib.new }
-        ensures keeps { Keeps L.is_honest L.IsShownTruly L.fault_count lib.old lib.new }
+        ensures keeps { Keeps L.shown lib.old lib.new }
     {
         if self.highest.is_some() {
             return Ok(());
@@ -157,33 +158,33 @@ impl Connector {
 
     /// Adds a record.
     fn store<L: Library>(&mut self, lib: &mut L, u: usize, bytes: &[u8]) -> Status
-        requires fits { Fits self.old (L.world lib.old) u }
-        requires open { IsTrue (is_open (holding_at (L.world lib.old) u)) }
+        requires fits { Fits self.old (L.shown.world lib.old) u }
+        requires open { IsTrue (is_open (holding_at (L.shown.world lib.old) u)) }
         requires works { has_failed self.old.connector.session ≡ false }
         requires unread { last_read_of self.old.connector.session ≡ None }
         requires least { self.old.connector.schema.least ≤ count_of bytes.now }
         requires greatest { count_of bytes.now ≤ self.old.connector.schema.greatest }
-        ensures fits { Fits self.new (L.world lib.new) u }
+        ensures fits { Fits self.new (L.shown.world lib.new) u }
         ensures schema { self.new.connector.schema ≡ self.old.connector.schema }
         ensures step { (area : List ℕ) → (session : Session) → self.old.connector.session ≡ Some (unread session)
-            → Believed L.is_honest L.IsShownTruly L.world u lib.old lib.new
-            (Changes Write (stored bytes.now (state_of self.old (L.world lib.old) u area) session)
-            (state_of self.old (L.world lib.old) u area)
-            result (state_of self.new (L.world lib.new) u area)) }
+            → Believed L.shown u lib.old lib.new
+            (Changes Write (stored bytes.now (state_of self.old (L.shown.world lib.old) u area) session)
+            (state_of self.old (L.shown.world lib.old) u area)
+            result (state_of self.new (L.shown.world lib.new) u area)) }
         ensures late { is_early result ≡ false }
-        ensures room { (area : List ℕ) → (session : Session) → Believed L.is_honest L.IsShownTruly L.world u lib.old lib.new
-            (TellsRoom (stored bytes.now (state_of self.old (L.world lib.old) u area) session)
-            (adding_is_full (L.room lib.old u) (L.world lib.old) u) result) }
-        ensures standing { Believed L.is_honest L.IsShownTruly L.world u lib.old lib.new
+        ensures room { (area : List ℕ) → (session : Session) → Believed L.shown u lib.old lib.new
+            (TellsRoom (stored bytes.now (state_of self.old (L.shown.world lib.old) u area) session)
+            (adding_is_full (L.shown.room lib.old u) (L.shown.world lib.old) u) result) }
+        ensures standing { Believed L.shown u lib.old lib.new
             ((IsTrue (is_sequential self.old.connector.access)
             → is_not_above (prime_of self.old.connector.schema bytes.now)
-            (highest_of self.old.connector.schema (file_at (L.world lib.old) u).rows) ≡ false) → IsStanding self.old (L.world lib.old) u
-            → IsStanding self.new (L.world lib.new) u) }
-        ensures only { OnlyAt u (L.world lib.old) (L.world lib.new) }
-        ensures cause { HasCause result false (L.fault_count lib.old) (L.fault_count lib.new) }
-        ensures images { CallGoes L.is_honest L.IsShownTruly L.world L.Throughout u
+            (highest_of self.old.connector.schema (file_at (L.shown.world lib.old) u).rows) ≡ false) → IsStanding self.old (L.shown.world lib.old) u
+            → IsStanding self.new (L.shown.world lib.new) u) }
+        ensures only { OnlyAt u (L.shown.world lib.old) (L.shown.world lib.new) }
+        ensures cause { HasCause result false (L.shown.fault_count lib.old) (L.shown.fault_count lib.new) }
+        ensures images { CallGoes L.shown u
             (trace_of_change_by result) lib.old lib.new }
-        ensures keeps { Keeps L.is_honest L.IsShownTruly L.fault_count lib.old lib.new }
+        ensures keeps { Keeps L.shown lib.old lib.new }
     {
         match lib.add(u, bytes) {
             Ok(Added::Done { repeated }) => {

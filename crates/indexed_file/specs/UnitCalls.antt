@@ -1,0 +1,72 @@
+-- The kinds of calls on a unit: what each call of a kind promises, besides its answer.
+use Rattle.std.specs.Prelude.{◌≡◌, ◌≢◌, ℕ, ◌≤◌, Bool, List, Result, Err, OnOk, OnErr, IfErr, IsTrue, IsFalse}
+use Rattle.io_state.specs.declared.fault.Fault.{Fault}
+use Rattle.io_state.specs.declared.fault.Fault.TheVariants.{Full, Broken as BrokenUnit}
+use Rattle.record_layout.specs.Schema.{Schema}
+use Rattle.indexed_file.specs.File.{empty_file}
+use Rattle.indexed_file.specs.World.{OnlyAt, Unsound, Shut, Opened, holding_at, named_at, name_at, schema_at, is_open, is_broken}
+use Rattle.indexed_file.specs.Room.{most_to_change, room_of_new}
+use Rattle.indexed_file.specs.Shown.{Shown}
+use Rattle.indexed_file.specs.Believed.{Believed}
+use Rattle.indexed_file.specs.Images.{Trace, Stays, CallGoes, untouched, trace_of_change, trace_of_shut}
+use Rattle.indexed_file.specs.Calls.{Keeps, OnlyReads, MayAnswer, MayAnswerShut, LeavesBroken, AsksAtMost}
+
+-- the count of a unit's pages begins again, and nothing else changes
+pub record RestartsCount {S : Type 0} (shown : Shown S) (u : ℕ) (old new : S) : Type 0 where
+  pub asked : shown.pages_asked new u ≡ 0
+  pub others : (v : ℕ) → v ≢ u → shown.pages_asked new v ≡ shown.pages_asked old v
+  pub world : shown.world new ≡ shown.world old
+  pub room : (v : ℕ) → shown.room new v ≡ shown.room old v
+  pub honest : shown.is_honest new ≡ shown.is_honest old
+  pub truth : (name : List ℕ) → shown.IsShownTruly old name → shown.IsShownTruly new name
+  pub count : shown.fault_count new ≡ shown.fault_count old
+  pub limit : shown.page_limit new ≡ shown.page_limit old
+  pub images : (name : List ℕ) → Stays shown.Throughout old new name
+
+-- a call that opens unit u, or looks whether it can be opened: a fault leaves it shut
+pub record OpensUnit {S X : Type 0} (shown : Shown S) (u : ℕ) (trace : Trace) (old new : S) (result : Result X Fault) : Type 0 where
+  pub err : OnErr result (holding_at (shown.world new) u ≡ Shut)
+  pub unbroken : OnOk result (IsFalse (is_broken (holding_at (shown.world new) u)))
+  pub only : OnlyAt u (shown.world old) (shown.world new)
+  pub fault : IfErr result (MayAnswerShut shown u old new)
+  pub images : CallGoes shown u trace old new
+  pub keeps : Keeps shown old new
+
+-- a call that only reads the open unit u, and asks for so many of its pages at most
+pub record ReadsUnit {S X : Type 0} (shown : Shown S) (u most : ℕ) (old new : S) (result : Result X Fault) : Type 0 where
+  pub asked : Believed shown u old new (AsksAtMost shown u most old new result)
+  pub world : OnlyReads u (shown.is_honest new) (shown.world old) (shown.world new)
+  pub room : shown.room new u ≡ shown.room old u
+  pub broken : IsTrue (is_broken (holding_at (shown.world old) u)) → result ≡ Err BrokenUnit
+  pub fault : IfErr result (MayAnswer shown u old new)
+  pub images : CallGoes shown u untouched old new
+  pub keeps : Keeps shown old new
+
+-- a call that changes the open unit u, which stays open: a fault other than Full leaves it broken
+pub record ChangesUnit {S X : Type 0} (shown : Shown S) (u : ℕ) (is_made : X → Bool) (old new : S) (result : Result X Fault) : Type 0 where
+  pub asked : Believed shown u old new (AsksAtMost shown u (most_to_change (shown.room old u)) old new result)
+  pub broken : IsTrue (is_broken (holding_at (shown.world old) u)) → result ≡ Err BrokenUnit
+  pub fault : IfErr result (λ fault. fault ≢ Full
+      → LeavesBroken u (shown.is_honest new) (shown.world old) (shown.world new) × MayAnswer shown u old new fault)
+  pub unbroken : OnOk result (IsFalse (is_broken (holding_at (shown.world new) u)))
+  pub only : OnlyAt u (shown.world old) (shown.world new)
+  pub opened : IsTrue (is_open (holding_at (shown.world new) u))
+  pub schema : schema_at (shown.world new) u ≡ schema_at (shown.world old) u
+  pub images : CallGoes shown u (trace_of_change is_made result) old new
+  pub keeps : Keeps shown old new
+
+-- a call that shuts the open unit u, whatever it answers
+pub record ShutsUnit {S X : Type 0} (shown : Shown S) (u : ℕ) (old new : S) (result : Result X Fault) : Type 0 where
+  pub shut : holding_at (shown.world new) u ≡ Shut
+  pub only : OnlyAt u (shown.world old) (shown.world new)
+  pub fault : IfErr result (MayAnswer shown u old new)
+  pub images : CallGoes shown u (trace_of_shut (named_at (shown.world old) u) (holding_at (shown.world old) u) result) old new
+  pub keeps : Keeps shown old new
+
+-- the file of unit u is new: it is open without rows and shown truly, its name is unsound until it is closed, and it has the room of a
+-- new file
+pub record IsNew {S : Type 0} (shown : Shown S) (u : ℕ) (schema : Schema) (old new : S) : Type 0 where
+  pub named : named_at (shown.world new) u ≡ Unsound
+  pub holding : holding_at (shown.world new) u ≡ Opened schema empty_file
+  pub truly : shown.IsShownTruly new (name_at (shown.world old) u)
+  pub room : shown.room new u ≡ room_of_new (shown.page_limit new) schema

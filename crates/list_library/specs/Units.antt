@@ -1,0 +1,91 @@
+-- What a unit of a list library shows.
+use Rattle.std.specs.Prelude.{ℕ, Bool, true, false, List, [], ◌∷◌, bytes_eq, Option, Some, None, unwrap_or, is_some, IsFalse, Result, Err, IsTrue, IfErr, ◌≡◌, if◌then◌else◌}
+use Rattle.list_library.specs.declared.list_unit.UnitState.{UnitState}
+use Rattle.list_library.specs.declared.list_unit.UnitState.TheVariants.{IsShut, IsLooked, IsOpened, IsBroken}
+use Rattle.io_state.specs.declared.fault.Fault.{Fault}
+use Rattle.io_state.specs.declared.fault.Fault.TheVariants.{Device, Memory, Full, Damage, Broken as BrokenUnit}
+use Rattle.record_layout.specs.Schema.{prime_of}
+use Rattle.indexed_file.specs.File.{Row, File, empty_file}
+use Rattle.indexed_file.specs.Change.{clashes, clashes_with_others, added, replaced, removed, row_of}
+use Rattle.list_library.specs.Stored.{Stored}
+use Rattle.indexed_file.specs.World.{Named, Absent, Closed, Unsound, Holding, Shut, Looked, Opened, Broken, FileUnit, file_in, schema_in, is_broken}
+
+-- a name stands for its file, unless that was changed since
+abbrev pub named_by : Bool → Option Stored → Named
+named_by true file = Unsound
+named_by false None = Absent
+named_by false (Some file) = Closed file.schema file.file
+
+-- what a unit in this state holds
+abbrev pub held_by : UnitState → Option Stored → Holding
+held_by IsShut file = Shut
+held_by IsLooked None = Shut
+held_by IsLooked (Some file) = Looked file.schema
+held_by IsOpened None = Shut
+held_by IsOpened (Some file) = Opened file.schema file.file
+held_by IsBroken None = Shut
+held_by IsBroken (Some file) = Broken file.schema
+
+abbrev pub is_looked_state : UnitState → Bool
+is_looked_state IsShut = false
+is_looked_state IsLooked = true
+is_looked_state IsOpened = false
+is_looked_state IsBroken = false
+
+-- a unit
+abbrev pub unit_by : List ℕ → Option Stored → Bool → UnitState → FileUnit
+unit_by name file changed state = record { name = name; named = named_by changed file; holding = held_by state file }
+
+-- what a name stands for among these units
+abbrev pub named_among : List FileUnit → List ℕ → Named
+named_among [] name = Absent
+named_among (unit ∷ units) name = if bytes_eq unit.name name then unit.named else named_among units name
+
+-- a unit whose name stands for nothing
+abbrev pub absent_unit : List ℕ → FileUnit
+absent_unit name = record { name = name; named = Absent; holding = Shut }
+
+-- a unit that is shut, and stands for what its name stands for among these units
+abbrev pub in_place_among : List FileUnit → List ℕ → FileUnit
+in_place_among units name = record { name = name; named = named_among units name; holding = Shut }
+
+-- the file that a unit holds, with no rows where there is none
+abbrev pub rows_in : Holding → File
+rows_in holding = unwrap_or (file_in holding) empty_file
+
+-- a broken unit answers so, and no other unit does
+pub record AnswersBroken {X : Type 0} (holding : Holding) (result : Result X Fault) : Type 0 where
+  pub always : IsTrue (is_broken holding) → result ≡ Err BrokenUnit
+  pub only : IfErr result (λ fault. (fault ≡ BrokenUnit) × IsTrue (is_broken holding))
+
+-- the unit with other rows, and so with a name that is unsound
+abbrev pub with_rows : FileUnit → File → FileUnit
+with_rows unit file = record unit { named = Unsound; holding = Opened (schema_in unit.holding) file }
+
+-- the unit after a record was added, unless it clashes
+abbrev pub unit_after_add : FileUnit → List ℕ → FileUnit
+unit_after_add unit bytes =
+    if clashes (schema_in unit.holding) bytes (rows_in unit.holding).rows then unit else with_rows unit (added (schema_in unit.holding) bytes (rows_in unit.holding))
+
+-- after a record was replaced, if it is there and does not clash with others
+abbrev pub unit_after_replace_at : FileUnit → List ℕ → Option Row → FileUnit
+unit_after_replace_at unit bytes None = unit
+unit_after_replace_at unit bytes (Some row) =
+    if clashes_with_others (schema_in unit.holding) bytes (rows_in unit.holding) then unit else with_rows unit (replaced (schema_in unit.holding) bytes row (rows_in unit.holding))
+
+abbrev pub unit_after_replace : FileUnit → List ℕ → FileUnit
+unit_after_replace unit bytes = unit_after_replace_at unit bytes (row_of (schema_in unit.holding) (prime_of (schema_in unit.holding) bytes) (rows_in unit.holding))
+
+-- after a record was removed, if it is there
+abbrev pub unit_after_remove : FileUnit → List ℕ → FileUnit
+unit_after_remove unit prime =
+    if is_some (row_of (schema_in unit.holding) prime (rows_in unit.holding)) then with_rows unit (removed (schema_in unit.holding) prime (rows_in unit.holding)) else unit
+
+-- a change that failed: Full under this condition, and then nothing is changed; Memory, and then the unit is broken; Broken on a
+-- broken unit
+abbrev pub FailsChange : FileUnit → FileUnit → Type 0 → Fault → Type 0
+FailsChange old new is_full Full = is_full × (new ≡ old)
+FailsChange old new is_full Memory = IsFalse (is_broken old.holding) × (new ≡ record old { holding = Broken (schema_in old.holding) })
+FailsChange old new is_full BrokenUnit = IsTrue (is_broken old.holding) × (new ≡ old)
+FailsChange old new is_full Device = ⊥
+FailsChange old new is_full Damage = ⊥

@@ -1,0 +1,73 @@
+//! Scans of all rows.
+ghost use Rattle.std.specs.Prelude.{◌≡◌, ◌<◌, ℕ, true, false, Some, Option, length, map, filter, IfSome, option_map};
+ghost use Rattle.indexed_file.specs.Rank.{lowest, lower_of, highest_of, greater_of};
+ghost use Rattle.list_library.specs.Wanted.{is_wanted};
+ghost use Rattle.list_library.specs.Scans.{row_at, prime_at};
+ghost use Rattle.record_layout.specs.Schema.{prime_of};
+
+use crate::list_row::ListRow;
+use crate::wanted::{Wanted, comes_before, value};
+use record_layout::Schema;
+
+/// Whether a row is lower, by key k, than the row of a place, or there is no place.
+fn is_lower(schema: &Schema, k: u8, row: &ListRow, rows: &[ListRow], best: Option<usize>) -> bool
+    requires { IfSome best (λ i. i < length rows.now) }
+    ensures yes { result ≡ true → lower_of schema.now k row.now (row_at rows.now best) ≡ row.now }
+    ensures no { result ≡ false → Some (lower_of schema.now k row.now (row_at rows.now best)) ≡ row_at rows.now best }
+{
+    match best {
+        None => true,
+        Some(i) => !comes_before(schema, k, &rows[i], row),
+    }
+}
+
+/// The place of the row of least rank by key k among those wanted.
+#[tactic(auto, using(crate::proofs::ScanLemmas::scan_passed, crate::proofs::ScanLemmas::scan_failed, crate::proofs::ScanLemmas::row_here))]
+pub fn lowest(schema: &Schema, k: u8, wanted: &Wanted, rows: &[ListRow]) -> Option<usize>
+    ensures bound { IfSome result (λ i. i < length rows.now) }
+    ensures lowest { row_at rows.now result ≡ lowest schema.now k (filter (is_wanted schema.now k wanted.now) rows.now) }
+{
+    let mut best = None;
+    let mut i = rows.len();
+    while i > 0 {
+        i -= 1;
+        let row = &rows[i];
+        if wanted.has(schema, k, row) {
+            if is_lower(schema, k, row, rows, best) {
+                best = Some(i);
+            }
+        }
+    }
+    best
+}
+
+/// Whether the prime value of a row is not below that of the row of a place, or there is no place.
+fn is_higher(schema: &Schema, row: &ListRow, rows: &[ListRow], best: Option<usize>) -> bool
+    requires { IfSome best (λ i. i < length rows.now) }
+    ensures yes { result ≡ true → greater_of (prime_of schema.now row.now.bytes) (prime_at schema.now rows.now best) ≡ prime_of schema.now row.now.bytes }
+    ensures no { result ≡ false → Some (greater_of (prime_of schema.now row.now.bytes) (prime_at schema.now rows.now best)) ≡ prime_at schema.now rows.now best }
+{
+    match best {
+        None => true,
+        Some(i) => value(schema, 0, row.bytes())
+            .cmp(value(schema, 0, rows[i].bytes()))
+            .is_ge(),
+    }
+}
+
+/// The place of the row of the greatest prime value.
+#[tactic(auto, using(crate::proofs::ScanLemmas::highest_from, crate::proofs::ScanLemmas::row_here))]
+pub fn highest(schema: &Schema, rows: &[ListRow]) -> Option<usize>
+    ensures bound { IfSome result (λ i. i < length rows.now) }
+    ensures highest { prime_at schema.now rows.now result ≡ highest_of schema.now rows.now }
+{
+    let mut best = None;
+    let mut i = rows.len();
+    while i > 0 {
+        i -= 1;
+        if is_higher(schema, &rows[i], rows, best) {
+            best = Some(i);
+        }
+    }
+    best
+}
