@@ -1,5 +1,5 @@
 -- What a crash may leave of a file's name in a statement.
-use Rattle.std.specs.Prelude.{Bool, true, false, ◌||◌, ◌&&◌, Option, Some, None, if◌then◌else◌}
+use Rattle.std.specs.Prelude.{Bool, ◌||◌, ◌&&◌, Option, Some, None, if◌then◌else◌}
 use Rattle.io_state.specs.declared.status.Status.{Status}
 use Rattle.io_state.specs.Status.{is_successful}
 use Rattle.record_layout.specs.Schema.{Schema}

@@ -4,7 +4,7 @@ ghost use Rattle.record_layout.specs.Schema.{prime_of};
 ghost use Rattle.indexed_file.specs.Rank.{highest_of};
 ghost use Rattle.indexed_file.specs.Change.{row_of};
 ghost use Rattle.indexed_file.specs.World.{OnlyAt, name_at, holding_at, schema_at, file_at, is_open, is_broken};
-ghost use Rattle.indexed_file.specs.Room.{is_full_to_replace};
+ghost use Rattle.indexed_file.specs.Room.{is_full_to_replace, most_to_change};
 ghost use Rattle.indexed_file.specs.Believed.{Believed};
 ghost use Rattle.indexed_file.specs.Calls.{Keeps, OnlyReads, MayFail};
 ghost use Rattle.io_state.specs.declared.statement.FileStatement.TheVariants.{Rewrite, Delete};
@@ -13,9 +13,10 @@ ghost use Rattle.verbs.specs.Writing.{deleted};
 ghost use Rattle.verbs.specs.Verbs.{perform, reaches};
 ghost use Rattle.verbs.specs.Refusals.{is_early, is_refusal};
 ghost use Rattle.verbs.specs.Full.{TellsRoom, lacks_room};
-ghost use Rattle.verbs.specs.Faults.{is_boundary_violation};
+ghost use Rattle.verbs.specs.Faults.{is_boundary_violation, is_fault};
+ghost use Rattle.verbs.specs.Performed.{IsPerformed, in_memory};
 ghost use Rattle.verbs.specs.Held.{Performs, Decides, Changes, state_of, silent, unread, bytes_of, rewritten_as, prime_by};
-ghost use Rattle.verbs.specs.Fits.{Fits, IsStanding, HasCause, has_failed, last_read_of, updates};
+ghost use Rattle.verbs.specs.Fits.{Fits, IsStanding, IsCaused, has_failed, last_read_of, updates};
 ghost use Rattle.indexed_file.specs.Images.{CallGoes};
 ghost use Rattle.verbs.specs.Traces.{trace_of_change_by};
 
@@ -23,6 +24,7 @@ use super::Connector;
 use crate::checks::{
     changes_prime, is_for_updating, is_length, is_sequential, is_unread, status_by,
 };
+use crate::counted;
 use indexed_file::{Library, Replaced};
 use io_state::{Fault, Key, Status};
 
@@ -31,29 +33,8 @@ impl Connector {
     pub fn rewrite<L: Library>(&mut self, lib: &mut L, u: usize, area: &[u8], length: u16) -> Status
         requires fits { Fits self.old (L.shown.world lib.old) u }
         requires area { count_of area.now ≡ self.old.connector.schema.greatest }
-        ensures fits { Fits self.new (L.shown.world lib.new) u }
-        ensures schema { self.new.connector.schema ≡ self.old.connector.schema }
-        ensures step { Believed L.shown u lib.old lib.new
-            (IsStanding self.old (L.shown.world lib.old) u
-            → Performs Rewrite length (state_of self.old (L.shown.world lib.old) u area.now)
-            (silent result) (state_of self.new (L.shown.world lib.new) u area.now)) }
-        ensures early { reaches Rewrite length (state_of self.old (L.shown.world lib.old) u area.now) ≡ false
-            → (lib.new ≡ lib.old) × Decides Rewrite length (state_of self.old (L.shown.world lib.old) u area.now)
-            (silent result) (state_of self.new (L.shown.world lib.new) u area.now) }
-        ensures refusal { IsTrue (is_refusal Rewrite result)
-            → reaches Rewrite length (state_of self.old (L.shown.world lib.old) u area.now) ≡ false }
-        ensures room { Believed L.shown u lib.old lib.new
-            (IsStanding self.old (L.shown.world lib.old) u
-            → TellsRoom (perform Rewrite length (state_of self.old (L.shown.world lib.old) u area.now))
-            (lacks_room Rewrite length (L.shown.room lib.old u) (state_of self.old (L.shown.world lib.old) u area.now)) result) }
-        ensures standing { Believed L.shown u lib.old lib.new
-            (IsStanding self.old (L.shown.world lib.old) u
-            → IsStanding self.new (L.shown.world lib.new) u) }
-        ensures only { OnlyAt u (L.shown.world lib.old) (L.shown.world lib.new) }
-        ensures cause { HasCause result false (L.shown.fault_count lib.old) (L.shown.fault_count lib.new) }
-        ensures images { CallGoes L.shown u
-            (trace_of_change_by result) lib.old lib.new }
-        ensures keeps { Keeps L.shown lib.old lib.new }
+        ensures { IsPerformed L.shown u Rewrite length (in_memory self.old lib.old area.now)
+            (silent result) (in_memory self.new lib.new area.now) }
     {
         let Some(mode) = self.mode else {
             return Status::NotOpenForUpdating;
@@ -106,13 +87,15 @@ impl Connector {
         ensures standing { Believed L.shown u lib.old lib.new
             (IsStanding self.old (L.shown.world lib.old) u
             → IsStanding self.new (L.shown.world lib.new) u) }
+        ensures asked { Believed L.shown u lib.old lib.new (is_fault result ≡ false
+            → L.shown.pages_asked lib.new u ≤ most_to_change (L.shown.room lib.old u)) }
         ensures only { OnlyAt u (L.shown.world lib.old) (L.shown.world lib.new) }
-        ensures cause { HasCause result false (L.shown.fault_count lib.old) (L.shown.fault_count lib.new) }
+        ensures cause { IsCaused result false (L.shown.fault_count lib.old) (L.shown.fault_count lib.new) }
         ensures images { CallGoes L.shown u
             (trace_of_change_by result) lib.old lib.new }
         ensures keeps { Keeps L.shown lib.old lib.new }
     {
-        match lib.replace(u, bytes) {
+        match counted::replace(lib, u, bytes) {
             Ok(Replaced::Done { repeated }) => {
                 self.forget_highest();
                 status_by(repeated)
@@ -127,25 +110,8 @@ impl Connector {
     /// DELETE: in sequential access of the record read last, else of the record of the prime value that stands in the area.
     pub fn delete<L: Library>(&mut self, lib: &mut L, u: usize, area: &[u8]) -> Status
         requires fits { Fits self.old (L.shown.world lib.old) u }
-        ensures fits { Fits self.new (L.shown.world lib.new) u }
-        ensures schema { self.new.connector.schema ≡ self.old.connector.schema }
-        ensures step { (n : ℕ) → Believed L.shown u lib.old lib.new
-            (IsStanding self.old (L.shown.world lib.old) u
-            → Performs Delete n (state_of self.old (L.shown.world lib.old) u area.now)
-            (silent result) (state_of self.new (L.shown.world lib.new) u area.now)) }
-        ensures early { (n : ℕ) → reaches Delete n (state_of self.old (L.shown.world lib.old) u area.now) ≡ false
-            → (lib.new ≡ lib.old) × Decides Delete n (state_of self.old (L.shown.world lib.old) u area.now)
-            (silent result) (state_of self.new (L.shown.world lib.new) u area.now) }
-        ensures refusal { (n : ℕ) → IsTrue (is_early result) → reaches Delete n (state_of self.old (L.shown.world lib.old) u area.now) ≡ false }
-        ensures not_full { is_boundary_violation result ≡ false }
-        ensures standing { Believed L.shown u lib.old lib.new
-            (IsStanding self.old (L.shown.world lib.old) u
-            → IsStanding self.new (L.shown.world lib.new) u) }
-        ensures only { OnlyAt u (L.shown.world lib.old) (L.shown.world lib.new) }
-        ensures cause { HasCause result false (L.shown.fault_count lib.old) (L.shown.fault_count lib.new) }
-        ensures images { CallGoes L.shown u
-            (trace_of_change_by result) lib.old lib.new }
-        ensures keeps { Keeps L.shown lib.old lib.new }
+        ensures { (n : ℕ) → IsPerformed L.shown u Delete n (in_memory self.old lib.old area.now)
+            (silent result) (in_memory self.new lib.new area.now) }
     {
         let Some(mode) = self.mode else {
             return Status::NotOpenForUpdating;
@@ -200,13 +166,15 @@ impl Connector {
         ensures standing { Believed L.shown u lib.old lib.new
             (IsStanding self.old (L.shown.world lib.old) u
             → IsStanding self.new (L.shown.world lib.new) u) }
+        ensures asked { Believed L.shown u lib.old lib.new (is_fault result ≡ false
+            → L.shown.pages_asked lib.new u ≤ most_to_change (L.shown.room lib.old u)) }
         ensures only { OnlyAt u (L.shown.world lib.old) (L.shown.world lib.new) }
-        ensures cause { HasCause result false (L.shown.fault_count lib.old) (L.shown.fault_count lib.new) }
+        ensures cause { IsCaused result false (L.shown.fault_count lib.old) (L.shown.fault_count lib.new) }
         ensures images { CallGoes L.shown u
             (trace_of_change_by result) lib.old lib.new }
         ensures keeps { Keeps L.shown lib.old lib.new }
     {
-        match lib.remove(u, prime) {
+        match counted::remove(lib, u, prime) {
             Ok(true) => {
                 self.forget_highest();
                 Status::Successful

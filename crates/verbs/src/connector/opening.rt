@@ -11,11 +11,11 @@ ghost use Rattle.io_state.specs.declared.statement.FileStatement.TheVariants.{Op
 ghost use Rattle.verbs.specs.Connector.{answers};
 ghost use Rattle.verbs.specs.Opening.{created, open_absent, open_named};
 ghost use Rattle.verbs.specs.Marred.{creates};
-ghost use Rattle.verbs.specs.Verbs.{reaches};
 ghost use Rattle.verbs.specs.Refusals.{is_early};
 ghost use Rattle.verbs.specs.Faults.{is_boundary_violation};
-ghost use Rattle.verbs.specs.Held.{Performs, Decides, Changes, state_of, silent};
-ghost use Rattle.verbs.specs.Fits.{Fits, IsStanding, HasCause, is_output};
+ghost use Rattle.verbs.specs.Held.{Changes, state_of, silent};
+ghost use Rattle.verbs.specs.Performed.{IsPerformed, in_memory};
+ghost use Rattle.verbs.specs.Fits.{Fits, IsStanding, IsCaused, is_output};
 ghost use Rattle.indexed_file.specs.Images.{CallGoes, untouched};
 ghost use Rattle.verbs.specs.Traces.{trace_of_open};
 
@@ -29,26 +29,8 @@ impl Connector {
     /// OPEN.
     pub fn open<L: Library>(&mut self, lib: &mut L, u: usize, mode: OpenMode) -> Status
         requires fits { Fits self.old (L.shown.world lib.old) u }
-        ensures fits { Fits self.new (L.shown.world lib.new) u }
-        ensures schema { self.new.connector.schema ≡ self.old.connector.schema }
-        ensures step { (n : ℕ) → (area : List ℕ) → Believed L.shown u lib.old lib.new
-            (IsStanding self.old (L.shown.world lib.old) u
-            → Performs (Open mode) n (state_of self.old (L.shown.world lib.old) u area)
-            (silent result) (state_of self.new (L.shown.world lib.new) u area)) }
-        ensures early { (n : ℕ) → (area : List ℕ) → reaches (Open mode) n (state_of self.old (L.shown.world lib.old) u area) ≡ false
-            → (lib.new ≡ lib.old) × Decides (Open mode) n (state_of self.old (L.shown.world lib.old) u area)
-            (silent result) (state_of self.new (L.shown.world lib.new) u area) }
-        ensures refusal { (n : ℕ) → (area : List ℕ) → IsTrue (is_early result)
-            → reaches (Open mode) n (state_of self.old (L.shown.world lib.old) u area) ≡ false }
-        ensures not_full { is_boundary_violation result ≡ false }
-        ensures standing { Believed L.shown u lib.old lib.new
-            (IsStanding self.old (L.shown.world lib.old) u
-            → IsStanding self.new (L.shown.world lib.new) u) }
-        ensures only { OnlyAt u (L.shown.world lib.old) (L.shown.world lib.new) }
-        ensures cause { HasCause result false (L.shown.fault_count lib.old) (L.shown.fault_count lib.new) }
-        ensures images { CallGoes L.shown u
-            (trace_of_open (creates mode self.old.connector.optional (named_at (L.shown.world lib.old) u)) result) lib.old lib.new }
-        ensures keeps { Keeps L.shown lib.old lib.new }
+        ensures { (n : ℕ) → (area : List ℕ) → IsPerformed L.shown u (Open mode) n (in_memory self.old lib.old area)
+            (silent result) (in_memory self.new lib.new area) }
     {
         if self.mode.is_some() {
             self.last_read = None;
@@ -86,7 +68,7 @@ impl Connector {
         ensures standing { IsTrue (L.shown.is_honest lib.new) → named_at (L.shown.world lib.old) u ≡ Absent
             → IsStanding self.new (L.shown.world lib.new) u }
         ensures only { OnlyAt u (L.shown.world lib.old) (L.shown.world lib.new) }
-        ensures cause { HasCause result false (L.shown.fault_count lib.old) (L.shown.fault_count lib.new) }
+        ensures cause { IsCaused result false (L.shown.fault_count lib.old) (L.shown.fault_count lib.new) }
         ensures images { CallGoes L.shown u
             (trace_of_open (creates mode self.old.connector.optional Absent) result) lib.old lib.new }
         ensures keeps { Keeps L.shown lib.old lib.new }
@@ -127,7 +109,7 @@ impl Connector {
         ensures standing { IsTrue (L.shown.is_honest lib.new) → Sound schema.now ≡ seen_of (named_at (L.shown.world lib.old) u)
             → IsStanding self.new (L.shown.world lib.new) u }
         ensures only { OnlyAt u (L.shown.world lib.old) (L.shown.world lib.new) }
-        ensures cause { HasCause result false (L.shown.fault_count lib.old) (L.shown.fault_count lib.new) }
+        ensures cause { IsCaused result false (L.shown.fault_count lib.old) (L.shown.fault_count lib.new) }
         ensures images { CallGoes L.shown u
             untouched lib.old lib.new }
         ensures keeps { Keeps L.shown lib.old lib.new }
@@ -168,7 +150,7 @@ impl Connector {
         ensures standing { IsTrue (L.shown.is_honest lib.new) → IsTrue (creates mode self.old.connector.optional (named_at (L.shown.world lib.old) u))
             → IsStanding self.new (L.shown.world lib.new) u }
         ensures only { OnlyAt u (L.shown.world lib.old) (L.shown.world lib.new) }
-        ensures cause { HasCause result false (L.shown.fault_count lib.old) (L.shown.fault_count lib.new) }
+        ensures cause { IsCaused result false (L.shown.fault_count lib.old) (L.shown.fault_count lib.new) }
         ensures images { CallGoes L.shown u
             (trace_of_open true result) lib.old lib.new }
         ensures keeps { Keeps L.shown lib.old lib.new }

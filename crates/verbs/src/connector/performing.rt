@@ -1,16 +1,7 @@
 //! Any statement.
-ghost use Rattle.std.specs.Prelude.{◌≡◌, ℕ, List, length as count_of, IsTrue, true, false};
-ghost use Rattle.io_state.specs.declared.status.Status.TheVariants.{PermanentError};
-ghost use Rattle.indexed_file.specs.World.{OnlyAt, name_at};
-ghost use Rattle.indexed_file.specs.Believed.{Believed};
-ghost use Rattle.indexed_file.specs.Calls.{Keeps};
-ghost use Rattle.verbs.specs.Refusals.{is_refusal};
-ghost use Rattle.verbs.specs.Verbs.{perform};
-ghost use Rattle.verbs.specs.Full.{TellsRoom, lacks_room};
-ghost use Rattle.verbs.specs.Held.{Performs, Decides, state_of, silent};
-ghost use Rattle.verbs.specs.Fits.{Fits, IsStanding, HasCause, HasOperands, closes_failed, asks};
-ghost use Rattle.indexed_file.specs.Images.{ImagesGo};
-ghost use Rattle.verbs.specs.Traces.{trace_of};
+ghost use Rattle.std.specs.Prelude.{◌≡◌, length as count_of};
+ghost use Rattle.verbs.specs.Fits.{Fits, HasOperands};
+ghost use Rattle.verbs.specs.Performed.{IsPerformed, in_memory};
 
 use super::Connector;
 use crate::answer::Answer;
@@ -20,6 +11,10 @@ use io_state::FileStatement;
 impl Connector {
     /// Performs a statement; `length` is that of the record that a WRITE or REWRITE stores. What its checks decide is exact, and
     /// leaves the library as it was; but CLOSE of a connector that has failed asks it, and answers 30 whatever it says.
+    ///
+    /// 30: the device failed in this statement, or it is CLOSE of a connector that has failed. 90: memory was wanted. 24: the file
+    /// has no room for the record. 92: the connector has failed. 91: OPEN of a file whose first page is refused, or the library is
+    /// not to be believed.
     pub fn perform<L: Library>(
         &mut self,
         lib: &mut L,
@@ -31,32 +26,8 @@ impl Connector {
         requires fits { Fits self.old (L.shown.world lib.old) u }
         requires operands { HasOperands self.old.connector.schema statement.now }
         requires area { count_of area.old ≡ self.old.connector.schema.greatest }
-        ensures fits { Fits self.new (L.shown.world lib.new) u }
-        ensures schema { self.new.connector.schema ≡ self.old.connector.schema }
-        ensures step { Believed L.shown u lib.old lib.new
-            (IsStanding self.old (L.shown.world lib.old) u
-            → Performs statement.now length (state_of self.old (L.shown.world lib.old) u area.old)
-            result (state_of self.new (L.shown.world lib.new) u area.new)) }
-        ensures early { asks statement.now length (state_of self.old (L.shown.world lib.old) u area.old) ≡ false
-            → (lib.new ≡ lib.old) × Decides statement.now length (state_of self.old (L.shown.world lib.old) u area.old)
-            result (state_of self.new (L.shown.world lib.new) u area.new) }
-        ensures failed_close { closes_failed statement.now self.old.connector.session ≡ true → result ≡ silent PermanentError }
-        ensures refusal { IsTrue (is_refusal statement.now result.status)
-            → asks statement.now length (state_of self.old (L.shown.world lib.old) u area.old) ≡ false }
-        ensures room { Believed L.shown u lib.old lib.new
-            (IsStanding self.old (L.shown.world lib.old) u
-            → TellsRoom (perform statement.now length (state_of self.old (L.shown.world lib.old) u area.old))
-            (lacks_room statement.now length (L.shown.room lib.old u) (state_of self.old (L.shown.world lib.old) u area.old)) result.status) }
-        ensures standing { Believed L.shown u lib.old lib.new
-            (IsStanding self.old (L.shown.world lib.old) u
-            → IsStanding self.new (L.shown.world lib.new) u) }
-        ensures only { OnlyAt u (L.shown.world lib.old) (L.shown.world lib.new) }
-        ensures cause { HasCause result.status (closes_failed statement.now self.old.connector.session)
-            (L.shown.fault_count lib.old) (L.shown.fault_count lib.new) }
-        ensures images { Believed L.shown u lib.old lib.new (IsStanding self.old (L.shown.world lib.old) u
-            → ImagesGo L.shown.Throughout (name_at (L.shown.world lib.old) u)
-            (trace_of statement.now (state_of self.old (L.shown.world lib.old) u area.old) result.status) lib.old lib.new) }
-        ensures keeps { Keeps L.shown lib.old lib.new }
+        ensures { IsPerformed L.shown u statement.now length (in_memory self.old lib.old area.old)
+            result (in_memory self.new lib.new area.new) }
     {
         match *statement {
             FileStatement::Open(mode) => Answer::silent(self.open(lib, u, mode)),

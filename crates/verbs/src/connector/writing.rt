@@ -1,27 +1,32 @@
 //! WRITE.
 ghost use Rattle.std.specs.Option.{option_flatten};
-ghost use Rattle.std.specs.Prelude.{◌≡◌, ◌<◌, ◌≤◌, ℕ, List, length as count_of, Some, None, IsTrue, true, false, OnOk, OnErr, IfErr};
+ghost use Rattle.std.specs.Prelude.{◌≡◌, ◌<◌, ◌≤◌, ◌+◌, ◌&&◌, ℕ, List, length as count_of, Some, None, IsTrue, true, false, OnOk, OnErr};
 ghost use Rattle.record_layout.specs.Schema.{prime_of};
 ghost use Rattle.indexed_file.specs.Rank.{highest_of};
-ghost use Rattle.indexed_file.specs.Change.{row_of};
-ghost use Rattle.indexed_file.specs.World.{OnlyAt, name_at, holding_at, schema_at, file_at, is_open, is_broken};
+ghost use Rattle.indexed_file.specs.World.{OnlyAt, name_at, holding_at, file_at, is_open};
+ghost use Rattle.indexed_file.specs.Room.{most_to_seek, most_to_change};
 ghost use Rattle.indexed_file.specs.Believed.{Believed};
-ghost use Rattle.indexed_file.specs.Calls.{Keeps, OnlyReads, MayFail};
+ghost use Rattle.indexed_file.specs.Calls.{Keeps};
+ghost use Rattle.indexed_file.specs.UnitCalls.{ReadsUnit};
 ghost use Rattle.indexed_file.specs.UnitAnswers.{adding_is_full};
+ghost use Rattle.indexed_file.specs.Images.{CallGoes};
 ghost use Rattle.io_state.specs.Permission.{is_sequential};
+ghost use Rattle.io_state.specs.declared.status.Status.TheVariants.{OutOfSequence};
 ghost use Rattle.io_state.specs.declared.statement.FileStatement.TheVariants.{Write};
 ghost use Rattle.verbs.specs.Connector.{Session};
 ghost use Rattle.verbs.specs.Writing.{stored, written, is_not_above};
-ghost use Rattle.verbs.specs.Verbs.{perform, reaches};
 ghost use Rattle.verbs.specs.Refusals.{is_early};
-ghost use Rattle.verbs.specs.Full.{TellsRoom, lacks_room};
-ghost use Rattle.verbs.specs.Held.{Performs, Decides, Changes, state_of, silent, unread, held_after_store};
-ghost use Rattle.verbs.specs.Fits.{Fits, IsStanding, IsHighestOf, HasCause, has_failed, last_read_of, writes};
-ghost use Rattle.indexed_file.specs.Images.{CallGoes, untouched};
+ghost use Rattle.verbs.specs.Faults.{is_fault};
+ghost use Rattle.verbs.specs.Full.{TellsRoom};
+ghost use Rattle.verbs.specs.Held.{Changes, state_of, silent, unread, held_after_store};
+ghost use Rattle.verbs.specs.Fits.{Fits, IsStanding, IsHighestOf, IsCaused, has_failed, last_read_of, writes};
 ghost use Rattle.verbs.specs.Traces.{trace_of_change_by};
+ghost use Rattle.verbs.specs.Pages.{CountsAtMost};
+ghost use Rattle.verbs.specs.Performed.{IsPerformed, in_memory};
 
 use super::Connector;
 use crate::checks::{is_length, is_not_above, is_sequential, status_by};
+use crate::counted;
 use indexed_file::{Added, Library};
 use io_state::{Fault, Status, Verb, permits};
 
@@ -30,28 +35,8 @@ impl Connector {
     pub fn write<L: Library>(&mut self, lib: &mut L, u: usize, area: &[u8], length: u16) -> Status
         requires fits { Fits self.old (L.shown.world lib.old) u }
         requires area { count_of area.now ≡ self.old.connector.schema.greatest }
-        ensures fits { Fits self.new (L.shown.world lib.new) u }
-        ensures schema { self.new.connector.schema ≡ self.old.connector.schema }
-        ensures step { Believed L.shown u lib.old lib.new
-            (IsStanding self.old (L.shown.world lib.old) u
-            → Performs Write length (state_of self.old (L.shown.world lib.old) u area.now)
-            (silent result) (state_of self.new (L.shown.world lib.new) u area.now)) }
-        ensures early { reaches Write length (state_of self.old (L.shown.world lib.old) u area.now) ≡ false
-            → (lib.new ≡ lib.old) × Decides Write length (state_of self.old (L.shown.world lib.old) u area.now)
-            (silent result) (state_of self.new (L.shown.world lib.new) u area.now) }
-        ensures refusal { IsTrue (is_early result) → reaches Write length (state_of self.old (L.shown.world lib.old) u area.now) ≡ false }
-        ensures room { Believed L.shown u lib.old lib.new
-            (IsStanding self.old (L.shown.world lib.old) u
-            → TellsRoom (perform Write length (state_of self.old (L.shown.world lib.old) u area.now))
-            (lacks_room Write length (L.shown.room lib.old u) (state_of self.old (L.shown.world lib.old) u area.now)) result) }
-        ensures standing { Believed L.shown u lib.old lib.new
-            (IsStanding self.old (L.shown.world lib.old) u
-            → IsStanding self.new (L.shown.world lib.new) u) }
-        ensures only { OnlyAt u (L.shown.world lib.old) (L.shown.world lib.new) }
-        ensures cause { HasCause result false (L.shown.fault_count lib.old) (L.shown.fault_count lib.new) }
-        ensures images { CallGoes L.shown u
-            (trace_of_change_by result) lib.old lib.new }
-        ensures keeps { Keeps L.shown lib.old lib.new }
+        ensures { IsPerformed L.shown u Write length (in_memory self.old lib.old area.now)
+            (silent result) (in_memory self.new lib.new area.now) }
     {
         let Some(mode) = self.mode else {
             return Status::NotOpenForWriting;
@@ -96,15 +81,21 @@ impl Connector {
         ensures standing { Believed L.shown u lib.old lib.new
             (IsStanding self.old (L.shown.world lib.old) u
             → IsStanding self.new (L.shown.world lib.new) u) }
+        ensures known { IsTrue (is_sequential self.old.connector.access)
+            → IsTrue (is_not_above (prime_of self.old.connector.schema bytes.now) (option_flatten self.old.highest))
+            → (lib.new ≡ lib.old) × (result ≡ OutOfSequence) }
+        ensures asked { Believed L.shown u lib.old lib.new ((IsTrue (is_sequential self.old.connector.access)
+            → is_not_above (prime_of self.old.connector.schema bytes.now) (option_flatten self.old.highest) ≡ false) → is_fault result ≡ false
+            → L.shown.pages_asked lib.new u ≤ most_to_seek (L.shown.room lib.old u) 0 + most_to_change (L.shown.room lib.old u)) }
         ensures only { OnlyAt u (L.shown.world lib.old) (L.shown.world lib.new) }
-        ensures cause { HasCause result false (L.shown.fault_count lib.old) (L.shown.fault_count lib.new) }
+        ensures cause { IsCaused result false (L.shown.fault_count lib.old) (L.shown.fault_count lib.new) }
         ensures images { CallGoes L.shown u
             (trace_of_change_by result) lib.old lib.new }
         ensures keeps { Keeps L.shown lib.old lib.new }
     {
-        let sequential = is_sequential(self.access);
-        if !sequential {
-            return self.store(lib, u, bytes);
+        let known = self.is_late(bytes);
+        if known {
+            return Status::OutOfSequence;
         }
         if let Err(fault) = self.learn_highest(lib, u) {
             return self.fail(fault);
@@ -116,7 +107,7 @@ impl Connector {
         self.store(lib, u, bytes)
     }
 
-    /// Asks for the greatest prime value of the file, unless it is known.
+    /// Begins the count of pages, and in sequential access asks for the greatest prime value of the file, unless it is known.
     fn learn_highest<L: Library>(&mut self, lib: &mut L, u: usize) -> Result<(), Fault>
         requires fits { Fits self.old (L.shown.world lib.old) u }
         requires open { IsTrue (is_open (holding_at (L.shown.world lib.old) u)) }
@@ -125,33 +116,40 @@ impl Connector {
         ensures fits { Fits self.new (L.shown.world lib.new) u }
         ensures connector { self.new.connector ≡ self.old.connector }
         ensures known { Believed L.shown u lib.old lib.new
-            (IsHighestOf self.old.connector.schema (file_at (L.shown.world lib.old) u) self.old.highest
+            (IsHighestOf self.old.connector.schema (file_at (L.shown.world lib.old) u) self.old.highest → IsTrue (is_sequential self.old.connector.access)
             → OnOk result (self.new.highest ≡ Some (highest_of self.old.connector.schema (file_at (L.shown.world lib.old) u).rows))) }
-        ensures err { OnErr result ((self.new ≡ self.old) × (self.old.highest ≡ None)) }
-        ensures reads { OnlyReads u (L.shown.is_honest lib.new) (L.shown.world lib.old) (L.shown.world lib.new) }
-        ensures room { L.shown.room lib.new u ≡ L.shown.room lib.old u }
-        ensures fault { IfErr result (MayFail (is_broken (holding_at (L.shown.world lib.old) u)) (L.shown.is_honest lib.new)
-            (L.shown.IsShownTruly lib.old (name_at (L.shown.world lib.old) u)) (L.shown.fault_count lib.old) (L.shown.fault_count lib.new)) }
-        ensures images { CallGoes L.shown u
-            untouched lib.old lib.new }
-        ensures keeps { Keeps L.shown lib.old lib.new }
+        ensures others { is_sequential self.old.connector.access ≡ false → self.new ≡ self.old }
+        ensures err { OnErr result ((self.new ≡ self.old) × (self.old.highest ≡ None) × IsTrue (is_sequential self.old.connector.access)) }
+        ensures reads { ReadsUnit L.shown u (most_to_seek (L.shown.room lib.old u) 0) lib.old lib.new result }
+        ensures asked { Believed L.shown u lib.old lib.new (CountsAtMost L.shown u (most_to_seek (L.shown.room lib.old u) 0) lib.new result) }
     {
-        if self.highest.is_some() {
+        let sequential = is_sequential(self.access);
+        if !sequential || self.highest.is_some() {
+            lib.restart_count(u);
             return Ok(());
         }
-        let highest = lib.highest(u)?;
-        self.highest = Some(highest);
-        Ok(())
+        match counted::highest(lib, u) {
+            Ok(highest) => {
+                self.highest = Some(highest);
+                Ok(())
+            }
+            Err(fault) => Err(fault),
+        }
     }
 
-    /// The record's prime value is not above the greatest of the file, where that is known.
+    /// In sequential access the record's prime value is not above the greatest of the file, where that is known.
     fn is_late(&self, bytes: &[u8]) -> bool
         requires { 0 < count_of self.now.connector.schema.keys }
-        ensures { result ≡ is_not_above (prime_of self.now.connector.schema bytes.now) (option_flatten self.now.highest) }
+        ensures { result ≡ (is_sequential self.now.connector.access
+            && is_not_above (prime_of self.now.connector.schema bytes.now) (option_flatten self.now.highest)) }
     {
         let Some(highest) = &self.highest else {
             return false;
         };
+        let sequential = is_sequential(self.access);
+        if !sequential {
+            return false;
+        }
         let prime = self.value(bytes, 0);
         is_not_above(&prime, highest)
     }
@@ -180,8 +178,10 @@ impl Connector {
             → is_not_above (prime_of self.old.connector.schema bytes.now)
             (highest_of self.old.connector.schema (file_at (L.shown.world lib.old) u).rows) ≡ false) → IsStanding self.old (L.shown.world lib.old) u
             → IsStanding self.new (L.shown.world lib.new) u) }
+        ensures asked { Believed L.shown u lib.old lib.new (is_fault result ≡ false
+            → L.shown.pages_asked lib.new u ≤ L.shown.pages_asked lib.old u + most_to_change (L.shown.room lib.old u)) }
         ensures only { OnlyAt u (L.shown.world lib.old) (L.shown.world lib.new) }
-        ensures cause { HasCause result false (L.shown.fault_count lib.old) (L.shown.fault_count lib.new) }
+        ensures cause { IsCaused result false (L.shown.fault_count lib.old) (L.shown.fault_count lib.new) }
         ensures images { CallGoes L.shown u
             (trace_of_change_by result) lib.old lib.new }
         ensures keeps { Keeps L.shown lib.old lib.new }

@@ -1,0 +1,107 @@
+-- What a statement promises that is performed on one file of a run.
+use Rattle.std.specs.Prelude.{◌≡◌, ◌≤◌, ◌⊎◌, ℕ, Bool, true, false, not, ◌&&◌, List, take, Option, IsTrue}
+use Rattle.std.specs.Option.{option_flatten}
+use Rattle.io_state.specs.declared.status.Status.{Status}
+use Rattle.io_state.specs.declared.status.Status.TheVariants.{BoundaryViolation, PermanentError, ConnectorFailed, OutOfSequence}
+use Rattle.io_state.specs.declared.statement.FileStatement.{FileStatement}
+use Rattle.io_state.specs.declared.statement.FileStatement.TheVariants.{Open, Close, ReadNext, Read, Start, Write, Rewrite, Delete}
+use Rattle.io_state.specs.Permission.{is_sequential}
+use Rattle.record_layout.specs.Schema.{prime_of}
+use Rattle.indexed_file.specs.World.{OnlyAt, name_at}
+use Rattle.indexed_file.specs.Shown.{Shown}
+use Rattle.indexed_file.specs.Believed.{Believed}
+use Rattle.indexed_file.specs.Images.{ImagesGo}
+use Rattle.indexed_file.specs.Calls.{Keeps, HasRisen}
+use Rattle.verbs.specs.declared.answer.Answer.{Answer}
+use Rattle.verbs.specs.Connector.{Session, FileState}
+use Rattle.verbs.specs.Faults.{is_fault}
+use Rattle.verbs.specs.Fits.{Fits, IsStanding, asks, closes_failed, has_failed, key_of}
+use Rattle.verbs.specs.Full.{TellsRoom, lacks_room}
+use Rattle.verbs.specs.Held.{Held, Performs, Decides, state_of, silent}
+use Rattle.verbs.specs.Pages.{counts_pages, most_asked}
+use Rattle.verbs.specs.Refusals.{is_refusal}
+use Rattle.verbs.specs.Traces.{trace_of}
+use Rattle.verbs.specs.Verbs.{perform, reaches}
+use Rattle.verbs.specs.Writing.{is_not_above}
+
+-- one file of a run in memory: its connector, the library that it is of, and its record area
+pub record FileInMemory (S : Type 0) : Type 0 where
+  pub held : Held
+  pub library : S
+  pub area : List ℕ
+
+abbrev pub in_memory : {S : Type 0} → Held → S → List ℕ → FileInMemory S
+in_memory held library area = record { held = held; library = library; area = area }
+
+-- the file as these show it
+abbrev pub state_in : {S : Type 0} → Shown S → ℕ → FileInMemory S → FileState
+state_in shown u file = state_of file.held (shown.world file.library) u file.area
+
+-- a fact is to be believed, where what the connector kept was true
+abbrev pub Trusted : {S : Type 0} → Shown S → ℕ → FileInMemory S → FileInMemory S → Type 0 → Type 0
+Trusted shown u before after fact =
+    Believed shown u before.library after.library (IsStanding before.held (shown.world before.library) u → fact)
+
+-- WRITE and REWRITE store a record
+abbrev pub stores : FileStatement → Bool
+stores (Open mode) = false
+stores (Close lock) = false
+stores ReadNext = false
+stores (Read key) = false
+stores (Start key length relation) = false
+stores Write = true
+stores Rewrite = true
+stores Delete = false
+
+-- why a status is answered: 30 only where the count of the device's faults rose, or by CLOSE of a connector that has failed; 92 only by a
+-- connector that has failed; 24 only where a record is to be stored
+pub record HasCause (statement : FileStatement) (session : Option Session) (status : Status) (old new : ℕ) : Type 0 where
+  pub device : status ≡ PermanentError → HasRisen old new ⊎ IsTrue (closes_failed statement session)
+  pub failed : status ≡ ConnectorFailed → IsTrue (has_failed session)
+  pub full : status ≡ BoundaryViolation → IsTrue (stores statement)
+
+-- a WRITE of n bytes in sequential access passes its checks, and the connector knows that its prime value is not above the greatest of the
+-- file
+abbrev pub is_known_late : FileStatement → ℕ → Held → FileState → Bool
+is_known_late (Open mode) n held s = false
+is_known_late (Close lock) n held s = false
+is_known_late ReadNext n held s = false
+is_known_late (Read key) n held s = false
+is_known_late (Start key length relation) n held s = false
+is_known_late Write n held s =
+    reaches Write n s && (is_sequential s.connector.access && is_not_above (prime_of s.connector.schema (take n s.area)) (option_flatten held.highest))
+is_known_late Rewrite n held s = false
+is_known_late Delete n held s = false
+
+-- the statement asks the library
+abbrev pub asks_library : FileStatement → ℕ → Held → FileState → Bool
+asks_library statement n held s = asks statement n s && not (is_known_late statement n held s)
+
+-- a statement, of a record of n bytes, was performed on unit u
+pub record IsPerformed {S : Type 0} (shown : Shown S) (u : ℕ) (statement : FileStatement) (n : ℕ) (before : FileInMemory S) (answer : Answer) (after : FileInMemory S) : Type 0 where
+  -- the connector goes with its unit, and keeps its schema
+  pub fits : Fits after.held (shown.world after.library) u
+  pub schema : after.held.connector.schema ≡ before.held.connector.schema
+  -- nothing is changed but the unit and its name; honesty may only fall, and what is shown stays true
+  pub only : OnlyAt u (shown.world before.library) (shown.world after.library)
+  pub keeps : Keeps shown before.library after.library
+  -- what the checks decide is exact, and leaves the library as it was; so does a key that is known to be out of sequence
+  pub early : asks statement n (state_in shown u before) ≡ false
+      → (after.library ≡ before.library) × Decides statement n (state_in shown u before) answer (state_in shown u after)
+  pub refusal : IsTrue (is_refusal statement answer.status) → asks statement n (state_in shown u before) ≡ false
+  pub known : is_known_late statement n before.held (state_in shown u before) ≡ true → (after.library ≡ before.library) × (answer ≡ silent OutOfSequence)
+  -- CLOSE of a connector that has failed answers 30, whatever the library says; and 30, 92 and 24 have their causes
+  pub failed_close : closes_failed statement before.held.connector.session ≡ true → answer ≡ silent PermanentError
+  pub cause : HasCause statement before.held.connector.session answer.status (shown.fault_count before.library) (shown.fault_count after.library)
+  -- the answer and what is left are the definitions', or those of a marred step; and what the connector keeps is true
+  pub step : Trusted shown u before after (Performs statement n (state_in shown u before) answer (state_in shown u after))
+  pub standing : Trusted shown u before after (IsStanding after.held (shown.world after.library) u)
+  -- 24 tells of the room of the file
+  pub room : Trusted shown u before after
+      (TellsRoom (perform statement n (state_in shown u before)) (lacks_room statement n (shown.room before.library u) (state_in shown u before)) answer.status)
+  -- so many pages are asked for at most
+  pub asked : Trusted shown u before after (IsTrue (counts_pages statement) → asks_library statement n before.held (state_in shown u before) ≡ true
+      → is_fault answer.status ≡ false → shown.pages_asked after.library u ≤ most_asked statement (key_of before.held.connector.session) (shown.room before.library u))
+  -- what a crash may leave
+  pub images : Trusted shown u before after
+      (ImagesGo shown.Throughout (name_at (shown.world before.library) u) (trace_of statement (state_in shown u before) answer.status) before.library after.library)
