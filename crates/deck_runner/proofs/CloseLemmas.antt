@@ -8,7 +8,9 @@ use Rattle.deck_runner.specs.Run.{RunFile, Run, change_at, is_still_open}
 use Rattle.io_state.specs.declared.statement.FileStatement.TheVariants.{Close}
 use Rattle.procedure_division.specs.declared.statement.Statement.{Statement}
 use Rattle.procedure_division.specs.declared.statement.Statement.TheVariants.{Perform}
-use Rattle.deck_runner.specs.Steps.{left_by, IsStepOn, IsStep, AreSteps, close_of, close_at, closes_from, ClosesAt, Closes, ClosesInPart}
+use Rattle.indexed_file.specs.Shown.{Shown}
+use Rattle.deck_runner.specs.Steps.{left_by, IsStepOn, close_of, close_at, closes_from}
+use Rattle.deck_runner.specs.Stretches.{Point, IsStretch, AreStretches, ClosesAt, Closes, ClosesInPart}
 use Rattle.deck_runner.specs.Running.{Running, run_files}
 use Rattle.deck_runner.proofs.StepLemmas.{no_steps, steps_then, one_step}
 
@@ -64,55 +66,56 @@ rest_after_one u None run lines next step = ap (λ (r : Run). drop (suc u) r.fil
 rest_after_one u (Some file) run lines next step =
     ap (λ (r : Run). drop (suc u) r.files) step.3 ∙ rest_of_change u (left_by step.0) run.files
 
-rest_after_if : (u : ℕ) (is_open : Bool) (run : Run) (lines : List Line) (next : Run) → AreSteps (if is_open then Perform u (Close false) ∷ [] else []) run lines next
-    → drop (suc u) next.files ≡ drop (suc u) run.files
-rest_after_if u true run lines next steps =
-    ap (λ (r : Run). drop (suc u) r.files) steps.4.1 ∙ rest_after_one u (slice_get run.files u) run steps.0 steps.1 steps.3
-rest_after_if u false run lines next steps = ap (λ (r : Run). drop (suc u) r.files) steps.1
+module _ {S : Type 0} (library : Shown S) where
+  rest_after_if : (u : ℕ) (is_open : Bool) (run : Point S) (lines : List Line) (next : Point S) → AreStretches library (if is_open then Perform u (Close false) ∷ [] else []) run lines next
+      → drop (suc u) next.run.files ≡ drop (suc u) run.run.files
+  rest_after_if u true run lines next steps =
+      ap (λ (r : Point S). drop (suc u) r.run.files) steps.4.1 ∙ rest_after_one u (slice_get run.run.files u) run.run steps.0 steps.1.run steps.3.step
+  rest_after_if u false run lines next steps = ap (λ (r : Point S). drop (suc u) r.run.files) steps.1
 
-rest_after : (u : ℕ) (file : Option RunFile) (run : Run) (lines : List Line) (next : Run) → AreSteps (close_at u file) run lines next → drop (suc u) next.files ≡ drop (suc u) run.files
-rest_after u None run lines next steps = ap (λ (r : Run). drop (suc u) r.files) steps.1
-rest_after u (Some file) run lines next steps = rest_after_if u (is_still_open file) run lines next steps
+  rest_after : (u : ℕ) (file : Option RunFile) (run : Point S) (lines : List Line) (next : Point S) → AreStretches library (close_at u file) run lines next → drop (suc u) next.run.files ≡ drop (suc u) run.run.files
+  rest_after u None run lines next steps = ap (λ (r : Point S). drop (suc u) r.run.files) steps.1
+  rest_after u (Some file) run lines next steps = rest_after_if u (is_still_open file) run lines next steps
 
--- the closes of the first files, where the others are as they were
-pub record AreClosed (u : ℕ) (first : Run) (lines : List Line) (now : Run) : Type 0 where
-  pub steps : AreSteps (closes_from 0 (take u first.files)) first lines now
-  pub rest : drop u now.files ≡ drop u first.files
+  -- the closes of the first files, where the others are as they were
+  pub record AreClosed (u : ℕ) (first : Point S) (lines : List Line) (now : Point S) : Type 0 where
+    pub steps : AreStretches library (closes_from 0 (take u first.run.files)) first lines now
+    pub rest : drop u now.run.files ≡ drop u first.run.files
 
-pub one_closed : (first now next : Run) (u : ℕ) (lines others : List Line) → u < length first.files → AreClosed u first lines now → ClosesAt u now others next → AreClosed (u + 1) first (lines ++ others) next
-one_closed first now next u lines others within closed step =
-    let file = get_there first.files u within in
-    let same : slice_get now.files u ≡ slice_get first.files u =
-    get_of_rest now.files u ∙ ap (λ (l : List RunFile). slice_get l 0) closed.rest ∙ sym (get_of_rest first.files u) in
-    let here : AreSteps (close_at u (slice_get first.files u)) now others next = subst (λ (o : Option RunFile). AreSteps (close_at u o) now others next) same step in
-    let after : drop (suc u) next.files ≡ drop (suc u) first.files =
-    rest_after u (slice_get now.files u) now others next step ∙ rest_of_rest now.files u ∙ ap (λ (l : List RunFile). drop 1 l) closed.rest ∙ sym (rest_of_rest first.files u) in
-    record {
-      steps = subst (λ (l : List Statement). AreSteps l first (lines ++ others) next) (sym (closes_to_next first.files u file.0 within file.1))
-          (steps_then (closes_from 0 (take u first.files)) (close_at u (slice_get first.files u)) first now next lines others closed.steps here);
-      rest = rw add-one after;
-    }
+  pub one_closed : (first now next : Point S) (u : ℕ) (lines others : List Line) → u < length first.run.files → AreClosed u first lines now → ClosesAt library u now others next → AreClosed (u + 1) first (lines ++ others) next
+  one_closed first now next u lines others within closed step =
+      let file = get_there first.run.files u within in
+      let same : slice_get now.run.files u ≡ slice_get first.run.files u =
+      get_of_rest now.run.files u ∙ ap (λ (l : List RunFile). slice_get l 0) closed.rest ∙ sym (get_of_rest first.run.files u) in
+      let here : AreStretches library (close_at u (slice_get first.run.files u)) now others next = subst (λ (o : Option RunFile). AreStretches library (close_at u o) now others next) same step in
+      let after : drop (suc u) next.run.files ≡ drop (suc u) first.run.files =
+      rest_after u (slice_get now.run.files u) now others next step ∙ rest_of_rest now.run.files u ∙ ap (λ (l : List RunFile). drop 1 l) closed.rest ∙ sym (rest_of_rest first.run.files u) in
+      record {
+        steps = subst (λ (l : List Statement). AreStretches library l first (lines ++ others) next) (sym (closes_to_next first.run.files u file.0 within file.1))
+            (steps_then (IsStretch library) (closes_from 0 (take u first.run.files)) (close_at u (slice_get first.run.files u)) first now next lines others closed.steps here);
+        rest = rw add-one after;
+      }
 
-pub all_closed : (first now : Run) (u : ℕ) (lines : List Line) → u ≡ length first.files → AreClosed u first lines now → Closes first lines now
-all_closed first now u lines at_end closed =
-    subst (λ (l : List RunFile). AreSteps (closes_from 0 l) first lines now) (take_all u first.files (omega arith)) closed.steps
+  pub all_closed : (first now : Point S) (u : ℕ) (lines : List Line) → u ≡ length first.run.files → AreClosed u first lines now → Closes library first lines now
+  all_closed first now u lines at_end closed =
+      subst (λ (l : List RunFile). AreStretches library (closes_from 0 l) first lines now) (take_all u first.run.files (omega arith)) closed.steps
 
-pub closed_in_part : (first now : Run) (u : ℕ) (lines : List Line) → AreClosed u first lines now → ClosesInPart first lines now
-closed_in_part first now u lines closed = (
-  closes_from 0 (take u first.files),
-  closes_from (0 + length (take u first.files)) (drop u first.files),
-  ap (closes_from 0) (sym (take-append-drop u first.files)) ∙ closes_append 0 (take u first.files) (drop u first.files),
-  closed.steps,
-)
+  pub closed_in_part : (first now : Point S) (u : ℕ) (lines : List Line) → AreClosed u first lines now → ClosesInPart library first lines now
+  closed_in_part first now u lines closed = (
+    closes_from 0 (take u first.run.files),
+    closes_from (0 + length (take u first.run.files)) (drop u first.run.files),
+    ap (closes_from 0) (sym (take-append-drop u first.run.files)) ∙ closes_append 0 (take u first.run.files) (drop u first.run.files),
+    closed.steps,
+  )
 
--- ---- the close of a file that is open, and of one that is not
+  -- ---- the close of a file that is open, and of one that is not
 
-pub not_open : (u : ℕ) (run : Run) (file : RunFile) → slice_get run.files u ≡ Some file → is_still_open file ≡ false → ClosesAt u run [] run
-not_open u run file get is =
-    subst (λ (o : Option RunFile). AreSteps (close_at u o) run [] run) (sym get)
-    (subst (λ (b : Bool). AreSteps (if b then Perform u (Close false) ∷ [] else []) run [] run) (sym is) (no_steps run))
+  pub not_open : (u : ℕ) (run : Point S) (file : RunFile) → slice_get run.run.files u ≡ Some file → is_still_open file ≡ false → ClosesAt library u run [] run
+  not_open u run file get is =
+      subst (λ (o : Option RunFile). AreStretches library (close_at u o) run [] run) (sym get)
+      (subst (λ (b : Bool). AreStretches library (if b then Perform u (Close false) ∷ [] else []) run [] run) (sym is) (no_steps (IsStretch library) run))
 
-pub is_closed : (u : ℕ) (run next : Run) (lines : List Line) (file : RunFile) → slice_get run.files u ≡ Some file → is_still_open file ≡ true → IsStep (Perform u (Close false)) run lines next → ClosesAt u run lines next
-is_closed u run next lines file get is step =
-    subst (λ (o : Option RunFile). AreSteps (close_at u o) run lines next) (sym get)
-    (subst (λ (b : Bool). AreSteps (if b then Perform u (Close false) ∷ [] else []) run lines next) (sym is) (one_step (Perform u (Close false)) run next lines step))
+  pub is_closed : (u : ℕ) (run next : Point S) (lines : List Line) (file : RunFile) → slice_get run.run.files u ≡ Some file → is_still_open file ≡ true → IsStretch library (Perform u (Close false)) run lines next → ClosesAt library u run lines next
+  is_closed u run next lines file get is step =
+      subst (λ (o : Option RunFile). AreStretches library (close_at u o) run lines next) (sym get)
+      (subst (λ (b : Bool). AreStretches library (if b then Perform u (Close false) ∷ [] else []) run lines next) (sym is) (one_step (IsStretch library) (Perform u (Close false)) run next lines step))

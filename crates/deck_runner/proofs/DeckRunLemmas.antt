@@ -6,7 +6,7 @@ use Rattle.deck_words.specs.declared.fault.DeckFault.{DeckFault}
 use Rattle.deck_words.specs.declared.fault.Refusal.{Refusal}
 use Rattle.deck_words.specs.declared.fault.Refusal.TheVariants.{Memory as NoMemory, Fault}
 use Rattle.deck_words.specs.Fault.{code_of, told, IsTold}
-use Rattle.indexed_file.specs.declared.library.Library.{Ghosts}
+use Rattle.indexed_file.specs.Shown.{Shown}
 use Rattle.deck_reader.specs.declared.deck.Deck.{Deck}
 use Rattle.deck_reader.specs.Deck.{IsDeck}
 use Rattle.deck_runner.specs.declared.fault.RunFault.{RunFault}
@@ -14,24 +14,24 @@ use Rattle.deck_runner.specs.declared.fault.RunFault.TheVariants.{Deck as DeckRe
 use Rattle.deck_runner.specs.declared.run_end.RunEnd.{RunEnd}
 use Rattle.deck_runner.specs.Run.{Run}
 use Rattle.deck_runner.specs.RunEnd.{end_of, Told}
-use Rattle.deck_runner.specs.Steps.{IsRun}
+use Rattle.deck_runner.specs.Stretches.{IsRunOver}
 use Rattle.deck_runner.specs.Beginning.{run_before, Leaves, WhereFilesAreTrue, DeckLeads}
 use Rattle.deck_runner.specs.DeckRun.{RunsExactly, IsRefused}
-use Rattle.deck_runner.proofs.RunLaws.{clean_runs_are_exact}
+use Rattle.deck_runner.proofs.RunLaws.{clean_runs_are_exact, run_of_stretches}
 
 -- a run whose end is clean is the definition's
 pub exact :
-    {S : Type 0} (library : Ghosts S) (old new : S) (written written_after : Option (List ℕ)) (end : RunEnd) (deck : Deck)
-    → Told written written_after end (DeckLeads library old new deck (IsRun deck.statements)) → end.clean ≡ true
+    {S : Type 0} (library : Shown S) (old new : S) (written written_after : Option (List ℕ)) (end : RunEnd) (deck : Deck)
+    → Told written written_after end (DeckLeads library old new deck (IsRunOver library deck.statements)) → end.clean ≡ true
     → WhereFilesAreTrue library old new deck (RunsExactly written written_after (library.world old) (library.world new) end deck)
 exact library old new written written_after end deck run clean = λ honest shown.
-    let leads = run.3 honest shown in
+    let leads = run.3.steps honest shown in
     let first = run_before (library.world old) deck in
-    let law = clean_runs_are_exact deck.statements first run.0 leads.0 leads.1 (sym (ap (λ (e : RunEnd). e.clean) run.2) ∙ clean) in
+    let law = clean_runs_are_exact deck.statements first run.0 leads.1 (run_of_stretches library deck.statements _ run.0 _ leads.3) (sym (ap (λ (e : RunEnd). e.clean) run.2) ∙ clean) in
     record {
       transcript_is = rw (← law.0) run.1;
       end_is = run.2 ∙ ap end_of law.0;
-      leaves = subst (λ (next : Run). Leaves (library.world new) deck next) law.1 leads.2;
+      leaves = subst (λ (next : Run). Leaves (library.world new) deck next) law.1 leads.4;
     }
 
 -- ---- refusals

@@ -1,10 +1,11 @@
 -- What a run leaves of the names of a library.
-use Rattle.std.proofs.Common.{◌≡◌, ℕ, suc, ◌+◌, true, false, List, [], ◌∷◌, length, map, drop, slice_index_or, refl, sym, ap, ◌∙◌, subst, arith, bytes_eq}
+use Rattle.std.proofs.Common.{◌≡◌, ◌≤◌, ℕ, suc, ◌+◌, true, false, List, [], ◌∷◌, length, map, drop, slice_index_or, refl, sym, ap, ◌∙◌, subst, arith, bytes_eq, IsTrue}
 use Rattle.std.specs.List.{list_any, IsDistinct, AllByRecursion}
 use Rattle.std.proofs.lemmas.List.{drop_more, drop_all, length-map}
 use Rattle.std.proofs.lemmas.Slice.Eq.{bytes_eq-Decides}
 use Rattle.indexed_file.specs.World.{World, FileUnit, Named, Absent, Shut, name_in}
-use Rattle.indexed_file.specs.declared.library.Library.{Ghosts}
+use Rattle.indexed_file.specs.Shown.{Shown}
+use Rattle.deck_runner.specs.Stretches.{Point}
 use Rattle.indexed_file.proofs.TestLemmas.{either}
 use Rattle.file_control.specs.Described.{file_names}
 use Rattle.record_layout.specs.Schema.{Schema}
@@ -13,8 +14,10 @@ use Rattle.deck_reader.specs.Deck.{CanBeRun}
 use Rattle.deck_runner.specs.Line.{Line}
 use Rattle.deck_runner.specs.Run.{RunFile, LengthItem, Run}
 use Rattle.deck_runner.specs.Running.{Running, schema_of, unit_names, run_files, run_of}
-use Rattle.deck_runner.specs.State.{state, GoesOnIn, LeadsIn}
-use Rattle.deck_runner.specs.Beginning.{Leaves, SameElsewhere, SameNames, IsBegun, DeckLeads}
+use Rattle.deck_runner.specs.declared.running_deck.RunningDeck.{RunningDeck}
+use Rattle.deck_runner.specs.State.{state, run_in, GoesOn, AreLinesOf, Leads}
+use Rattle.deck_runner.specs.Beginning.{Leaves, SameElsewhere, SameNames, IsUntouched, IsBegun, DeckLeads, program_names}
+use Rattle.deck_runner.proofs.StateLemmas.{lines_within}
 
 -- ---- what names stand for
 
@@ -71,19 +74,26 @@ same_elsewhere old between new deck units same elsewhere named name none =
     ∙ (ap (λ (f : List ℕ → Named). f name) elsewhere
     ∙ (sym (not_among between.units between.elsewhere name (rw units none)) ∙ named name))
 
-module _ {S : Type 0} (library : Ghosts S) (old between new : S) (deck : Deck) (files after : List Running) (items items_after : List LengthItem) where
-  pub leads : CanBeRun deck → IsBegun library old between deck files items → GoesOnIn library (state between files items) (state new after items_after)
-      → (AreSuch : Run → List Line → Run → Type 0) (lines : List Line) → LeadsIn library (state between files items) (state new after items_after) AreSuch lines
+module _ {S : Type 0} (library : Shown S) (old between new : S) (deck : Deck) (before after : RunningDeck) where
+  pub leads : CanBeRun deck → IsBegun library old between deck before → IsUntouched library old between → library.fault_count old ≤ library.fault_count between
+      → GoesOn library (state between before) (state new after) → (AreSuch : Point S → List Line → Point S → Type 0) (lines : List Line) → Leads library (state between before) (state new after) AreSuch lines
       → DeckLeads library old new deck AreSuch lines
-  leads runs begun goes AreSuch lines p = λ honest shown.
-      let next = run_of (library.world new) after items_after in
-      let many : length after ≡ length files = sym (length-map after schema_of) ∙ ap (λ (l : List Schema). length l) goes.schemas ∙ length-map files schema_of in (
-        next,
-        subst (λ (first : Run). AreSuch first lines next) begun.run (p honest (begun.trusted (goes.keeps.honest honest) shown)),
-        leaves (library.world new) deck after items_after (goes.units ∙ begun.units) runs.described.distinct (many ∙ begun.many),
-      )
+  leads runs begun untouched rising goes AreSuch lines p = record {
+    steps = λ honest shown.
+        let next = run_in library (state new after) in
+        let many : length after.files.items ≡ length before.files.items = sym (length-map after.files.items schema_of) ∙ ap (λ (l : List Schema). length l) goes.schemas ∙ length-map before.files.items schema_of in (
+          between,
+          next,
+          record { names = begun.units; images = untouched.images (goes.keeps.honest honest) },
+          subst (λ (first : Run). AreSuch (record { run = first; library = between }) lines (record { run = next; library = new })) begun.run (p.steps honest (begun.trusted (goes.keeps.honest honest) shown)),
+          leaves (library.world new) deck after.files.items after.items.items (goes.units ∙ begun.units) runs.described.distinct (many ∙ begun.many),
+        );
+    lines_are =
+        lines_within library (program_names deck) between new old new rising (omega arith) lines
+        (subst (λ (names : List (List ℕ)). AreLinesOf library names between new lines) begun.names p.lines_are);
+  }
 
-  pub elsewhere_same : IsBegun library old between deck files items → GoesOnIn library (state between files items) (state new after items_after)
-      → SameNames (library.world old) (library.world between) → SameElsewhere deck (library.world old) (library.world new)
-  elsewhere_same begun goes named =
-      same_elsewhere (library.world old) (library.world between) (library.world new) deck begun.units goes.units goes.elsewhere named
+  pub elsewhere_same : IsBegun library old between deck before → GoesOn library (state between before) (state new after) → IsUntouched library old between
+      → SameElsewhere deck (library.world old) (library.world new)
+  elsewhere_same begun goes untouched =
+      same_elsewhere (library.world old) (library.world between) (library.world new) deck begun.units goes.units goes.elsewhere untouched.named

@@ -1,6 +1,7 @@
 pub mod OutputLemmas
 pub mod CleanLemmas
 pub mod RunLaws
+pub mod FrontLemmas
 pub mod DigitLemmas
 pub mod FrameLemmas
 pub mod LengthLemmas
@@ -22,3 +23,6 @@ pub mod DuplicateCases
 pub mod ChangeCases
 pub mod OpenCases
 pub mod LengthCases
+pub mod FalseFileLaws
+pub mod FalseFileRuns
+pub mod LedgerCases

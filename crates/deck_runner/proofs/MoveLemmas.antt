@@ -1,5 +1,5 @@
 -- MOVE, which no fault mars.
-use Rattle.std.proofs.Common.{◌≡◌, ℕ, ◌+◌, Bool, List, [], length, slice_get, slice_set, Some, refl, sym, ap, ◌∙◌, arith}
+use Rattle.std.proofs.Common.{◌≡◌, ℕ, ◌+◌, List, [], length, slice_get, slice_set, Some, refl, sym, ap, ◌∙◌, arith}
 use Rattle.record_layout.specs.declared.item.Field.{Field}
 use Rattle.record_layout.specs.declared.area.Source.{Source}
 use Rattle.record_layout.specs.Area.{moved}
@@ -8,34 +8,69 @@ use Rattle.procedure_division.specs.declared.statement.Statement.TheVariants.{Mo
 use Rattle.deck_runner.specs.Run.{RunFile, LengthItem, after_move, after_move_length}
 use Rattle.deck_runner.specs.Steps.{IsStep}
 use Rattle.verbs.specs.Held.{state_of}
-use Rattle.deck_runner.specs.Running.{Running, run_file, run_files, run_of, IsSafe}
-use Rattle.deck_runner.specs.State.{state, GoesOn}
+use Rattle.deck_runner.specs.declared.running_deck.RunningDeck.{RunningDeck}
+use Rattle.deck_runner.specs.Running.{Running, schema_of, run_file, run_files, run_of}
+use Rattle.deck_runner.specs.State.{state, IsSafeIn, GoesOn}
+use Rattle.deck_runner.specs.Stretches.{Point, IsStretch, name_by, trace_by}
+use Rattle.indexed_file.specs.Images.{untouched, ImagesGo}
+use Rattle.indexed_file.specs.ImageLaws.{goes_none}
+use Rattle.indexed_file.specs.Shown.{Shown}
+use Rattle.procedure_division.specs.declared.statement.Statement.{Statement}
+use Rattle.deck_runner.specs.Line.{Line}
+use Rattle.deck_runner.specs.Run.{Run}
 use Rattle.deck_runner.proofs.FrameLemmas.{change_is_set, run_get, run_set}
 use Rattle.deck_runner.proofs.RunLaws.{change_alike}
 use Rattle.deck_runner.proofs.StateLemmas.{keeps_same}
-use Rattle.deck_runner.proofs.VerbLemmas.{safe_after, trusted_after, schemas_after}
+use Rattle.deck_runner.proofs.VerbLemmas.{safe_after, trusted_after, schemas_after, names_after}
 
 -- ---- what goes on
 
-module _ {S : Type 0} (is_honest : S → Bool) (IsShownTruly : S → List ℕ → Type 0) (fault_count : S → ℕ) (world : S → World) where
+module _ {S : Type 0} (library : Shown S) (lib : S) (deck left : RunningDeck) where
   -- a MOVE to an item of a file
-  pub goes_by_move : (library : S) (files : List Running) (items : List LengthItem) (u : ℕ) (file : Running) (bytes : List ℕ)
-      → IsSafe (world library) files (length items) → slice_get files u ≡ Some file
-      → GoesOn is_honest IsShownTruly fault_count world (state library files items) (state library (slice_set files u (record file { area = bytes })) items)
-  goes_by_move library files items u file bytes safe get =
-      let next : Running = record file { area = bytes } in
+  pub goes_by_move : (u : ℕ) (file next : Running) (bytes : List ℕ) → left.files.items ≡ slice_set deck.files.items u next → left.items.items ≡ deck.items.items → next ≡ record file { area = bytes }
+      → IsSafeIn library (state lib deck) → slice_get deck.files.items u ≡ Some file → GoesOn library (state lib deck) (state lib left)
+  goes_by_move u file next bytes set same is safe get =
+      let files = deck.files.items in
+      let world = library.world lib in
+      let fits = safe.fits u file get in
+      let name : next.name ≡ file.name = ap (λ (f : Running). f.name) is in
+      let depends : next.depends_on ≡ file.depends_on = ap (λ (f : Running). f.depends_on) is in
+      let held : next.held ≡ file.held = ap (λ (f : Running). f.held) is in
       record {
-        keeps = keeps_same is_honest IsShownTruly fault_count world library;
-        safe = safe_after (world library) (world library) u files file next (length items) (length items) safe get (λ v other. refl) refl (safe.fits u file get) refl refl;
-        schemas = schemas_after files u file next get refl;
-        items = refl;
+        keeps = keeps_same library lib;
+        safe = rw (set, same) (safe_after world world u files file next (length deck.items.items) (length deck.items.items) safe get (λ v other. refl) refl (rw held fits) depends refl);
+        names = rw set (names_after files u file next get name);
+        schemas = rw set (schemas_after files u file next get (ap (λ (f : Running). schema_of f) is));
+        items = rw same refl;
         units = refl;
         elsewhere = refl;
         trusted = λ h trusted.
-            trusted_after (IsShownTruly library) (IsShownTruly library) (world library) (world library) u files next trusted (λ v other. refl) (λ v. refl) (trusted.standing u file get) (λ name t. t);
+            rw set (trusted_after (library.IsShownTruly lib) (library.IsShownTruly lib) world world u files next trusted (λ v other. refl) (λ v. refl) (rw held (trusted.standing u file get)) (λ name t. t));
       }
 
+  -- a MOVE to a length item, and STOP RUN
+  pub goes_on_alike : left.files.items ≡ deck.files.items → length left.items.items ≡ length deck.items.items → IsSafeIn library (state lib deck) → GoesOn library (state lib deck) (state lib left)
+  goes_on_alike files items safe = record {
+    keeps = keeps_same library lib;
+    safe = rw (files, items) safe;
+    names = rw files refl;
+    schemas = rw files refl;
+    items = items;
+    units = refl;
+    elsewhere = refl;
+    trusted = λ h trusted. rw files trusted;
+  }
+
 -- ---- the steps
+
+-- a step that asks nothing of the library
+pub still : {S : Type 0} (library : Shown S) (statement : Statement) (lib : S) (run next : Run) (lines : List Line) → name_by (library.world lib) statement ≡ [] → trace_by statement run lines ≡ untouched
+    → IsStep statement run lines next → IsStretch library statement (record { run = run; library = lib }) lines (record { run = next; library = lib })
+still library statement lib run next lines name trace step = record {
+  step = step;
+  names = refl;
+  images = rw (name, trace) (goes_none library.Throughout lib []);
+}
 
 pub move_step : (world : World) (files : List Running) (items : List LengthItem) (u : ℕ) (file : Running) (field : Field) (source : Source (List ℕ))
     → slice_get files u ≡ Some file

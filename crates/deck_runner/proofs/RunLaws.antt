@@ -13,22 +13,24 @@ use Rattle.procedure_division.specs.declared.statement.Statement.{Statement}
 use Rattle.procedure_division.specs.declared.statement.Statement.TheVariants.{Perform, Move, MoveLength, StopRun}
 use Rattle.deck_runner.specs.Line.{Line, is_clean}
 use Rattle.deck_runner.specs.Run.{RunFile, LengthItem, Run, change_at, record_length, outcome_on, performed, items_after_read, line_of, lines_on, items_after, after, lines_of, lines_until_stop, run_at_stop, is_stop, is_still_open, closing_lines, closed_at_end}
-use Rattle.deck_runner.specs.Steps.{line_by, left_by, IsStepOn, IsStep, AreSteps, until_stop, closes_from, CleanRunsAreExact}
+use Rattle.deck_runner.specs.Steps.{line_by, left_by, IsStepOn, IsStep, AreSteps, until_stop, closes_from, IsRun, CleanRunsAreExact}
+use Rattle.deck_runner.specs.Stretches.{Point, AreStretches, IsRunOver}
+use Rattle.indexed_file.specs.Shown.{Shown}
 use Rattle.deck_runner.proofs.CleanLemmas.{clean_step}
 
-and_left : (a b : Bool) → (a && b) ≡ true → a ≡ true
+pub and_left : (a b : Bool) → (a && b) ≡ true → a ≡ true
 and_left true b e = refl
 and_left false b e = absurd (cc)
 
-and_right : (a b : Bool) → (a && b) ≡ true → b ≡ true
+pub and_right : (a b : Bool) → (a && b) ≡ true → b ≡ true
 and_right true b e = e
 and_right false b e = absurd (cc)
 
 -- lines one after another are clean where all are
-clean_first : (xs ys : List Line) → list_all is_clean (xs ++ ys) ≡ true → list_all is_clean xs ≡ true
+pub clean_first : (xs ys : List Line) → list_all is_clean (xs ++ ys) ≡ true → list_all is_clean xs ≡ true
 clean_first xs ys e = and_left (list_all is_clean xs) (list_all is_clean ys) (sym (list_all-append is_clean xs ys) ∙ e)
 
-clean_rest : (xs ys : List Line) → list_all is_clean (xs ++ ys) ≡ true → list_all is_clean ys ≡ true
+pub clean_rest : (xs ys : List Line) → list_all is_clean (xs ++ ys) ≡ true → list_all is_clean ys ≡ true
 clean_rest xs ys e = and_right (list_all is_clean xs) (list_all is_clean ys) (sym (list_all-append is_clean xs ys) ∙ e)
 
 -- two changes of one place that agree there
@@ -65,7 +67,7 @@ clean_on statement u (Some file) run lines next is step clean =
     )
 
 -- a clean step
-clean_one : (statement : Statement) (run : Run) (lines : List Line) (next : Run) → IsStep statement run lines next → list_all is_clean lines ≡ true
+pub clean_one : (statement : Statement) (run : Run) (lines : List Line) (next : Run) → IsStep statement run lines next → list_all is_clean lines ≡ true
     → (lines ≡ lines_of statement run) × (next ≡ after statement run)
 clean_one (Perform u statement) run lines next step clean = clean_on statement u (slice_get run.files u) run lines next refl step clean
 clean_one (Move u field source) run lines next step clean = step
@@ -73,7 +75,7 @@ clean_one (MoveLength i source) run lines next step clean = step
 clean_one StopRun run lines next step clean = step
 
 -- clean steps up to STOP RUN
-abbrev AreExactUntilStop : List Statement → Type 0
+abbrev pub AreExactUntilStop : List Statement → Type 0
 AreExactUntilStop statements =
     (run : Run) → (lines : List Line) → (next : Run) → AreSteps (until_stop statements) run lines next → list_all is_clean lines ≡ true
     → (lines ≡ lines_until_stop statements run) × (next ≡ run_at_stop statements run)
@@ -89,7 +91,7 @@ clean_more statement rest more run lines next false steps clean =
     let others = more steps.1 steps.2 next steps.4 (clean_rest steps.0 steps.2 all) in
     (rw (steps.5, one.0, others.0, one.1) refl, rw (others.1, one.1) refl)
 
-clean_until_stop : (statements : List Statement) → AreExactUntilStop statements
+pub clean_until_stop : (statements : List Statement) → AreExactUntilStop statements
 clean_until_stop [] run lines next steps clean = steps
 clean_until_stop (statement ∷ rest) run lines next steps clean =
     clean_more statement rest (clean_until_stop rest) run lines next (is_stop statement) steps clean
@@ -110,24 +112,24 @@ no_record_read : (depends_on : Option ℕ) (items : List LengthItem) → items_a
 no_record_read None items = refl
 no_record_read (Some i) items = refl
 
-close_keeps_items : (items : List LengthItem) (file : RunFile) → items_after_read file.depends_on (outcome_on (Close false) items file).delivered items ≡ items
+pub close_keeps_items : (items : List LengthItem) (file : RunFile) → items_after_read file.depends_on (outcome_on (Close false) items file).delivered items ≡ items
 close_keeps_items items file =
     rw (close_delivers_none 0 file.state file.state.connector.session) (no_record_read file.depends_on items)
 
 -- the file behind the first ones
-get_behind : {A : Type 0} (before : List A) (x : A) (after : List A) → slice_get (before ++ x ∷ after) (length before) ≡ Some x
+pub get_behind : {A : Type 0} (before : List A) (x : A) (after : List A) → slice_get (before ++ x ∷ after) (length before) ≡ Some x
 get_behind [] x after = refl
 get_behind (y ∷ before) x after = get_behind before x after
 
-change_behind : {A : Type 0} (f : A → A) (before : List A) (x : A) (after : List A) → change_at (length before) f (before ++ x ∷ after) ≡ (before ++ f x ∷ []) ++ after
+pub change_behind : {A : Type 0} (f : A → A) (before : List A) (x : A) (after : List A) → change_at (length before) f (before ++ x ∷ after) ≡ (before ++ f x ∷ []) ++ after
 change_behind f [] x after = refl
 change_behind f (y ∷ before) x after = ap (λ l. y ∷ l) (change_behind f before x after)
 
-length_behind : {A : Type 0} (before : List A) (x : A) → length (before ++ x ∷ []) ≡ suc (length before)
+pub length_behind : {A : Type 0} (before : List A) (x : A) → length (before ++ x ∷ []) ≡ suc (length before)
 length_behind [] x = refl
 length_behind (y ∷ before) x = ap suc (length_behind before x)
 
-abbrev of : List RunFile → List LengthItem → Run
+abbrev pub of : List RunFile → List LengthItem → Run
 of files items = record { files = files; items = items }
 
 abbrev AreExactCloses : List LengthItem → List RunFile → Type 0
@@ -163,6 +165,15 @@ clean_closes items (file ∷ files) before lines next steps clean =
     closes_more items file files (clean_closes items files) before lines next (is_still_open file) steps clean
 
 -- ---- a run
+
+-- stretches are steps
+pub steps_of : {S : Type 0} (library : Shown S) (statements : List Statement) (run : Point S) (lines : List Line) (next : Point S) → AreStretches library statements run lines next → AreSteps statements run.run lines next.run
+steps_of library [] run lines next p = (p.0, ap (λ r. r.run) p.1)
+steps_of library (statement ∷ rest) run lines next p = (p.0, p.1.run, p.2, p.3.step, steps_of library rest p.1 p.2 next p.4, p.5)
+
+pub run_of_stretches : {S : Type 0} (library : Shown S) (statements : List Statement) (run : Point S) (lines : List Line) (next : Point S) → IsRunOver library statements run lines next → IsRun statements run.run lines next.run
+run_of_stretches library statements run lines next p =
+    (p.0.run, p.1, p.2, steps_of library (until_stop statements) run p.1 p.0 p.3, steps_of library (closes_from 0 p.0.run.files) p.0 p.2 next p.4, p.5)
 
 pub clean_runs_are_exact : CleanRunsAreExact
 clean_runs_are_exact statements run lines next steps clean =

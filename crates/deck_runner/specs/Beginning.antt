@@ -4,16 +4,20 @@ use Rattle.std.specs.List.{list_any}
 use Rattle.record_layout.specs.Area.{blank_area}
 use Rattle.record_layout.specs.Layout.{length_of}
 use Rattle.indexed_file.specs.World.{World, named_in}
-use Rattle.indexed_file.specs.declared.library.Library.{Ghosts}
+use Rattle.indexed_file.specs.Images.{Stays}
+use Rattle.indexed_file.specs.Shown.{Shown}
 use Rattle.verbs.specs.Connector.{closed_connector}
 use Rattle.verbs.specs.Held.{held_at_start}
 use Rattle.file_control.specs.Description.{FileDesc, LengthItem as LengthEntry}
 use Rattle.file_control.specs.Described.{file_names}
 use Rattle.deck_reader.specs.declared.deck.Deck.{Deck}
 use Rattle.deck_runner.specs.Line.{Line}
+use Rattle.deck_runner.specs.declared.running_deck.RunningDeck.{RunningDeck}
 use Rattle.deck_runner.specs.Run.{RunFile, LengthItem, Run}
-use Rattle.deck_runner.specs.Running.{Running, schema_of, unit_names, run_of, IsSafe, IsTrusted}
-use Rattle.deck_runner.specs.Conditions.{IsStatementOf}
+use Rattle.deck_runner.specs.Running.{Running, unit_names}
+use Rattle.deck_runner.specs.Stretches.{Point}
+use Rattle.deck_runner.specs.State.{state, run_in, names_in, IsSafeIn, IsTrustedIn, AreLinesOf}
+use Rattle.deck_runner.specs.Conditions.{IsStatementIn}
 
 -- ---- before the first statement
 
@@ -69,26 +73,43 @@ SameElsewhere deck old new = (name : List ℕ) → is_elsewhere deck name ≡ fa
 abbrev pub SameNames : World → World → Type 0
 SameNames old new = (name : List ℕ) → named_in new name ≡ named_in old name
 
+-- nothing has come of a call: every name stands for what it stood for, and no image changes
+pub record IsUntouched {S : Type 0} (library : Shown S) (old new : S) : Type 0 where
+  pub named : SameNames (library.world old) (library.world new)
+  pub images : IsTrue (library.is_honest new) → (name : List ℕ) → Stays library.Throughout old new name
+
 -- where the library has not lied by then, and what it showed of the deck's files was true before
-abbrev pub WhereFilesAreTrue : {S : Type 0} → Ghosts S → (old new : S) → Deck → Type 0 → Type 0
+abbrev pub WhereFilesAreTrue : {S : Type 0} → Shown S → (old new : S) → Deck → Type 0 → Type 0
 WhereFilesAreTrue library old new deck claim =
     IsTrue (library.is_honest new) → All (library.IsShownTruly old) (file_names deck.files) → claim
 
--- such steps lead with these lines from the deck before its first statement to what the library shows then
-abbrev pub DeckLeads :
-    {S : Type 0} → Ghosts S → (old new : S) → Deck → (Run → List Line → Run → Type 0) → List Line → Type 0
-DeckLeads library old new deck AreSuch lines =
-    WhereFilesAreTrue library old new deck
-    ((next : Run) × AreSuch (run_before (library.world old) deck) lines next × Leaves (library.world new) deck next)
+-- the stretch before the first step: the units have the names of the deck's files, and no image changes
+pub record IsAttached {S : Type 0} (library : Shown S) (old begun : S) (deck : Deck) : Type 0 where
+  pub names : unit_names (library.world begun) ≡ file_names deck.files
+  pub images : (name : List ℕ) → Stays library.Throughout old begun name
+
+-- the names of the files in the deck
+abbrev pub program_names : Deck → List (List ℕ)
+program_names deck = map (λ file. file.name) deck.files
+
+-- such steps lead with these lines from the deck before its first statement to what the library shows then, where the files are true; and
+-- in any library the lines are those of the deck's files
+pub record DeckLeads {S : Type 0} (library : Shown S) (old new : S) (deck : Deck) (AreSuch : Point S → List Line → Point S → Type 0) (lines : List Line) : Type 0 where
+  pub steps : WhereFilesAreTrue library old new deck
+      ((begun : S) × (next : Run) × IsAttached library old begun deck
+      × AreSuch (record { run = run_before (library.world old) deck; library = begun }) lines (record { run = next; library = new })
+      × Leaves (library.world new) deck next)
+  pub lines_are : AreLinesOf library (program_names deck) old new lines
 
 -- ---- the deck in memory
 
 -- the files and items of a deck in memory, and its file names attached to a library: together they show the deck before its first
 -- statement, and what a run needs is so
-pub record IsBegun {S : Type 0} (library : Ghosts S) (old new : S) (deck : Deck) (files : List Running) (items : List LengthItem) : Type 0 where
-  pub run : run_of (library.world new) files items ≡ run_before (library.world old) deck
-  pub many : length files ≡ length deck.files
+pub record IsBegun {S : Type 0} (library : Shown S) (old new : S) (deck : Deck) (begun : RunningDeck) : Type 0 where
+  pub run : run_in library (state new begun) ≡ run_before (library.world old) deck
+  pub many : length begun.files.items ≡ length deck.files
+  pub names : names_in begun ≡ program_names deck
   pub units : unit_names (library.world new) ≡ file_names deck.files
-  pub safe : IsSafe (library.world new) files (length items)
-  pub statements : All (IsStatementOf (map schema_of files) (length items)) deck.statements
-  pub trusted : WhereFilesAreTrue library old new deck (IsTrusted (library.IsShownTruly new) (library.world new) files)
+  pub safe : IsSafeIn library (state new begun)
+  pub statements : All (IsStatementIn begun) deck.statements
+  pub trusted : WhereFilesAreTrue library old new deck (IsTrustedIn library (state new begun))

@@ -42,12 +42,15 @@ IsStep (Move u field source) run lines next = (lines ≡ []) × (next ≡ after 
 IsStep (MoveLength i source) run lines next = (lines ≡ []) × (next ≡ after (MoveLength i source) run)
 IsStep StopRun run lines next = (lines ≡ []) × (next ≡ run)
 
--- statements one after another, with their lines
+-- statements one after another, with their lines, where each is a step of this kind
+abbrev pub AreStepsOf : {X : Type 0} → (Statement → X → List Line → X → Type 0) → List Statement → X → List Line → X → Type 0
+AreStepsOf IsOne [] run lines next = (lines ≡ []) × (next ≡ run)
+AreStepsOf {X} IsOne (statement ∷ rest) run lines next =
+    (first : List Line) × (between : X) × (others : List Line)
+    × IsOne statement run first between × AreStepsOf IsOne rest between others next × (lines ≡ first ++ others)
+
 abbrev pub AreSteps : List Statement → Run → List Line → Run → Type 0
-AreSteps [] run lines next = (lines ≡ []) × (next ≡ run)
-AreSteps (statement ∷ rest) run lines next =
-    (first : List Line) × (between : Run) × (others : List Line)
-    × IsStep statement run first between × AreSteps rest between others next × (lines ≡ first ++ others)
+AreSteps = AreStepsOf IsStep
 
 -- ---- a run
 
@@ -69,10 +72,6 @@ abbrev pub closes_from : ℕ → List RunFile → List Statement
 closes_from u [] = []
 closes_from u (file ∷ files) = close_of u file ++ closes_from (suc u) files
 
--- the close of the file of a place, if it is still open
-abbrev pub ClosesAt : ℕ → Run → List Line → Run → Type 0
-ClosesAt u run lines next = AreSteps (close_at u (slice_get run.files u)) run lines next
-
 -- all of the closes
 abbrev pub Closes : Run → List Line → Run → Type 0
 Closes run lines next = AreSteps (closes_from 0 run.files) run lines next
@@ -82,22 +81,6 @@ abbrev pub IsRun : List Statement → Run → List Line → Run → Type 0
 IsRun statements run lines next =
     (stopped : Run) × (first : List Line) × (others : List Line)
     × AreSteps (until_stop statements) run first stopped × Closes stopped others next × (lines ≡ first ++ others)
-
--- some of the statements, from the first on, one after another
-abbrev pub AreStepsInPart : List Statement → Run → List Line → Run → Type 0
-AreStepsInPart statements run lines next =
-    (done : List Statement) × (rest : List Statement) × (statements ≡ done ++ rest) × AreSteps done run lines next
-
--- some of the closes
-abbrev pub ClosesInPart : Run → List Line → Run → Type 0
-ClosesInPart run lines next = AreStepsInPart (closes_from 0 run.files) run lines next
-
--- a run that was broken off, before STOP RUN or among the closes
-abbrev pub IsBrokenOff : List Statement → Run → List Line → Run → Type 0
-IsBrokenOff statements run lines next =
-    AreStepsInPart (until_stop statements) run lines next
-    ⊎ ((stopped : Run) × (first : List Line) × (others : List Line)
-    × AreSteps (until_stop statements) run first stopped × ClosesInPart stopped others next × (lines ≡ first ++ others))
 
 -- ---- the law
 

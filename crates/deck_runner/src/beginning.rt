@@ -1,15 +1,16 @@
 //! A deck before its first statement: its files and length items in memory, and its file names attached to a library.
-ghost use Rattle.std.specs.Prelude.{◌≡◌, ◌≤◌, List, All, IfOk, IfErr, length, map};
+ghost use Rattle.std.specs.Prelude.{◌≡◌, ◌≤◌, All, IfOk, IfErr, length, map};
 ghost use Rattle.record_layout.specs.Area.{blank_area};
 ghost use Rattle.record_layout.specs.Layout.{length_of};
 ghost use Rattle.file_control.specs.Described.{file_names};
 ghost use Rattle.indexed_file.specs.Calls.{Keeps};
 ghost use Rattle.deck_reader.specs.Deck.{CanBeRun};
-ghost use Rattle.deck_runner.specs.Beginning.{running_before, item_before, SameNames, IsBegun};
+ghost use Rattle.deck_runner.specs.Beginning.{running_before, item_before, IsUntouched, IsBegun};
 
 use crate::length_item::LengthItem;
+use crate::line::LineText;
+use crate::running_deck::RunningDeck;
 use crate::running_file::RunningFile;
-use crate::start::attach;
 use arrayvec::ArrayVec;
 use deck_reader::Deck;
 use file_control::{FileDesc, LengthItem as LengthEntry};
@@ -82,21 +83,18 @@ fn names_of(files: &[FileDesc]) -> FileNames
     names
 }
 
-/// The files of a deck in the order of their SELECT entries, and its length items in the order of their entries.
-#[derive(Drop)]
-pub struct Beginning {
-    pub files: Vec<RunningFile>,
-    pub items: Vec<LengthItem>,
-}
-
 /// Makes the files and length items of a deck, and attaches its file names to the library. `Memory` leaves what each name stands
 /// for, as a success does.
-pub fn begin<L: Library>(alloc: Global, deck: &Deck, library: &mut L) -> Result<Beginning, Fault>
+pub fn begin<L: Library>(
+    alloc: Global,
+    deck: &Deck,
+    library: &mut L,
+) -> Result<RunningDeck, Fault>
     requires { CanBeRun deck.now }
-    ensures begun { IfOk result (λ begun. IsBegun L.Library library.old library.new deck.now begun.files.items begun.items.items) }
-    ensures named { SameNames (L.world library.old) (L.world library.new) }
+    ensures begun { IfOk result (λ begun. IsBegun L.shown library.old library.new deck.now begun) }
+    ensures untouched { IsUntouched L.shown library.old library.new }
     ensures only_memory { IfErr result (λ fault. fault ≡ Fault.Memory) }
-    ensures keeps { Keeps L.is_honest L.IsShownTruly L.fault_count library.old library.new }
+    ensures keeps { Keeps L.shown library.old library.new }
 {
     let Ok(files) = files_before(alloc, deck.files.as_slice()) else {
         return Err(Fault::Memory);
@@ -105,6 +103,10 @@ pub fn begin<L: Library>(alloc: Global, deck: &Deck, library: &mut L) -> Result<
         return Err(Fault::Memory);
     };
     let names = names_of(deck.files.as_slice());
-    attach(files.as_slice(), names.as_slice(), library)?;
-    Ok(Beginning { files, items })
+    library.attach(names.as_slice())?;
+    Ok(RunningDeck {
+        files,
+        items,
+        line: LineText::new(),
+    })
 }

@@ -2,16 +2,15 @@
 ghost use Rattle.std.specs.Prelude.{◌≡◌, ◌≢◌, ◌⊎◌, true, IfOk, IfErr};
 ghost use Rattle.indexed_file.specs.Calls.{Keeps};
 ghost use Rattle.deck_reader.specs.Deck.{CanBeRun};
-ghost use Rattle.deck_runner.specs.Steps.{IsRun, IsBrokenOff};
+ghost use Rattle.deck_runner.specs.Stretches.{IsRunOver, IsBrokenOff};
+ghost use Rattle.deck_runner.specs.NoFalseFile.{RunsWhole, RunsInPart};
 ghost use Rattle.deck_runner.specs.RunEnd.{Told, ToldInPart};
-ghost use Rattle.deck_runner.specs.Beginning.{SameElsewhere, SameNames, WhereFilesAreTrue, DeckLeads};
+ghost use Rattle.deck_runner.specs.Beginning.{SameElsewhere, IsUntouched, WhereFilesAreTrue, DeckLeads};
 ghost use Rattle.deck_runner.specs.DeckRun.{OfDeck, RunsExactly, IsRefused};
 
-use crate::beginning::{Beginning, begin};
+use crate::beginning::begin;
 use crate::fault::RunFault;
-use crate::line::LineText;
 use crate::run_end::RunEnd;
-use crate::whole_run::run;
 use deck_reader::{Deck, read_deck};
 use indexed_file::Library;
 use std::alloc::Global;
@@ -25,32 +24,21 @@ fn run_read<L: Library, W: Write>(
     out: &mut W,
 ) -> Result<RunEnd, RunFault>
     requires { CanBeRun deck.now }
-    ensures elsewhere { SameElsewhere deck.now (L.world library.old) (L.world library.new) }
+    ensures elsewhere { SameElsewhere deck.now (L.shown.world library.old) (L.shown.world library.new) }
     ensures run { IfOk result (λ end. Told (W.contents out.old) (W.contents out.new) end
-        (DeckLeads L.Library library.old library.new deck.now (IsRun deck.now.statements))) }
+        (DeckLeads L.shown library.old library.new deck.now (IsRunOver L.shown deck.now.statements))) }
     ensures output { IfErr result (λ fault. fault ≡ RunFault.Output → ToldInPart (W.contents out.old) (W.contents out.new)
-        (DeckLeads L.Library library.old library.new deck.now (IsBrokenOff deck.now.statements))) }
+        (DeckLeads L.shown library.old library.new deck.now (IsBrokenOff L.shown deck.now.statements))) }
     ensures nothing { IfErr result (λ fault. fault ≢ RunFault.Output →
-        (out.new ≡ out.old) × SameNames (L.world library.old) (L.world library.new)) }
+        (out.new ≡ out.old) × IsUntouched L.shown library.old library.new) }
     ensures faults { IfErr result (λ fault. (fault ≡ RunFault.Output) ⊎ (fault ≡ RunFault.Memory)) }
-    ensures keeps { Keeps L.is_honest L.IsShownTruly L.fault_count library.old library.new }
+    ensures keeps { Keeps L.shown library.old library.new }
 {
     let Ok(begun) = begin(alloc, deck, library) else {
         return Err(RunFault::Memory);
     };
-    let Beginning {
-        mut files,
-        mut items,
-    } = begun;
-    let mut line = LineText::new();
-    match run(
-        &mut files,
-        &mut items,
-        deck.statements.as_slice(),
-        library,
-        &mut line,
-        out,
-    ) {
+    let mut begun = begun;
+    match begun.run(deck.statements.as_slice(), library, out) {
         Ok(end) => Ok(end),
         Err(_) => Err(RunFault::Output),
     }
@@ -69,19 +57,17 @@ pub fn run_deck<L: Library, W: Write>(
     library: &mut L,
     out: &mut W,
 ) -> Result<RunEnd, RunFault>
-    ensures exact { IfOk result (λ end. end.clean ≡ true → OfDeck L.Library bytes.now library.old library.new (λ deck.
-        WhereFilesAreTrue L.Library library.old library.new deck
-        (RunsExactly (W.contents out.old) (W.contents out.new) (L.world library.old) (L.world library.new) end deck))) }
-    ensures run { IfOk result (λ end. OfDeck L.Library bytes.now library.old library.new (λ deck.
-        Told (W.contents out.old) (W.contents out.new) end
-        (DeckLeads L.Library library.old library.new deck (IsRun deck.statements)))) }
-    ensures output { IfErr result (λ fault. fault ≡ RunFault.Output → OfDeck L.Library bytes.now library.old library.new (λ deck.
-        ToldInPart (W.contents out.old) (W.contents out.new)
-        (DeckLeads L.Library library.old library.new deck (IsBrokenOff deck.statements)))) }
+    ensures exact { IfOk result (λ end. end.clean ≡ true → OfDeck L.shown bytes.now library.old library.new (λ deck.
+        WhereFilesAreTrue L.shown library.old library.new deck
+        (RunsExactly (W.contents out.old) (W.contents out.new) (L.shown.world library.old) (L.shown.world library.new) end deck))) }
+    ensures run { IfOk result (λ end. OfDeck L.shown bytes.now library.old library.new (λ deck.
+        Told (W.contents out.old) (W.contents out.new) end (RunsWhole L.shown library.old library.new deck))) }
+    ensures output { IfErr result (λ fault. fault ≡ RunFault.Output → OfDeck L.shown bytes.now library.old library.new (λ deck.
+        ToldInPart (W.contents out.old) (W.contents out.new) (RunsInPart L.shown library.old library.new deck))) }
     ensures nothing { IfErr result (λ fault. fault ≢ RunFault.Output →
-        (out.new ≡ out.old) × SameNames (L.world library.old) (L.world library.new)) }
+        (out.new ≡ out.old) × IsUntouched L.shown library.old library.new) }
     ensures refused { IfErr result (IsRefused bytes.now) }
-    ensures keeps { Keeps L.is_honest L.IsShownTruly L.fault_count library.old library.new }
+    ensures keeps { Keeps L.shown library.old library.new }
 {
     match read_deck(alloc, bytes) {
         Ok(deck) => run_read(alloc, &deck, library, out),

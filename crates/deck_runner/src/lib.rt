@@ -18,21 +18,13 @@ mod length_item;
 mod line;
 mod output;
 mod run_end;
+mod running_deck;
 mod running_file;
-mod start;
 mod statements;
 mod verb;
 mod whole_run;
 
 pub use deck_run::run_deck;
 pub use fault::RunFault;
-pub use length_item::LengthItem;
-pub use line::LineText;
-pub use output::Refused;
 pub use run_end::RunEnd;
-pub use running_file::RunningFile;
-pub use start::attach;
-pub use whole_run::{clean_runs_are_exact, run};
-
-#[cfg(test)]
-mod tests;
+pub use whole_run::{clean_fronts_are_exact, clean_runs_are_exact, images_are_of_ledger, no_false_file};

@@ -1,10 +1,13 @@
 //! A file of a run.
 ghost use Rattle.std.specs.Prelude.{◌≡◌, ◌≤◌, ◌+◌, ℕ, List, length as count_of, IsTrue, is_some, option_map, IfSome};
-ghost use Rattle.indexed_file.specs.World.{OnlyAt};
-ghost use Rattle.indexed_file.specs.Calls.{Keeps, Believed};
+ghost use Rattle.indexed_file.specs.World.{OnlyAt, name_at};
+ghost use Rattle.indexed_file.specs.Images.{ImagesGo};
+ghost use Rattle.indexed_file.specs.Calls.{Keeps};
+ghost use Rattle.indexed_file.specs.Believed.{Believed};
 ghost use Rattle.verbs.specs.Held.{Performs, state_of, record_in};
 ghost use Rattle.verbs.specs.Fits.{Fits, IsStanding, HasCause};
 ghost use Rattle.verbs.specs.Fits.{HasOperands, closes_failed};
+ghost use Rattle.verbs.specs.Traces.{trace_of};
 ghost use Rattle.deck_runner.specs.Running.{schema_of, SameFile};
 ghost use Rattle.record_layout.specs.Area.{is_taken_by, moved, sent};
 
@@ -97,22 +100,27 @@ impl RunningFile {
         statement: &FileStatement,
         length: u16,
     ) -> Answer
-        requires fits { Fits self.old.held (L.world library.old) u }
+        requires fits { Fits self.old.held (L.shown.world library.old) u }
         requires key { HasOperands (schema_of self.old) statement.now }
-        ensures fits { Fits self.new.held (L.world library.new) u }
-        ensures step { Believed L.is_honest L.IsShownTruly L.world u library.old library.new
-            (IsStanding self.old.held (L.world library.old) u
-            → Performs statement.now «length» (state_of self.old.held (L.world library.old) u self.old.area)
-            result (state_of self.new.held (L.world library.new) u self.new.area)) }
-        ensures standing { Believed L.is_honest L.IsShownTruly L.world u library.old library.new
-            (IsStanding self.old.held (L.world library.old) u
-            → IsStanding self.new.held (L.world library.new) u) }
+        ensures fits { Fits self.new.held (L.shown.world library.new) u }
+        ensures step { Believed L.shown u library.old library.new
+            (IsStanding self.old.held (L.shown.world library.old) u
+            → Performs statement.now «length» (state_of self.old.held (L.shown.world library.old) u self.old.area)
+            result (state_of self.new.held (L.shown.world library.new) u self.new.area)) }
+        ensures standing { Believed L.shown u library.old library.new
+            (IsStanding self.old.held (L.shown.world library.old) u
+            → IsStanding self.new.held (L.shown.world library.new) u) }
         ensures same { SameFile self.old self.new }
         ensures limit { (schema_of self.old).greatest ≤ 4000 }
-        ensures only { OnlyAt u (L.world library.old) (L.world library.new) }
+        ensures only { OnlyAt u (L.shown.world library.old) (L.shown.world library.new) }
         ensures cause { HasCause result.status (closes_failed statement.now self.old.held.connector.session)
-            (L.fault_count library.old) (L.fault_count library.new) }
-        ensures keeps { Keeps L.is_honest L.IsShownTruly L.fault_count library.old library.new }
+            (L.shown.fault_count library.old) (L.shown.fault_count library.new) }
+        ensures images { Believed L.shown u library.old library.new
+            (IsStanding self.old.held (L.shown.world library.old) u
+            → ImagesGo L.shown.Throughout (name_at (L.shown.world library.old) u)
+            (trace_of statement.now (state_of self.old.held (L.shown.world library.old) u self.old.area) result.status)
+            library.old library.new) }
+        ensures keeps { Keeps L.shown library.old library.new }
     {
         self.connector
             .perform(library, u, statement, length, &mut self.area)

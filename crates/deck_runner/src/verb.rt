@@ -1,17 +1,16 @@
 //! An input-output statement on a file of the run.
-ghost use Rattle.std.specs.Prelude.{◌≡◌, ◌≤◌, ◌<◌, ℕ, List, [], ◌∷◌, length, map, min, not, slice_get, IsTrue, option_map};
+ghost use Rattle.std.specs.Prelude.{◌≡◌, length, min, not, option_map};
 ghost use Rattle.verbs.specs.Faults.{is_unclean};
-ghost use Rattle.verbs.specs.Fits.{HasOperands};
 ghost use Rattle.procedure_division.specs.declared.statement.Statement.TheVariants.{Perform as PerformStatement};
-ghost use Rattle.deck_runner.specs.Line.{Line, text_of, is_clean};
 ghost use Rattle.deck_runner.specs.Run.{items_after_read};
-ghost use Rattle.deck_runner.specs.Steps.{IsStep};
 ghost use Rattle.deck_runner.specs.Running.{IsPlace, schema_of, length_for};
-ghost use Rattle.deck_runner.specs.State.{state, IsSafeIn, GoesOnIn, LeadsIn};
-ghost use Rattle.deck_runner.specs.Conditions.{OfFile};
+ghost use Rattle.deck_runner.specs.State.{state, IsSafeIn, GoesOn};
+ghost use Rattle.deck_runner.specs.RunEnd.{MakesLine};
+ghost use Rattle.deck_runner.specs.Conditions.{CanPerform};
 
 use crate::length_item::LengthItem;
-use crate::line::{LineText, make_line};
+use crate::line::make_line;
+use crate::running_deck::RunningDeck;
 use crate::running_file::RunningFile;
 use indexed_file::Library;
 use io_state::Status;
@@ -55,28 +54,27 @@ fn note_length(items: &mut [LengthItem], depends_on: Option<usize>, delivered: O
     }
 }
 
-/// Performs a statement on the file of a place, which is that of the library's unit of that number, and makes its line. Tells
-/// whether the line is clean.
-pub fn perform_on<L: Library>(
-    files: &mut [RunningFile],
-    items: &mut [LengthItem],
-    u: usize,
-    statement: &FileStatement,
-    library: &mut L,
-    line: &mut LineText,
-) -> bool
-    requires safe { IsSafeIn L.world (state library.old files.old items.old) }
-    requires statement { OfFile (slice_get (map schema_of files.old) u) (λ schema. HasOperands schema statement.now) }
-    ensures goes { GoesOnIn L.Library (state library.old files.old items.old) (state library.new files.new items.new) }
-    ensures line { (shown : Line) × (line.new.items ≡ text_of shown) × (result ≡ is_clean shown)
-        × LeadsIn L.Library (state library.old files.old items.old) (state library.new files.new items.new)
-        (IsStep (PerformStatement u statement.now)) (shown ∷ []) }
-{
-    let file = &mut files[u];
-    let length = record_length(items, file);
-    let answer = file.perform(library, u, statement, length);
-    let delivered = file.delivered(answer.length);
-    make_line(line, statement, file.name(), answer.status, delivered);
-    note_length(items, file.depends_on(), delivered);
-    is_clean(statement, answer.status)
+impl RunningDeck {
+    /// Performs a statement on the file of a place, which is that of the library's unit of that number, and makes its line. Tells
+    /// whether the line is clean.
+    pub fn perform_on<L: Library>(
+        &mut self,
+        u: usize,
+        statement: &FileStatement,
+        library: &mut L,
+    ) -> bool
+        requires safe { IsSafeIn L.shown (state library.old self.old) }
+        requires statement { CanPerform self.old u statement.now }
+        ensures goes { GoesOn L.shown (state library.old self.old) (state library.new self.new) }
+        ensures line { MakesLine L.shown (state library.old self.old) (state library.new self.new)
+            (PerformStatement u statement.now) result }
+    {
+        let file = &mut self.files[u];
+        let length = record_length(&self.items, file);
+        let answer = file.perform(library, u, statement, length);
+        let delivered = file.delivered(answer.length);
+        make_line(&mut self.line, statement, file.name(), answer.status, delivered);
+        note_length(&mut self.items, file.depends_on(), delivered);
+        is_clean(statement, answer.status)
+    }
 }

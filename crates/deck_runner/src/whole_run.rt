@@ -1,51 +1,66 @@
 //! A whole run.
-ghost use Rattle.std.specs.Prelude.{◌≡◌, All, IfOk, OnErr, length, map};
-ghost use Rattle.deck_runner.specs.Steps.{IsRun, IsBrokenOff, CleanRunsAreExact};
-ghost use Rattle.deck_runner.specs.Conditions.{IsStatementOf};
-ghost use Rattle.deck_runner.specs.Running.{schema_of};
-ghost use Rattle.deck_runner.specs.State.{state, IsSafeIn, GoesOnIn, LeadsIn};
+ghost use Rattle.std.specs.Prelude.{◌≡◌, All, IfOk, OnErr};
+ghost use Rattle.deck_runner.specs.Steps.{CleanRunsAreExact};
+ghost use Rattle.deck_runner.specs.Stretches.{IsRunOver, IsBrokenOff, CleanFrontsAreExact};
+ghost use Rattle.deck_runner.specs.NoFalseFile.{NoFalseFile, ImagesAreOfLedger};
+ghost use Rattle.deck_runner.specs.Conditions.{IsStatementIn};
+ghost use Rattle.deck_runner.specs.State.{state, IsSafeIn, GoesOn, Leads};
 ghost use Rattle.deck_runner.specs.RunEnd.{Told, ToldInPart};
 
-use crate::closes::close_all;
-use crate::length_item::LengthItem;
-use crate::line::LineText;
 use crate::output::Refused;
 use crate::run_end::RunEnd;
-use crate::running_file::RunningFile;
-use crate::statements::run_to_stop;
+use crate::running_deck::RunningDeck;
 use indexed_file::Library;
 use procedure_division::Statement;
 use std::io::Write;
 
-/// Runs the statements up to STOP RUN, and then closes the files that are still open. Each statement that is performed has its
-/// line in `out`; a refusal ends the run behind the statement of that line.
-pub fn run<L: Library, W: Write>(
-    files: &mut [RunningFile],
-    items: &mut [LengthItem],
-    statements: &[Statement],
-    library: &mut L,
-    line: &mut LineText,
-    out: &mut W,
-) -> Result<RunEnd, Refused>
-    requires safe { IsSafeIn L.world (state library.old files.old items.old) }
-    requires statements { All (IsStatementOf (map schema_of files.old) (length items.old)) statements.now }
-    ensures goes { GoesOnIn L.Library (state library.old files.old items.old) (state library.new files.new items.new) }
-    ensures done { IfOk result (λ end. Told (W.contents out.old) (W.contents out.new) end
-        (LeadsIn L.Library (state library.old files.old items.old) (state library.new files.new items.new) (IsRun statements.now))) }
-    ensures refused { OnErr result (ToldInPart (W.contents out.old) (W.contents out.new)
-        (LeadsIn L.Library (state library.old files.old items.old) (state library.new files.new items.new) (IsBrokenOff statements.now))) }
-{
-    let stopped = match run_to_stop(files, items, statements, library, line, out) {
-        Ok(stopped) => stopped,
-        Err(refused) => return Err(refused),
-    };
-    match close_all(files, items, library, line, out) {
-        Ok(closed) => Ok(stopped.followed_by(closed)),
-        Err(refused) => Err(refused),
+impl RunningDeck {
+    /// Runs the statements up to STOP RUN, and then closes the files that are still open. Each statement that is performed has its
+    /// line in `out`; a refusal ends the run behind the statement of that line.
+    pub fn run<L: Library, W: Write>(
+        &mut self,
+        statements: &[Statement],
+        library: &mut L,
+        out: &mut W,
+    ) -> Result<RunEnd, Refused>
+        requires safe { IsSafeIn L.shown (state library.old self.old) }
+        requires statements { All (IsStatementIn self.old) statements.now }
+        ensures goes { GoesOn L.shown (state library.old self.old) (state library.new self.new) }
+        ensures done { IfOk result (λ end. Told (W.contents out.old) (W.contents out.new) end
+            (Leads L.shown (state library.old self.old) (state library.new self.new)
+            (IsRunOver L.shown statements.now))) }
+        ensures refused { OnErr result (ToldInPart (W.contents out.old) (W.contents out.new)
+            (Leads L.shown (state library.old self.old) (state library.new self.new)
+            (IsBrokenOff L.shown statements.now))) }
+    {
+        let stopped = match self.run_to_stop(statements, library, out) {
+            Ok(stopped) => stopped,
+            Err(refused) => return Err(refused),
+        };
+        match self.close_all(library, out) {
+            Ok(closed) => Ok(stopped.followed_by(closed)),
+            Err(refused) => Err(refused),
+        }
     }
 }
 
 /// A run whose lines are all clean is the definition's: no fault has marred a step of it.
 pub fn clean_runs_are_exact()
     ensures { CleanRunsAreExact }
+{}
+
+/// In every run, also in one that was broken off, the lines before the first unclean one are the first lines of the definition's.
+pub fn clean_fronts_are_exact<L: Library>(_library: &L)
+    ensures { CleanFrontsAreExact L.shown }
+{}
+
+/// In every run of steps with their stretches of time, each name stands by its ledger at each moment.
+pub fn no_false_file<L: Library>(_library: &L)
+    ensures { NoFalseFile L.shown }
+{}
+
+/// In so many words: where the images of a name at the start of the run are known, each image at each moment is one of those and of those
+/// in its ledger, and behind the first CLOSE of a change one of its ledger alone.
+pub fn images_are_of_ledger<L: Library>(_library: &L)
+    ensures { ImagesAreOfLedger L.shown }
 {}

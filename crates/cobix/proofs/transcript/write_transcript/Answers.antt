@@ -1,6 +1,8 @@
 use Rattle.std.proofs.Common.{rules}
-use Rattle.indexed_file.specs.ListWorld.{world_of}
-use Rattle.cobix.proofs.OverNoFilesLemmas.{everywhere}
+use Rattle.list_library.specs.ListWorld.{world_of, shown_in_memory}
+use Rattle.deck_runner.proofs.RunLaws.{run_of_stretches}
+use Rattle.deck_runner.proofs.FalseFileRuns.{leads_of_stands}
+use Rattle.cobix.proofs.OverNoFilesLemmas.{everywhere, only_at_closes}
 use Rattle.cobix.proofs.transcript.write_transcript.Goals as goal
 
 -- the library is honest, and all that it shows is true
@@ -8,5 +10,7 @@ pub returns-in-Ok-clause-run : goal.returns-in-Ok-clause-run
 returns-in-Ok-clause-run g c =
     let ran = c.in-Ok.ensures.run in
     let told = ran.3 in
-    let led = told.3 (search rules) (everywhere _ _ c.new-library.ensures.truly) in
-    (ran.0, world_of c.new-library.result, ran.1, c.new-library.ensures.named, (told.0, told.1, told.2, (led.0, led.1)))
+    let leads = leads_of_stands shown_in_memory _ _ _ told.0 told.3 in
+    let led = leads.steps (search rules) (everywhere _ _ (c.new-library.ensures.truly _)) in
+    (ran.0, world_of c.new-library.result, ran.1, c.new-library.ensures.named,
+     (told.0, told.1, told.2, ((led.1, run_of_stretches _ _ _ _ _ led.3), only_at_closes _ told.0 leads.lines_are)))

@@ -1,25 +1,62 @@
 use Rattle.std.proofs.Common.{◌≡◌, true}
-use Rattle.std.proofs.lemmas.Result.{IfOk-weaker}
-use Rattle.deck_runner.specs.Steps.{IsRun}
-use Rattle.deck_runner.specs.RunEnd.{Told}
+use Rattle.std.proofs.lemmas.Result.{IfOk-weaker, IfErr-weaker}
+use Rattle.deck_runner.specs.declared.fault.RunFault.TheVariants.{Output}
+use Rattle.deck_runner.specs.Stretches.{IsRunOver, IsBrokenOff}
+use Rattle.deck_runner.specs.NoFalseFile.{RunsWhole, RunsInPart}
+use Rattle.deck_runner.specs.RunEnd.{Told, ToldInPart}
 use Rattle.deck_runner.specs.Beginning.{WhereFilesAreTrue, DeckLeads}
 use Rattle.deck_runner.specs.DeckRun.{OfDeck, RunsExactly}
+use Rattle.deck_runner.proofs.ToldLemmas.{told_as, part_as}
+use Rattle.deck_runner.proofs.FalseFileRuns.{run_stands, broken_stands}
 use Rattle.deck_runner.proofs.DeckRunLemmas.{exact, refused}
 use Rattle.deck_runner.proofs.deck_run.run_deck.Goals as goal
 
 pub returns-in-Ok-clause-exact : goal.returns-in-Ok-clause-exact
 returns-in-Ok-clause-exact g c =
-    let world = g.L.Library.world in
+    let shown = g.L.Library.shown in
     let old = c.args.library.now in
     let new = c.run_read.new.library in
     let written = g.W.Write.contents c.args.out.now in
     let written_after = g.W.Write.contents c.run_read.new.out in
+    let deck = c.in-Ok.deck in
     IfOk-weaker c.run_read.result
-    (λ end. Told written written_after end (DeckLeads g.L.Library old new c.in-Ok.deck (IsRun c.in-Ok.deck.statements)))
-    (λ end. end.clean ≡ true → OfDeck g.L.Library c.args.bytes.now old new
-    (λ deck. WhereFilesAreTrue g.L.Library old new deck (RunsExactly written written_after (world old) (world new) end deck)))
-    (λ end run clean. (c.in-Ok.deck, c.in-Ok.ensures.deck, c.run_read.ensures.elsewhere, exact g.L.Library old new written written_after end c.in-Ok.deck run clean))
+    (λ end. Told written written_after end (DeckLeads shown old new deck (IsRunOver shown deck.statements)))
+    (λ end. end.clean ≡ true → OfDeck shown c.args.bytes.now old new
+    (λ deck. WhereFilesAreTrue shown old new deck (RunsExactly written written_after (shown.world old) (shown.world new) end deck)))
+    (λ end run clean. (deck, c.in-Ok.ensures.deck, c.run_read.ensures.elsewhere, exact shown old new written written_after end deck run clean))
     c.run_read.ensures.run
+
+pub returns-in-Ok-clause-run : goal.returns-in-Ok-clause-run
+returns-in-Ok-clause-run g c =
+    let shown = g.L.Library.shown in
+    let old = c.args.library.now in
+    let new = c.run_read.new.library in
+    let written = g.W.Write.contents c.args.out.now in
+    let written_after = g.W.Write.contents c.run_read.new.out in
+    let deck = c.in-Ok.deck in
+    IfOk-weaker c.run_read.result
+    (λ end. Told written written_after end (DeckLeads shown old new deck (IsRunOver shown deck.statements)))
+    (λ end. OfDeck shown c.args.bytes.now old new (λ deck. Told written written_after end (RunsWhole shown old new deck)))
+    (λ end run. (deck, c.in-Ok.ensures.deck, c.run_read.ensures.elsewhere,
+      told_as written written_after end (DeckLeads shown old new deck (IsRunOver shown deck.statements)) (RunsWhole shown old new deck)
+      run (run_stands shown g.met.L.Library.ends old new deck)))
+    c.run_read.ensures.run
+
+pub returns-in-Ok-clause-output : goal.returns-in-Ok-clause-output
+returns-in-Ok-clause-output g c =
+    let shown = g.L.Library.shown in
+    let old = c.args.library.now in
+    let new = c.run_read.new.library in
+    let written = g.W.Write.contents c.args.out.now in
+    let written_after = g.W.Write.contents c.run_read.new.out in
+    let deck = c.in-Ok.deck in
+    IfErr-weaker c.run_read.result
+    (λ fault. fault ≡ Output → ToldInPart written written_after (DeckLeads shown old new deck (IsBrokenOff shown deck.statements)))
+    (λ fault. fault ≡ Output → OfDeck shown c.args.bytes.now old new (λ deck. ToldInPart written written_after (RunsInPart shown old new deck)))
+    (λ fault run is. (deck, c.in-Ok.ensures.deck, c.run_read.ensures.elsewhere,
+      part_as written written_after (DeckLeads shown old new deck (IsBrokenOff shown deck.statements)) (RunsInPart shown old new deck)
+      (run is) (broken_stands shown g.met.L.Library.ends old new deck)))
+    c.run_read.ensures.output
 
 pub returns-in-Err-clause-refused : goal.returns-in-Err-clause-refused
 returns-in-Err-clause-refused g c =

@@ -1,0 +1,93 @@
+-- In the run of a deck each name stands by its ledger.
+use Rattle.std.proofs.Common.{◌≡◌, ◌⊎◌, ℕ, true, List, [], ◌∷◌, ◌++◌, refl, sym, ap, ◌∙◌, subst, inl, inr, IsTrue}
+use Rattle.indexed_file.specs.Moments.{Test}
+use Rattle.indexed_file.specs.Shown.{Shown}
+use Rattle.procedure_division.specs.declared.statement.Statement.{Statement}
+use Rattle.deck_reader.specs.declared.deck.Deck.{Deck}
+use Rattle.deck_runner.specs.Line.{Line}
+use Rattle.deck_runner.specs.Steps.{until_stop, closes_from, AreStepsOf}
+use Rattle.deck_runner.specs.Stretches.{Point, AreStretches, IsRunOver, AreStretchesInPart, IsBrokenOff}
+use Rattle.deck_runner.specs.Beginning.{run_before, Leaves, DeckLeads}
+use Rattle.deck_runner.specs.NoFalseFile.{first_ledger, Judged, IsSafeStretch, StandNow, IsSafeRun, AreSafeInPart, IsSafeBrokenOff, DeckRuns, RunsWhole, RunsInPart}
+use Rattle.deck_runner.proofs.FalseFileLaws.{no_false_file}
+
+module _
+    {S : Type 0} (library : Shown S)
+    (ends : (test : Test) (old new : S) (name : List ℕ) → library.Throughout test old new name → library.Throughout test new new name)
+    (start : S) where
+  -- what comes of a run of stretches
+  abbrev Safe : (Judged S → List Line → Judged S → Type 0) → Judged S → List Line → Point S → Type 0
+  Safe AreSuch before lines next = (after : Judged S) × (after.point ≡ next) × AreSuch before lines after × StandNow library start after
+
+  part : (statements : List Statement) (before : Judged S) (lines : List Line) (next : Point S) → AreStretchesInPart library statements before.point lines next → StandNow library start before
+      → Safe (AreSafeInPart library start statements) before lines next
+  part statements before lines next p now =
+      let done = no_false_file library ends start p.0 before lines next p.3 now in
+      (done.0, done.1, (p.0, p.1, p.2, done.2), done.3)
+
+  closes_of : (stopped : Point S) (point : Point S) → point ≡ stopped → closes_from 0 stopped.run.files ≡ closes_from 0 point.run.files
+  closes_of stopped point same = ap (λ (p : Point S). closes_from 0 p.run.files) (sym same)
+
+  whole : (statements : List Statement) (before : Judged S) (lines : List Line) (next : Point S) → IsRunOver library statements before.point lines next → StandNow library start before
+      → Safe (IsSafeRun library start statements) before lines next
+  whole statements before lines next p now =
+      let first = no_false_file library ends start (until_stop statements) before p.1 p.0 p.3 now in
+      let closes : AreStretches library (closes_from 0 first.0.point.run.files) first.0.point p.2 next =
+      subst (λ (point : Point S). AreStretches library (closes_from 0 point.run.files) point p.2 next) (sym first.1) p.4 in
+      let others = no_false_file library ends start (closes_from 0 first.0.point.run.files) first.0 p.2 next closes first.3 in
+      (others.0, others.1, (first.0, p.1, p.2, first.2, others.2, p.5), others.3)
+
+  broken : (statements : List Statement) (before : Judged S) (lines : List Line) (next : Point S) → IsBrokenOff library statements before.point lines next → StandNow library start before
+      → Safe (IsSafeBrokenOff library start statements) before lines next
+  broken statements before lines next (inl p) now =
+      let done = part (until_stop statements) before lines next p now in
+      (done.0, done.1, inl done.2, done.3)
+  broken statements before lines next (inr p) now =
+      let first = no_false_file library ends start (until_stop statements) before p.1 p.0 p.3 now in
+      let closes : AreStretchesInPart library (closes_from 0 first.0.point.run.files) first.0.point p.2 next =
+      subst (λ (point : Point S). AreStretchesInPart library (closes_from 0 point.run.files) point p.2 next) (sym first.1) p.4 in
+      let others = part (closes_from 0 first.0.point.run.files) first.0 p.2 next closes first.3 in
+      (others.0, others.1, inr (first.0, p.1, p.2, first.2, others.2, p.5), others.3)
+
+  -- ---- of a deck
+
+  stands : (new : S) (deck : Deck) (Steps : Point S → List Line → Point S → Type 0) (Stretches : Judged S → List Line → Judged S → Type 0)
+      → ((before : Judged S) (lines : List Line) (next : Point S) → Steps before.point lines next → StandNow library start before → Safe Stretches before lines next)
+      → (lines : List Line) → DeckLeads library start new deck Steps lines → DeckRuns library start new deck Stretches lines
+  stands new deck Steps Stretches safe lines p = record {
+    stretches = λ honest shown.
+        let led = p.steps honest shown in
+        let before : Judged S = record { point = record { run = run_before (library.world start) deck; library = led.0 }; ledger = λ name. first_ledger } in
+        let now : StandNow library start before = λ name test was all. ends test start led.0 name ((led.2.images name).within test (was refl)) in
+        let done = safe before lines (record { run = led.1; library = new }) led.3 now in
+        (led.0, done.0, led.2, done.2, ap (λ (point : Point S). point.library) done.1, done.3,
+         subst (λ (point : Point S). Leaves (library.world new) deck point.run) (sym done.1) led.4);
+    lines_are = p.lines_are;
+  }
+
+  pub run_stands : (new : S) (deck : Deck) (lines : List Line) → DeckLeads library start new deck (IsRunOver library deck.statements) lines → RunsWhole library start new deck lines
+  run_stands new deck lines p = stands new deck (IsRunOver library deck.statements) (IsSafeRun library start deck.statements) (whole deck.statements) lines p
+
+  pub broken_stands : (new : S) (deck : Deck) (lines : List Line) → DeckLeads library start new deck (IsBrokenOff library deck.statements) lines → RunsInPart library start new deck lines
+  broken_stands new deck lines p = stands new deck (IsBrokenOff library deck.statements) (IsSafeBrokenOff library start deck.statements) (broken deck.statements) lines p
+
+-- ---- and the other way: such stretches are stretches
+
+module _ {S : Type 0} (library : Shown S) (start : S) where
+  stretches_of : (statements : List Statement) (before : Judged S) (lines : List Line) (after : Judged S) → AreStepsOf (IsSafeStretch library start) statements before lines after
+      → AreStretches library statements before.point lines after.point
+  stretches_of [] before lines after p = (p.0, ap (λ (judged : Judged S). judged.point) p.1)
+  stretches_of (statement ∷ rest) before lines after p = (p.0, p.1.point, p.2, p.3.stretch, stretches_of rest p.1 p.2 after p.4, p.5)
+
+  pub leads_of_stands : (new : S) (deck : Deck) (lines : List Line) → RunsWhole library start new deck lines → DeckLeads library start new deck (IsRunOver library deck.statements) lines
+  leads_of_stands new deck lines p = record {
+    steps = λ honest shown.
+        let ran = p.stretches honest shown in
+        let run = ran.3 in
+        let whole : IsRunOver library deck.statements (record { run = run_before (library.world start) deck; library = ran.0 }) lines ran.1.point =
+        (run.0.point, run.1, run.2, stretches_of (until_stop deck.statements) _ run.1 run.0 run.3, stretches_of (closes_from 0 run.0.point.run.files) run.0 run.2 ran.1 run.4, run.5) in
+        (ran.0, ran.1.point.run, ran.2,
+         subst (λ (last : S). IsRunOver library deck.statements (record { run = run_before (library.world start) deck; library = ran.0 }) lines (record { run = ran.1.point.run; library = last })) ran.4 whole,
+         ran.6);
+    lines_are = p.lines_are;
+  }
