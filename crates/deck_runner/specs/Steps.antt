@@ -72,15 +72,14 @@ abbrev pub closes_from : ℕ → List RunFile → List Statement
 closes_from u [] = []
 closes_from u (file ∷ files) = close_of u file ++ closes_from (suc u) files
 
--- all of the closes
-abbrev pub Closes : Run → List Line → Run → Type 0
-Closes run lines next = AreSteps (closes_from 0 run.files) run lines next
-
--- a whole run: the statements up to STOP RUN, and then the closes of the files that are open there
-abbrev pub IsRun : List Statement → Run → List Line → Run → Type 0
-IsRun statements run lines next =
+-- a whole run of such steps: the statements up to STOP RUN, and then the closes of the files that are open there
+abbrev pub IsRunOf : (Statement → Run → List Line → Run → Type 0) → List Statement → Run → List Line → Run → Type 0
+IsRunOf IsOne statements run lines next =
     (stopped : Run) × (first : List Line) × (others : List Line)
-    × AreSteps (until_stop statements) run first stopped × Closes stopped others next × (lines ≡ first ++ others)
+    × AreStepsOf IsOne (until_stop statements) run first stopped × AreStepsOf IsOne (closes_from 0 stopped.files) stopped others next × (lines ≡ first ++ others)
+
+abbrev pub IsRun : List Statement → Run → List Line → Run → Type 0
+IsRun = IsRunOf IsStep
 
 -- ---- the law
 

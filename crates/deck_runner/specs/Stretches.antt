@@ -1,15 +1,21 @@
 -- A run as stretches of time, one for each step: what a crash in it may leave. All of this is ours.
-use Rattle.std.specs.Prelude.{◌≡◌, ℕ, List, [], ◌∷◌, ◌++◌, slice_get, Option, Some, None, true, ◌⊎◌}
+use Rattle.std.specs.Prelude.{◌≡◌, ℕ, List, [], ◌∷◌, ◌++◌, slice_get, Option, Some, None, true, ◌⊎◌, IsTrue}
 use Rattle.std.specs.List.{list_all}
 use Rattle.indexed_file.specs.World.{World, name_at}
 use Rattle.indexed_file.specs.Images.{Trace, untouched, ImagesGo}
 use Rattle.indexed_file.specs.Shown.{Shown}
 use Rattle.io_state.specs.declared.statement.FileStatement.{FileStatement}
+use Rattle.io_state.specs.declared.status.Status.{Status}
+use Rattle.verbs.specs.Connector.{FileState}
+use Rattle.verbs.specs.Faults.{is_damaged, is_open_statement}
+use Rattle.verbs.specs.Full.{TellsRoom, lacks_room}
+use Rattle.verbs.specs.Performed.{HasCause}
 use Rattle.verbs.specs.Traces.{trace_of}
+use Rattle.verbs.specs.Verbs.{perform}
 use Rattle.procedure_division.specs.declared.statement.Statement.{Statement}
 use Rattle.procedure_division.specs.declared.statement.Statement.TheVariants.{Perform, Move, MoveLength, StopRun}
 use Rattle.deck_runner.specs.Line.{Line, is_clean}
-use Rattle.deck_runner.specs.Run.{RunFile, Run, lines_of_run}
+use Rattle.deck_runner.specs.Run.{RunFile, Run, record_length, lines_of_run}
 use Rattle.deck_runner.specs.Running.{unit_names}
 use Rattle.deck_runner.specs.Steps.{IsStep, AreStepsOf, until_stop, close_at, closes_from}
 
@@ -37,9 +43,30 @@ trace_by (Move u field source) run lines = untouched
 trace_by (MoveLength i source) run lines = untouched
 trace_by StopRun run lines = untouched
 
--- a step, and its stretch of time: the images go as the step says
+-- why the line of a statement of unit u's file, with records of n bytes, has its status. 30: the count of the device's faults rose in this
+-- statement, or it is CLOSE of a connector that has failed. 92: the connector has failed. 24: the statement should succeed, and the file has
+-- no room for it; and where that is so, the status is 24, 30 or 90. 91: it is an OPEN
+pub record IsCaused {S : Type 0} (library : Shown S) (u : ℕ) (statement : FileStatement) (n : ℕ) (file : FileState) (before after : S) (status : Status) : Type 0 where
+  pub cause : HasCause statement file.connector.session status (library.fault_count before) (library.fault_count after)
+  pub room : TellsRoom (perform statement n file) (lacks_room statement n (library.room before u) file) status
+  pub damage : IsTrue (is_damaged status) → IsTrue (is_open_statement statement)
+
+abbrev pub IsCausedOn : {S : Type 0} → Shown S → ℕ → FileStatement → Option RunFile → Run → List Line → (before after : S) → Type 0
+IsCausedOn library u statement None run lines before after = Unit {0}
+IsCausedOn library u statement (Some file) run [] before after = Unit {0}
+IsCausedOn library u statement (Some file) run (line ∷ lines) before after =
+    IsCaused library u statement (record_length run.items file file.depends_on) file.state before after line.status
+
+abbrev pub HasCauses : {S : Type 0} → Shown S → Statement → Run → List Line → (before after : S) → Type 0
+HasCauses library (Perform u statement) run lines before after = IsCausedOn library u statement (slice_get run.files u) run lines before after
+HasCauses library (Move u field source) run lines before after = Unit {0}
+HasCauses library (MoveLength i source) run lines before after = Unit {0}
+HasCauses library StopRun run lines before after = Unit {0}
+
+-- a step, and its stretch of time: its line has a cause, and the images go as the step says
 pub record IsStretch {S : Type 0} (library : Shown S) (statement : Statement) (before : Point S) (lines : List Line) (after : Point S) : Type 0 where
   pub step : IsStep statement before.run lines after.run
+  pub causes : HasCauses library statement before.run lines before.library after.library
   pub names : unit_names (library.world after.library) ≡ unit_names (library.world before.library)
   pub images : ImagesGo library.Throughout (name_by (library.world before.library) statement) (trace_by statement before.run lines)
       before.library after.library

@@ -1,21 +1,16 @@
 //! A file of a run.
-ghost use Rattle.std.specs.Prelude.{◌≡◌, ◌≤◌, ◌+◌, ℕ, List, length as count_of, IsTrue, is_some, option_map, IfSome};
-ghost use Rattle.indexed_file.specs.World.{OnlyAt, name_at};
-ghost use Rattle.indexed_file.specs.Images.{ImagesGo};
-ghost use Rattle.indexed_file.specs.Calls.{Keeps};
-ghost use Rattle.indexed_file.specs.Believed.{Believed};
-ghost use Rattle.verbs.specs.Held.{Performs, state_of, record_in};
-ghost use Rattle.verbs.specs.Fits.{Fits, IsStanding, HasCause};
-ghost use Rattle.verbs.specs.Fits.{HasOperands, closes_failed};
-ghost use Rattle.verbs.specs.Traces.{trace_of};
-ghost use Rattle.deck_runner.specs.Running.{schema_of, SameFile};
+ghost use Rattle.std.specs.Prelude.{◌≡◌, ◌≤◌, ◌+◌, length as count_of, IsTrue, is_some, option_map, IfSome};
 ghost use Rattle.record_layout.specs.Area.{is_taken_by, moved, sent};
+ghost use Rattle.verbs.specs.Held.{record_in};
+ghost use Rattle.verbs.specs.Fits.{Fits, HasOperands};
+ghost use Rattle.verbs.specs.Performed.{IsPerformed};
+ghost use Rattle.deck_runner.specs.Running.{schema_of, file_in, SameFile};
 
 use indexed_file::Library;
-use io_state::Name;
+use io_state::{FileStatement, Name};
 use record_layout::{Field, Source, put};
 use std::marker::Model;
-use verbs::{Answer, Connector, FileStatement};
+use verbs::{Answer, Connector};
 
 /// A file of a run: its name, the place of the length item that its records depend on, its connector and its record area.
 #[derive(Drop)]
@@ -102,25 +97,11 @@ impl RunningFile {
     ) -> Answer
         requires fits { Fits self.old.held (L.shown.world library.old) u }
         requires key { HasOperands (schema_of self.old) statement.now }
-        ensures fits { Fits self.new.held (L.shown.world library.new) u }
-        ensures step { Believed L.shown u library.old library.new
-            (IsStanding self.old.held (L.shown.world library.old) u
-            → Performs statement.now «length» (state_of self.old.held (L.shown.world library.old) u self.old.area)
-            result (state_of self.new.held (L.shown.world library.new) u self.new.area)) }
-        ensures standing { Believed L.shown u library.old library.new
-            (IsStanding self.old.held (L.shown.world library.old) u
-            → IsStanding self.new.held (L.shown.world library.new) u) }
+        ensures performed { IsPerformed L.shown u statement.now «length» (file_in self.old library.old)
+            result (file_in self.new library.new) }
         ensures same { SameFile self.old self.new }
         ensures limit { (schema_of self.old).greatest ≤ 4000 }
-        ensures only { OnlyAt u (L.shown.world library.old) (L.shown.world library.new) }
-        ensures cause { HasCause result.status (closes_failed statement.now self.old.held.connector.session)
-            (L.shown.fault_count library.old) (L.shown.fault_count library.new) }
-        ensures images { Believed L.shown u library.old library.new
-            (IsStanding self.old.held (L.shown.world library.old) u
-            → ImagesGo L.shown.Throughout (name_at (L.shown.world library.old) u)
-            (trace_of statement.now (state_of self.old.held (L.shown.world library.old) u self.old.area) result.status)
-            library.old library.new) }
-        ensures keeps { Keeps L.shown library.old library.new }
+        ensures short { count_of self.old.area ≤ 4000 }
     {
         self.connector
             .perform(library, u, statement, length, &mut self.area)

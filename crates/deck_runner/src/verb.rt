@@ -13,8 +13,7 @@ use crate::line::make_line;
 use crate::running_deck::RunningDeck;
 use crate::running_file::RunningFile;
 use indexed_file::Library;
-use io_state::Status;
-use verbs::FileStatement;
+use io_state::{FileStatement, Status};
 
 /// One more than any record of a file has.
 const PAST_ALL_RECORDS: u64 = 65_535;

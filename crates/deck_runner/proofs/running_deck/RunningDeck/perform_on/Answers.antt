@@ -8,7 +8,7 @@ use Rattle.deck_runner.specs.Run.{RunFile, LengthItem, items_after_read}
 use Rattle.deck_runner.specs.Stretches.{trace_on}
 use Rattle.deck_runner.specs.Running.{line_answered}
 use Rattle.deck_runner.proofs.FrameLemmas.{unit_elsewhere, as_many_units, name_kept, names_after as units_after, elsewhere_after}
-use Rattle.deck_runner.proofs.VerbLemmas.{file_within, file_at, of_file, safe_after, trusted_after, schemas_after, names_after, step_on, as_many_items, run_here, written_over, line_is}
+use Rattle.deck_runner.proofs.VerbLemmas.{file_within, file_at, of_file, safe_after, trusted_after, schemas_after, names_after, step_on, as_many_items, run_here, written_over, line_is, caused}
 use Rattle.deck_runner.proofs.running_deck.RunningDeck.perform_on.Goals as goal
 
 pub perform-answer-requires-clause-fits : goal.perform-answer-requires-clause-fits
@@ -33,25 +33,25 @@ returns-clause-goes g c =
     let get = file_at files c.args.u (λ schema. HasOperands schema c.args.statement.now) file c.requires.statement c.index_mut-file.ensures.value in
     let world = g.L.Library.shown.world c.args.library.now in
     let world_after = g.L.Library.shown.world c.perform-answer.new.library in
-    let noted : c.note_length.new.items ≡ items_after_read c.depends_on.result _ c.args.self.now.items.items = c.note_length.ensures ∙ ap (items_after_read c.depends_on.result _) c.deref_mut.ensures.value in
-    let many : length c.note_length.new.items ≡ length c.args.self.now.items.items = ap (λ (l : List LengthItem). length l) noted ∙ as_many_items c.depends_on.result _ c.args.self.now.items.items in
+    let many : length c.note_length.new.items ≡ length c.args.self.now.items.items =
+    ap (λ (l : List LengthItem). length l) c.note_length.ensures ∙ as_many_items c.depends_on.result _ c.deref_mut.result.now ∙ ap (λ (l : List LengthItem). length l) c.deref_mut.ensures.value in
     let written = written_over c.args.self.now.items.len c.args.self.now.items.items c.note_length.new.items c.args.self.now.items.ok.0 many in
     let count = ap (λ (l : List LengthItem). length l) written ∙ many in
     record {
-      keeps = c.perform-answer.ensures.keeps;
+      keeps = c.perform-answer.ensures.performed.keeps;
       safe = safe_after world world_after c.args.u files file next (length c.args.self.now.items.items) _
-          c.requires.safe get (λ v other. unit_elsewhere world world_after c.args.u v c.perform-answer.ensures.only other) (as_many_units world world_after c.args.u c.perform-answer.ensures.only) c.perform-answer.ensures.fits c.perform-answer.ensures.same.depends_on count;
+          c.requires.safe get (λ v other. unit_elsewhere world world_after c.args.u v c.perform-answer.ensures.performed.only other) (as_many_units world world_after c.args.u c.perform-answer.ensures.performed.only) c.perform-answer.ensures.performed.fits c.perform-answer.ensures.same.depends_on count;
       names = names_after files c.args.u file next get c.perform-answer.ensures.same.name;
       schemas = schemas_after files c.args.u file next get c.perform-answer.ensures.same.schema;
       items = count;
-      units = units_after world world_after c.args.u c.perform-answer.ensures.only;
-      elsewhere = elsewhere_after world world_after c.args.u c.perform-answer.ensures.only;
+      units = units_after world world_after c.args.u c.perform-answer.ensures.performed.only;
+      elsewhere = elsewhere_after world world_after c.args.u c.perform-answer.ensures.performed.only;
       trusted = λ honest trusted.
           let there = (c.requires.safe.fits c.args.u _ get).attached in
           let shown = trusted.shown c.args.u (file_within files c.args.u (λ schema. HasOperands schema c.args.statement.now) c.requires.statement) in
           trusted_after (g.L.Library.shown.IsShownTruly c.args.library.now) (g.L.Library.shown.IsShownTruly c.perform-answer.new.library) world world_after c.args.u files next
-          trusted (λ v other. unit_elsewhere world world_after c.args.u v c.perform-answer.ensures.only other) (λ v. name_kept world world_after c.args.u v there c.perform-answer.ensures.only)
-          (c.perform-answer.ensures.standing honest shown (trusted.standing c.args.u _ get)) (c.perform-answer.ensures.keeps.truth honest);
+          trusted (λ v other. unit_elsewhere world world_after c.args.u v c.perform-answer.ensures.performed.only other) (λ v. name_kept world world_after c.args.u v there c.perform-answer.ensures.performed.only)
+          (c.perform-answer.ensures.performed.standing honest shown (trusted.standing c.args.u _ get)) (c.perform-answer.ensures.performed.keeps.truth honest);
     }
 
 pub returns-clause-line : goal.returns-clause-line
@@ -78,12 +78,15 @@ returns-clause-line g c =
             let world = g.L.Library.shown.world c.args.library.now in
             record {
               step = step_on world (g.L.Library.shown.world c.perform-answer.new.library) c.args.u files file next items _
-                  c.args.statement.now c.record_length-length.result answer get c.perform-answer.ensures.only c.perform-answer.ensures.same c.perform-answer.ensures.limit
-                  (rw c.deref.ensures.value at c.record_length-length.ensures) (c.perform-answer.ensures.step honest shown standing) noted;
-              names = units_after world (g.L.Library.shown.world c.perform-answer.new.library) c.args.u c.perform-answer.ensures.only;
+                  c.args.statement.now c.record_length-length.result answer get c.perform-answer.ensures.performed.only c.perform-answer.ensures.same c.perform-answer.ensures.limit
+                  (rw c.deref.ensures.value at c.record_length-length.ensures) (c.perform-answer.ensures.performed.step honest shown standing) noted;
+              causes = caused g.L.Library.shown c.args.library.now c.perform-answer.new.library c.args.u files file next items c.args.statement.now c.record_length-length.result answer
+                  get c.perform-answer.ensures.limit c.perform-answer.ensures.short (rw c.deref.ensures.value at c.record_length-length.ensures) c.perform-answer.ensures.performed.cause
+                  (c.perform-answer.ensures.performed.room honest shown standing) (c.perform-answer.ensures.performed.step honest shown standing);
+              names = units_after world (g.L.Library.shown.world c.perform-answer.new.library) c.args.u c.perform-answer.ensures.performed.only;
               images = subst (λ (o : Option RunFile). ImagesGo g.L.Library.shown.Throughout (name_at world c.args.u) (trace_on c.args.statement.now o (line ∷ [])) c.args.library.now c.perform-answer.new.library)
-                  (sym (run_here world files c.args.u file get)) (c.perform-answer.ensures.images honest shown standing);
+                  (sym (run_here world files c.args.u file get)) (c.perform-answer.ensures.performed.images honest shown standing);
             };
-        lines_are = line_is files c.args.u file next c.args.statement.now answer (g.L.Library.shown.fault_count c.args.library.now) (g.L.Library.shown.fault_count c.perform-answer.new.library) get c.perform-answer.ensures.same.name c.perform-answer.ensures.cause;
+        lines_are = line_is files c.args.u file next c.args.statement.now answer (g.L.Library.shown.fault_count c.args.library.now) (g.L.Library.shown.fault_count c.perform-answer.new.library) get c.perform-answer.ensures.same.name c.perform-answer.ensures.performed.cause;
       };
     }

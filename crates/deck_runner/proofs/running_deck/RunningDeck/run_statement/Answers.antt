@@ -30,7 +30,7 @@ returns-in-Move-clause-done g c =
       record {
         steps = λ honest trusted.
             rw (c.in-Move.is, c.put.ensures, c.as_ref.ensures)
-            (still g.L.Library.shown (Move c.in-Move.file c.in-Move.field c.in-Move.source) c.args.library.now _ _ [] refl refl
+            (still g.L.Library.shown (Move c.in-Move.file c.in-Move.field c.in-Move.source) c.args.library.now _ _ [] refl refl tt
             (move_step (g.L.Library.shown.world c.args.library.now) files c.args.self.now.items.items c.in-Move.file file c.in-Move.field c.in-Move.source get));
         lines_are = All-nil (IsLineOf _ _ _);
       },
@@ -48,7 +48,7 @@ returns-in-MoveLength-clause-done g c =
       record {
         steps = λ honest trusted.
             rw (c.in-MoveLength.is, c.put-in-MoveLength.ensures, c.as_ref-in-MoveLength.ensures)
-            (still g.L.Library.shown (MoveLength c.in-MoveLength.item c.in-MoveLength.source) c.args.library.now _ _ [] refl refl
+            (still g.L.Library.shown (MoveLength c.in-MoveLength.item c.in-MoveLength.source) c.args.library.now _ _ [] refl refl tt
             (length_step (g.L.Library.shown.world c.args.library.now) c.args.self.now.files.items items c.in-MoveLength.item item c.in-MoveLength.source get));
         lines_are = All-nil (IsLineOf _ _ _);
       },
@@ -60,7 +60,7 @@ returns-in-StopRun-clause-done g c = (
   Appends-nil (g.W.Write.contents c.args.out.now),
   c.none-in-StopRun.ensures,
   record {
-    steps = λ honest trusted. rw c.in-StopRun.is (still g.L.Library.shown StopRun c.args.library.now _ _ [] refl refl (refl, refl));
+    steps = λ honest trusted. rw c.in-StopRun.is (still g.L.Library.shown StopRun c.args.library.now _ _ [] refl refl tt (refl, refl));
     lines_are = All-nil (IsLineOf _ _ _);
   },
 )
