@@ -10,16 +10,16 @@ use Rattle.record_layout.specs.Schema.{prime_of}
 use Rattle.indexed_file.specs.World.{OnlyAt, name_at}
 use Rattle.indexed_file.specs.Shown.{Shown}
 use Rattle.indexed_file.specs.Believed.{Believed}
-use Rattle.indexed_file.specs.Images.{ImagesGo}
+use Rattle.indexed_file.specs.Images.{Trace, ImagesGo, CallGoes}
 use Rattle.indexed_file.specs.Calls.{Keeps, HasRisen}
 use Rattle.verbs.specs.declared.answer.Answer.{Answer}
 use Rattle.verbs.specs.Connector.{Session, FileState}
 use Rattle.verbs.specs.Faults.{is_fault}
-use Rattle.verbs.specs.Fits.{Fits, IsStanding, asks, closes_failed, has_failed, key_of}
+use Rattle.verbs.specs.Fits.{Fits, IsStanding, IsCaused, asks, closes_failed, has_failed, key_of}
 use Rattle.verbs.specs.Full.{TellsRoom, lacks_room}
 use Rattle.verbs.specs.Held.{Held, Performs, Decides, state_of, silent}
 use Rattle.verbs.specs.Pages.{counts_pages, most_asked}
-use Rattle.verbs.specs.Refusals.{is_refusal}
+use Rattle.verbs.specs.Refusals.{is_early, is_refusal}
 use Rattle.verbs.specs.Traces.{trace_of}
 use Rattle.verbs.specs.Verbs.{perform, reaches}
 use Rattle.verbs.specs.Writing.{is_not_above}
@@ -105,3 +105,13 @@ pub record IsPerformed {S : Type 0} (shown : Shown S) (u : ℕ) (statement : Fil
   -- what a crash may leave
   pub images : Trusted shown u before after
       (ImagesGo shown.Throughout (name_at (shown.world before.library) u) (trace_of statement (state_in shown u before) answer.status) before.library after.library)
+
+-- a part of a statement behind its checks, which answers none of the early statuses: what a crash in it may leave is this
+pub record IsPart {S : Type 0} (shown : Shown S) (u : ℕ) (trace : Trace) (before : FileInMemory S) (status : Status) (after : FileInMemory S) : Type 0 where
+  pub fits : Fits after.held (shown.world after.library) u
+  pub schema : after.held.connector.schema ≡ before.held.connector.schema
+  pub only : OnlyAt u (shown.world before.library) (shown.world after.library)
+  pub keeps : Keeps shown before.library after.library
+  pub late : is_early status ≡ false
+  pub cause : IsCaused status false (shown.fault_count before.library) (shown.fault_count after.library)
+  pub images : CallGoes shown u trace before.library after.library

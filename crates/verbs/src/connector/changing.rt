@@ -1,5 +1,5 @@
 //! REWRITE and DELETE.
-ghost use Rattle.std.specs.Prelude.{◌≡◌, ◌<◌, ◌≤◌, ℕ, List, length as count_of, None, IsTrue, true, false, option_map};
+ghost use Rattle.std.specs.Prelude.{◌≡◌, ◌<◌, ◌≤◌, ℕ, List, length as count_of, None, IsTrue, true, false, option_map, []};
 ghost use Rattle.record_layout.specs.Schema.{prime_of};
 ghost use Rattle.indexed_file.specs.Rank.{highest_of};
 ghost use Rattle.indexed_file.specs.Change.{row_of};
@@ -14,7 +14,7 @@ ghost use Rattle.verbs.specs.Verbs.{perform, reaches};
 ghost use Rattle.verbs.specs.Refusals.{is_early, is_refusal};
 ghost use Rattle.verbs.specs.Full.{TellsRoom, lacks_room};
 ghost use Rattle.verbs.specs.Faults.{is_boundary_violation, is_fault};
-ghost use Rattle.verbs.specs.Performed.{IsPerformed, in_memory};
+ghost use Rattle.verbs.specs.Performed.{IsPerformed, IsPart, in_memory};
 ghost use Rattle.verbs.specs.Held.{Performs, Decides, Changes, state_of, silent, unread, bytes_of, rewritten_as, prime_by};
 ghost use Rattle.verbs.specs.Fits.{Fits, IsStanding, IsCaused, has_failed, last_read_of, updates};
 ghost use Rattle.indexed_file.specs.Images.{CallGoes};
@@ -73,8 +73,8 @@ impl Connector {
         requires updates { updates self.old.connector.session ≡ true }
         requires least { self.old.connector.schema.least ≤ count_of bytes.now }
         requires greatest { count_of bytes.now ≤ self.old.connector.schema.greatest }
-        ensures fits { Fits self.new (L.shown.world lib.new) u }
-        ensures schema { self.new.connector.schema ≡ self.old.connector.schema }
+        ensures part { IsPart L.shown u (trace_of_change_by result)
+            (in_memory self.old lib.old []) result (in_memory self.new lib.new []) }
         ensures step { (area : List ℕ) → (session : Session) → self.old.connector.session ≡ Some (unread session)
             → Believed L.shown u lib.old lib.new
             (Changes Rewrite (rewritten_as bytes.now (state_of self.old (L.shown.world lib.old) u area) session)
@@ -89,11 +89,6 @@ impl Connector {
             → IsStanding self.new (L.shown.world lib.new) u) }
         ensures asked { Believed L.shown u lib.old lib.new (is_fault result ≡ false
             → L.shown.pages_asked lib.new u ≤ most_to_change (L.shown.room lib.old u)) }
-        ensures only { OnlyAt u (L.shown.world lib.old) (L.shown.world lib.new) }
-        ensures cause { IsCaused result false (L.shown.fault_count lib.old) (L.shown.fault_count lib.new) }
-        ensures images { CallGoes L.shown u
-            (trace_of_change_by result) lib.old lib.new }
-        ensures keeps { Keeps L.shown lib.old lib.new }
     {
         match counted::replace(lib, u, bytes) {
             Ok(Replaced::Done { repeated }) => {
@@ -154,25 +149,19 @@ impl Connector {
         requires works { has_failed self.old.connector.session ≡ false }
         requires unread { last_read_of self.old.connector.session ≡ None }
         requires updates { updates self.old.connector.session ≡ true }
-        ensures fits { Fits self.new (L.shown.world lib.new) u }
-        ensures schema { self.new.connector.schema ≡ self.old.connector.schema }
+        ensures part { IsPart L.shown u (trace_of_change_by result)
+            (in_memory self.old lib.old []) result (in_memory self.new lib.new []) }
         ensures step { (area : List ℕ) → (session : Session) → self.old.connector.session ≡ Some (unread session)
             → Believed L.shown u lib.old lib.new
             (Changes Delete (deleted prime.now.items (state_of self.old (L.shown.world lib.old) u area) session)
             (state_of self.old (L.shown.world lib.old) u area)
             result (state_of self.new (L.shown.world lib.new) u area)) }
-        ensures late { is_early result ≡ false }
         ensures not_full { is_boundary_violation result ≡ false }
         ensures standing { Believed L.shown u lib.old lib.new
             (IsStanding self.old (L.shown.world lib.old) u
             → IsStanding self.new (L.shown.world lib.new) u) }
         ensures asked { Believed L.shown u lib.old lib.new (is_fault result ≡ false
             → L.shown.pages_asked lib.new u ≤ most_to_change (L.shown.room lib.old u)) }
-        ensures only { OnlyAt u (L.shown.world lib.old) (L.shown.world lib.new) }
-        ensures cause { IsCaused result false (L.shown.fault_count lib.old) (L.shown.fault_count lib.new) }
-        ensures images { CallGoes L.shown u
-            (trace_of_change_by result) lib.old lib.new }
-        ensures keeps { Keeps L.shown lib.old lib.new }
     {
         match counted::remove(lib, u, prime) {
             Ok(true) => {

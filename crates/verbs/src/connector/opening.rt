@@ -1,5 +1,5 @@
 //! OPEN.
-ghost use Rattle.std.specs.Prelude.{◌≡◌, ◌<◌, ℕ, List, None, IsTrue, true, false};
+ghost use Rattle.std.specs.Prelude.{◌≡◌, ◌<◌, ℕ, List, None, IsTrue, true, false, []};
 ghost use Rattle.record_layout.specs.Schema.{Schema as Keys};
 ghost use Rattle.io_state.specs.Status.{is_successful};
 ghost use Rattle.indexed_file.specs.declared.answer.Seen.TheVariants.{Sound};
@@ -14,7 +14,7 @@ ghost use Rattle.verbs.specs.Marred.{creates};
 ghost use Rattle.verbs.specs.Refusals.{is_early};
 ghost use Rattle.verbs.specs.Faults.{is_boundary_violation};
 ghost use Rattle.verbs.specs.Held.{Changes, state_of, silent};
-ghost use Rattle.verbs.specs.Performed.{IsPerformed, in_memory};
+ghost use Rattle.verbs.specs.Performed.{IsPerformed, IsPart, in_memory};
 ghost use Rattle.verbs.specs.Fits.{Fits, IsStanding, IsCaused, is_output};
 ghost use Rattle.indexed_file.specs.Images.{CallGoes, untouched};
 ghost use Rattle.verbs.specs.Traces.{trace_of_open};
@@ -56,22 +56,16 @@ impl Connector {
         requires fits { Fits self.old (L.shown.world lib.old) u }
         requires closed { self.old.connector.session ≡ None }
         requires mode { is_output mode ≡ false }
-        ensures fits { Fits self.new (L.shown.world lib.new) u }
-        ensures schema { self.new.connector.schema ≡ self.old.connector.schema }
+        ensures part { IsPart L.shown u (trace_of_open (creates mode self.old.connector.optional Absent) result)
+            (in_memory self.old lib.old []) result (in_memory self.new lib.new []) }
         ensures step { (area : List ℕ) → Believed L.shown u lib.old lib.new
             (named_at (L.shown.world lib.old) u ≡ Absent
             → Changes (Open mode) (open_absent mode (state_of self.old (L.shown.world lib.old) u area))
             (state_of self.old (L.shown.world lib.old) u area)
             result (state_of self.new (L.shown.world lib.new) u area)) }
-        ensures late { is_early result ≡ false }
         ensures not_full { is_boundary_violation result ≡ false }
         ensures standing { IsTrue (L.shown.is_honest lib.new) → named_at (L.shown.world lib.old) u ≡ Absent
             → IsStanding self.new (L.shown.world lib.new) u }
-        ensures only { OnlyAt u (L.shown.world lib.old) (L.shown.world lib.new) }
-        ensures cause { IsCaused result false (L.shown.fault_count lib.old) (L.shown.fault_count lib.new) }
-        ensures images { CallGoes L.shown u
-            (trace_of_open (creates mode self.old.connector.optional Absent) result) lib.old lib.new }
-        ensures keeps { Keeps L.shown lib.old lib.new }
     {
         if !self.optional {
             return Status::FileAbsent;
@@ -97,22 +91,16 @@ impl Connector {
         requires mode { is_output mode ≡ false }
         requires looked { IsTrue (is_looked (holding_at (L.shown.world lib.old) u)) }
         requires schema { schema_at (L.shown.world lib.old) u ≡ schema.now }
-        ensures fits { Fits self.new (L.shown.world lib.new) u }
-        ensures schema { self.new.connector.schema ≡ self.old.connector.schema }
+        ensures part { IsPart L.shown u untouched
+            (in_memory self.old lib.old []) result (in_memory self.new lib.new []) }
         ensures step { (area : List ℕ) → Believed L.shown u lib.old lib.new
             (Sound schema.now ≡ seen_of (named_at (L.shown.world lib.old) u)
             → Changes (Open mode) (open_named mode (named_at (L.shown.world lib.old) u) (state_of self.old (L.shown.world lib.old) u area))
             (state_of self.old (L.shown.world lib.old) u area)
             result (state_of self.new (L.shown.world lib.new) u area)) }
-        ensures late { is_early result ≡ false }
         ensures not_full { is_boundary_violation result ≡ false }
         ensures standing { IsTrue (L.shown.is_honest lib.new) → Sound schema.now ≡ seen_of (named_at (L.shown.world lib.old) u)
             → IsStanding self.new (L.shown.world lib.new) u }
-        ensures only { OnlyAt u (L.shown.world lib.old) (L.shown.world lib.new) }
-        ensures cause { IsCaused result false (L.shown.fault_count lib.old) (L.shown.fault_count lib.new) }
-        ensures images { CallGoes L.shown u
-            untouched lib.old lib.new }
-        ensures keeps { Keeps L.shown lib.old lib.new }
     {
         let same = schema.same(&self.schema);
         if !same {
@@ -138,22 +126,16 @@ impl Connector {
         requires fits { Fits self.old (L.shown.world lib.old) u }
         requires closed { self.old.connector.session ≡ None }
         requires status { IsTrue (is_successful status) }
-        ensures fits { Fits self.new (L.shown.world lib.new) u }
-        ensures schema { self.new.connector.schema ≡ self.old.connector.schema }
+        ensures part { IsPart L.shown u (trace_of_open true result)
+            (in_memory self.old lib.old []) result (in_memory self.new lib.new []) }
         ensures step { (area : List ℕ) → Believed L.shown u lib.old lib.new
             (IsTrue (creates mode self.old.connector.optional (named_at (L.shown.world lib.old) u))
             → Changes (Open mode) (answers status (created mode (state_of self.old (L.shown.world lib.old) u area)))
             (state_of self.old (L.shown.world lib.old) u area)
             result (state_of self.new (L.shown.world lib.new) u area)) }
-        ensures late { is_early result ≡ false }
         ensures not_full { is_boundary_violation result ≡ false }
         ensures standing { IsTrue (L.shown.is_honest lib.new) → IsTrue (creates mode self.old.connector.optional (named_at (L.shown.world lib.old) u))
             → IsStanding self.new (L.shown.world lib.new) u }
-        ensures only { OnlyAt u (L.shown.world lib.old) (L.shown.world lib.new) }
-        ensures cause { IsCaused result false (L.shown.fault_count lib.old) (L.shown.fault_count lib.new) }
-        ensures images { CallGoes L.shown u
-            (trace_of_open true result) lib.old lib.new }
-        ensures keeps { Keeps L.shown lib.old lib.new }
     {
         match lib.create(u, &self.schema) {
             Ok(()) => {

@@ -1,6 +1,6 @@
 //! WRITE.
 ghost use Rattle.std.specs.Option.{option_flatten};
-ghost use Rattle.std.specs.Prelude.{◌≡◌, ◌<◌, ◌≤◌, ◌+◌, ◌&&◌, ℕ, List, length as count_of, Some, None, IsTrue, true, false, OnOk, OnErr};
+ghost use Rattle.std.specs.Prelude.{◌≡◌, ◌<◌, ◌≤◌, ◌+◌, ◌&&◌, ℕ, List, length as count_of, Some, None, IsTrue, true, false, OnOk, OnErr, []};
 ghost use Rattle.record_layout.specs.Schema.{prime_of};
 ghost use Rattle.indexed_file.specs.Rank.{highest_of};
 ghost use Rattle.indexed_file.specs.World.{OnlyAt, name_at, holding_at, file_at, is_open};
@@ -22,7 +22,7 @@ ghost use Rattle.verbs.specs.Held.{Changes, state_of, silent, unread, held_after
 ghost use Rattle.verbs.specs.Fits.{Fits, IsStanding, IsHighestOf, IsCaused, has_failed, last_read_of, writes};
 ghost use Rattle.verbs.specs.Traces.{trace_of_change_by};
 ghost use Rattle.verbs.specs.Pages.{CountsAtMost};
-ghost use Rattle.verbs.specs.Performed.{IsPerformed, in_memory};
+ghost use Rattle.verbs.specs.Performed.{IsPerformed, IsPart, in_memory};
 
 use super::Connector;
 use crate::checks::{is_length, is_not_above, is_sequential, status_by};
@@ -65,15 +65,14 @@ impl Connector {
         requires unread { last_read_of self.old.connector.session ≡ None }
         requires least { self.old.connector.schema.least ≤ count_of bytes.now }
         requires greatest { count_of bytes.now ≤ self.old.connector.schema.greatest }
-        ensures fits { Fits self.new (L.shown.world lib.new) u }
-        ensures schema { self.new.connector.schema ≡ self.old.connector.schema }
+        ensures part { IsPart L.shown u (trace_of_change_by result)
+            (in_memory self.old lib.old []) result (in_memory self.new lib.new []) }
         ensures step { (area : List ℕ) → (session : Session) → self.old.connector.session ≡ Some (unread session)
             → Believed L.shown u lib.old lib.new
             (IsStanding self.old (L.shown.world lib.old) u
             → Changes Write (written bytes.now (state_of self.old (L.shown.world lib.old) u area) session)
             (state_of self.old (L.shown.world lib.old) u area)
             result (state_of self.new (L.shown.world lib.new) u area)) }
-        ensures late { is_early result ≡ false }
         ensures room { (area : List ℕ) → (session : Session) → Believed L.shown u lib.old lib.new
             (IsStanding self.old (L.shown.world lib.old) u
             → TellsRoom (written bytes.now (state_of self.old (L.shown.world lib.old) u area) session)
@@ -87,11 +86,6 @@ impl Connector {
         ensures asked { Believed L.shown u lib.old lib.new ((IsTrue (is_sequential self.old.connector.access)
             → is_not_above (prime_of self.old.connector.schema bytes.now) (option_flatten self.old.highest) ≡ false) → is_fault result ≡ false
             → L.shown.pages_asked lib.new u ≤ most_to_seek (L.shown.room lib.old u) 0 + most_to_change (L.shown.room lib.old u)) }
-        ensures only { OnlyAt u (L.shown.world lib.old) (L.shown.world lib.new) }
-        ensures cause { IsCaused result false (L.shown.fault_count lib.old) (L.shown.fault_count lib.new) }
-        ensures images { CallGoes L.shown u
-            (trace_of_change_by result) lib.old lib.new }
-        ensures keeps { Keeps L.shown lib.old lib.new }
     {
         let known = self.is_late(bytes);
         if known {
@@ -113,8 +107,7 @@ impl Connector {
         requires open { IsTrue (is_open (holding_at (L.shown.world lib.old) u)) }
         requires works { has_failed self.old.connector.session ≡ false }
         requires unread { last_read_of self.old.connector.session ≡ None }
-        ensures fits { Fits self.new (L.shown.world lib.new) u }
-        ensures connector { self.new.connector ≡ self.old.connector }
+        ensures kept { Fits self.new (L.shown.world lib.new) u × (self.new.connector ≡ self.old.connector) }
         ensures known { Believed L.shown u lib.old lib.new
             (IsHighestOf self.old.connector.schema (file_at (L.shown.world lib.old) u) self.old.highest → IsTrue (is_sequential self.old.connector.access)
             → OnOk result (self.new.highest ≡ Some (highest_of self.old.connector.schema (file_at (L.shown.world lib.old) u).rows))) }
@@ -162,14 +155,13 @@ impl Connector {
         requires unread { last_read_of self.old.connector.session ≡ None }
         requires least { self.old.connector.schema.least ≤ count_of bytes.now }
         requires greatest { count_of bytes.now ≤ self.old.connector.schema.greatest }
-        ensures fits { Fits self.new (L.shown.world lib.new) u }
-        ensures schema { self.new.connector.schema ≡ self.old.connector.schema }
+        ensures part { IsPart L.shown u (trace_of_change_by result)
+            (in_memory self.old lib.old []) result (in_memory self.new lib.new []) }
         ensures step { (area : List ℕ) → (session : Session) → self.old.connector.session ≡ Some (unread session)
             → Believed L.shown u lib.old lib.new
             (Changes Write (stored bytes.now (state_of self.old (L.shown.world lib.old) u area) session)
             (state_of self.old (L.shown.world lib.old) u area)
             result (state_of self.new (L.shown.world lib.new) u area)) }
-        ensures late { is_early result ≡ false }
         ensures room { (area : List ℕ) → (session : Session) → Believed L.shown u lib.old lib.new
             (TellsRoom (stored bytes.now (state_of self.old (L.shown.world lib.old) u area) session)
             (adding_is_full (L.shown.room lib.old u) (L.shown.world lib.old) u) result) }
@@ -180,11 +172,6 @@ impl Connector {
             → IsStanding self.new (L.shown.world lib.new) u) }
         ensures asked { Believed L.shown u lib.old lib.new (is_fault result ≡ false
             → L.shown.pages_asked lib.new u ≤ L.shown.pages_asked lib.old u + most_to_change (L.shown.room lib.old u)) }
-        ensures only { OnlyAt u (L.shown.world lib.old) (L.shown.world lib.new) }
-        ensures cause { IsCaused result false (L.shown.fault_count lib.old) (L.shown.fault_count lib.new) }
-        ensures images { CallGoes L.shown u
-            (trace_of_change_by result) lib.old lib.new }
-        ensures keeps { Keeps L.shown lib.old lib.new }
     {
         match lib.add(u, bytes) {
             Ok(Added::Done { repeated }) => {
