@@ -69,7 +69,9 @@ is_known_late ReadNext n held s = false
 is_known_late (Read key) n held s = false
 is_known_late (Start key length relation) n held s = false
 is_known_late Write n held s =
-    reaches Write n s && (is_sequential s.connector.access && is_not_above (prime_of s.connector.schema (take n s.area)) (option_flatten held.highest))
+    reaches Write n s
+    && (is_sequential s.connector.access
+    && is_not_above (prime_of s.connector.schema (take n s.area)) (option_flatten held.highest))
 is_known_late Rewrite n held s = false
 is_known_late Delete n held s = false
 
@@ -78,7 +80,9 @@ abbrev pub asks_library : FileStatement → ℕ → Held → FileState → Bool
 asks_library statement n held s = asks statement n s && not (is_known_late statement n held s)
 
 -- a statement, of a record of n bytes, was performed on unit u
-pub record IsPerformed {S : Type 0} (shown : Shown S) (u : ℕ) (statement : FileStatement) (n : ℕ) (before : FileInMemory S) (answer : Answer) (after : FileInMemory S) : Type 0 where
+pub record IsPerformed
+    {S : Type 0} (shown : Shown S) (u : ℕ) (statement : FileStatement) (n : ℕ)
+    (before : FileInMemory S) (answer : Answer) (after : FileInMemory S) : Type 0 where
   -- the connector goes with its unit, and keeps its schema
   pub fits : Fits after.held (shown.world after.library) u
   pub schema : after.held.connector.schema ≡ before.held.connector.schema
@@ -89,25 +93,33 @@ pub record IsPerformed {S : Type 0} (shown : Shown S) (u : ℕ) (statement : Fil
   pub early : asks statement n (state_in shown u before) ≡ false
       → (after.library ≡ before.library) × Decides statement n (state_in shown u before) answer (state_in shown u after)
   pub refusal : IsTrue (is_refusal statement answer.status) → asks statement n (state_in shown u before) ≡ false
-  pub known : is_known_late statement n before.held (state_in shown u before) ≡ true → (after.library ≡ before.library) × (answer ≡ silent OutOfSequence)
+  pub known : is_known_late statement n before.held (state_in shown u before) ≡ true
+      → (after.library ≡ before.library) × (answer ≡ silent OutOfSequence)
   -- CLOSE of a connector that has failed answers 30, whatever the library says; and 30, 92 and 24 have their causes
   pub failed_close : closes_failed statement before.held.connector.session ≡ true → answer ≡ silent PermanentError
-  pub cause : HasCause statement before.held.connector.session answer.status (shown.fault_count before.library) (shown.fault_count after.library)
+  pub cause : HasCause statement before.held.connector.session answer.status
+      (shown.fault_count before.library) (shown.fault_count after.library)
   -- the answer and what is left are the definitions', or those of a marred step; and what the connector keeps is true
-  pub step : Trusted shown u before after (Performs statement n (state_in shown u before) answer (state_in shown u after))
+  pub step : Trusted shown u before after
+      (Performs statement n (state_in shown u before) answer (state_in shown u after))
   pub standing : Trusted shown u before after (IsStanding after.held (shown.world after.library) u)
   -- 24 tells of the room of the file
   pub room : Trusted shown u before after
-      (TellsRoom (perform statement n (state_in shown u before)) (lacks_room statement n (shown.room before.library u) (state_in shown u before)) answer.status)
+      (TellsRoom (perform statement n (state_in shown u before))
+      (lacks_room statement n (shown.room before.library u) (state_in shown u before)) answer.status)
   -- so many pages are asked for at most
-  pub asked : Trusted shown u before after (IsTrue (counts_pages statement) → asks_library statement n before.held (state_in shown u before) ≡ true
-      → is_fault answer.status ≡ false → shown.pages_asked after.library u ≤ most_asked statement (key_of before.held.connector.session) (shown.room before.library u))
+  pub asked : Trusted shown u before after
+      (IsTrue (counts_pages statement) → asks_library statement n before.held (state_in shown u before) ≡ true → is_fault answer.status ≡ false
+      → shown.pages_asked after.library u ≤ most_asked statement (key_of before.held.connector.session) (shown.room before.library u))
   -- what a crash may leave
   pub images : Trusted shown u before after
-      (ImagesGo shown.Throughout (name_at (shown.world before.library) u) (trace_of statement (state_in shown u before) answer.status) before.library after.library)
+      (ImagesGo shown.Throughout (name_at (shown.world before.library) u)
+      (trace_of statement (state_in shown u before) answer.status) before.library after.library)
 
 -- a part of a statement behind its checks, which answers none of the early statuses: what a crash in it may leave is this
-pub record IsPart {S : Type 0} (shown : Shown S) (u : ℕ) (trace : Trace) (before : FileInMemory S) (status : Status) (after : FileInMemory S) : Type 0 where
+pub record IsPart
+    {S : Type 0} (shown : Shown S) (u : ℕ) (trace : Trace)
+    (before : FileInMemory S) (status : Status) (after : FileInMemory S) : Type 0 where
   pub fits : Fits after.held (shown.world after.library) u
   pub schema : after.held.connector.schema ≡ before.held.connector.schema
   pub only : OnlyAt u (shown.world before.library) (shown.world after.library)
