@@ -10,7 +10,7 @@ use Rattle.indexed_file.specs.Shown.{Shown}
 use Rattle.deck_reader.specs.declared.deck.Deck.{Deck}
 use Rattle.deck_reader.specs.Deck.{IsDeck}
 use Rattle.deck_runner.specs.declared.fault.RunFault.{RunFault}
-use Rattle.deck_runner.specs.declared.fault.RunFault.TheVariants.{Deck as DeckRefused, Memory}
+use Rattle.deck_runner.specs.declared.fault.RunFault.TheVariants.{Deck as DeckRefused, Output, Memory}
 use Rattle.deck_runner.specs.declared.run_end.RunEnd.{RunEnd}
 use Rattle.deck_runner.specs.Run.{Run}
 use Rattle.deck_runner.specs.RunEnd.{end_of, Told}
@@ -64,3 +64,9 @@ pub refused :
     (bytes : List ℕ) (fault : DeckFault) (result : RunFault) → IsTold fault → (fault.code ≡ 8 → result ≡ Memory) → (fault.code ≢ 8 → result ≡ DeckRefused fault)
     → (fault.code ≢ 8 → (deck : Deck) → IsDeck bytes deck → ⊥) → IsRefused bytes result
 refused bytes fault result is_told memory deck none = refused_by bytes fault result is_told.0 is_told.1 memory deck none
+
+-- a fault of a run of a deck that was read is no refusal
+pub not_refused : (bytes : List ℕ) (fault : RunFault) (rest : Type 0) → (fault ≢ Output → (fault ≡ Memory) × rest) → IsRefused bytes fault
+not_refused bytes (DeckRefused told) rest other = let is = (other (λ e. absurd (cc))).0 in absurd (cc)
+not_refused bytes Output rest other = tt
+not_refused bytes Memory rest other = tt

@@ -1,5 +1,5 @@
 //! The run of the bytes of a deck.
-ghost use Rattle.std.specs.Prelude.{◌≡◌, ◌≢◌, ◌⊎◌, true, IfOk, IfErr};
+ghost use Rattle.std.specs.Prelude.{◌≡◌, ◌≢◌, true, IfOk, IfErr};
 ghost use Rattle.indexed_file.specs.Calls.{Keeps};
 ghost use Rattle.deck_reader.specs.Deck.{CanBeRun};
 ghost use Rattle.deck_runner.specs.Stretches.{IsRunOver, IsBrokenOff};
@@ -29,9 +29,8 @@ fn run_read<L: Library, W: Write>(
         (DeckLeads L.shown library.old library.new deck.now (IsRunOver L.shown deck.now.statements))) }
     ensures output { IfErr result (λ fault. fault ≡ RunFault.Output → ToldInPart (W.contents out.old) (W.contents out.new)
         (DeckLeads L.shown library.old library.new deck.now (IsBrokenOff L.shown deck.now.statements))) }
-    ensures nothing { IfErr result (λ fault. fault ≢ RunFault.Output →
-        (out.new ≡ out.old) × IsUntouched L.shown library.old library.new) }
-    ensures faults { IfErr result (λ fault. (fault ≡ RunFault.Output) ⊎ (fault ≡ RunFault.Memory)) }
+    ensures nothing { IfErr result (λ fault. fault ≢ RunFault.Output → (fault ≡ RunFault.Memory)
+        × (out.new ≡ out.old) × IsUntouched L.shown library.old library.new) }
     ensures keeps { Keeps L.shown library.old library.new }
 {
     let Ok(begun) = begin(alloc, deck, library) else {

@@ -2,12 +2,11 @@
 //!
 //! `run_deck` reads a deck and runs it over any library. The transcript is the fold of the deck's statements up to STOP RUN over its
 //! files and length items, followed by the closes of the files that are still open, in the order of their SELECT entries. Each
-//! statement is what the definitions say or a step that a fault has marred; `clean_runs_are_exact` says that a run without an
-//! unclean line is the fold itself. Memory is taken for the deck, its files and its items before the first statement, and by the
-//! library; for nothing else.
+//! statement is what the definitions say or a step that a fault has marred, and at each moment a crash leaves no false file. Memory
+//! is taken for the deck, its files and its items before the first statement, and by the library; for nothing else.
 //!
-//! Read specs/Line for a line of the transcript, specs/Run for the fold, specs/Steps for a run as steps, specs/Beginning for a deck
-//! before its first statement, specs/DeckRun for how its run ends, and then `run_deck`.
+//! Read specs/Line for a line of the transcript, specs/Run for the fold, specs/Steps and specs/Stretches for a run as steps,
+//! specs/NoFalseFile for what a crash may leave, specs/Beginning for a deck before its first statement, and then `run_deck`.
 #![tactic(auto)]
 
 mod beginning;

@@ -8,7 +8,7 @@ use Rattle.deck_runner.specs.Beginning.{WhereFilesAreTrue, DeckLeads}
 use Rattle.deck_runner.specs.DeckRun.{OfDeck, RunsExactly}
 use Rattle.deck_runner.proofs.ToldLemmas.{told_as, part_as}
 use Rattle.deck_runner.proofs.FalseFileRuns.{run_stands, broken_stands}
-use Rattle.deck_runner.proofs.DeckRunLemmas.{exact, refused}
+use Rattle.deck_runner.proofs.DeckRunLemmas.{exact, refused, not_refused}
 use Rattle.deck_runner.proofs.deck_run.run_deck.Goals as goal
 
 pub returns-in-Ok-clause-exact : goal.returns-in-Ok-clause-exact
@@ -61,3 +61,9 @@ returns-in-Ok-clause-output g c =
 pub returns-in-Err-clause-refused : goal.returns-in-Err-clause-refused
 returns-in-Err-clause-refused g c =
     refused c.args.bytes.now c.in-Err.fault c.of.result c.in-Err.ensures.told c.of.ensures.memory c.of.ensures.deck c.in-Err.ensures.none
+
+pub returns-in-Ok-clause-nothing : goal.returns-in-Ok-clause-nothing
+returns-in-Ok-clause-nothing g c = IfErr-weaker c.run_read.result _ _ (λ fault none unlike. (none unlike).1) c.run_read.ensures.nothing
+
+pub returns-in-Ok-clause-refused : goal.returns-in-Ok-clause-refused
+returns-in-Ok-clause-refused g c = IfErr-weaker c.run_read.result _ _ (λ fault none. not_refused c.args.bytes.now fault _ none) c.run_read.ensures.nothing

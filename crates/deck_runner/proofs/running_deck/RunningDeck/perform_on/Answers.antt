@@ -34,7 +34,7 @@ returns-clause-goes g c =
     let world = g.L.Library.shown.world c.args.library.now in
     let world_after = g.L.Library.shown.world c.perform-answer.new.library in
     let many : length c.note_length.new.items ≡ length c.args.self.now.items.items =
-    ap (λ (l : List LengthItem). length l) c.note_length.ensures ∙ as_many_items c.depends_on.result _ c.deref_mut.result.now ∙ ap (λ (l : List LengthItem). length l) c.deref_mut.ensures.value in
+    rw (c.note_length.ensures, ← c.deref_mut.ensures.value) (as_many_items c.depends_on.result _ c.deref_mut.result.now) in
     let written = written_over c.args.self.now.items.len c.args.self.now.items.items c.note_length.new.items c.args.self.now.items.ok.0 many in
     let count = ap (λ (l : List LengthItem). length l) written ∙ many in
     record {
