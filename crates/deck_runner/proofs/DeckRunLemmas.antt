@@ -66,7 +66,7 @@ pub refused :
 refused bytes fault result is_told memory deck none = refused_by bytes fault result is_told.0 is_told.1 memory deck none
 
 -- a fault of a run of a deck that was read is no refusal
-pub not_refused : (bytes : List ℕ) (fault : RunFault) (rest : Type 0) → (fault ≢ Output → (fault ≡ Memory) × rest) → IsRefused bytes fault
-not_refused bytes (DeckRefused told) rest other = let is = (other (λ e. absurd (cc))).0 in absurd (cc)
-not_refused bytes Output rest other = tt
-not_refused bytes Memory rest other = tt
+pub not_refused : (bytes : List ℕ) (fault : RunFault) → (fault ≢ Output → fault ≡ Memory) → IsRefused bytes fault
+not_refused bytes (DeckRefused told) other = let is = other (λ e. absurd (cc)) in absurd (cc)
+not_refused bytes Output other = tt
+not_refused bytes Memory other = tt

@@ -78,10 +78,12 @@ module _
         (during (trace_for (library.world before.library) statement before.run lines name) ledger) only_here in_stretch
 
   pub no_false_file : NoFalseFile library
-  no_false_file start [] before lines next steps now =
-      (record { point = next; ledger = before.ledger }, refl,
-       (steps.0, (λ i. record { point = steps.1 i; ledger = before.ledger })),
-       λ name. subst (λ (p : Point S). StandsBy library.Throughout start name (before.ledger name) p.library p.library) (sym steps.1) (now name))
+  no_false_file start [] before lines next steps now = (
+    record { point = next; ledger = before.ledger },
+    refl,
+    (steps.0, (λ i. record { point = steps.1 i; ledger = before.ledger })),
+    λ name. subst (λ (p : Point S). StandsBy library.Throughout start name (before.ledger name) p.library p.library) (sym steps.1) (now name),
+  )
   no_false_file start (statement ∷ rest) before lines next steps now =
       let world = library.world before.point.library in
       let between : Judged S = record {

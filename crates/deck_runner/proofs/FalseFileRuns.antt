@@ -59,9 +59,15 @@ module _
         let led = p.steps honest shown in
         let before : Judged S = record { point = record { run = run_before (library.world start) deck; library = led.0 }; ledger = λ name. first_ledger } in
         let now : StandNow library start before = λ name test was all. ends test start led.0 name ((led.2.images name).within test (was refl)) in
-        let done = safe before lines (record { run = led.1; library = new }) led.3 now in
-        (led.0, done.0, led.2, done.2, ap (λ (point : Point S). point.library) done.1, done.3,
-         subst (λ (point : Point S). Leaves (library.world new) deck point.run) (sym done.1) led.4);
+        let done = safe before lines (record { run = led.1; library = new }) led.3 now in (
+          led.0,
+          done.0,
+          led.2,
+          done.2,
+          ap (λ (point : Point S). point.library) done.1,
+          done.3,
+          subst (λ (point : Point S). Leaves (library.world new) deck point.run) (sym done.1) led.4,
+        );
     lines_are = p.lines_are;
   }
 
@@ -85,9 +91,12 @@ module _ {S : Type 0} (library : Shown S) (start : S) where
         let ran = p.stretches honest shown in
         let run = ran.3 in
         let whole : IsRunOver library deck.statements (record { run = run_before (library.world start) deck; library = ran.0 }) lines ran.1.point =
-        (run.0.point, run.1, run.2, stretches_of (until_stop deck.statements) _ run.1 run.0 run.3, stretches_of (closes_from 0 run.0.point.run.files) run.0 run.2 ran.1 run.4, run.5) in
-        (ran.0, ran.1.point.run, ran.2,
-         subst (λ (last : S). IsRunOver library deck.statements (record { run = run_before (library.world start) deck; library = ran.0 }) lines (record { run = ran.1.point.run; library = last })) ran.4 whole,
-         ran.6);
+        (run.0.point, run.1, run.2, stretches_of (until_stop deck.statements) _ run.1 run.0 run.3, stretches_of (closes_from 0 run.0.point.run.files) run.0 run.2 ran.1 run.4, run.5) in (
+          ran.0,
+          ran.1.point.run,
+          ran.2,
+          subst (λ (last : S). IsRunOver library deck.statements (record { run = run_before (library.world start) deck; library = ran.0 }) lines (record { run = ran.1.point.run; library = last })) ran.4 whole,
+          ran.6,
+        );
     lines_are = p.lines_are;
   }

@@ -115,17 +115,17 @@ front_of [] run [] rest next steps clean = ([], refl)
 front_of [] run (x ∷ front) rest next steps clean = absurd (cc)
 front_of (statement ∷ others) run front rest next steps clean =
     elim (cut front rest steps.0 steps.2 steps.5) [
-      inl h ↦ elim (step_on_front statement run steps.0 steps.1 front h.0 steps.3 h.1 clean) [
-        inl none ↦ (lines_through (statement ∷ others) run, rw none refl)
-      | inr all ↦
-          let one = clean_one statement run steps.0 steps.1 steps.3 (rw all.0 at clean) in
-          begins_all front (lines_of statement run) (lines_through others (after statement run)) (all.0 ∙ one.0)
+      | inl h ↦ elim (step_on_front statement run steps.0 steps.1 front h.0 steps.3 h.1 clean) [
+        | inl none ↦ (lines_through (statement ∷ others) run, rw none refl)
+        | inr all ↦
+            let one = clean_one statement run steps.0 steps.1 steps.3 (rw all.0 at clean) in
+            begins_all front (lines_of statement run) (lines_through others (after statement run)) (all.0 ∙ one.0)
       ]
-    | inr h ↦
-        let both = rw h.1 at clean in
-        let one = clean_one statement run steps.0 steps.1 steps.3 (clean_first steps.0 h.0 both) in
-        let more = front_of others steps.1 h.0 rest next (rw h.2 at steps.4) (clean_rest steps.0 h.0 both) in
-        begins_then front steps.0 h.0 (lines_of statement run) (lines_through others (after statement run)) h.1 one.0 (subst (λ (r : Run). Begins h.0 (lines_through others r)) one.1 more)
+      | inr h ↦
+          let both = rw h.1 at clean in
+          let one = clean_one statement run steps.0 steps.1 steps.3 (clean_first steps.0 h.0 both) in
+          let more = front_of others steps.1 h.0 rest next (rw h.2 at steps.4) (clean_rest steps.0 h.0 both) in
+          begins_then front steps.0 h.0 (lines_of statement run) (lines_through others (after statement run)) h.1 one.0 (subst (λ (r : Run). Begins h.0 (lines_through others r)) one.1 more)
     ]
 
 -- ---- a run
@@ -140,19 +140,19 @@ front_of_both : (statements : List Statement) (run stopped next : Run) (first ot
     → list_all is_clean front ≡ true → Begins front (lines_of_run statements run)
 front_of_both statements run stopped next first others front rest done left steps closes ending is clean =
     elim (cut front rest first others is) [
-      inl h ↦
-        let begun = front_of (until_stop statements) run front h.0 stopped (rw h.1 at steps) clean in
-        let lines : lines_until_stop statements run ≡ front ++ begun.0 = sym (lines_to_stop statements run) ∙ begun.1 in
-        (begun.0 ++ closing (run_at_stop statements run), ap (λ (l : List Line). l ++ closing (run_at_stop statements run)) lines ∙ append_assoc front begun.0 (closing (run_at_stop statements run)))
-    | inr h ↦
-        let both = rw h.1 at clean in
-        let exact = clean_until_stop statements run first stopped steps (clean_first first h.0 both) in
-        let begun = front_of done stopped h.0 rest next (rw h.2 at ending) (clean_rest first h.0 both) in
-        let all : lines_through (closes_from 0 stopped.files) stopped ≡ h.0 ++ (begun.0 ++ lines_through left (run_through done stopped)) =
-        rw closes (lines_through_both done left stopped ∙ ap (λ (l : List Line). l ++ lines_through left (run_through done stopped)) begun.1 ∙ append_assoc h.0 begun.0 (lines_through left (run_through done stopped))) in
-        let lines : closing stopped ≡ h.0 ++ (begun.0 ++ lines_through left (run_through done stopped)) = sym (lines_of_closes stopped.items stopped.files []) ∙ all in
-        begins_then front first h.0 (lines_until_stop statements run) (closing (run_at_stop statements run)) h.1 exact.0
-        (subst (λ (r : Run). Begins h.0 (closing r)) exact.1 (begun.0 ++ lines_through left (run_through done stopped), lines))
+      | inl h ↦
+          let begun = front_of (until_stop statements) run front h.0 stopped (rw h.1 at steps) clean in
+          let lines : lines_until_stop statements run ≡ front ++ begun.0 = sym (lines_to_stop statements run) ∙ begun.1 in
+          (begun.0 ++ closing (run_at_stop statements run), ap (λ (l : List Line). l ++ closing (run_at_stop statements run)) lines ∙ append_assoc front begun.0 (closing (run_at_stop statements run)))
+      | inr h ↦
+          let both = rw h.1 at clean in
+          let exact = clean_until_stop statements run first stopped steps (clean_first first h.0 both) in
+          let begun = front_of done stopped h.0 rest next (rw h.2 at ending) (clean_rest first h.0 both) in
+          let all : lines_through (closes_from 0 stopped.files) stopped ≡ h.0 ++ (begun.0 ++ lines_through left (run_through done stopped)) =
+          rw closes (lines_through_both done left stopped ∙ ap (λ (l : List Line). l ++ lines_through left (run_through done stopped)) begun.1 ∙ append_assoc h.0 begun.0 (lines_through left (run_through done stopped))) in
+          let lines : closing stopped ≡ h.0 ++ (begun.0 ++ lines_through left (run_through done stopped)) = sym (lines_of_closes stopped.items stopped.files []) ∙ all in
+          begins_then front first h.0 (lines_until_stop statements run) (closing (run_at_stop statements run)) h.1 exact.0
+          (subst (λ (r : Run). Begins h.0 (closing r)) exact.1 (begun.0 ++ lines_through left (run_through done stopped), lines))
     ]
 
 front_in_part : (statements done left : List Statement) (run next : Run) (front rest : List Line) → until_stop statements ≡ done ++ left → AreSteps done run (front ++ rest) next → list_all is_clean front ≡ true

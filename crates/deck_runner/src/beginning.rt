@@ -85,11 +85,7 @@ fn names_of(files: &[FileDesc]) -> FileNames
 
 /// Makes the files and length items of a deck, and attaches its file names to the library. `Memory` leaves what each name stands
 /// for, as a success does.
-pub fn begin<L: Library>(
-    alloc: Global,
-    deck: &Deck,
-    library: &mut L,
-) -> Result<RunningDeck, Fault>
+pub fn begin<L: Library>(alloc: Global, deck: &Deck, library: &mut L) -> Result<RunningDeck, Fault>
     requires { CanBeRun deck.now }
     ensures begun { IfOk result (λ begun. IsBegun L.shown library.old library.new deck.now begun) }
     ensures untouched { IsUntouched L.shown library.old library.new }

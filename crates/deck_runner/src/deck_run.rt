@@ -27,7 +27,8 @@ fn run_read<L: Library, W: Write>(
     ensures elsewhere { SameElsewhere deck.now (L.shown.world library.old) (L.shown.world library.new) }
     ensures run { IfOk result (λ end. Told (W.contents out.old) (W.contents out.new) end
         (DeckLeads L.shown library.old library.new deck.now (IsRunOver L.shown deck.now.statements))) }
-    ensures output { IfErr result (λ fault. fault ≡ RunFault.Output → ToldInPart (W.contents out.old) (W.contents out.new)
+    ensures output { IfErr result (λ fault. fault ≡ RunFault.Output →
+        ToldInPart (W.contents out.old) (W.contents out.new)
         (DeckLeads L.shown library.old library.new deck.now (IsBrokenOff L.shown deck.now.statements))) }
     ensures nothing { IfErr result (λ fault. fault ≢ RunFault.Output → (fault ≡ RunFault.Memory)
         × (out.new ≡ out.old) × IsUntouched L.shown library.old library.new) }
@@ -58,10 +59,12 @@ pub fn run_deck<L: Library, W: Write>(
 ) -> Result<RunEnd, RunFault>
     ensures exact { IfOk result (λ end. end.clean ≡ true → OfDeck L.shown bytes.now library.old library.new (λ deck.
         WhereFilesAreTrue L.shown library.old library.new deck
-        (RunsExactly (W.contents out.old) (W.contents out.new) (L.shown.world library.old) (L.shown.world library.new) end deck))) }
+        (RunsExactly (W.contents out.old) (W.contents out.new)
+        (L.shown.world library.old) (L.shown.world library.new) end deck))) }
     ensures run { IfOk result (λ end. OfDeck L.shown bytes.now library.old library.new (λ deck.
         Told (W.contents out.old) (W.contents out.new) end (RunsWhole L.shown library.old library.new deck))) }
-    ensures output { IfErr result (λ fault. fault ≡ RunFault.Output → OfDeck L.shown bytes.now library.old library.new (λ deck.
+    ensures output { IfErr result (λ fault. fault ≡ RunFault.Output →
+        OfDeck L.shown bytes.now library.old library.new (λ deck.
         ToldInPart (W.contents out.old) (W.contents out.new) (RunsInPart L.shown library.old library.new deck))) }
     ensures nothing { IfErr result (λ fault. fault ≢ RunFault.Output →
         (out.new ≡ out.old) × IsUntouched L.shown library.old library.new) }

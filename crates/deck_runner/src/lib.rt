@@ -26,4 +26,6 @@ mod whole_run;
 pub use deck_run::run_deck;
 pub use fault::RunFault;
 pub use run_end::RunEnd;
-pub use whole_run::{clean_fronts_are_exact, clean_runs_are_exact, images_are_of_ledger, no_false_file};
+pub use whole_run::{
+    clean_fronts_are_exact, clean_runs_are_exact, images_are_of_ledger, no_false_file,
+};

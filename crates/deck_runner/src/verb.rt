@@ -72,7 +72,13 @@ impl RunningDeck {
         let length = record_length(&self.items, file);
         let answer = file.perform(library, u, statement, length);
         let delivered = file.delivered(answer.length);
-        make_line(&mut self.line, statement, file.name(), answer.status, delivered);
+        make_line(
+            &mut self.line,
+            statement,
+            file.name(),
+            answer.status,
+            delivered,
+        );
         note_length(&mut self.items, file.depends_on(), delivered);
         is_clean(statement, answer.status)
     }

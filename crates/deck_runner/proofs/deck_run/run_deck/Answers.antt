@@ -37,9 +37,13 @@ returns-in-Ok-clause-run g c =
     IfOk-weaker c.run_read.result
     (λ end. Told written written_after end (DeckLeads shown old new deck (IsRunOver shown deck.statements)))
     (λ end. OfDeck shown c.args.bytes.now old new (λ deck. Told written written_after end (RunsWhole shown old new deck)))
-    (λ end run. (deck, c.in-Ok.ensures.deck, c.run_read.ensures.elsewhere,
+    (λ end run. (
+      deck,
+      c.in-Ok.ensures.deck,
+      c.run_read.ensures.elsewhere,
       told_as written written_after end (DeckLeads shown old new deck (IsRunOver shown deck.statements)) (RunsWhole shown old new deck)
-      run (run_stands shown g.met.L.Library.ends old new deck)))
+          run (run_stands shown g.met.L.Library.ends old new deck),
+    ))
     c.run_read.ensures.run
 
 pub returns-in-Ok-clause-output : goal.returns-in-Ok-clause-output
@@ -53,9 +57,13 @@ returns-in-Ok-clause-output g c =
     IfErr-weaker c.run_read.result
     (λ fault. fault ≡ Output → ToldInPart written written_after (DeckLeads shown old new deck (IsBrokenOff shown deck.statements)))
     (λ fault. fault ≡ Output → OfDeck shown c.args.bytes.now old new (λ deck. ToldInPart written written_after (RunsInPart shown old new deck)))
-    (λ fault run is. (deck, c.in-Ok.ensures.deck, c.run_read.ensures.elsewhere,
+    (λ fault run is. (
+      deck,
+      c.in-Ok.ensures.deck,
+      c.run_read.ensures.elsewhere,
       part_as written written_after (DeckLeads shown old new deck (IsBrokenOff shown deck.statements)) (RunsInPart shown old new deck)
-      (run is) (broken_stands shown g.met.L.Library.ends old new deck)))
+          (run is) (broken_stands shown g.met.L.Library.ends old new deck),
+    ))
     c.run_read.ensures.output
 
 pub returns-in-Err-clause-refused : goal.returns-in-Err-clause-refused
@@ -63,7 +71,7 @@ returns-in-Err-clause-refused g c =
     refused c.args.bytes.now c.in-Err.fault c.of.result c.in-Err.ensures.told c.of.ensures.memory c.of.ensures.deck c.in-Err.ensures.none
 
 pub returns-in-Ok-clause-nothing : goal.returns-in-Ok-clause-nothing
-returns-in-Ok-clause-nothing g c = IfErr-weaker c.run_read.result _ _ (λ fault none unlike. (none unlike).1) c.run_read.ensures.nothing
+returns-in-Ok-clause-nothing g c = IfErr-weaker c.run_read.result _ _ (λ fault none other. ((none other).1, (none other).2)) c.run_read.ensures.nothing
 
 pub returns-in-Ok-clause-refused : goal.returns-in-Ok-clause-refused
-returns-in-Ok-clause-refused g c = IfErr-weaker c.run_read.result _ _ (λ fault none. not_refused c.args.bytes.now fault _ none) c.run_read.ensures.nothing
+returns-in-Ok-clause-refused g c = IfErr-weaker c.run_read.result _ _ (λ fault none. not_refused c.args.bytes.now fault (λ other. (none other).0)) c.run_read.ensures.nothing

@@ -1,5 +1,4 @@
 use Rattle.std.proofs.Common.{◌≡◌, List, [], ◌∷◌, length, Option, refl, sym, ap, ◌∙◌, subst}
-use Rattle.std.proofs.lemmas.List.Elements.{All-nil}
 use Rattle.indexed_file.specs.World.{name_at}
 use Rattle.indexed_file.specs.Images.{ImagesGo}
 use Rattle.verbs.specs.Held.{record_in}

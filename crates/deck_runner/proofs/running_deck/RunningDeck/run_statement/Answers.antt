@@ -1,12 +1,11 @@
-use Rattle.std.proofs.Common.{◌≡◌, ◌≤◌, ◌+◌, [], length, refl, ap, subst, sym}
+use Rattle.std.proofs.Common.{◌≤◌, ◌+◌, [], length, refl}
 use Rattle.std.proofs.KnownBytes.{Appends-nil}
-use Rattle.std.proofs.lemmas.List.{length-set}
 use Rattle.std.proofs.lemmas.List.Elements.{All-nil}
 use Rattle.std.proofs.lemmas.Option.{slice_get_read}
 use Rattle.record_layout.specs.Area.{sent, moved}
 use Rattle.deck_runner.specs.State.{IsLineOf}
 use Rattle.deck_runner.proofs.VerbLemmas.{file_at}
-use Rattle.deck_runner.proofs.MoveLemmas.{goes_by_move, goes_on_alike, move_step, length_step, still}
+use Rattle.deck_runner.proofs.MoveLemmas.{goes_by_move, move_step, length_step, still}
 use Rattle.procedure_division.specs.declared.statement.Statement.TheVariants.{Move, MoveLength, StopRun}
 use Rattle.deck_runner.proofs.running_deck.RunningDeck.run_statement.Goals as goal
 
