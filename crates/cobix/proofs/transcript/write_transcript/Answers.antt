@@ -10,5 +10,5 @@ returns-in-Ok-clause-run g c =
     let ran = c.in-Ok.ensures.run in
     let told = ran.3 in
     let leads = leads_of_stands shown_in_memory c.new-library.result _ _ told.0 told.3 in
-    let led = leads.steps (search rules) (everywhere _ _ (c.new-library.ensures.truly _)) in
+    let led = leads.steps (search rules) (everywhere _ _ (c.new-library.ensures.truly c.new-library.result)) in
     (ran.0, world_of c.new-library.result, ran.1, c.new-library.ensures.named, (told.0, told.1, told.2, (led.1, faultless_run _ _ _ _ led.3)))
