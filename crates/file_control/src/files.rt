@@ -1,8 +1,8 @@
 //! The files of a deck, and its 77-level items.
-ghost use Rattle.std.specs.Prelude.{◌≡◌, ℕ, true, false, List, [], ◌∷◌, option_map, IfOk, IfErr};
+ghost use Rattle.std.specs.Prelude.{◌≡◌, ℕ, List, [], ◌∷◌, option_map, IfOk, IfErr};
 ghost use Rattle.std.specs.Str.{bytes_eq};
 ghost use Rattle.deck_words.specs.Fault.{IsFault};
-ghost use Rattle.file_control.specs.Description.{FileDesc as File, LengthItem as Digits, description_of_file, IsFile, AreFiles, AreItems, HasDigits, has_name, with_names};
+ghost use Rattle.file_control.specs.Description.{FileDesc as File, LengthItem as Digits, description_of_file, AreFiles, AreItems};
 
 use crate::data_names::DataNames;
 use crate::file::{FileDesc, file};

@@ -1,6 +1,5 @@
 //! What the procedure knows of the deck's descriptions.
-ghost use Rattle.std.specs.Prelude.{ℕ, ◌≡◌, Option, is_some, option_map};
-ghost use Rattle.std.specs.Option.{option_map_or};
+ghost use Rattle.std.specs.Prelude.{◌≡◌, is_some};
 ghost use Rattle.record_layout.specs.Layout.{is_named, field_of};
 ghost use Rattle.record_layout.specs.Schema.{key_at};
 ghost use Rattle.procedure_division.specs.Names.{names_of, file_of, record_of};
