@@ -1,6 +1,6 @@
 //! The run of a deck: from its bytes to its transcript.
 //!
-//! `run_deck` reads a deck and runs it over any library. The transcript is the fold of the deck's statements up to STOP RUN over its
+//! `read_deck`, handed on, reads a deck; `run_deck` reads one and runs it over any library. The transcript is the fold of the deck's statements up to STOP RUN over its
 //! files and length items, followed by the closes of the files that are still open, in the order of their SELECT entries. Each
 //! statement is what the definitions say or a step that a fault has marred, and at each moment a crash leaves no false file. Memory
 //! is taken for the deck, its files and its items before the first statement, and by the library; for nothing else.
@@ -23,6 +23,7 @@ mod statements;
 mod verb;
 mod whole_run;
 
+pub use deck_reader::{Deck, read_deck};
 pub use deck_run::run_deck;
 pub use fault::RunFault;
 pub use run_end::RunEnd;
