@@ -10,7 +10,7 @@ use Rattle.page_store.specs.Moments.{Quiet}
 use Rattle.page_store.specs.MomentLaws.{quiet_none}
 use Rattle.page_store.specs.QuietLaws.{quiet_written}
 
-some_bytes : (seen : Option (List ℕ)) → is_some seen ≡ true → seen ≡ Some (bytes_or_none seen)
+pub some_bytes : (seen : Option (List ℕ)) → is_some seen ≡ true → seen ≡ Some (bytes_or_none seen)
 some_bytes None there = absurd (cc)
 some_bytes (Some bytes) there = refl
 

@@ -35,6 +35,10 @@ with_gate gate bytes = gate ∷ drop 1 bytes
 abbrev pub WasOrRefused : File → Option (List ℕ) → Type 0
 WasOrRefused old c = Leaves old c ⊎ IsRefused c
 
+-- what reads give is as it was, or is refused
+abbrev pub SameOrRefused : File → File → Type 0
+SameOrRefused old new = (new.seen ≡ old.seen) ⊎ IsRefused new.seen
+
 -- the content of this file with a closed gate, or a refused file
 abbrev pub ClosedOrRefused : File → Option (List ℕ) → Type 0
 ClosedOrRefused old c = (c ≡ Some (with_gate 67 (content old))) ⊎ IsRefused c

@@ -3,7 +3,7 @@ ghost use Rattle.std.specs.Prelude.{◌≡◌, ◌+◌, ◌*◌, ◌-◌, ◌/�
 ghost use Rattle.page_store.specs.File.{content, IsWithin, IsThere};
 ghost use Rattle.page_store.specs.Images.{IsSettled};
 ghost use Rattle.page_store.specs.Moments.{Throughout};
-ghost use Rattle.page_store.specs.Gate.{IsClosed, AllRefused, with_gate, WasOrRefused, ClosedOrRefused, Opens};
+ghost use Rattle.page_store.specs.Gate.{IsClosed, AllRefused, with_gate, WasOrRefused, SameOrRefused, ClosedOrRefused, Opens};
 ghost use Rattle.page_store.specs.ShelfState.{HasUnit, unit_file, WhereHonest, FileGoes, OnlyReads, ChangesOnly, KeepsOthers, IsQuiet, HasCause};
 ghost use Rattle.page_store.specs.Pages.{page_of, PageWritten, PageFails, HasPages, offset_of, length_of, IsStoreOf};
 
@@ -33,6 +33,8 @@ impl Store {
             FileGoes unit (S.state shelf.old) (S.state shelf.new) Opens) }
         ensures pages { IfOk result (λ store.
             WhereHonest (S.state shelf.new) unit (HasPages store.pages)) }
+        ensures failed { OnErr result (IsTrue (S.state shelf.new).is_honest →
+            FileGoes unit (S.state shelf.old) (S.state shelf.new) SameOrRefused) }
         // At each moment a crash leaves what it could leave before, or a refused file.
         ensures images { let old = unit_file (S.state shelf.old) unit in
             IsTrue (S.state shelf.new).is_honest →
@@ -83,6 +85,9 @@ impl Store {
         ensures opened { let new = unit_file (S.state shelf.new) self.now.unit in
             let old = unit_file (S.state shelf.old) self.now.unit in
             OnOk result ((content new ≡ with_gate 68 (content old)) × IsSettled new) }
+        ensures failed { let old = unit_file (S.state shelf.old) self.now.unit in
+            IsClosed (content old) →
+            OnErr result (SameOrRefused old (unit_file (S.state shelf.new) self.now.unit)) }
         ensures only { ChangesOnly self.now.unit (S.state shelf.old) (S.state shelf.new) }
         ensures cause { HasCause (S.fault_count shelf.old) (S.fault_count shelf.new) result }
     {

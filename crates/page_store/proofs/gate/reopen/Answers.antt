@@ -1,10 +1,11 @@
-use Rattle.std.proofs.Common.{rules, ◌≡◌, ◌∙◌, sym, subst, length, inl}
+use Rattle.std.proofs.Common.{rules, ◌≡◌, ◌∙◌, sym, subst, length, arith, inl}
 use Rattle.page_store.specs.File.{File}
 use Rattle.page_store.specs.Calls.{Synced, SyncFails}
 use Rattle.page_store.specs.Gate.{GateWritten, GateFails, WasOrRefused}
 use Rattle.page_store.specs.GateLaws.{opening_failed, opening_done, sync_failed}
 use Rattle.page_store.specs.StartLaws.{opens_closed}
 use Rattle.page_store.specs.ShelfState.{unit_file}
+use Rattle.page_store.proofs.FailedLemmas.{at_err, opening_seen, syncing_seen}
 use Rattle.page_store.proofs.FileLemmas.{there_image}
 use Rattle.page_store.proofs.GateLemmas.{closed_from, opens_from, same_file}
 use Rattle.page_store.proofs.gate.reopen.Goals as goal
@@ -65,3 +66,22 @@ returns-in_ok-sync-clause-opens g c honest =
     let same = same_file (g.S.Shelf.state c.args.shelf.now) (g.S.Shelf.state c.read_at.new.self) c.args.unit c.read_at.ensures.only in
     opens_from f h c.read_at.new.bytes one (c.requires.within was) (c.in_ok-read_at.ensures.answer then) c.if-first-eq-CLOSED.false
     (subst (λ (x : File). Synced x h) same c.in_ok-sync.ensures.synced)
+
+pub returns-in_err-write-clause-failed : goal.returns-in_err-write-clause-failed
+returns-in_err-write-clause-failed g c = at_err _ _ _ (λ honest.
+    let f = unit_file (g.S.Shelf.state c.args.shelf.now) c.args.unit in
+    let h = unit_file (g.S.Shelf.state c.write.new.shelf) c.args.unit in
+    let then = sym c.write.ensures.only.honest ∙ honest in
+    let was = c.read_at.ensures.only.honest then in
+    let one : length c.read_at.new.bytes ≡ 1 = search rules in
+    let closed = closed_from f c.read_at.new.bytes one (c.requires.within was) (c.in_ok-read_at.ensures.answer then) c.if-first-eq-CLOSED.true in
+    let same = same_file (g.S.Shelf.state c.args.shelf.now) (g.S.Shelf.state c.read_at.new.self) c.args.unit c.read_at.ensures.only in
+    opening_seen f h closed (subst (λ (x : File). GateFails 68 x h) same c.in_err-write.ensures.failed))
+
+pub returns-in_err-sync-clause-failed : goal.returns-in_err-sync-clause-failed
+returns-in_err-sync-clause-failed g c = at_err _ _ _ (λ honest.
+    let f = unit_file (g.S.Shelf.state c.args.shelf.now) c.args.unit in
+    let h = unit_file (g.S.Shelf.state c.sync.new.self) c.args.unit in
+    let was = c.read_at.ensures.only.honest (sym c.sync.ensures.only.honest ∙ honest) in
+    let same = same_file (g.S.Shelf.state c.args.shelf.now) (g.S.Shelf.state c.read_at.new.self) c.args.unit c.read_at.ensures.only in
+    syncing_seen f h (record { there = (c.requires.within was).there; long = omega arith }) (subst (λ (x : File). SyncFails x h) same c.in_err-sync.ensures.failed))

@@ -1,6 +1,8 @@
-use Rattle.std.proofs.Common.{◌∙◌, sym}
+use Rattle.std.proofs.Common.{◌∙◌, sym, ap, inr}
 use Rattle.page_store.specs.ShelfState.{unit_file}
 use Rattle.page_store.specs.StartLaws.{starting_failed, starting_done, opens_started}
+use Rattle.page_store.specs.File.{File}
+use Rattle.page_store.proofs.FailedLemmas.{at_err, making_seen, beginning_seen}
 use Rattle.page_store.proofs.FileLemmas.{absent_image}
 use Rattle.page_store.proofs.gate.start.Goals as goal
 
@@ -23,3 +25,10 @@ returns-clause-opens g c honest =
     let f = unit_file (g.S.Shelf.state c.args.shelf.now) c.args.unit in
     let was = sym (c.write.ensures.only.honest ∙ c.create.ensures.only.honest) ∙ honest in
     opens_started f _ _ (c.requires.absent was) c.in_ok-create.ensures.made c.in_ok-write.ensures.written
+
+pub returns-in_err-create-clause-failed : goal.returns-in_err-create-clause-failed
+returns-in_err-create-clause-failed g c = at_err _ _ _ (λ honest. making_seen _ _ c.in_err-create.ensures.failed)
+
+pub returns-in_err-write-clause-failed : goal.returns-in_err-write-clause-failed
+returns-in_err-write-clause-failed g c = at_err _ _ _ (λ honest.
+    inr (beginning_seen _ _ (ap (λ (f : File). f.seen) c.in_ok-create.ensures.made.is) c.in_err-write.ensures.failed))
