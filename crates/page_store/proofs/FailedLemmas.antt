@@ -1,10 +1,11 @@
 -- Where the gate could not be opened, reads give what they gave, or a refused file.
-use Rattle.std.proofs.Common.{◌≡◌, ◌⊎◌, inl, inr, ℕ, suc, ◌<◌, ◌==◌, List, [], ◌∷◌, length, slice_index, Option, Some, None, Bool, IsTrue, Result, Ok, Err, OnErr, refl, sym, ◌∙◌, ap, subst, arith}
+use Rattle.std.proofs.Common.{◌≡◌, ◌⊎◌, inl, inr, ℕ, suc, ◌<◌, ◌≤◌, ◌==◌, List, [], ◌∷◌, length, drop, slice_index, is_some, Option, Some, None, Bool, IsTrue, Result, Ok, Err, OnErr, refl, sym, ◌∙◌, ap, subst, arith}
 use Rattle.std.proofs.lemmas.Bool.{cases_Bool, eqb-true, eqb-false}
-use Rattle.page_store.specs.File.{File, IsThere, Torn, bytes_or_none, content}
+use Rattle.page_store.specs.File.{File, IsWithin, IsThere, Torn, bytes_or_none, content}
 use Rattle.page_store.specs.Calls.{CreateFails, Written, Synced, SyncFails}
-use Rattle.page_store.specs.Gate.{IsClosed, IsRefused, GateFails, SameOrRefused}
+use Rattle.page_store.specs.Gate.{IsClosed, IsRefused, GateWritten, GateFails, SameOrRefused, OnlyGate}
 use Rattle.page_store.specs.GateLaws.{refused_68}
+use Rattle.page_store.specs.ImageLaws.{overlay_torn}
 use Rattle.page_store.proofs.FileLemmas.{some_bytes}
 
 seen_of : (f g : File) → f ≡ g → f.seen ≡ g.seen
@@ -79,6 +80,59 @@ syncing_seen f g there (inr synced) = inl (ap (λ (x : File). x.seen) synced.is 
 
 pub synced_empty : (f g : File) → content f ≡ [] → Synced f g → g.seen ≡ Some []
 synced_empty f g empty synced = ap (λ (x : File). x.seen) synced.is ∙ ap Some empty
+
+-- only the first byte was written, or tried
+only_torn : (f g : File) (now : List ℕ) → IsWithin 1 f → Torn 0 1 (content f) now → g.seen ≡ Some now → OnlyGate f g
+only_torn f g now within torn seen =
+    let long : length (content f) ≤ length now = torn.no_shorter in
+    let most : length now ≤ length (content f) = let w = within.long in omega (arith, torn.no_longer) in
+    let is : content g ≡ now = ap bytes_or_none seen in
+    record {
+      there = record { there = ap is_some seen; long = let w = within.long in let e = ap length is in omega arith };
+      long = ap length is ∙ omega arith;
+      rest = ap (drop 1) is ∙ torn_rest (content f) now torn;
+    }
+  where
+    torn_rest : (bytes now : List ℕ) → Torn 0 1 bytes now → drop 1 now ≡ drop 1 bytes
+    torn_rest [] [] torn = refl
+    torn_rest [] (y ∷ []) torn = refl
+    torn_rest [] (y ∷ z ∷ now) torn = absurd (omega (arith, torn.no_longer))
+    torn_rest (x ∷ bytes) [] torn = absurd (omega (arith, torn.no_shorter))
+    torn_rest (x ∷ bytes) (y ∷ now) torn =
+        same_lists now bytes (omega (arith, torn.no_shorter, torn.no_longer)) (λ i lt. torn.above (suc i) (omega (arith, lt)) (omega arith))
+
+pub only_same : (f g : File) → IsWithin 1 f → g.seen ≡ f.seen → OnlyGate f g
+only_same f g within same = record {
+  there = record { there = ap is_some same ∙ within.there; long = let e = ap (λ s. length (bytes_or_none s)) same in let w = within.long in omega arith };
+  long = ap (λ s. length (bytes_or_none s)) same;
+  rest = ap (λ s. drop 1 (bytes_or_none s)) same;
+}
+
+pub only_then : (f g h : File) → OnlyGate f g → OnlyGate g h → OnlyGate f h
+only_then f g h a b = record { there = b.there; long = b.long ∙ a.long; rest = b.rest ∙ a.rest }
+
+only_written : (f g : File) → IsWithin 1 f → Written 0 (68 ∷ []) f g → OnlyGate f g
+only_written f g within written =
+    only_torn f g _ within (overlay_torn (content f) 0 (68 ∷ []) (omega arith)) (ap (λ (x : File). x.seen) written.is)
+
+pub only_synced : (f g : File) → IsWithin 1 f → Synced f g → OnlyGate f g
+only_synced f g within synced = only_same f g within (ap (λ (x : File). x.seen) synced.is ∙ sym (some_bytes f.seen within.there))
+
+pub only_unsynced : (f g : File) → IsWithin 1 f → SyncFails f g → OnlyGate f g
+only_unsynced f g within (inl same) = only_same f g within (seen_of g f same)
+only_unsynced f g within (inr synced) = only_synced f g within synced
+
+pub only_gate : (f g : File) → IsWithin 1 f → GateWritten 68 f g → OnlyGate f g
+only_gate f g within w =
+    let first = only_written f w.unsynced within w.written in
+    only_then f w.unsynced g first (only_synced w.unsynced g first.there w.synced)
+
+pub only_failed : (f g : File) → IsWithin 1 f → GateFails 68 f g → OnlyGate f g
+only_failed f g within (inl (inl same)) = only_same f g within (seen_of g f same)
+only_failed f g within (inl (inr torn)) = only_torn f g torn.0 within torn.1 (ap (λ (x : File). x.seen) torn.2)
+only_failed f g within (inr w) =
+    let first = only_written f w.0 within w.1 in
+    only_then f w.0 g first (only_unsynced w.0 g first.there w.2)
 
 -- what holds where the shelf is honest, however the call went, holds where it failed
 pub at_err : {T E : Type 0} (honest : Bool) (P : Type 0) (r : Result T E) → (IsTrue honest → P) → OnErr r (IsTrue honest → P)

@@ -1,6 +1,6 @@
 -- The gate: the first byte of a file says whether its pages can be relied on.
 use Rattle.std.specs.Prelude.{◌≡◌, ◌⊎◌, ℕ, ◌<◌, ◌==◌, if◌then◌else◌, List, [], ◌∷◌, length, drop, Option, Some, None}
-use Rattle.page_store.specs.File.{File, content}
+use Rattle.page_store.specs.File.{File, IsWithin, content}
 use Rattle.page_store.specs.Images.{Leaves, IsSettled}
 use Rattle.page_store.specs.Calls.{Written, WriteFails, Synced, SyncFails}
 
@@ -38,6 +38,12 @@ WasOrRefused old c = Leaves old c ⊎ IsRefused c
 -- what reads give is as it was, or is refused
 abbrev pub SameOrRefused : File → File → Type 0
 SameOrRefused old new = (new.seen ≡ old.seen) ⊎ IsRefused new.seen
+
+-- no byte but the first has changed, and that one is there
+pub record OnlyGate (old new : File) : Type 0 where
+  pub there : IsWithin 1 new
+  pub long : length (content new) ≡ length (content old)
+  pub rest : drop 1 (content new) ≡ drop 1 (content old)
 
 -- the content of this file with a closed gate, or a refused file
 abbrev pub ClosedOrRefused : File → Option (List ℕ) → Type 0

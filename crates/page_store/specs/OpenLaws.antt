@@ -1,10 +1,11 @@
 -- An open gate stays open through quiet steps, so that at each moment each image is refused.
-use Rattle.std.proofs.Common.{◌∙◌, sym, subst, ℕ, List, [], ◌∷◌, Option, Some, None, inr}
+use Rattle.std.proofs.Common.{◌≡◌, ◌∙◌, ◌==◌, sym, subst, ℕ, List, [], ◌∷◌, Option, Some, None, inl, inr, arith}
+use Rattle.std.proofs.lemmas.Bool.{cases_Bool, eqb-false}
 use Rattle.page_store.specs.File.{File, content}
 use Rattle.page_store.specs.Images.{IsSettled}
 use Rattle.page_store.specs.Moments.{Throughout, Begins, BeginsBefore, Quiet}
 use Rattle.page_store.specs.MomentLaws.{throughout_weaker, throughout_last}
-use Rattle.page_store.specs.Gate.{IsClosed, IsOpen, AllOpen, IsRefused, AllRefused}
+use Rattle.page_store.specs.Gate.{IsClosed, IsOpen, AllOpen, IsRefused, AllRefused, opened, Opens}
 
 begins_open : (c d : Option (List ℕ)) → Begins c d → IsOpen d → IsOpen c
 begins_open c None b h = absurd h
@@ -29,3 +30,14 @@ all_refused f all c may = refused_open c (all c may)
 -- a settled file with an open gate
 pub settled_open : (f : File) → IsSettled f → ¬ (IsClosed (content f)) → AllOpen f
 settled_open f settled shut c may = subst IsOpen (sym (settled c may)) shut
+
+not_closed : (bytes : List ℕ) → IsClosed (opened bytes) → ⊥
+not_closed [] closed = let e : ◌≡◌ {A = ℕ} 68 67 = closed in absurd (omega arith)
+not_closed (x ∷ bytes) closed = elim (cases_Bool (x == 67)) [
+  | inl hit ↦ let e : ◌≡◌ {A = ℕ} 68 67 = rw hit at closed in absurd (omega arith)
+  | inr miss ↦ let e : x ≡ 67 = rw miss at closed in eqb-false x 67 miss e
+]
+
+-- a gate that was opened is open on the disk
+pub opened_open : (f g : File) → Opens f g → AllOpen g
+opened_open f g opens = settled_open g opens.settled (λ closed. not_closed (content f) (subst IsClosed opens.bytes closed))

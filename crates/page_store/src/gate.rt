@@ -7,7 +7,7 @@
 ghost use Rattle.std.specs.Prelude.{◌≡◌, ◌<◌, [], length, None, IsTrue, OnOk, OnErr};
 ghost use Rattle.page_store.specs.File.{content, IsWithin, IsThere};
 ghost use Rattle.page_store.specs.Moments.{Throughout};
-ghost use Rattle.page_store.specs.Gate.{GateWritten, GateFails, WasOrRefused, SameOrRefused, Opens};
+ghost use Rattle.page_store.specs.Gate.{GateWritten, GateFails, WasOrRefused, SameOrRefused, OnlyGate, Opens};
 ghost use Rattle.page_store.specs.ShelfState.{HasUnit, unit_file, ChangesOnly, KeepsOthers, HasCause};
 
 use crate::shelf::Shelf;
@@ -73,6 +73,7 @@ pub(crate) fn reopen<S: Shelf>(shelf: &mut S, unit: usize) -> Result<(), Fault>
         Throughout (WasOrRefused (unit_file (S.state shelf.old) unit)) (unit_file (S.state shelf.old) unit) (unit_file (S.state shelf.new) unit) }
     ensures opens { OnOk result (IsTrue (S.state shelf.new).is_honest → Opens (unit_file (S.state shelf.old) unit) (unit_file (S.state shelf.new) unit)) }
     ensures failed { OnErr result (IsTrue (S.state shelf.new).is_honest → SameOrRefused (unit_file (S.state shelf.old) unit) (unit_file (S.state shelf.new) unit)) }
+    ensures gate { IsTrue (S.state shelf.new).is_honest → OnlyGate (unit_file (S.state shelf.old) unit) (unit_file (S.state shelf.new) unit) }
     ensures only { KeepsOthers unit (S.state shelf.old) (S.state shelf.new) }
     ensures cause { HasCause (S.fault_count shelf.old) (S.fault_count shelf.new) result }
 {

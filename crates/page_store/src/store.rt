@@ -3,11 +3,11 @@ ghost use Rattle.std.specs.Prelude.{◌≡◌, ◌+◌, ◌*◌, ◌-◌, ◌/�
 ghost use Rattle.page_store.specs.File.{content, IsWithin, IsThere};
 ghost use Rattle.page_store.specs.Images.{IsSettled};
 ghost use Rattle.page_store.specs.Moments.{Throughout};
-ghost use Rattle.page_store.specs.Gate.{IsClosed, AllRefused, with_gate, WasOrRefused, SameOrRefused, ClosedOrRefused, Opens};
+ghost use Rattle.page_store.specs.Gate.{IsClosed, AllRefused, with_gate, WasOrRefused, SameOrRefused, ClosedOrRefused, OnlyGate, Opens};
 ghost use Rattle.page_store.specs.ShelfState.{HasUnit, unit_file, WhereHonest, FileGoes, OnlyReads, ChangesOnly, KeepsOthers, IsQuiet, HasCause};
 ghost use Rattle.page_store.specs.Pages.{page_of, PageWritten, PageFails, HasPages, offset_of, length_of, IsStoreOf};
 
-use crate::gate::{self, CLOSED, OPEN};
+use crate::gate::{self, CLOSED};
 use crate::shelf::Shelf;
 use io_state::Fault;
 
@@ -74,24 +74,25 @@ impl Store {
         })
     }
 
-    /// Opens the gate of a closed file, before its first change.
+    /// Opens the gate before the first change of a file, so that it may be changed. A gate that is open already is
+    /// synced, and not written. After a fault the call may be made again.
     pub fn begin_change<S: Shelf>(&self, shelf: &mut S) -> Result<(), Fault>
         requires unit { HasUnit (S.state shelf.old) self.now.unit }
-        requires there { WhereHonest (S.state shelf.old) self.now.unit IsThere }
+        requires gate { WhereHonest (S.state shelf.old) self.now.unit (IsWithin 1) }
         // At each moment a crash leaves what it could leave before, or a refused file.
         ensures images { let old = unit_file (S.state shelf.old) self.now.unit in
-            IsTrue (S.state shelf.new).is_honest → IsClosed (content old) →
+            IsTrue (S.state shelf.new).is_honest →
             Throughout (WasOrRefused old) old (unit_file (S.state shelf.new) self.now.unit) }
-        ensures opened { let new = unit_file (S.state shelf.new) self.now.unit in
-            let old = unit_file (S.state shelf.old) self.now.unit in
-            OnOk result ((content new ≡ with_gate 68 (content old)) × IsSettled new) }
-        ensures failed { let old = unit_file (S.state shelf.old) self.now.unit in
-            IsClosed (content old) →
-            OnErr result (SameOrRefused old (unit_file (S.state shelf.new) self.now.unit)) }
-        ensures only { ChangesOnly self.now.unit (S.state shelf.old) (S.state shelf.new) }
+        ensures opens { OnOk result (IsTrue (S.state shelf.new).is_honest →
+            FileGoes self.now.unit (S.state shelf.old) (S.state shelf.new) Opens) }
+        ensures failed { OnErr result (IsTrue (S.state shelf.new).is_honest →
+            FileGoes self.now.unit (S.state shelf.old) (S.state shelf.new) SameOrRefused) }
+        ensures gate { IsTrue (S.state shelf.new).is_honest →
+            FileGoes self.now.unit (S.state shelf.old) (S.state shelf.new) OnlyGate }
+        ensures only { KeepsOthers self.now.unit (S.state shelf.old) (S.state shelf.new) }
         ensures cause { HasCause (S.fault_count shelf.old) (S.fault_count shelf.new) result }
     {
-        gate::write(shelf, self.unit, OPEN)
+        gate::reopen(shelf, self.unit)
     }
 
     /// Closes the gate after the last change.

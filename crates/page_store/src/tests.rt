@@ -82,8 +82,12 @@ fn begin<S: Shelf>(shelf: &mut S) -> Result<(), Fault>
     requires unit { HasUnit (S.state shelf.old) 0 }
     ensures unit { HasUnit (S.state shelf.new) 0 }
 {
-    if shelf.exists(0)? {
-        Store::open(shelf, 0)?.begin_change(shelf)?;
+    if !shelf.exists(0)? {
+        return Ok(());
+    }
+    let store = Store::open(shelf, 0)?;
+    if store.pages > 0 {
+        store.begin_change(shelf)?;
     }
     Ok(())
 }

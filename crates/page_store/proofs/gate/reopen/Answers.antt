@@ -1,11 +1,11 @@
-use Rattle.std.proofs.Common.{rules, ◌≡◌, ◌∙◌, sym, subst, length, arith, inl}
+use Rattle.std.proofs.Common.{rules, ◌≡◌, ◌∙◌, sym, subst, length, arith, inl, ap}
 use Rattle.page_store.specs.File.{File}
 use Rattle.page_store.specs.Calls.{Synced, SyncFails}
 use Rattle.page_store.specs.Gate.{GateWritten, GateFails, WasOrRefused}
 use Rattle.page_store.specs.GateLaws.{opening_failed, opening_done, sync_failed}
 use Rattle.page_store.specs.StartLaws.{opens_closed}
 use Rattle.page_store.specs.ShelfState.{unit_file}
-use Rattle.page_store.proofs.FailedLemmas.{at_err, opening_seen, syncing_seen}
+use Rattle.page_store.proofs.FailedLemmas.{at_err, opening_seen, syncing_seen, only_same, only_synced, only_unsynced, only_gate, only_failed}
 use Rattle.page_store.proofs.FileLemmas.{there_image}
 use Rattle.page_store.proofs.GateLemmas.{closed_from, opens_from, same_file}
 use Rattle.page_store.proofs.gate.reopen.Goals as goal
@@ -85,3 +85,41 @@ returns-in_err-sync-clause-failed g c = at_err _ _ _ (λ honest.
     let was = c.read_at.ensures.only.honest (sym c.sync.ensures.only.honest ∙ honest) in
     let same = same_file (g.S.Shelf.state c.args.shelf.now) (g.S.Shelf.state c.read_at.new.self) c.args.unit c.read_at.ensures.only in
     syncing_seen f h (record { there = (c.requires.within was).there; long = omega arith }) (subst (λ (x : File). SyncFails x h) same c.in_err-sync.ensures.failed))
+
+pub returns-in_err-write-clause-gate : goal.returns-in_err-write-clause-gate
+returns-in_err-write-clause-gate g c honest =
+    let f = unit_file (g.S.Shelf.state c.args.shelf.now) c.args.unit in
+    let h = unit_file (g.S.Shelf.state c.write.new.shelf) c.args.unit in
+    let was = c.read_at.ensures.only.honest (sym c.write.ensures.only.honest ∙ honest) in
+    let same = same_file (g.S.Shelf.state c.args.shelf.now) (g.S.Shelf.state c.read_at.new.self) c.args.unit c.read_at.ensures.only in
+    only_failed f h (c.requires.within was) (subst (λ (x : File). GateFails 68 x h) same c.in_err-write.ensures.failed)
+
+pub returns-in_ok-write-clause-gate : goal.returns-in_ok-write-clause-gate
+returns-in_ok-write-clause-gate g c honest =
+    let f = unit_file (g.S.Shelf.state c.args.shelf.now) c.args.unit in
+    let h = unit_file (g.S.Shelf.state c.write.new.shelf) c.args.unit in
+    let was = c.read_at.ensures.only.honest (sym c.write.ensures.only.honest ∙ honest) in
+    let same = same_file (g.S.Shelf.state c.args.shelf.now) (g.S.Shelf.state c.read_at.new.self) c.args.unit c.read_at.ensures.only in
+    only_gate f h (c.requires.within was) (subst (λ (x : File). GateWritten 68 x h) same c.in_ok-write.ensures.written)
+
+pub returns-in_err-sync-clause-gate : goal.returns-in_err-sync-clause-gate
+returns-in_err-sync-clause-gate g c honest =
+    let f = unit_file (g.S.Shelf.state c.args.shelf.now) c.args.unit in
+    let h = unit_file (g.S.Shelf.state c.sync.new.self) c.args.unit in
+    let was = c.read_at.ensures.only.honest (sym c.sync.ensures.only.honest ∙ honest) in
+    let same = same_file (g.S.Shelf.state c.args.shelf.now) (g.S.Shelf.state c.read_at.new.self) c.args.unit c.read_at.ensures.only in
+    only_unsynced f h (c.requires.within was) (subst (λ (x : File). SyncFails x h) same c.in_err-sync.ensures.failed)
+
+pub returns-in_ok-sync-clause-gate : goal.returns-in_ok-sync-clause-gate
+returns-in_ok-sync-clause-gate g c honest =
+    let f = unit_file (g.S.Shelf.state c.args.shelf.now) c.args.unit in
+    let h = unit_file (g.S.Shelf.state c.sync.new.self) c.args.unit in
+    let was = c.read_at.ensures.only.honest (sym c.sync.ensures.only.honest ∙ honest) in
+    let same = same_file (g.S.Shelf.state c.args.shelf.now) (g.S.Shelf.state c.read_at.new.self) c.args.unit c.read_at.ensures.only in
+    only_synced f h (c.requires.within was) (subst (λ (x : File). Synced x h) same c.in_ok-sync.ensures.synced)
+
+pub returns-in_err-read_at-clause-gate : goal.returns-in_err-read_at-clause-gate
+returns-in_err-read_at-clause-gate g c honest =
+    let was = c.read_at.ensures.only.honest honest in
+    let same = same_file (g.S.Shelf.state c.args.shelf.now) (g.S.Shelf.state c.read_at.new.self) c.args.unit c.read_at.ensures.only in
+    only_same _ _ (c.requires.within was) (ap (λ (x : File). x.seen) same)
