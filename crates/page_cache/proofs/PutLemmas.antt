@@ -1,0 +1,153 @@
+-- What a frame that is put in front leaves of the list of pages.
+use Rattle.std.proofs.Common.{zero, suc, ◌≡◌, ◌≢◌, ◌⊎◌, inl, inr, ℕ, ◌+◌, ◌-◌, ◌<◌, ◌≤◌, false, if◌then◌else◌, nat_eq, Option, Some, None, option_map, List, [], ◌∷◌, length, take, slice_get, refl, sym, ◌∙◌, ap, subst, arith, IsTrue, IsSome, is_some, Result, Ok, Err, OnOk, OnErr}
+use Rattle.io_state.specs.declared.fault.Fault.{Fault}
+use Rattle.page_cache.proofs.OverLemmas.{over_same, pages_same, clean_same, over_read, pages_read}
+use Rattle.std.specs.Option.{option_map_or}
+use Rattle.std.specs.Cmp.{nat_eq_equiv}
+use Rattle.std.specs.Map.{lookup, lookup_entry}
+use Rattle.std.proofs.lemmas.Bool.{cases_Bool, cases_eq, eqb-true, ne_eqb}
+use Rattle.lru.specs.LruCache.{LruCache, lru_cache, put_entries}
+use Rattle.page_store.specs.File.{content}
+use Rattle.page_store.specs.Pages.{page_of, HasPages}
+use Rattle.page_store.specs.ShelfState.{ShelfState, unit_name, unit_file, OnlyReads}
+use Rattle.page_cache.specs.declared.frame.Frame.{Frame}
+use Rattle.page_cache.specs.declared.cache.Cache.{Cache}
+use Rattle.page_cache.specs.Cached.{frame_of, is_counted, pages_of, IsOver, IsClean}
+use Rattle.page_cache.specs.Turning.{HasRoom}
+use Rattle.page_cache.proofs.FrameLemmas.{lookup-lookup_entry}
+
+module _ {X : Type 0} where
+  -- what a list without its last entry finds
+  abbrev Dropped : ℕ → List (ℕ × X) → ℕ → Type 0
+  Dropped k es j = (lookup (nat_eq k) (take j es) ≡ None) × ((value : X) × (slice_get es j ≡ Some (k, value)) × (lookup (nat_eq k) es ≡ Some value))
+
+  pub take_look : (k : ℕ) (es : List (ℕ × X)) (j : ℕ) → length es ≤ j + 1 → (lookup (nat_eq k) (take j es) ≡ lookup (nat_eq k) es) ⊎ Dropped k es j
+  take_look k [] zero low = inl refl
+  take_look k [] (suc j) low = inl refl
+  take_look k (e ∷ []) zero low = elim (cases_Bool (nat_eq k e.0)) [
+    | inl hit ↦ inr (refl, (e.1, ap (λ n. Some (n, e.1)) (sym (eqb-true k e.0 hit)), rw hit refl))
+    | inr miss ↦ inl (rw miss refl)
+  ]
+  take_look k (e ∷ f ∷ es) zero low = absurd (omega arith)
+  take_look k (e ∷ es) (suc j) low = elim (cases_Bool (nat_eq k e.0)) [
+    | inl hit ↦ inl (rw hit refl)
+    | inr miss ↦ elim (take_look k es j (omega arith)) [
+      | inl same ↦ inl (rw miss same)
+      | inr gone ↦ inr (rw miss gone.0, (gone.1.0, gone.1.1, rw miss gone.1.2))
+    ]
+  ]
+
+  entry_none : (o : Option (ℕ × X)) → option_map (λ e. e.1) o ≡ None → o ≡ None
+  entry_none None is = refl
+  entry_none (Some e) is = absurd (cc)
+
+  pub put_front : (c : LruCache ℕ X) (n : ℕ) (value : X) → lookup (nat_eq n) c.entries ≡ None → put_entries nat_eq c n value ≡ (n, value) ∷ take (c.cap - 1) c.entries
+  put_front c n value absent = rw (entry_none (lookup_entry (nat_eq n) c.entries) (sym (lookup-lookup_entry (nat_eq n) c.entries) ∙ absent)) refl
+
+-- the frame stands in front of the others, of which the last may be gone
+module _ (c d : Cache) (t u : ShelfState) (n : ℕ) (frame : Frame) (over : IsOver c t) (room : HasRoom c t) (fits : length c.frames.entries ≤ c.frames.cap) (counted : IsTrue (is_counted c n))
+    (absent : frame_of c n ≡ None) (store : d.store ≡ c.store) (put : d.frames ≡ lru_cache (put_entries nat_eq c.frames n frame) c.frames.cap)
+    (only : OnlyReads t u) (unchanged : frame.changed ≡ false) (bytes : IsTrue u.is_honest → frame.page.value ≡ page_of (content (unit_file t c.store.unit)) n) where
+  entries : d.frames.entries ≡ (n, frame) ∷ take (c.frames.cap - 1) c.frames.entries
+  entries = ap (λ frames. frames.entries) put ∙ put_front c.frames n frame absent
+
+  pub put_here : frame_of d n ≡ Some frame
+  put_here = ap (lookup (nat_eq n)) entries ∙ rw (nat_eq_equiv.refl n) refl
+
+  away : (k : ℕ) → k ≢ n → frame_of d k ≡ lookup (nat_eq k) (take (c.frames.cap - 1) c.frames.entries)
+  away k differs = ap (lookup (nat_eq k)) entries ∙ rw (ne_eqb k n differs) refl
+
+  pub put_other : (k : ℕ) → k ≢ n → (frame_of d k ≡ frame_of c k) ⊎ ((frame_of d k ≡ None) × ((other : Frame) × (slice_get c.frames.entries (c.frames.cap - 1) ≡ Some (k, other)) × (frame_of c k ≡ Some other)))
+  put_other k differs = elim (take_look k c.frames.entries (c.frames.cap - 1) (omega arith)) [
+    | inl same ↦ inl (away k differs ∙ same)
+    | inr gone ↦ inr (away k differs ∙ gone.0, gone.1)
+  ]
+
+  -- what d finds but the new frame, c found
+  was_held : (k : ℕ) (other : Frame) → k ≢ n → frame_of d k ≡ Some other → frame_of c k ≡ Some other
+  was_held k other differs is = elim (put_other k differs) [
+    | inl same ↦ sym same ∙ is
+    | inr gone ↦ absurd (ends other (sym gone.0 ∙ is))
+  ]
+    where
+      ends : (other : Frame) → None ≡ Some other → ⊥
+      ends other e = cc
+
+  file_same : unit_file u d.store.unit ≡ unit_file t c.store.unit
+  file_same = ap (λ x. unit_file u x.unit) store ∙ ap (λ file. file (unit_name u c.store.unit)) only.file ∙ ap (λ names. t.file (unit_name (record t { names = names }) c.store.unit)) only.names
+
+  one_frame : (other : Frame) → frame_of d n ≡ Some other → other ≡ frame
+  one_frame other is = let e : Some other ≡ Some frame = sym is ∙ put_here in cc
+
+  counted_in : (k : ℕ) → IsTrue (is_counted c k) → IsTrue (is_counted d k)
+  counted_in k is = subst (λ x. IsTrue (is_counted (record c { store = x }) k)) (sym store) is
+
+  pub over_put : IsOver d u
+  over_put = record {
+    attached = record { attached = subst (λ names. d.store.unit < length names) (sym only.names) (subst (λ x. x.unit < length t.names) (sym store) over.attached.attached) };
+    counted = λ k other is. counted_in k (elim (cases_eq k n) [ inl same ↦ rw same counted | inr differs ↦ over.counted k other (was_held k other differs is) ]);
+    pages = λ honest. rw file_same (subst (λ x. HasPages x.pages (unit_file t c.store.unit)) (sym store) (over.pages (only.honest honest)));
+    clean = λ honest k other is clean. rw file_same (elim (cases_eq k n) [
+      | inl same ↦ ap (λ (x : Frame). x.page.value) (one_frame other (ap (frame_of d) (sym same) ∙ is)) ∙ bytes honest ∙ ap (page_of (content (unit_file t c.store.unit))) (sym same)
+      | inr differs ↦ over.clean (only.honest honest) k other (was_held k other differs is) clean
+    ]);
+  }
+
+  pub clean_put : IsClean c → IsClean d
+  clean_put clean = record {
+    clean = λ k other is. elim (cases_eq k n) [
+      | inl same ↦ ap (λ (x : Frame). x.changed) (one_frame other (ap (frame_of d) (sym same) ∙ is)) ∙ unchanged
+      | inr differs ↦ clean.clean k other (was_held k other differs is)
+    ];
+  }
+
+  -- page k, where nothing or this frame holds it
+  seen : Cache → ShelfState → ℕ → Option Frame → List ℕ
+  seen x s k o = option_map_or (λ (f : Frame). f.page.value) o (if is_counted x k then page_of (content (unit_file s x.store.unit)) k else [])
+
+  pub pages_put : IsTrue u.is_honest → pages_of d u ≡ pages_of c t
+  pages_put honest = λ i k. at k i
+    where
+      stored : (k : ℕ) → (if is_counted d k then page_of (content (unit_file u d.store.unit)) k else []) ≡ (if is_counted c k then page_of (content (unit_file t c.store.unit)) k else [])
+      stored k = ap (λ file. if is_counted d k then page_of (content file) k else []) file_same ∙ ap (λ x. if is_counted (record c { store = x }) k then page_of (content (unit_file t c.store.unit)) k else []) store
+
+      of_frame : (k : ℕ) (o q : Option Frame) → frame_of d k ≡ o → frame_of c k ≡ q → option_map_or (λ (f : Frame). f.page.value) o (if is_counted d k then page_of (content (unit_file u d.store.unit)) k else []) ≡ option_map_or (λ (f : Frame). f.page.value) q (if is_counted c k then page_of (content (unit_file t c.store.unit)) k else []) → pages_of d u k ≡ pages_of c t k
+      of_frame k o q d_is c_is same = rw (d_is, c_is) same
+
+      at : (k : ℕ) → pages_of d u k ≡ pages_of c t k
+      at k = elim (cases_eq k n) [
+        | inl same ↦ of_frame k (Some frame) None (ap (frame_of d) same ∙ put_here) (ap (frame_of c) same ∙ absent) (bytes honest ∙ rw (same, counted) refl)
+        | inr differs ↦ elim (put_other k differs) [
+          | inl kept ↦ ap (λ o. option_map_or (λ (f : Frame). f.page.value) o (if is_counted d k then page_of (content (unit_file u d.store.unit)) k else [])) kept ∙ ap (option_map_or (λ (f : Frame). f.page.value) (frame_of c k)) (stored k)
+          | inr gone ↦ of_frame k None (Some gone.1.0) gone.0 gone.1.2 (stored k ∙ rw (over.counted k gone.1.0 gone.1.2) (sym (room.settled (only.honest honest) k gone.1.0 gone.1.1)))
+        ]
+      ]
+
+-- what a page that was read and put in front leaves, or one that could not be put
+pub record Brought (n : ℕ) (r : Result (Unit {0}) Fault) (c d : Cache) (t u : ShelfState) : Type 0 where
+  pub held : OnOk r (IsSome (frame_of d n))
+  pub over : IsOver d u
+  pub pages : IsTrue u.is_honest → pages_of d u ≡ pages_of c t
+  pub clean : IsClean c → IsClean d
+
+pub brought : (c d : Cache) (t u : ShelfState) (n : ℕ) (frame : Frame) → IsOver c t → HasRoom c t → length c.frames.entries ≤ c.frames.cap → IsTrue (is_counted c n) → frame_of c n ≡ None → d.store ≡ c.store
+    → OnlyReads t u → frame.changed ≡ false → (IsTrue u.is_honest → frame.page.value ≡ page_of (content (unit_file t c.store.unit)) n)
+    → (r : Result (Unit {0}) Fault) → OnOk r (d.frames ≡ lru_cache (put_entries nat_eq c.frames n frame) c.frames.cap) → OnErr r (d.frames ≡ c.frames) → Brought n r c d t u
+brought c d t u n frame over room fits counted absent store only unchanged bytes (Ok x) put kept = record {
+  held = ap is_some (put_here c d t u n frame over room fits counted absent store put only unchanged bytes);
+  over = over_put c d t u n frame over room fits counted absent store put only unchanged bytes;
+  pages = pages_put c d t u n frame over room fits counted absent store put only unchanged bytes;
+  clean = clean_put c d t u n frame over room fits counted absent store put only unchanged bytes;
+}
+brought c d t u n frame over room fits counted absent store only unchanged bytes (Err x) put kept =
+    let same : (k : ℕ) → frame_of d k ≡ frame_of c k = λ k. ap (λ frames. lookup (nat_eq k) frames.entries) kept in
+    record {
+      held = tt;
+      over = over_same c d u store same (over_read c t u only over);
+      pages = λ honest. pages_same c d u store same ∙ pages_read c t u only;
+      clean = clean_same c d same;
+    }
+
+pub cap_kept : (old mid new : LruCache ℕ Frame) (es : List (ℕ × Frame)) (r : Result (Unit {0}) Fault) → mid ≡ old → OnOk r (new ≡ lru_cache es mid.cap) → OnErr r (new ≡ mid) → new.cap ≡ old.cap
+cap_kept old mid new es (Ok x) same put kept = ap (λ x. x.cap) put ∙ ap (λ x. x.cap) same
+cap_kept old mid new es (Err x) same put kept = ap (λ x. x.cap) kept ∙ ap (λ x. x.cap) same

@@ -1,0 +1,31 @@
+use Rattle.std.proofs.Common.{◌≡◌, ◌∙◌, subst, arith, length}
+use Rattle.page_cache.specs.QuietLaws.{keeps_then}
+use Rattle.page_cache.proofs.TurnLemmas.{CleanFront, front_more, front_all}
+use Rattle.page_cache.proofs.cache.Cache.flush.Goals as goal
+
+pub returns-in_err-settle_last-clause-kept : goal.returns-in_err-settle_last-clause-kept
+returns-in_err-settle_last-clause-kept g c =
+    keeps_then c.args.self.now c.loop-turn.self c.settle_last.new.self (g.S.Shelf.state c.args.shelf.now) (g.S.Shelf.state c.loop-turn.shelf) (g.S.Shelf.state c.settle_last.new.shelf)
+    c.loop-turn.invariant.kept c.settle_last.ensures.kept
+
+pub loop-turn-preserved : goal.loop-turn-preserved
+loop-turn-preserved g c =
+    let i = c.loop-turn.invariant in
+    let e = c.settle_last.ensures in
+    let turn = c.in_ok-settle_last.ensures.turned in
+    record {
+      kept = keeps_then c.args.self.now c.loop-turn.self c.settle_last.new.self (g.S.Shelf.state c.args.shelf.now) (g.S.Shelf.state c.loop-turn.shelf) (g.S.Shelf.state c.settle_last.new.shelf) i.kept e.kept;
+      asked = e.asked ∙ i.asked;
+      faults = let a = i.faults in let b = e.cause.no_fewer in omega arith;
+      long = turn.long ∙ i.long;
+      front = front_more c.loop-turn.turn c.loop-turn.self c.settle_last.new.self i.front turn;
+    }
+
+pub returns-clause-clean : goal.returns-clause-clean
+returns-clause-clean g c =
+    let a = c.len-turn-end.ensures.len in
+    let low = c.loop-turn-test.false in
+    let high = c.loop-turn.auto.turn-end in
+    let long = c.loop-turn.invariant.long in
+    let whole : c.loop-turn.turn ≡ length c.loop-turn.self.frames.entries = omega arith in
+    front_all c.loop-turn.self (subst (λ k. CleanFront k c.loop-turn.self) whole c.loop-turn.invariant.front)

@@ -1,0 +1,38 @@
+-- The pages of a file, some of them in memory.
+use Rattle.std.specs.Prelude.{◌≡◌, ℕ, ltb, ◌&&◌, if◌then◌else◌, Bool, false, IsTrue, nat_eq, List, [], Option, Some}
+use Rattle.std.specs.Option.{option_map_or}
+use Rattle.std.specs.Map.{lookup}
+use Rattle.page_store.specs.File.{File, content}
+use Rattle.page_store.specs.Pages.{page_of, HasPages}
+use Rattle.page_store.specs.ShelfState.{ShelfState, HasUnit, unit_file, WhereHonest}
+use Rattle.page_cache.specs.declared.frame.Frame.{Frame}
+use Rattle.page_cache.specs.declared.cache.Cache.{Cache}
+
+-- the frame of page n, if it is in memory
+abbrev pub frame_of : Cache → ℕ → Option Frame
+frame_of cache n = lookup (nat_eq n) cache.frames.entries
+
+-- n is a page of the store, and not the header
+abbrev pub is_counted : Cache → ℕ → Bool
+is_counted cache n = ltb 0 n && ltb n cache.store.pages
+
+-- each page of the store as the cache shows it over a file; the header and what is past the last page have no bytes here
+abbrev pub pages_in : Cache → File → ℕ → List ℕ
+pages_in cache file n = option_map_or (λ frame. frame.page.value) (frame_of cache n) (if is_counted cache n then page_of (content file) n else [])
+
+-- the pages over the unit's file
+abbrev pub pages_of : Cache → ShelfState → ℕ → List ℕ
+pages_of cache shelf = pages_in cache (unit_file shelf cache.store.unit)
+
+-- what a cache needs of the shelf that it is over
+pub record IsOver (cache : Cache) (shelf : ShelfState) : Type 0 where
+  pub attached : HasUnit shelf cache.store.unit
+  -- a frame is of a page of the store
+  pub counted : (n : ℕ) (frame : Frame) → frame_of cache n ≡ Some frame → IsTrue (is_counted cache n)
+  pub pages : WhereHonest shelf cache.store.unit (HasPages cache.store.pages)
+  -- a page that was not changed is that of the file
+  pub clean : IsTrue shelf.is_honest → (n : ℕ) (frame : Frame) → frame_of cache n ≡ Some frame → frame.changed ≡ false → frame.page.value ≡ page_of (content (unit_file shelf cache.store.unit)) n
+
+-- no page in memory was changed since it was written
+pub record IsClean (cache : Cache) : Type 0 where
+  pub clean : (n : ℕ) (frame : Frame) → frame_of cache n ≡ Some frame → frame.changed ≡ false

@@ -1,0 +1,7 @@
+pub mod Quietly
+pub mod Rewrites
+pub mod Cached
+pub mod Calls
+pub mod Lending
+pub mod Turning
+pub mod QuietLaws

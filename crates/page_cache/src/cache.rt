@@ -1,0 +1,301 @@
+//! The cache, and what it reads and writes.
+ghost use Rattle.std.specs.Prelude.{◌≡◌, ◌≢◌, ℕ, ◌+◌, ◌-◌, ◌^◌, ◌<◌, ◌≤◌, max, [], length, min, nat_eq, None, IsSome, IsTrue, IfOk, OnOk, OnErr, if◌then◌else◌};
+ghost use Rattle.std.specs.NonZero.{non_zero_usize_get};
+ghost use Rattle.lru.specs.LruCache.{lru_cache, put_entries};
+ghost use Rattle.page_store.specs.File.{content};
+ghost use Rattle.page_store.specs.Pages.{page_of, HasPages};
+ghost use Rattle.page_store.specs.ShelfState.{ShelfState, HasUnit, unit_file, WhereHonest, OnlyReads, HasCause};
+ghost use Rattle.page_cache.specs.Cached.{frame_of, is_counted, pages_of, IsOver, IsClean};
+ghost use Rattle.page_cache.specs.Calls.{KeepsPages, Zeroed, GoesOn, Looks};
+ghost use Rattle.page_cache.specs.Turning.{HasRoom, IsLastWritten, settled, Turned};
+
+use crate::frame::{self, Frame};
+use io_state::Fault;
+use lru::LruCache;
+use page_store::{Shelf, Store};
+use std::alloc::Global;
+use std::num::NonZeroUsize;
+
+/// The pages of one unit, some of them in memory.
+#[derive(Drop)]
+pub struct Cache {
+    pub store: Store,
+    pub frames: LruCache<u32, Frame>,
+    pub spare: Option<Box<[u8; 4096]>>,
+    pub asked: u64,
+    pub alloc: Global,
+}
+
+impl Cache {
+    /// A cache that holds no page yet, and at most `frames` pages later.
+    pub fn new(alloc: Global, store: Store, frames: NonZeroUsize) -> Result<Cache, Fault>
+        ensures store { IfOk result (λ cache. cache.store ≡ store) }
+        ensures frames { IfOk result (λ cache. cache.frames ≡ lru_cache [] (non_zero_usize_get frames)) }
+        ensures asked { IfOk result (λ cache. cache.asked ≡ 0) }
+        ensures memory { OnErr result (result ≡ Err Fault.Memory) }
+        ensures over { IfOk result (λ cache. (shelf : ShelfState) → HasUnit shelf store.unit → WhereHonest shelf store.unit (HasPages store.pages) → IsOver cache shelf) }
+        // It shows the pages of the file.
+        ensures pages { IfOk result (λ cache. (shelf : ShelfState) (n : ℕ) →
+            pages_of cache shelf n ≡ (if is_counted cache n then page_of (content (unit_file shelf store.unit)) n else [])) }
+    {
+        Ok(Cache {
+            store,
+            frames: LruCache::sparse(alloc, frames).map_err(|_| Fault::Memory)?,
+            spare: None,
+            asked: 0,
+            alloc,
+        })
+    }
+
+    /// How many pages are held.
+    pub fn held_pages(&self) -> usize
+        ensures held { result ≡ length self.now.frames.entries }
+        ensures few { result ≤ self.now.frames.cap }
+    {
+        self.frames.len()
+    }
+
+    /// How often a page was asked for since the last restart.
+    pub fn asked(&self) -> u64
+        ensures { result ≡ self.now.asked }
+    {
+        self.asked
+    }
+
+    pub fn restart_count(&mut self)
+        ensures { self.new ≡ record self.old { asked = 0 } }
+    {
+        self.asked = 0;
+    }
+
+    /// Sees to it that page n is held. All reading and writing is here.
+    pub fn load<S: Shelf>(&mut self, shelf: &mut S, n: u32) -> Result<(), Fault>
+        requires over { IsOver self.old (S.state shelf.old) }
+        requires page { IsTrue (is_counted self.old n) }
+        ensures held { OnOk result (IsSome (frame_of self.new n)) }
+        ensures kept { KeepsPages self.old self.new (S.state shelf.old) (S.state shelf.new) }
+        ensures asked { self.new.asked ≡ min (self.old.asked + 1) (2 ^ 64 - 1) }
+        ensures looks { Looks self.old self.new (S.state shelf.old) (S.state shelf.new) }
+        ensures cause { HasCause (S.fault_count shelf.old) (S.fault_count shelf.new) result }
+    {
+        self.asked = self.asked.saturating_add(1);
+        if self.frames.contains(&n) {
+            return Ok(());
+        }
+        self.bring(shelf, n)
+    }
+
+    /// Page n becomes zeros. Where n is the number of pages, it is added and written at once.
+    pub fn zero<S: Shelf>(&mut self, shelf: &mut S, n: u32) -> Result<(), Fault>
+        requires over { IsOver self.old (S.state shelf.old) }
+        requires page { (0 < n) × (n ≤ self.old.store.pages) × (n < 2 ^ 32 - 1) }
+        ensures zeroed { OnOk result (Zeroed n self.old self.new (S.state shelf.old) (S.state shelf.new)) }
+        ensures kept { OnErr result (KeepsPages self.old self.new (S.state shelf.old) (S.state shelf.new)) }
+        ensures goes_on { GoesOn self.old self.new (S.state shelf.old) (S.state shelf.new) }
+        ensures asked { self.new.asked ≡ min (self.old.asked + 1) (2 ^ 64 - 1) }
+        ensures cause { HasCause (S.fault_count shelf.old) (S.fault_count shelf.new) result }
+    {
+        if n < self.store.pages {
+            return self.clear(shelf, n);
+        }
+        self.add(shelf, n)
+    }
+
+    // Fills a page of the store with zeros.
+    fn clear<S: Shelf>(&mut self, shelf: &mut S, n: u32) -> Result<(), Fault>
+        requires over { IsOver self.old (S.state shelf.old) }
+        requires page { IsTrue (is_counted self.old n) }
+        ensures zeroed { OnOk result (Zeroed n self.old self.new (S.state shelf.old) (S.state shelf.new)) }
+        ensures kept { OnErr result (KeepsPages self.old self.new (S.state shelf.old) (S.state shelf.new)) }
+        ensures goes_on { GoesOn self.old self.new (S.state shelf.old) (S.state shelf.new) }
+        ensures asked { self.new.asked ≡ min (self.old.asked + 1) (2 ^ 64 - 1) }
+        ensures cause { HasCause (S.fault_count shelf.old) (S.fault_count shelf.new) result }
+    {
+        self.load(shelf, n)?;
+        match self.held_mut(n) {
+            Ok(page) => {
+                page.fill(0);
+                Ok(())
+            }
+            Err(_) => Ok(()),
+        }
+    }
+
+    // Writes a page of zeros behind the last page.
+    fn add<S: Shelf>(&mut self, shelf: &mut S, n: u32) -> Result<(), Fault>
+        requires over { IsOver self.old (S.state shelf.old) }
+        requires page { (0 < n) × (n ≡ self.old.store.pages) × (n < 2 ^ 32 - 1) }
+        ensures zeroed { OnOk result (Zeroed n self.old self.new (S.state shelf.old) (S.state shelf.new)) }
+        ensures kept { OnErr result (KeepsPages self.old self.new (S.state shelf.old) (S.state shelf.new)) }
+        ensures goes_on { GoesOn self.old self.new (S.state shelf.old) (S.state shelf.new) }
+        ensures asked { self.new.asked ≡ min (self.old.asked + 1) (2 ^ 64 - 1) }
+        ensures cause { HasCause (S.fault_count shelf.old) (S.fault_count shelf.new) result }
+    {
+        self.asked = self.asked.saturating_add(1);
+        let mut page = self.box_for_page()?;
+        let written = frame::write_zeros(&mut self.store, shelf, n, &mut *page);
+        self.spare = Some(page);
+        written
+    }
+
+    /// Writes each page that was changed. A fault leaves the rest for the next flush.
+    pub fn flush<S: Shelf>(&mut self, shelf: &mut S) -> Result<(), Fault>
+        requires over { IsOver self.old (S.state shelf.old) }
+        ensures clean { OnOk result (IsClean self.new) }
+        ensures kept { KeepsPages self.old self.new (S.state shelf.old) (S.state shelf.new) }
+        ensures asked { self.new.asked ≡ self.old.asked }
+        ensures cause { HasCause (S.fault_count shelf.old) (S.fault_count shelf.new) result }
+    {
+        for turn in 0..self.frames.len() {
+            self.settle_last(shelf)?;
+        }
+        Ok(())
+    }
+
+    // Writes the last page where it was changed, and puts it in front. After as many turns as there are frames each stands where it stood.
+    fn settle_last<S: Shelf>(&mut self, shelf: &mut S) -> Result<(), Fault>
+        requires over { IsOver self.old (S.state shelf.old) }
+        ensures turned { OnOk result (Turned self.old self.new) }
+        ensures kept { KeepsPages self.old self.new (S.state shelf.old) (S.state shelf.new) }
+        ensures asked { self.new.asked ≡ self.old.asked }
+        ensures cause { HasCause (S.fault_count shelf.old) (S.fault_count shelf.new) result }
+    {
+        self.write_last(shelf)?;
+        let _held = self.frames.len();
+        match self.frames.peek_lru() {
+            Some((n, _frame)) => {
+                let n = *n;
+                self.settle(n);
+                Ok(())
+            }
+            None => Ok(()),
+        }
+    }
+
+    // Puts a page in front, as one that was not changed.
+    fn settle(&mut self, n: u32)
+        ensures frames { self.new.frames ≡ lru_cache (settled n self.old.frames.entries) self.old.frames.cap }
+        ensures store { self.new.store ≡ self.old.store }
+        ensures asked { self.new.asked ≡ self.old.asked }
+    {
+        match self.frames.get_mut(&n) {
+            Some(frame) => frame.changed = false,
+            None => {}
+        }
+    }
+
+    // Reads a page that is not held.
+    fn bring<S: Shelf>(&mut self, shelf: &mut S, n: u32) -> Result<(), Fault>
+        requires over { IsOver self.old (S.state shelf.old) }
+        requires page { IsTrue (is_counted self.old n) }
+        requires absent { frame_of self.old n ≡ None }
+        ensures held { OnOk result (IsSome (frame_of self.new n)) }
+        ensures kept { KeepsPages self.old self.new (S.state shelf.old) (S.state shelf.new) }
+        ensures asked { self.new.asked ≡ self.old.asked }
+        ensures looks { Looks self.old self.new (S.state shelf.old) (S.state shelf.new) }
+        ensures cause { HasCause (S.fault_count shelf.old) (S.fault_count shelf.new) result }
+    {
+        self.make_room(shelf)?;
+        let page = self.read(shelf, n)?;
+        self.put(
+            n,
+            Frame {
+                changed: false,
+                page,
+            },
+        )
+    }
+
+    // Writes the page that the next one will push out.
+    fn make_room<S: Shelf>(&mut self, shelf: &mut S) -> Result<(), Fault>
+        requires over { IsOver self.old (S.state shelf.old) }
+        ensures room { OnOk result (HasRoom self.new (S.state shelf.new)) }
+        ensures kept { KeepsPages self.old self.new (S.state shelf.old) (S.state shelf.new) }
+        ensures same { self.new ≡ self.old }
+        ensures looks { Looks self.old self.new (S.state shelf.old) (S.state shelf.new) }
+        ensures cause { HasCause (S.fault_count shelf.old) (S.fault_count shelf.new) result }
+    {
+        if self.frames.len() < self.frames.cap().get() {
+            return Ok(());
+        }
+        self.write_last(shelf)
+    }
+
+    // Writes the last page, where it was changed.
+    fn write_last<S: Shelf>(&mut self, shelf: &mut S) -> Result<(), Fault>
+        requires over { IsOver self.old (S.state shelf.old) }
+        ensures last { OnOk result (IsLastWritten self.old (S.state shelf.new)) }
+        ensures kept { KeepsPages self.old self.new (S.state shelf.old) (S.state shelf.new) }
+        ensures same { self.new ≡ self.old }
+        ensures looks { Looks self.old self.new (S.state shelf.old) (S.state shelf.new) }
+        ensures cause { HasCause (S.fault_count shelf.old) (S.fault_count shelf.new) result }
+    {
+        let _held = self.frames.len();
+        let Some((n, frame)) = self.frames.peek_lru() else {
+            return Ok(());
+        };
+        if frame.changed {
+            frame::write_back(&mut self.store, shelf, *n, &frame.page)?;
+        }
+        Ok(())
+    }
+
+    // A box with the bytes of page n.
+    fn read<S: Shelf>(&mut self, shelf: &mut S, n: u32) -> Result<Box<[u8; 4096]>, Fault>
+        requires over { IsOver self.old (S.state shelf.old) }
+        requires page { IsTrue (is_counted self.old n) }
+        ensures bytes { let file = unit_file (S.state shelf.old) self.old.store.unit in
+            IfOk result (λ page. IsTrue (S.state shelf.new).is_honest → page.value ≡ page_of (content file) n) }
+        ensures frames { self.new.frames ≡ self.old.frames }
+        ensures store { self.new.store ≡ self.old.store }
+        ensures asked { self.new.asked ≡ self.old.asked }
+        ensures only { OnlyReads (S.state shelf.old) (S.state shelf.new) }
+        ensures cause { HasCause (S.fault_count shelf.old) (S.fault_count shelf.new) result }
+    {
+        let mut page = self.box_for_page()?;
+        match self.store.read_page(shelf, n, &mut *page) {
+            Ok(()) => Ok(page),
+            Err(fault) => {
+                self.spare = Some(page);
+                Err(fault)
+            }
+        }
+    }
+
+    // A box with any bytes: the one left over, or a new one.
+    fn box_for_page(&mut self) -> Result<Box<[u8; 4096]>, Fault>
+        ensures frames { self.new.frames ≡ self.old.frames }
+        ensures store { self.new.store ≡ self.old.store }
+        ensures asked { self.new.asked ≡ self.old.asked }
+        ensures memory { OnErr result (result ≡ Err Fault.Memory) }
+    {
+        match self.spare.take() {
+            Some(page) => Ok(page),
+            None => Box::new(self.alloc, [0; 4096]).map_err(|_| Fault::Memory),
+        }
+    }
+
+    // Puts a frame in front, and keeps the box that it pushes out.
+    fn put(&mut self, n: u32, frame: Frame) -> Result<(), Fault>
+        ensures put { OnOk result (self.new.frames ≡ lru_cache (put_entries nat_eq self.old.frames n frame) self.old.frames.cap) }
+        ensures kept { OnErr result (self.new.frames ≡ self.old.frames) }
+        ensures fits { length self.old.frames.entries ≤ self.old.frames.cap }
+        ensures store { self.new.store ≡ self.old.store }
+        ensures asked { self.new.asked ≡ self.old.asked }
+        ensures memory { OnErr result (result ≡ Err Fault.Memory) }
+    {
+        let _held = self.frames.len();
+        match self.frames.push(n, frame) {
+            Ok(Some((_, Frame { page, .. }))) => {
+                self.spare = Some(page);
+                Ok(())
+            }
+            Ok(None) => Ok(()),
+            Err(failed) => {
+                let (_, Frame { page, .. }) = failed.value;
+                self.spare = Some(page);
+                Err(Fault::Memory)
+            }
+        }
+    }
+}
