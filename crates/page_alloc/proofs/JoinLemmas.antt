@@ -1,0 +1,156 @@
+-- What a call of the cache leaves of the joined parts.
+use Rattle.std.proofs.Common.{◌≡◌, ◌≢◌, inl, inr, ℕ, ◌<◌, ◌≤◌, ltb, Bool, true, List, Some, option_map, is_some, IsTrue, Result, Ok, Err, is_ok, IfErr, OnErr, true, refl, sym, ◌∙◌, ap, subst, arith}
+use Rattle.std.proofs.lemmas.Bool.{and_from, lt-ltb, both_ways}
+use Rattle.io_state.specs.declared.fault.Fault.{Fault}
+use Rattle.io_state.specs.declared.fault.Fault.TheVariants.{Device, Memory, Full, Damage, Broken}
+use Rattle.page_store.specs.ShelfState.{ShelfState, HasCause}
+use Rattle.page_cache.specs.declared.cache.Cache.{Cache}
+use Rattle.page_cache.specs.Cached.{frame_of, is_counted, pages_of, IsOver}
+use Rattle.page_cache.specs.Calls.{Keeps, Looks, KeepsPages}
+use Rattle.page_cache.specs.Quietly.{GoesQuietly}
+use Rattle.page_cache.specs.Lending.{FrameSet, SameFrames}
+use Rattle.page_cache.proofs.OverLemmas.{over_same, pages_same, clean_same, held_page, set_page, set_others}
+use Rattle.page_alloc.specs.declared.pager.Pager.{Pager}
+use Rattle.pages.specs.PagesState.{Shows, Rests, Leaves}
+use Rattle.page_alloc.specs.Chain.{chain, used}
+use Rattle.page_alloc.specs.Joining.{free_pages, pages_state, IsJoined, PartsGo, HasFailed}
+use Rattle.page_alloc.specs.Taking.{CallFails}
+use Rattle.pages.specs.Cause.{IsCaused}
+use Rattle.page_store.specs.OpenLaws.{open_kept}
+use Rattle.page_store.specs.ShelfState.{unit_file}
+use Rattle.page_store.specs.Gate.{AllOpen}
+use Rattle.page_alloc.specs.declared.open_file.OpenFile.{OpenFile}
+use Rattle.page_alloc.specs.OpenFile.{IsOpenOver}
+use Rattle.page_alloc.specs.Steps.{Goes, Reads, state_of}
+use Rattle.page_alloc.proofs.ChainLemmas.{in_use, use_kept, same_chain}
+
+pub counted_page : (c : Cache) (p : Pager) (s : ShelfState) (n : ℕ) → IsJoined c p s → (n ≡ 0 → ⊥) → n < p.count → IsTrue (is_counted c n)
+counted_page c p s n joined positive low =
+    let counted = joined.counted in
+    and_from (ltb 0 n) (ltb n c.store.pages) (lt-ltb 0 n (omega arith)) (lt-ltb n c.store.pages (omega arith))
+
+pub joined_after : (c d : Cache) (p : Pager) (s t : ShelfState) → IsJoined c p s → d.store ≡ c.store → IsOver d t → IsJoined d p t
+joined_after c d p s t joined same over = record { over = over; counted = subst (λ x. p.count ≤ x.pages) (sym same) joined.counted; header = joined.header }
+
+-- no page of the list has changed
+pub rested : (c d : Cache) (p : Pager) (s t : ShelfState) → (IsTrue t.is_honest → pages_of d t ≡ pages_of c s) → (IsTrue t.is_honest → IsTrue s.is_honest) → Rests (pages_state c p s) (pages_state d p t)
+rested c d p s t same honest = record {
+  live = λ h. ap (λ pages. used pages p.count (chain pages p.count p.first p.free)) (same h);
+  sound = λ h. ap (λ pages. is_some (chain pages p.count p.first p.free)) (same h);
+  available = refl;
+  honest = honest;
+}
+
+pub left : (n : ℕ) (w : List ℕ) (c d e : Cache) (p : Pager) (s t : ShelfState) → FrameSet n w d e → (IsTrue t.is_honest → pages_of d t ≡ pages_of c s) → (IsTrue t.is_honest → IsTrue s.is_honest)
+    → Leaves n w (pages_state c p s) (pages_state e p t)
+left n w c d e p s t set same honest = record {
+  live = λ h there. use_kept (pages_of c s) (pages_of e t) p.count n p.first p.free (others h) there w (set_page n w d e set t);
+  sound = λ h there. ap is_some (same_chain (pages_of c s) (pages_of e t) p.count n p.first p.free (others h) there);
+  available = refl;
+  honest = honest;
+}
+  where
+    others : IsTrue t.is_honest → (k : ℕ) → k ≢ n → pages_of e t k ≡ pages_of c s k
+    others h k differs = set_others n w d e set t k differs ∙ ap (λ pages. pages k) (same h)
+
+pub parts_after : (c d : Cache) (s t : ShelfState) (i j : ℕ) → Keeps c d → GoesQuietly c.store.unit s t → i ≤ j → PartsGo c d s t i j
+parts_after c d s t i j keeps quietly faults = record {
+  unit = ap (λ x. x.unit) keeps.store;
+  cap = keeps.cap;
+  pages = let e : d.store.pages ≡ c.store.pages = ap (λ x. x.pages) keeps.store in omega arith;
+  quietly = quietly;
+  faults = faults;
+}
+
+pub looks_after : (c d e : Cache) (s t : ShelfState) → Looks c d s t → SameFrames d e → Looks c e s t
+looks_after c d e s t looks same = record { clean = λ clean. clean_same d e same.frames (looks.clean clean); file = looks.file }
+
+-- the same frames, in another order
+pub kept_after : (c d e : Cache) (s t : ShelfState) → KeepsPages c d s t → SameFrames d e → KeepsPages c e s t
+kept_after c d e s t kept same = record {
+  over = over_same d e t same.store same.frames kept.over;
+  pages = λ h. pages_same d e t same.store same.frames ∙ kept.pages h;
+  keeps = record { store = same.store ∙ kept.keeps.store; cap = same.cap ∙ kept.keeps.cap };
+  goes = kept.goes;
+}
+
+pub at_err : {T : Type 0} {P : Type 0} (r : Result T Fault) → P → OnErr r P
+at_err (Ok x) p = tt
+at_err (Err x) p = p
+
+pub at_err_where : {T : Type 0} (honest : Bool) (P : Type 0) (r : Result T Fault) → (IsTrue honest → P) → OnErr r (IsTrue honest → P)
+at_err_where honest P (Ok x) p = tt
+at_err_where honest P (Err x) p = p
+
+pub err_weaker : {T P Q : Type 0} (r : Result T Fault) → (P → Q) → OnErr r P → OnErr r Q
+err_weaker (Ok x) f p = tt
+err_weaker (Err x) f p = f p
+
+pub over_after : (d e : Cache) (t : ShelfState) → SameFrames d e → IsOver d t → IsOver e t
+over_after d e t same over = over_same d e t same.store same.frames over
+
+-- a page of the cache is lent, or could not be loaded
+pub reads_after : (a b : OpenFile) (s t : ShelfState) (i j : ℕ) → b.pager ≡ a.pager → b.changed ≡ a.changed → KeepsPages a.cache b.cache s t → Looks a.cache b.cache s t → i ≤ j → Reads a b s t i j
+reads_after a b s t i j pager gate kept looks faults = record {
+  goes = record {
+    parts = parts_after a.cache b.cache s t i j kept.keeps kept.goes faults;
+    gate = gate;
+    ready = λ r. record {
+      joined = record { over = kept.over; counted = subst (λ x. x.count ≤ b.cache.store.pages) (sym pager) (subst (λ x. a.pager.count ≤ x.pages) (sym kept.keeps.store) r.joined.counted); header = subst (λ x. 0 < x.count) (sym pager) r.joined.header };
+      clean = λ shut. looks.clean (r.clean (sym gate ∙ shut));
+      gate = λ changed honest. gate_open r (sym gate ∙ changed) honest;
+    };
+    still = λ r shut. looks.file (r.clean shut);
+  };
+  rests = subst (λ x. Rests (state_of a s) (pages_state b.cache x t)) (sym pager) (rested a.cache b.cache a.pager s t kept.pages kept.goes.others.honest);
+}
+  where
+    gate_open : IsOpenOver a s → a.changed ≡ true → IsTrue t.is_honest → AllOpen (unit_file t b.cache.store.unit)
+    gate_open r changed honest = subst (λ x. AllOpen (unit_file t x.unit)) (sym kept.keeps.store)
+        (open_kept (unit_file s a.cache.store.unit) (unit_file t a.cache.store.unit) (r.gate changed (kept.goes.others.honest honest)) kept.goes.quiet)
+
+-- pages were changed behind an open gate
+pub goes_after : (a b : OpenFile) (s t : ShelfState) (i j : ℕ) → a.changed ≡ true → b.changed ≡ a.changed → PartsGo a.cache b.cache s t i j → IsJoined b.cache b.pager t → Goes a b s t i j
+goes_after a b s t i j changed gate parts joined = record {
+  parts = parts;
+  gate = gate;
+  ready = λ r. record {
+    joined = joined;
+    clean = λ shut. absurd (both_ways b.changed shut (gate ∙ changed));
+    gate = λ still honest. subst (λ unit. AllOpen (unit_file t unit)) (sym parts.unit)
+        (open_kept (unit_file s a.cache.store.unit) (unit_file t a.cache.store.unit) (r.gate changed (parts.quietly.others.honest honest)) parts.quietly.quiet);
+  };
+  still = λ r shut. absurd (both_ways a.changed shut changed);
+}
+
+-- a page that is held is the page in use
+pub shown : (c d : Cache) (p : Pager) (s t : ShelfState) (n : ℕ) (bytes : List ℕ) → pages_of d t ≡ pages_of c s → option_map (λ frame. frame.page.value) (frame_of d n) ≡ Some bytes → Shows (pages_state c p s) n bytes
+shown c d p s t n bytes same held there =
+    let u = in_use (pages_of c s) p.count n (free_pages c p s) there in rw (u.1, u.2, u.3) (ap Some (sym (ap (λ pages. pages n) same) ∙ held_page d t n bytes held))
+
+pub no_fault : {X : Type 0} (r : Result X Fault) (P : Fault → Type 0) → is_ok r ≡ true → IfErr r P
+no_fault (Ok x) P ok = tt
+no_fault (Err e) P ok = absurd (cc)
+
+pub damaged : (failed full : Type 0) → IsCaused failed full Damage
+damaged failed full = record { device = λ e. absurd (cc); full = λ e. absurd (cc); not_broken = λ e. cc }
+
+-- a fault of the cache
+pub fails_as : (x : Fault) (i j : ℕ) (P full : Type 0) → HasCause {T = Unit {0}} i j (Err x) → CallFails P (HasFailed i j) full x
+fails_as x i j P full cause = record {
+  caused = record {
+    device = λ is. cause.device (ap Err is);
+    full = λ is. absurd (neither Full is (λ e. cc) (λ e. cc));
+    not_broken = λ is. neither Broken is (λ e. cc) (λ e. cc);
+  };
+  damage = λ _ is. neither Damage is (λ e. cc) (λ e. cc);
+}
+  where
+    bare : (z : Fault) → ◌≡◌ {A = Result (Unit {0}) Fault} (Err x) (Err z) → x ≡ z
+    bare z same = cc
+
+    neither : (y : Fault) → x ≡ y → (y ≡ Device → ⊥) → (y ≡ Memory → ⊥) → ⊥
+    neither y is a b = elim cause.kinds [ inl d ↦ a (sym is ∙ bare Device d) | inr m ↦ b (sym is ∙ bare Memory m) ]
+
+pub counted_after : (c d : Cache) (n : ℕ) → d.store ≡ c.store → IsTrue (is_counted c n) → IsTrue (is_counted d n)
+counted_after c d n same is = subst (λ x. IsTrue (is_counted (record c { store = x }) n)) (sym same) is

@@ -1,0 +1,99 @@
+-- The closing of a file that was changed.
+use Rattle.std.proofs.Common.{suc, ◌≡◌, ◌⊎◌, inl, inr, ℕ, ◌≤◌, ltb, List, [], ◌∷◌, ◌++◌, length, take, drop, Option, Some, None, refl, sym, ◌∙◌, ap, subst, arith, IsTrue}
+use Rattle.std.proofs.lemmas.Bool.{and_parts, ltb-true}
+use Rattle.page_store.specs.File.{File, content}
+use Rattle.page_store.specs.Images.{IsSettled}
+use Rattle.page_store.specs.Moments.{Throughout, Quiet}
+use Rattle.page_store.specs.MomentLaws.{throughout_weaker, throughout_then, quiet_then}
+use Rattle.page_store.specs.OpenLaws.{quiet_open, open_kept, refused_open, all_refused}
+use Rattle.page_store.specs.Gate.{IsRefused, IsOpen, AllOpen, AllRefused, with_gate, ClosedOrRefused, WasOrRefused}
+use Rattle.page_store.specs.Pages.{page_of}
+use Rattle.page_store.specs.PageFacts.{page_over}
+use Rattle.page_store.specs.ShelfState.{ShelfState, unit_file}
+use Rattle.page_cache.specs.declared.frame.Frame.{Frame}
+use Rattle.page_cache.specs.declared.cache.Cache.{Cache}
+use Rattle.page_cache.specs.Cached.{frame_of, pages_of, is_counted, IsOver, IsClean}
+use Rattle.page_cache.proofs.HeaderLemmas.{gate_page}
+use Rattle.page_alloc.specs.OpenFile.{IsClosedWith, ClosedWith, Closes}
+
+abbrev Ends : List ℕ → Cache → ShelfState → Option (List ℕ) → Type 0
+Ends header cache shelf c = IsRefused c ⊎ ((bytes : List ℕ) × (c ≡ Some bytes) × IsClosedWith header cache shelf bytes)
+
+-- while the gate is open, each image is refused
+pub quiet_closes : (header : List ℕ) (cache : Cache) (shelf : ShelfState) (f g : File) → AllOpen f → Quiet f g → Closes header cache shelf f g
+quiet_closes header cache shelf f g all quiet = throughout_weaker IsOpen (Ends header cache shelf) f g (λ c o. inl (refused_open c o)) (quiet_open f g all quiet)
+
+-- the header as it was written, behind a closed gate
+header_closed : (n : ℕ) (old header now : List ℕ) → 1 ≤ length old → take (suc n) now ≡ take 1 old ++ drop 1 header → take (suc n) (with_gate 67 now) ≡ 67 ∷ drop 1 header
+header_closed n [] header now low is = absurd (omega arith)
+header_closed n (x ∷ old) header [] low is = absurd (cc)
+header_closed n (x ∷ old) header (y ∷ now) low is = ap (λ l. 67 ∷ drop 1 l) is
+
+-- a cache without changed pages shows those of the file
+pub clean_shows : (c : Cache) (s : ShelfState) (k : ℕ) → IsOver c s → IsClean c → IsTrue s.is_honest → IsTrue (is_counted c k) → pages_of c s k ≡ page_of (content (unit_file s c.store.unit)) k
+clean_shows c s k over clean honest counted = go (frame_of c k) refl
+  where
+    go : (o : Option Frame) → frame_of c k ≡ o → pages_of c s k ≡ page_of (content (unit_file s c.store.unit)) k
+    go None is = rw (is, counted) refl
+    go (Some frame) is = rw is (over.clean honest k frame is (clean.clean k frame is))
+
+module _ (header : List ℕ) (c d : Cache) (s t : ShelfState) (f before g h : File) (whole : 1 ≤ length (content before)) (written : page_of (content g) 0 ≡ page_over 0 (content before) header)
+    (pages : (k : ℕ) → IsTrue (is_counted c k) → page_of (content g) k ≡ pages_of c s k) where
+  pub closed_with : IsClosedWith header c s (with_gate 67 (content g))
+  closed_with = record {
+    closed = refl;
+    header = header_closed 4095 (content before) header (content g) whole written;
+    pages = λ k counted. let low = and_parts (ltb 0 k) (ltb k c.store.pages) counted in gate_page 67 (content g) k (ltb-true 0 k low.0) ∙ pages k counted;
+  }
+
+  pub finish_closes : Throughout (ClosedOrRefused g) g h → Closes header c s g h
+  finish_closes images = throughout_weaker (ClosedOrRefused g) (Ends header c s) g h ends images
+    where
+      ends : (i : Option (List ℕ)) → ClosedOrRefused g i → Ends header c s i
+      ends i (inl is) = inr (with_gate 67 (content g), is, closed_with)
+      ends i (inr refused) = inl refused
+
+  pub closes : AllOpen f → Quiet f g → Throughout (ClosedOrRefused g) g h → Closes header c s f h
+  closes all quiet images = throughout_then (Ends header c s) f g h (quiet_closes header c s f g all quiet) (finish_closes images)
+
+  pub is_closed : content h ≡ with_gate 67 (content g) → IsSettled h → ClosedWith header c s h
+  is_closed is settled = record { bytes = subst (IsClosedWith header c s) (sym is) closed_with; settled = settled }
+
+-- a flush, the header, and the gate: d is the cache after the flush, t, u and v the shelf after each of the three
+module _ (header : List ℕ) (c d : Cache) (s t u v : ShelfState) (store : d.store ≡ c.store) (over1 : IsOver d t) (over2 : IsOver d u) (clean : IsClean d) (h1 : IsTrue t.is_honest) (h2 : IsTrue u.is_honest)
+    (p1 : pages_of d t ≡ pages_of c s) (p2 : pages_of d u ≡ pages_of d t)
+    (written : page_of (content (unit_file u d.store.unit)) 0 ≡ page_over 0 (content (unit_file t d.store.unit)) header)
+    (q1 : Quiet (unit_file s c.store.unit) (unit_file t c.store.unit)) (q2 : Quiet (unit_file t d.store.unit) (unit_file u d.store.unit))
+    (all : AllOpen (unit_file s c.store.unit)) where
+  unit : d.store.unit ≡ c.store.unit
+  unit = ap (λ x. x.unit) store
+
+  pages : (k : ℕ) → IsTrue (is_counted c k) → page_of (content (unit_file u c.store.unit)) k ≡ pages_of c s k
+  pages k counted =
+      ap (λ n. page_of (content (unit_file u n)) k) (sym unit)
+      ∙ sym (clean_shows d u k over2 clean h2 (subst (λ x. IsTrue (is_counted (record c { store = x }) k)) (sym store) counted))
+      ∙ ap (λ (p : ℕ → List ℕ). p k) (p2 ∙ p1)
+
+  whole : 1 ≤ length (content (unit_file t c.store.unit))
+  whole = let l = (over1.pages h1).long in subst (λ n. 1 ≤ length (content (unit_file t n))) unit (omega arith)
+
+  here : page_of (content (unit_file u c.store.unit)) 0 ≡ page_over 0 (content (unit_file t c.store.unit)) header
+  here = subst (λ n. page_of (content (unit_file u n)) 0 ≡ page_over 0 (content (unit_file t n)) header) unit written
+
+  quiet : Quiet (unit_file s c.store.unit) (unit_file u c.store.unit)
+  quiet = quiet_then (unit_file s c.store.unit) (unit_file t c.store.unit) (unit_file u c.store.unit) q1 (subst (λ n. Quiet (unit_file t n) (unit_file u n)) unit q2)
+
+  pub all_closes : (AllRefused (unit_file u d.store.unit) → Throughout (ClosedOrRefused (unit_file u d.store.unit)) (unit_file u d.store.unit) (unit_file v d.store.unit)) → Closes header c s (unit_file s c.store.unit) (unit_file v c.store.unit)
+  all_closes images =
+      let refused : AllRefused (unit_file u c.store.unit) = all_refused (unit_file u c.store.unit) (open_kept (unit_file s c.store.unit) (unit_file u c.store.unit) all quiet) in
+      let images_here = subst (λ n. AllRefused (unit_file u n) → Throughout (ClosedOrRefused (unit_file u n)) (unit_file u n) (unit_file v n)) unit images in
+      closes header c d s t (unit_file s c.store.unit) (unit_file t c.store.unit) (unit_file u c.store.unit) (unit_file v c.store.unit) whole here pages all quiet (images_here refused)
+
+  pub all_closed : (content (unit_file v d.store.unit) ≡ with_gate 67 (content (unit_file u d.store.unit))) × IsSettled (unit_file v d.store.unit) → ClosedWith header c s (unit_file v c.store.unit)
+  all_closed end =
+      let there = subst (λ n. (content (unit_file v n) ≡ with_gate 67 (content (unit_file u n))) × IsSettled (unit_file v n)) unit end in
+      is_closed header c d s t (unit_file s c.store.unit) (unit_file t c.store.unit) (unit_file u c.store.unit) (unit_file v c.store.unit) whole here pages there.0 there.1
+
+-- a quiet step behind a gate that was opened
+pub made_quietly : (f g h : File) → Throughout (WasOrRefused f) f g → AllOpen g → Quiet g h → Throughout (WasOrRefused f) f h
+made_quietly f g h made all quiet = throughout_then (WasOrRefused f) f g h made (throughout_weaker IsOpen (WasOrRefused f) g h (λ c o. inr (refused_open c o)) (quiet_open g h all quiet))

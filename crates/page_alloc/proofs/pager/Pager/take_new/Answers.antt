@@ -1,0 +1,25 @@
+use Rattle.std.proofs.Common.{arith}
+use Rattle.page_cache.specs.Cached.{pages_of}
+use Rattle.page_alloc.proofs.ChainLemmas.{added}
+use Rattle.page_alloc.proofs.JoinLemmas.{at_err, rested}
+use Rattle.page_alloc.proofs.pager.Pager.take_new.Goals as goal
+
+pub returns-in_err-zero-clause-kept : goal.returns-in_err-zero-clause-kept
+returns-in_err-zero-clause-kept g c =
+    at_err c.from_residual.result (rested c.args.cache.now c.zero.new.self c.args.self.now (g.S.Shelf.state c.args.shelf.now) (g.S.Shelf.state c.zero.new.shelf) c.in_err-zero.ensures.kept.pages c.zero.ensures.goes_on.goes.others.honest)
+
+pub returns-clause-taken : goal.returns-clause-taken
+returns-clause-taken g c =
+    let p = c.args.self.now in
+    let s = g.S.Shelf.state c.args.shelf.now in
+    let t = g.S.Shelf.state c.zero.new.shelf in
+    let pages = pages_of c.args.cache.now s in
+    let new = pages_of c.zero.new.self t in
+    let header = c.requires.ready.header in
+    let low = c.if-self.false in
+    rw c.requires.free (record {
+      number = omega arith;
+      page = λ honest sound. (_, added pages new p.count p.first header (c.in_ok-zero.ensures.zeroed.others honest) sound);
+      sound = λ honest sound. sound;
+      one = omega arith;
+    })

@@ -1,0 +1,45 @@
+-- A cache, a pager and a shelf, as the pages of a file.
+use Rattle.std.specs.Prelude.{◌≡◌, ℕ, ◌+◌, ◌-◌, ◌^◌, ◌<◌, ◌≤◌, min, is_some, List, Option}
+use Rattle.page_store.specs.ShelfState.{ShelfState}
+use Rattle.page_cache.specs.declared.cache.Cache.{Cache}
+use Rattle.page_cache.specs.Cached.{pages_of, IsOver}
+use Rattle.page_cache.specs.Quietly.{GoesQuietly}
+use Rattle.pages.specs.PagesState.{PagesState}
+use Rattle.page_alloc.specs.declared.pager.Pager.{Pager}
+use Rattle.page_alloc.specs.Chain.{chain, used}
+
+-- the free pages, the one to be taken next first; nothing where the chain is not what it should be
+abbrev pub free_pages : Cache → Pager → ShelfState → Option (List ℕ)
+free_pages cache pager shelf = chain (pages_of cache shelf) pager.count pager.first pager.free
+
+-- how many pages can be taken: the free ones, and the new ones up to the limit
+abbrev pub available_of : Pager → ℕ
+available_of pager = pager.free + (pager.limit - pager.count)
+
+abbrev pub pages_state : Cache → Pager → ShelfState → PagesState
+pages_state cache pager shelf = record {
+  live = used (pages_of cache shelf) pager.count (free_pages cache pager shelf);
+  available = available_of pager;
+  asked = cache.asked;
+  is_sound = is_some (free_pages cache pager shelf);
+  is_honest = shelf.is_honest;
+}
+
+-- calls may be made
+pub record IsJoined (cache : Cache) (pager : Pager) (shelf : ShelfState) : Type 0 where
+  pub over : IsOver cache shelf
+  -- the store has the pages that are counted
+  pub counted : pager.count ≤ cache.store.pages
+  pub header : 0 < pager.count
+
+-- what a call leaves of cache and shelf, at a fault too: the unit, as many frames, no fewer pages, other files; the unit's file went quietly
+pub record PartsGo (old new : Cache) (before after : ShelfState) (failed fails : ℕ) : Type 0 where
+  pub unit : new.store.unit ≡ old.store.unit
+  pub cap : new.frames.cap ≡ old.frames.cap
+  pub pages : old.store.pages ≤ new.store.pages
+  pub quietly : GoesQuietly old.store.unit before after
+  pub faults : failed ≤ fails
+
+-- the count of the device's faults rose, or stands at its greatest value
+abbrev pub HasFailed : ℕ → ℕ → Type 0
+HasFailed before after = min (before + 1) (2 ^ 64 - 1) ≤ after

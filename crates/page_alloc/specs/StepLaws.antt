@@ -1,0 +1,142 @@
+-- Steps of calls, one after the other.
+use Rattle.std.proofs.Common.{◌≡◌, inl, inr, ℕ, ◌≤◌, false, IsTrue, List, Option, refl, sym, ◌∙◌, ap, subst, arith}
+use Rattle.std.proofs.lemmas.Bool.{cases_Bool}
+use Rattle.page_store.specs.File.{File}
+use Rattle.page_store.specs.Moments.{Throughout}
+use Rattle.page_store.specs.MomentLaws.{throughout_none, throughout_weaker, throughout_last, throughout_then}
+use Rattle.page_store.specs.OpenLaws.{quiet_open, open_kept, refused_open, all_refused}
+use Rattle.page_store.specs.Gate.{IsRefused, IsOpen, AllRefused, WasOrRefused}
+use Rattle.page_store.specs.ShelfState.{ShelfState, unit_name, unit_file, KeepsOthers}
+use Rattle.page_cache.specs.declared.cache.Cache.{Cache}
+use Rattle.page_cache.specs.Quietly.{GoesQuietly}
+use Rattle.page_cache.specs.QuietLaws.{goes_nowhere, goes_then}
+use Rattle.page_alloc.specs.declared.open_file.OpenFile.{OpenFile}
+use Rattle.page_alloc.specs.Joining.{PartsGo, HasFailed}
+use Rattle.page_alloc.specs.OpenFile.{IsOpenOver, StandsOrRefused}
+use Rattle.page_alloc.specs.Steps.{Goes, Reads, Moves}
+
+pub parts_stay : (c : Cache) (s : ShelfState) (n : ℕ) → PartsGo c c s s n n
+parts_stay c s n = record { unit = refl; cap = refl; pages = omega arith; quietly = goes_nowhere c.store.unit s; faults = omega arith }
+
+pub parts_then : (c d e : Cache) (x y z : ShelfState) (i j k : ℕ) → PartsGo c d x y i j → PartsGo d e y z j k → PartsGo c e x z i k
+parts_then c d e x y z i j k cd de = record {
+  unit = de.unit ∙ cd.unit;
+  cap = de.cap ∙ cd.cap;
+  pages = let p = cd.pages in let q = de.pages in omega arith;
+  quietly = goes_then c.store.unit x y z cd.quietly (subst (λ unit. GoesQuietly unit y z) cd.unit de.quietly);
+  faults = let p = cd.faults in let q = de.faults in omega arith;
+}
+
+pub failed_before : (i j k : ℕ) → HasFailed i j → j ≤ k → HasFailed i k
+failed_before i j k p q = omega arith
+
+pub failed_after : (i j k : ℕ) → i ≤ j → HasFailed j k → HasFailed i k
+failed_after i j k p q = omega arith
+
+pub goes_nothing : (a : OpenFile) (s : ShelfState) (n : ℕ) → Goes a a s s n n
+goes_nothing a s n = record { parts = parts_stay a.cache s n; gate = refl; ready = λ r. r; still = λ r shut. refl }
+
+pub goes_on : (a b c : OpenFile) (x y z : ShelfState) (i j k : ℕ) → Goes a b x y i j → Goes b c y z j k → Goes a c x z i k
+goes_on a b c x y z i j k ab bc = record {
+  parts = parts_then a.cache b.cache c.cache x y z i j k ab.parts bc.parts;
+  gate = bc.gate ∙ ab.gate;
+  ready = λ r. bc.ready (ab.ready r);
+  still = λ r shut. bc.still (ab.ready r) (ab.gate ∙ shut) ∙ ab.still r shut;
+}
+
+pub reads_nothing : (a : OpenFile) (s : ShelfState) (n : ℕ) → Reads a a s s n n
+reads_nothing a s n = record { goes = goes_nothing a s n; rests = record { live = λ h. refl; sound = λ h. refl; available = refl; honest = λ h. h } }
+
+pub reads_on : (a b c : OpenFile) (x y z : ShelfState) (i j k : ℕ) → Reads a b x y i j → Reads b c y z j k → Reads a c x z i k
+reads_on a b c x y z i j k ab bc = record {
+  goes = goes_on a b c x y z i j k ab.goes bc.goes;
+  rests = record {
+    live = λ h. bc.rests.live h ∙ ab.rests.live (bc.rests.honest h);
+    sound = λ h. bc.rests.sound h ∙ ab.rests.sound (bc.rests.honest h);
+    available = bc.rests.available ∙ ab.rests.available;
+    honest = λ h. ab.rests.honest (bc.rests.honest h);
+  };
+}
+
+-- the file of a unit in another state of the shelf
+same_place : (a b : ShelfState) (unit : ℕ) → b.file ≡ a.file → b.names ≡ a.names → unit_file b unit ≡ unit_file a unit
+same_place a b unit file names = ap (λ f. f (unit_name b unit)) file ∙ ap (λ n. a.file (unit_name (record a { names = n }) unit)) names
+
+refused_after : (f g : File) → AllRefused f → Throughout (WasOrRefused f) f g → AllRefused g
+refused_after f g all images c may = either c (throughout_last (WasOrRefused f) f g images c may)
+  where
+    either : (c : Option (List ℕ)) → WasOrRefused f c → IsRefused c
+    either c (inl was) = all c was
+    either c (inr refused) = refused
+
+pub goes_moves : (a b : OpenFile) (x y : ShelfState) (i j : ℕ) → Goes a b x y i j → Moves a b x y i j
+goes_moves a b x y i j goes = record {
+  unit = goes.parts.unit;
+  others = goes.parts.quietly.others;
+  faults = goes.parts.faults;
+  ready = goes.ready;
+  images = λ r honest. elim (cases_Bool a.changed) [
+    | inl begun ↦
+        let all = r.gate begun (goes.parts.quietly.others.honest honest) in
+        throughout_weaker IsOpen (WasOrRefused f) f g (λ c o. inr (refused_open c o)) (quiet_open f g all goes.parts.quietly.quiet)
+    | inr shut ↦ throughout_none (WasOrRefused f) f g (ap (λ (h : File). h.log) (same r shut)) (λ c may. inl may)
+  ];
+  stands = λ r honest. elim (cases_Bool a.changed) [
+    | inl begun ↦ inr (all_refused g (open_kept f g (r.gate begun (goes.parts.quietly.others.honest honest)) goes.parts.quietly.quiet))
+    | inr shut ↦ inl (inl (ap (λ (h : File). h.seen) (same r shut)))
+  ];
+}
+  where
+    f : File
+    f = unit_file x a.cache.store.unit
+
+    g : File
+    g = unit_file y a.cache.store.unit
+
+    same : IsOpenOver a x → a.changed ≡ false → g ≡ f
+    same r shut = same_place x y a.cache.store.unit (goes.still r shut) goes.parts.quietly.others.names
+
+others_then : (unit : ℕ) (a b c : ShelfState) → KeepsOthers unit a b → KeepsOthers unit b c → KeepsOthers unit a c
+others_then unit a b c ab bc =
+    let name : unit_name b unit ≡ unit_name a unit = ap (λ names. unit_name (record a { names = names }) unit) ab.names in
+    record {
+      names = bc.names ∙ ab.names;
+      others = λ other differs. bc.others other (λ e. differs (e ∙ name)) ∙ ab.others other differs;
+      honest = λ h. ab.honest (bc.honest h);
+    }
+
+weaker : (f g : File) → Throughout (WasOrRefused f) f g → (c : Option (List ℕ)) → WasOrRefused g c → WasOrRefused f c
+weaker f g images c (inl was) = throughout_last (WasOrRefused f) f g images c was
+weaker f g images c (inr refused) = inr refused
+
+pub images_then : (f g h : File) → Throughout (WasOrRefused f) f g → Throughout (WasOrRefused g) g h → Throughout (WasOrRefused f) f h
+images_then f g h fg gh = throughout_then (WasOrRefused f) f g h fg (throughout_weaker (WasOrRefused g) (WasOrRefused f) g h (weaker f g fg) gh)
+
+stands_then : (f g h : File) → Throughout (WasOrRefused g) g h → StandsOrRefused f g → StandsOrRefused g h → StandsOrRefused f h
+stands_then f g h gh (inr all) next = inr (refused_after g h all gh)
+stands_then f g h gh (inl was) (inr all) = inr all
+stands_then f g h gh (inl was) (inl (inr refused)) = inl (inr refused)
+stands_then f g h gh (inl (inl same)) (inl (inl again)) = inl (inl (again ∙ same))
+stands_then f g h gh (inl (inr refused)) (inl (inl again)) = inl (inr (subst IsRefused (sym again) refused))
+
+pub moves_on : (a b c : OpenFile) (x y z : ShelfState) (i j k : ℕ) → Moves a b x y i j → Moves b c y z j k → Moves a c x z i k
+moves_on a b c x y z i j k ab bc = record {
+  unit = bc.unit ∙ ab.unit;
+  others = others_then unit x y z ab.others others;
+  faults = let p = ab.faults in let q = bc.faults in omega arith;
+  ready = λ r. bc.ready (ab.ready r);
+  images = λ r honest. images_then (unit_file x unit) (unit_file y unit) (unit_file z unit) (ab.images r (others.honest honest)) (images (ab.ready r) honest);
+  stands = λ r honest. stands_then (unit_file x unit) (unit_file y unit) (unit_file z unit) (images (ab.ready r) honest) (ab.stands r (others.honest honest)) (stands (ab.ready r) honest);
+}
+  where
+    unit : ℕ
+    unit = a.cache.store.unit
+
+    others : KeepsOthers unit y z
+    others = subst (λ n. KeepsOthers n y z) ab.unit bc.others
+
+    images : IsOpenOver b y → IsTrue z.is_honest → Throughout (WasOrRefused (unit_file y unit)) (unit_file y unit) (unit_file z unit)
+    images r honest = subst (λ n. Throughout (WasOrRefused (unit_file y n)) (unit_file y n) (unit_file z n)) ab.unit (bc.images r honest)
+
+    stands : IsOpenOver b y → IsTrue z.is_honest → StandsOrRefused (unit_file y unit) (unit_file z unit)
+    stands r honest = subst (λ n. StandsOrRefused (unit_file y n) (unit_file z n)) ab.unit (bc.stands r honest)

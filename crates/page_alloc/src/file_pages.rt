@@ -1,0 +1,111 @@
+//! The pages of an open file, for the layers above.
+
+use crate::open_file::OpenFile;
+use io_state::Fault;
+use page_store::Shelf;
+use pages::Pages;
+
+/// An open file and the shelf that it is on, for one call.
+#[derive(Drop)]
+pub struct FilePages<'a, S: Shelf> {
+    pub file: &'a mut OpenFile,
+    pub shelf: &'a mut S,
+}
+
+impl<'a, S: Shelf> Pages for FilePages<'a, S> {
+    ghost use Rattle.std.specs.Prelude.{◌≡◌, true, refl};
+    ghost use Rattle.std.proofs.Common.{◌∙◌};
+    ghost use Rattle.page_alloc.specs.Joining.{HasFailed as Failed};
+    ghost use Rattle.page_alloc.specs.OpenFile.{IsOpenOver};
+    ghost use Rattle.page_alloc.specs.Steps.{state_of, Reads as ReadsOnly, Goes as GoesOn, Moves as MovesOn};
+    ghost use Rattle.page_alloc.specs.StepLaws.{goes_nothing, goes_on, goes_moves, reads_nothing, reads_on, moves_on, failed_before, failed_after};
+
+    ghost state = { λ p. state_of p.file.now (S.Shelf.state p.shelf.now) };
+
+    ghost IsReady = { λ p. IsOpenOver p.file.now (S.Shelf.state p.shelf.now) };
+
+    ghost CanChange = { λ p. p.file.now.changed ≡ true };
+
+    ghost Reads = { λ a b. (b.file.ghost_name ≡ a.file.ghost_name) × (b.shelf.ghost_name ≡ a.shelf.ghost_name)
+        × ReadsOnly a.file.now b.file.now (S.Shelf.state a.shelf.now) (S.Shelf.state b.shelf.now) (S.Shelf.fault_count a.shelf.now) (S.Shelf.fault_count b.shelf.now) };
+
+    ghost Goes = { λ a b. (b.file.ghost_name ≡ a.file.ghost_name) × (b.shelf.ghost_name ≡ a.shelf.ghost_name)
+        × GoesOn a.file.now b.file.now (S.Shelf.state a.shelf.now) (S.Shelf.state b.shelf.now) (S.Shelf.fault_count a.shelf.now) (S.Shelf.fault_count b.shelf.now) };
+
+    ghost Moves = { λ a b. (b.file.ghost_name ≡ a.file.ghost_name) × (b.shelf.ghost_name ≡ a.shelf.ghost_name)
+        × MovesOn a.file.now b.file.now (S.Shelf.state a.shelf.now) (S.Shelf.state b.shelf.now) (S.Shelf.fault_count a.shelf.now) (S.Shelf.fault_count b.shelf.now) };
+
+    ghost HasFailed = { λ a b. Failed (S.Shelf.fault_count a.shelf.now) (S.Shelf.fault_count b.shelf.now) };
+
+    ghost reads_nothing = { λ a. (refl, refl, reads_nothing a.file.now (S.Shelf.state a.shelf.now) (S.Shelf.fault_count a.shelf.now)) };
+
+    ghost reads_on = { λ a b c ab bc. (bc.0 ∙ ab.0, bc.1 ∙ ab.1, reads_on a.file.now b.file.now c.file.now _ _ _ _ _ _ ab.2 bc.2) };
+
+    ghost reads_goes = { λ a b reads. (reads.0, reads.1, reads.2.goes) };
+
+    ghost reads_live = { λ a b reads. reads.2.rests.live };
+
+    ghost reads_sound = { λ a b reads. reads.2.rests.sound };
+
+    ghost reads_available = { λ a b reads. reads.2.rests.available };
+
+    ghost goes_nowhere = { λ a. (refl, refl, goes_nothing a.file.now (S.Shelf.state a.shelf.now) (S.Shelf.fault_count a.shelf.now)) };
+
+    ghost goes_on = { λ a b c ab bc. (bc.0 ∙ ab.0, bc.1 ∙ ab.1, goes_on a.file.now b.file.now c.file.now _ _ _ _ _ _ ab.2 bc.2) };
+
+    ghost goes_moves = { λ a b goes. (goes.0, goes.1, goes_moves a.file.now b.file.now _ _ _ _ goes.2) };
+
+    ghost goes_honestly = { λ a b goes. goes.2.parts.quietly.others.honest };
+
+    ghost goes_ready = { λ a b goes. goes.2.ready };
+
+    ghost goes_changing = { λ a b goes begun. goes.2.gate ∙ begun };
+
+    ghost failed_before = { λ a b c failed goes. failed_before (S.Shelf.fault_count a.shelf.now) (S.Shelf.fault_count b.shelf.now) (S.Shelf.fault_count c.shelf.now) failed goes.2.parts.faults };
+
+    ghost failed_after = { λ a b c goes failed. failed_after (S.Shelf.fault_count a.shelf.now) (S.Shelf.fault_count b.shelf.now) (S.Shelf.fault_count c.shelf.now) goes.2.parts.faults failed };
+
+    ghost moves_on = { λ a b c ab bc. (bc.0 ∙ ab.0, bc.1 ∙ ab.1, moves_on a.file.now b.file.now c.file.now _ _ _ _ _ _ ab.2 bc.2) };
+
+    ghost moves_honestly = { λ a b moves. moves.2.others.honest };
+
+    ghost moves_ready = { λ a b moves. moves.2.ready };
+
+    ghost failed_earlier = { λ a b c failed moves. failed_before (S.Shelf.fault_count a.shelf.now) (S.Shelf.fault_count b.shelf.now) (S.Shelf.fault_count c.shelf.now) failed moves.2.faults };
+
+    ghost failed_later = { λ a b c moves failed. failed_after (S.Shelf.fault_count a.shelf.now) (S.Shelf.fault_count b.shelf.now) (S.Shelf.fault_count c.shelf.now) moves.2.faults failed };
+
+    fn page(&mut self, n: u32) -> Result<&[u8; 4096], Fault> {
+        if n == 0 || n >= self.file.pager.count {
+            return Err(Fault::Damage);
+        }
+        self.file.cache.load(&mut *self.shelf, n)?;
+        self.file.cache.held(n)
+    }
+
+    fn page_mut(&mut self, n: u32) -> Result<&mut [u8; 4096], Fault> {
+        if n == 0 || n >= self.file.pager.count {
+            return Err(Fault::Damage);
+        }
+        self.file.cache.load(&mut *self.shelf, n)?;
+        self.file.cache.held_mut(n)
+    }
+
+    fn take(&mut self) -> Result<u32, Fault> {
+        let file = &mut *self.file;
+        file.pager.take(&mut file.cache, &mut *self.shelf)
+    }
+
+    fn give(&mut self, n: u32) -> Result<(), Fault> {
+        let file = &mut *self.file;
+        file.pager.give(&mut file.cache, &mut *self.shelf, n)
+    }
+
+    fn pages_left(&self) -> u64 {
+        self.file.pager.available()
+    }
+
+    fn begin(&mut self) -> Result<(), Fault> {
+        self.file.begin(&mut *self.shelf)
+    }
+}
