@@ -59,7 +59,7 @@ reads_on a b c x y z i j k ab bc = record {
 }
 
 -- the file of a unit in another state of the shelf
-same_place : (a b : ShelfState) (unit : ℕ) → b.file ≡ a.file → b.names ≡ a.names → unit_file b unit ≡ unit_file a unit
+pub same_place : (a b : ShelfState) (unit : ℕ) → b.file ≡ a.file → b.names ≡ a.names → unit_file b unit ≡ unit_file a unit
 same_place a b unit file names = ap (λ f. f (unit_name b unit)) file ∙ ap (λ n. a.file (unit_name (record a { names = n }) unit)) names
 
 refused_after : (f g : File) → AllRefused f → Throughout (WasOrRefused f) f g → AllRefused g

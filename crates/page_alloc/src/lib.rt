@@ -12,6 +12,8 @@ mod free_page;
 mod header;
 mod open_file;
 mod pager;
+#[cfg(test)]
+mod tests;
 
 pub use file_pages::FilePages;
 pub use open_file::OpenFile;

@@ -1,0 +1,7 @@
+use Rattle.page_alloc.proofs.tests.change_often.Given as goal
+
+abbrev pub invariant-loop : goal.invariant-loop
+invariant-loop g l = g.P.Pages.Goes l.initial.pages l.pages
+
+abbrev pub invariant-loop-n : goal.invariant-loop-n
+invariant-loop-n g l = g.P.Pages.Goes l.fn.pages l.pages

@@ -1,0 +1,289 @@
+//! Pages taken, written, given back and read again, over a shelf in memory that may fail.
+ghost use Rattle.std.specs.Prelude.{◌≡◌, IfOk, IfSome, true};
+ghost use Rattle.page_store.specs.ShelfState.{HasUnit};
+ghost use Rattle.page_store.specs.MemShelves.{state_of};
+ghost use Rattle.page_alloc.specs.OpenFile.{IsOpenOver};
+
+use crate::{FilePages, OpenFile, Pager};
+use io_state::{Fault, FileName};
+use page_store::{FuseShelf, Kind, MemShelf, Shelf, Store};
+use pages::Pages;
+use std::alloc::Global;
+use std::num::NonZeroUsize;
+use std::test::Fail;
+
+/// What a file is found to be.
+#[derive(Clone, Copy, Debug, PartialEq, Eq)]
+enum Found {
+    Absent,
+    Refused,
+    /// Closed, with so many pages that are as they were written, of so many.
+    Closed(u32, u32),
+}
+
+fn name() -> FileName {
+    let mut name = FileName::new();
+    name.push_str("CUST");
+    name
+}
+
+fn new_shelf(alloc: Global) -> Result<MemShelf, Fault>
+    ensures unit { IfOk result (λ shelf. HasUnit (state_of shelf) 0) }
+{
+    let mut shelf = MemShelf::new(alloc);
+    shelf.attach(&[name()])?;
+    Ok(shelf)
+}
+
+// Writes the number of a page at both of its ends.
+fn mark<P: Pages>(pages: &mut P, n: u32) -> Result<(), Fault>
+    requires ready { P.IsReady pages.old }
+    requires open { P.CanChange pages.old }
+    ensures goes { P.Goes pages.old pages.new }
+{
+    let page = pages.page_mut(n)?;
+    page[0] = (n % 251) as u8;
+    page[4095] = (n % 251) as u8;
+    Ok(())
+}
+
+fn is_marked<P: Pages>(pages: &mut P, n: u32) -> Result<bool, Fault>
+    requires ready { P.IsReady pages.old }
+    ensures goes { P.Goes pages.old pages.new }
+{
+    let page = pages.page(n)?;
+    Ok(page[0] == (n % 251) as u8 && page[4095] == (n % 251) as u8)
+}
+
+// Takes pages and marks them. So many of them have the next number.
+fn fill<P: Pages>(pages: &mut P, count: u32) -> Result<u32, Fault>
+    requires ready { P.IsReady pages.old }
+    requires open { P.CanChange pages.old }
+    ensures goes { P.Goes pages.old pages.new }
+{
+    let mut right = 0u32;
+    for n in 0..count {
+        let taken = pages.take()?;
+        mark(pages, taken)?;
+        if taken == n.wrapping_add(1) {
+            right = right.wrapping_add(1);
+        }
+    }
+    Ok(right)
+}
+
+// How many of the first pages are marked.
+fn count_marked<P: Pages>(pages: &mut P, count: u32) -> Result<u32, Fault>
+    requires ready { P.IsReady pages.old }
+    ensures goes { P.Goes pages.old pages.new }
+{
+    let mut right = 0u32;
+    for n in 0..count {
+        if is_marked(pages, n.wrapping_add(1))? {
+            right = right.wrapping_add(1);
+        }
+    }
+    Ok(right)
+}
+
+// Makes the file with so many marked pages, and closes it.
+fn make<S: Shelf>(
+    alloc: Global,
+    shelf: &mut S,
+    frames: NonZeroUsize,
+    count: u32,
+) -> Result<u32, Fault>
+    requires unit { HasUnit (S.state shelf.old) 0 }
+    ensures unit { HasUnit (S.state shelf.new) 0 }
+{
+    let mut header = [0; 4096];
+    let mut file = OpenFile::create(alloc, shelf, 0, frames, 1000, &header)?;
+    let right = fill(
+        &mut FilePages {
+            file: &mut file,
+            shelf: &mut *shelf,
+        },
+        count,
+    )?;
+    file.pager.save(&mut header);
+    file.close(shelf, &header)?;
+    Ok(right)
+}
+
+// A file that is there, with one frame for each page looked at.
+fn reopen<S: Shelf>(
+    alloc: Global,
+    shelf: &mut S,
+    frames: NonZeroUsize,
+) -> Result<Option<OpenFile>, Fault>
+    requires unit { HasUnit (S.state shelf.old) 0 }
+    ensures unit { HasUnit (S.state shelf.new) 0 }
+    ensures ready { IfOk result (λ found. IfSome found (λ file. IsOpenOver file (S.state shelf.new))) }
+{
+    if !shelf.exists(0)? {
+        return Ok(None);
+    }
+    let store = Store::open(shelf, 0)?;
+    if store.pages == 0 {
+        return Ok(None);
+    }
+    let mut header = [0; 4096];
+    store.read_page(shelf, 0, &mut header)?;
+    let pager = Pager::load(&header, 1000);
+    if header[0] != b'C' || pager.count == 0 || pager.count > store.pages {
+        return Ok(None);
+    }
+    Ok(Some(OpenFile::open(alloc, store, frames, pager)?))
+}
+
+fn find<S: Shelf>(alloc: Global, shelf: &mut S, frames: NonZeroUsize) -> Result<Found, Fault>
+    requires unit { HasUnit (S.state shelf.old) 0 }
+    ensures unit { HasUnit (S.state shelf.new) 0 }
+{
+    let Some(mut file) = reopen(alloc, shelf, frames)? else {
+        return Ok(Found::Refused);
+    };
+    let count = file.pager.count;
+    let right = count_marked(
+        &mut FilePages {
+            file: &mut file,
+            shelf,
+        },
+        count - 1,
+    )?;
+    Ok(Found::Closed(right, count - 1))
+}
+
+fn frames(count: usize) -> NonZeroUsize {
+    NonZeroUsize::new(count).unwrap_or(NonZeroUsize::MIN)
+}
+
+#[test]
+fn a_hundred_pages_are_read_as_written_with_any_number_of_frames(
+    rt: HostRuntime,
+) -> Result<(), Fail> {
+    for count in [1, 2, 64, 4096] {
+        let mut shelf = new_shelf(rt.alloc())?;
+        assert_eq!(rt;
+            make(rt.alloc(), &mut shelf, frames(count), 100)?,
+            100,
+            "{count} frames"
+        );
+        assert_eq!(rt;
+            find(rt.alloc(), &mut shelf, frames(count))?,
+            Found::Closed(100, 100),
+            "{count} frames"
+        );
+    }
+    Ok(())
+}
+
+// The n-th call of a kind fails, in a program that makes a file of twenty pages with three frames.
+#[test]
+fn a_file_is_closed_whole_or_refused_whichever_call_failed(rt: HostRuntime) -> Result<(), Fail> {
+    for kind in [Kind::Reads, Kind::Writes, Kind::Syncs] {
+        for (after, for_good) in [(false, false), (false, true), (true, false), (true, true)] {
+            for at in 1..200 {
+                let inner = new_shelf(rt.alloc())?;
+                let mut shelf = FuseShelf::new(inner, kind, at, after, for_good);
+                let made = make(rt.alloc(), &mut shelf, frames(3), 20);
+                let failed = shelf.faults() > 0;
+                let mut inner = shelf.into_inner();
+                inner.attach(&[name()])?;
+                let found = find(rt.alloc(), &mut inner, frames(3))?;
+                if made.is_ok() {
+                    assert_eq!(rt; found, Found::Closed(20, 20), "{kind:?} {at}");
+                } else {
+                    assert!(rt;
+                        failed && (found == Found::Refused || found == Found::Closed(20, 20)),
+                        "{kind:?} {at}"
+                    );
+                }
+                if !failed {
+                    break;
+                }
+            }
+        }
+    }
+    Ok(())
+}
+
+// Takes pages until none is left.
+fn take_all<P: Pages>(pages: &mut P) -> Result<u32, Fault>
+    requires ready { P.IsReady pages.old }
+    requires open { P.CanChange pages.old }
+    ensures goes { P.Goes pages.old pages.new }
+{
+    for taken in 0..100u32 {
+        match pages.take() {
+            Ok(_) => {}
+            Err(Fault::Full) => return Ok(taken),
+            Err(fault) => return Err(fault),
+        }
+    }
+    Ok(100)
+}
+
+#[test]
+fn a_limit_of_sixteen_leaves_twelve_pages_behind_four(rt: HostRuntime) -> Result<(), Fail> {
+    let mut shelf = new_shelf(rt.alloc())?;
+    let mut file = OpenFile::create(rt.alloc(), &mut shelf, 0, frames(2), 16, &[9; 4096])?;
+    let mut pages = FilePages {
+        file: &mut file,
+        shelf: &mut shelf,
+    };
+    assert_eq!(rt; fill(&mut pages, 3)?, 3);
+    assert_eq!(rt; pages.pages_left(), 12);
+    assert_eq!(rt; take_all(&mut pages)?, 12);
+    pages.give(7)?;
+    pages.give(9)?;
+    assert_eq!(rt; pages.pages_left(), 2);
+    // The page given back last is taken first.
+    assert_eq!(rt; (pages.take()?, pages.take()?), (9, 7));
+    assert_eq!(rt; take_all(&mut pages)?, 0);
+    let mut header = [0; 4096];
+    file.cache.read_header(&mut shelf, &mut header)?;
+    assert_eq!(rt; (header[0], header[1], header[4095]), (b'D', 9, 9));
+    Ok(())
+}
+
+// Ten rounds over the first eight pages, each lent for writing.
+fn change_often<P: Pages>(pages: &mut P) -> Result<(), Fault>
+    requires ready { P.IsReady pages.old }
+    requires open { P.CanChange pages.old }
+    ensures goes { P.Goes pages.old pages.new }
+{
+    for _ in 0..10 {
+        for n in 0..8u32 {
+            mark(pages, n + 1)?;
+        }
+    }
+    Ok(())
+}
+
+#[test]
+fn a_page_is_read_once_while_it_is_held_and_written_when_the_file_is_closed(
+    rt: HostRuntime,
+) -> Result<(), Fail> {
+    let inner = new_shelf(rt.alloc())?;
+    let mut shelf = FuseShelf::new(inner, Kind::Reads, 0, false, false);
+    make(rt.alloc(), &mut shelf, frames(8), 8)?;
+    let Some(mut file) = reopen(rt.alloc(), &mut shelf, frames(8))? else {
+        return Ok(());
+    };
+    file.begin(&mut shelf)?;
+    let (reads, writes) = (shelf.calls(Kind::Reads), shelf.calls(Kind::Writes));
+    change_often(&mut FilePages {
+        file: &mut file,
+        shelf: &mut shelf,
+    })?;
+    assert_eq!(rt; shelf.calls(Kind::Reads).wrapping_sub(reads), 8);
+    assert_eq!(rt; shelf.calls(Kind::Writes), writes);
+    assert_eq!(rt; (file.cache.asked(), file.cache.held_pages()), (80, 8));
+    file.close(&mut shelf, &[0; 4096])?;
+    // Eight pages, the header and the gate.
+    assert_eq!(rt; shelf.calls(Kind::Writes).wrapping_sub(writes), 10);
+    file.cache.restart_count();
+    assert_eq!(rt; file.cache.asked(), 0);
+    Ok(())
+}
