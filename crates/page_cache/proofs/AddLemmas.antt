@@ -1,5 +1,5 @@
 -- What a page of zeros that is added leaves of the list of pages.
-use Rattle.std.proofs.Common.{zero, suc, ◌≡◌, ◌≢◌, inl, inr, ℕ, ◌+◌, ◌<◌, ◌≤◌, max, ltb, ◌&&◌, true, false, if◌then◌else◌, List, [], length, get_or, replicate, Option, Some, None, refl, sym, ◌∙◌, ap, subst, arith, IsTrue, Result, Ok, Err, OnOk, OnErr}
+use Rattle.std.proofs.Common.{◌-◌, ◌≤◌, zero, suc, ◌≡◌, ◌≢◌, inl, inr, ℕ, ◌+◌, ◌<◌, max, ltb, ◌&&◌, true, false, if◌then◌else◌, List, [], length, get_or, replicate, Option, Some, None, refl, sym, ◌∙◌, ap, subst, arith, IsTrue, Result, Ok, Err, OnOk, OnErr, nat_eq, slice_get}
 use Rattle.std.specs.Option.{option_map_or}
 use Rattle.std.proofs.lemmas.Bool.{cases_Bool, and_parts, and_from, ltb-true, ltb-false, lt-ltb, le-ltb, both_ways, and_right}
 use Rattle.page_store.specs.File.{File, content}
@@ -14,7 +14,13 @@ use Rattle.page_cache.specs.declared.cache.Cache.{Cache}
 use Rattle.page_cache.specs.Cached.{frame_of, is_counted, pages_of, IsOver}
 use Rattle.page_cache.specs.Calls.{KeepsPages, Zeroed, GoesOn}
 use Rattle.page_cache.specs.Quietly.{GoesQuietly}
-use Rattle.page_cache.specs.Rewrites.{Extends, IsZeros}
+use Rattle.page_cache.specs.QuietLaws.{goes_then}
+use Rattle.page_cache.specs.Turning.{HasRoom}
+use Rattle.page_cache.specs.Rewrites.{Extends, AddsPage, IsZeros}
+use Rattle.page_cache.proofs.PutLemmas.{Brought, brought, cap_kept}
+use Rattle.lru.specs.LruCache.{IsValid, lru_cache, put_entries}
+use Rattle.std.specs.Cmp.{nat_eq_equiv}
+use Rattle.std.proofs.lemmas.Map.Entries.{lookup_from_place}
 
 parts : (c : Cache) (k : ℕ) → is_counted c k ≡ true → (0 < k) × (k < c.store.pages)
 parts c k is = let p = and_parts (ltb 0 k) (ltb k c.store.pages) is in (ltb-true 0 k p.0, ltb-true k c.store.pages p.1)
@@ -63,8 +69,13 @@ zeros_get (suc n) (suc i) = zeros_get n i
 pub zeros_page : (page : List ℕ) (n : ℕ) → ◌≡◌ {A = List ℕ} page (replicate n 0) → length page ≡ 4096 → IsZeros page
 zeros_page page n is whole = record { whole = whole; each = λ i. ap (λ l. get_or l i 0) is ∙ zeros_get n i }
 
-pub zeros_written : (f g : File) (n : ℕ) (page : List ℕ) → 0 < n → HasPages n f → PageWritten n page f g → IsZeros page → IsZeros (page_of (content g) n)
-zeros_written f g n page low has w zeros = subst IsZeros (sym (written_is_read f g n page has zeros.whole w ∙ over_positive n (content f) page low)) zeros
+pub page_written : (f g : File) (n : ℕ) (page : List ℕ) → 0 < n → HasPages n f → PageWritten n page f g → length page ≡ 4096 → page_of (content g) n ≡ page
+page_written f g n page low has w whole = written_is_read f g n page has whole w ∙ over_positive n (content f) page low
+
+pub adds : (old new : Store) (n : ℕ) (page : List ℕ) (t : ShelfState) (r : Result (Unit {0}) Fault) → max old.pages (n + 1) ≡ n + 1 → OnOk r (new ≡ record old { pages = max old.pages (n + 1) })
+    → OnOk r (IsTrue t.is_honest → page_of (content (unit_file t old.unit)) n ≡ page) → OnOk r (AddsPage n page old new t)
+adds old new n page t (Ok x) most added written = record { store = added ∙ ap (λ p. record old { pages = p }) most; written = written }
+adds old new n page t (Err x) most added written = tt
 
 pub extended : (old new : Store) (n : ℕ) (s t : ShelfState) (page : List ℕ) → HasUnit s old.unit → n ≡ old.pages → WhereHonest s old.unit (HasPages old.pages) → length page ≡ 4096 → ChangesOnly old.unit s t
     → (r : Result (Unit {0}) Fault) → OnOk r (new ≡ record old { pages = max old.pages (n + 1) }) → OnErr r (new ≡ old) → WhereHonest t new.unit (HasPages new.pages)
@@ -126,3 +137,70 @@ all_added c d s t n low last frames ext over goes (Err x) added kept zeros =
       };
       goes_on = record { over = here; cap = ap (λ f. f.cap) frames; goes = goes };
     }
+
+-- the frames were given room, a page was added to the store, and put in front of them where memory sufficed
+module _ (c e d : Cache) (t u : ShelfState) (n : ℕ) (frame : Frame) (low : 0 < n) (last : n ≡ c.store.pages) (over : IsOver c t) (room : HasRoom c t) (valid : IsValid nat_eq c.frames)
+    (frames : e.frames ≡ c.frames) (ext : Extends c.store e.store t u) (goes : GoesQuietly c.store.unit t u) (adds : AddsPage n frame.page.value c.store e.store u) (zeros : IsZeros frame.page.value) (unchanged : frame.changed ≡ false)
+    (store : d.store ≡ e.store) (r : Result (Unit {0}) Fault) (put : OnOk r (d.frames ≡ lru_cache (put_entries nat_eq e.frames n frame) e.frames.cap)) (kept : OnErr r (d.frames ≡ e.frames)) where
+  added : Added n (Ok tt) c e t u
+  added = all_added c e t u n low last frames ext over goes (Ok tt) adds.store tt (λ h. subst IsZeros (sym (adds.written h)) zeros)
+
+  unit : e.store.unit ≡ c.store.unit
+  unit = ap (λ x. x.unit) adds.store
+
+  room_kept : HasRoom e u
+  room_kept = record {
+    settled = λ honest m other is.
+        let was = ap (λ f. slice_get f.entries (f.cap - 1)) (sym frames) ∙ is in
+        let held = lookup_from_place nat_eq_equiv c.frames.entries (c.frames.cap - 1) m other valid.0 was in
+        let below = (parts c m (over.counted m other held)).1 in
+        room.settled (goes.others.honest honest) m other was ∙ sym (ext.others honest m below) ∙ ap (λ x. page_of (content (unit_file u x)) m) (sym unit);
+  }
+
+  pages : e.store.pages ≡ n + 1
+  pages = ap (λ x. x.pages) adds.store
+
+  counted : IsTrue (is_counted e n)
+  counted = rw pages (and_from (ltb 0 n) (ltb n (n + 1)) (lt-ltb 0 n low) (lt-ltb n (n + 1) (omega arith)))
+
+  absent : frame_of e n ≡ None
+  absent = go (frame_of c n) refl
+    where
+      go : (o : Option Frame) → frame_of c n ≡ o → frame_of e n ≡ None
+      go None is = ap (λ f. frame_of (record c { frames = f }) n) frames ∙ is
+      go (Some other) is = let below = (parts c n (over.counted n other is)).1 in absurd (omega arith)
+
+  held : Brought n r e d u u
+  held = brought e d u u n frame added.goes_on.over room_kept (subst (λ f. length f.entries ≤ f.cap) (sym frames) valid.1) counted absent store (record { names = refl; file = refl; honest = λ h. h }) unchanged
+      (λ h. sym (adds.written h) ∙ ap (λ x. page_of (content (unit_file u x)) n) (sym unit)) r put kept
+
+  pub zeroed_put : Zeroed n c d t u
+  zeroed_put = record {
+    zeros = λ h. subst IsZeros (sym (ap (λ p. p n) (held.pages h))) (added.zeroed.zeros h);
+    others = λ h k differs. ap (λ p. p k) (held.pages h) ∙ added.zeroed.others h k differs;
+    store = store ∙ added.zeroed.store;
+  }
+
+  pub goes_on_put : GoesOn c d t u
+  goes_on_put = record { over = held.over; cap = cap_kept e.frames e.frames d.frames _ r refl put kept ∙ added.goes_on.cap; goes = goes }
+
+pub zeroed_then : (n : ℕ) (old c d : Cache) (s t u : ShelfState) → KeepsPages old c s t → GoesQuietly c.store.unit t u → Zeroed n c d t u → Zeroed n old d s u
+zeroed_then n old c d s t u before goes z = record {
+  zeros = z.zeros;
+  others = λ h k differs. z.others h k differs ∙ ap (λ p. p k) (before.pages (goes.others.honest h));
+  store = z.store ∙ grown_same before.keeps.store;
+}
+  where
+    grown_same : {a b : Store} → b ≡ a → (record b { pages = max b.pages (n + 1) }) ≡ (record a { pages = max a.pages (n + 1) })
+    grown_same same i = record (same i) { pages = max (same i).pages (n + 1) }
+
+pub goes_on_then : (old c d : Cache) (s t u : ShelfState) → KeepsPages old c s t → GoesOn c d t u → GoesOn old d s u
+goes_on_then old c d s t u before after = record {
+  over = after.over;
+  cap = after.cap ∙ before.keeps.cap;
+  goes = goes_then old.store.unit s t u before.goes (subst (λ unit. GoesQuietly unit t u) (ap (λ x. x.unit) before.keeps.store) after.goes);
+}
+
+-- pages kept are a step on
+pub goes_on_kept : (c d : Cache) (s t : ShelfState) → KeepsPages c d s t → GoesOn c d s t
+goes_on_kept c d s t kept = record { over = kept.over; cap = kept.keeps.cap; goes = kept.goes }

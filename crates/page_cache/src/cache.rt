@@ -121,7 +121,7 @@ impl Cache {
         }
     }
 
-    // Writes a page of zeros behind the last page.
+    // Writes a page of zeros behind the last page, and holds it.
     fn add<S: Shelf>(&mut self, shelf: &mut S, n: u32) -> Result<(), Fault>
         requires over { IsOver self.old (S.state shelf.old) }
         requires page { (0 < n) × (n ≡ self.old.store.pages) × (n < 2 ^ 32 - 1) }
@@ -132,10 +132,26 @@ impl Cache {
         ensures cause { HasCause (S.fault_count shelf.old) (S.fault_count shelf.new) result }
     {
         self.asked = self.asked.saturating_add(1);
+        self.make_room(shelf)?;
         let mut page = self.box_for_page()?;
-        let written = frame::write_zeros(&mut self.store, shelf, n, &mut *page);
-        self.spare = Some(page);
-        written
+        let _held = self.frames.len();
+        match frame::write_zeros(&mut self.store, shelf, n, &mut *page) {
+            Ok(()) => {
+                // The page is in the file, whether a frame can be had for it or not.
+                let _put = self.put(
+                    n,
+                    Frame {
+                        changed: false,
+                        page,
+                    },
+                );
+                Ok(())
+            }
+            Err(fault) => {
+                self.spare = Some(page);
+                Err(fault)
+            }
+        }
     }
 
     /// Writes each page that was changed. A fault leaves the rest for the next flush.
