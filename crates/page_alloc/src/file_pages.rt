@@ -27,13 +27,16 @@ impl<'a, S: Shelf> Pages for FilePages<'a, S> {
     ghost CanChange = { λ p. p.file.now.changed ≡ true };
 
     ghost Reads = { λ a b. (b.file.ghost_name ≡ a.file.ghost_name) × (b.shelf.ghost_name ≡ a.shelf.ghost_name)
-        × ReadsOnly a.file.now b.file.now (S.Shelf.state a.shelf.now) (S.Shelf.state b.shelf.now) (S.Shelf.fault_count a.shelf.now) (S.Shelf.fault_count b.shelf.now) };
+        × ReadsOnly a.file.now b.file.now (S.Shelf.state a.shelf.now) (S.Shelf.state b.shelf.now)
+        (S.Shelf.fault_count a.shelf.now) (S.Shelf.fault_count b.shelf.now) };
 
     ghost Goes = { λ a b. (b.file.ghost_name ≡ a.file.ghost_name) × (b.shelf.ghost_name ≡ a.shelf.ghost_name)
-        × GoesOn a.file.now b.file.now (S.Shelf.state a.shelf.now) (S.Shelf.state b.shelf.now) (S.Shelf.fault_count a.shelf.now) (S.Shelf.fault_count b.shelf.now) };
+        × GoesOn a.file.now b.file.now (S.Shelf.state a.shelf.now) (S.Shelf.state b.shelf.now)
+        (S.Shelf.fault_count a.shelf.now) (S.Shelf.fault_count b.shelf.now) };
 
     ghost Moves = { λ a b. (b.file.ghost_name ≡ a.file.ghost_name) × (b.shelf.ghost_name ≡ a.shelf.ghost_name)
-        × MovesOn a.file.now b.file.now (S.Shelf.state a.shelf.now) (S.Shelf.state b.shelf.now) (S.Shelf.fault_count a.shelf.now) (S.Shelf.fault_count b.shelf.now) };
+        × MovesOn a.file.now b.file.now (S.Shelf.state a.shelf.now) (S.Shelf.state b.shelf.now)
+        (S.Shelf.fault_count a.shelf.now) (S.Shelf.fault_count b.shelf.now) };
 
     ghost HasFailed = { λ a b. Failed (S.Shelf.fault_count a.shelf.now) (S.Shelf.fault_count b.shelf.now) };
 
@@ -61,9 +64,11 @@ impl<'a, S: Shelf> Pages for FilePages<'a, S> {
 
     ghost goes_changing = { λ a b goes begun. goes.2.gate ∙ begun };
 
-    ghost failed_before = { λ a b c failed goes. failed_before (S.Shelf.fault_count a.shelf.now) (S.Shelf.fault_count b.shelf.now) (S.Shelf.fault_count c.shelf.now) failed goes.2.parts.faults };
+    ghost failed_before = { λ a b c failed goes. failed_before
+        (S.Shelf.fault_count a.shelf.now) (S.Shelf.fault_count b.shelf.now) (S.Shelf.fault_count c.shelf.now) failed goes.2.parts.faults };
 
-    ghost failed_after = { λ a b c goes failed. failed_after (S.Shelf.fault_count a.shelf.now) (S.Shelf.fault_count b.shelf.now) (S.Shelf.fault_count c.shelf.now) goes.2.parts.faults failed };
+    ghost failed_after = { λ a b c goes failed. failed_after
+        (S.Shelf.fault_count a.shelf.now) (S.Shelf.fault_count b.shelf.now) (S.Shelf.fault_count c.shelf.now) goes.2.parts.faults failed };
 
     ghost moves_on = { λ a b c ab bc. (bc.0 ∙ ab.0, bc.1 ∙ ab.1, moves_on a.file.now b.file.now c.file.now _ _ _ _ _ _ ab.2 bc.2) };
 
@@ -71,9 +76,11 @@ impl<'a, S: Shelf> Pages for FilePages<'a, S> {
 
     ghost moves_ready = { λ a b moves. moves.2.ready };
 
-    ghost failed_earlier = { λ a b c failed moves. failed_before (S.Shelf.fault_count a.shelf.now) (S.Shelf.fault_count b.shelf.now) (S.Shelf.fault_count c.shelf.now) failed moves.2.faults };
+    ghost failed_earlier = { λ a b c failed moves. failed_before
+        (S.Shelf.fault_count a.shelf.now) (S.Shelf.fault_count b.shelf.now) (S.Shelf.fault_count c.shelf.now) failed moves.2.faults };
 
-    ghost failed_later = { λ a b c moves failed. failed_after (S.Shelf.fault_count a.shelf.now) (S.Shelf.fault_count b.shelf.now) (S.Shelf.fault_count c.shelf.now) moves.2.faults failed };
+    ghost failed_later = { λ a b c moves failed. failed_after
+        (S.Shelf.fault_count a.shelf.now) (S.Shelf.fault_count b.shelf.now) (S.Shelf.fault_count c.shelf.now) moves.2.faults failed };
 
     fn page(&mut self, n: u32) -> Result<&[u8; 4096], Fault> {
         if n == 0 || n >= self.file.pager.count {

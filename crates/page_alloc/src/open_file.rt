@@ -26,8 +26,8 @@ pub struct OpenFile {
 }
 
 impl OpenFile {
-    /// Makes the file, or makes it anew, with this header and no other page. Its gate is open. A fault leaves the file as it was,
-    /// or one that is refused.
+    /// Makes the file, or makes it anew, with this header and no other page. Its gate is open. A fault leaves the
+    /// file as it was, or one that is refused.
     pub fn create<S: Shelf>(
         alloc: Global,
         shelf: &mut S,
@@ -41,7 +41,8 @@ impl OpenFile {
         ensures ready { IfOk result (λ held. IsOpenOver held (S.state shelf.new)) }
         // At each moment a crash leaves what it could leave before, or a refused file.
         ensures images { let old = unit_file (S.state shelf.old) unit in
-            IsTrue (S.state shelf.new).is_honest → Throughout (WasOrRefused old) old (unit_file (S.state shelf.new) unit) }
+            IsTrue (S.state shelf.new).is_honest →
+            Throughout (WasOrRefused old) old (unit_file (S.state shelf.new) unit) }
         ensures failed { OnErr result (IsTrue (S.state shelf.new).is_honest →
             FileGoes unit (S.state shelf.old) (S.state shelf.new) StandsOrRefused) }
         ensures others { KeepsOthers unit (S.state shelf.old) (S.state shelf.new) }
@@ -57,8 +58,8 @@ impl OpenFile {
         })
     }
 
-    /// The pages of a file that is there, of which the pager was read from its header. Nothing is read, and its gate stays as it is.
-    /// Memory is the only fault.
+    /// The pages of a file that is there, of which the pager was read from its header. Nothing is read, and its gate
+    /// stays as it is. Memory is the only fault.
     pub fn open(
         alloc: Global,
         store: Store,
@@ -70,8 +71,8 @@ impl OpenFile {
         ensures pager { IfOk result (λ held. held.pager ≡ pager) }
         ensures changed { IfOk result (λ held. held.changed ≡ false) }
         ensures store { IfOk result (λ held. held.cache.store ≡ store) }
-        ensures ready { IfOk result (λ held. (shelf : ShelfState) →
-            HasUnit shelf store.unit → WhereHonest shelf store.unit (HasPages store.pages) → IsOpenOver held shelf) }
+        ensures ready { IfOk result (λ held. (shelf : ShelfState) → HasUnit shelf store.unit →
+            WhereHonest shelf store.unit (HasPages store.pages) → IsOpenOver held shelf) }
         // It shows the pages of the file.
         ensures pages { IfOk result (λ held. (shelf : ShelfState) (n : ℕ) → pages_of held.cache shelf n
             ≡ (if is_counted held.cache n then page_of (content (unit_file shelf store.unit)) n else [])) }
@@ -84,15 +85,16 @@ impl OpenFile {
         })
     }
 
-    /// Opens the gate before the first change; later it does nothing. A fault leaves the gate closed for this call's caller, and
-    /// the file as it was, or one that is refused; the call may be made again.
+    /// Opens the gate before the first change; later it does nothing. A fault leaves all pages as they were,
+    /// and the file as it was or refused; the call may be made again.
     pub fn begin<S: Shelf>(&mut self, shelf: &mut S) -> Result<(), Fault>
         requires ready { IsOpenOver self.old (S.state shelf.old) }
         ensures begun { OnOk result (self.new ≡ record self.old { changed = true }) }
         ensures kept { OnErr result (self.new ≡ self.old) }
         ensures same { ShowsSame self.old.cache self.new.cache (S.state shelf.old) (S.state shelf.new) }
         ensures nothing { self.old.changed ≡ true → (S.state shelf.new).file ≡ (S.state shelf.old).file }
-        ensures moves { Moves self.old self.new (S.state shelf.old) (S.state shelf.new) (S.fault_count shelf.old) (S.fault_count shelf.new) }
+        ensures moves { Moves self.old self.new (S.state shelf.old) (S.state shelf.new)
+            (S.fault_count shelf.old) (S.fault_count shelf.new) }
         ensures cause { HasCause (S.fault_count shelf.old) (S.fault_count shelf.new) result }
     {
         if self.changed {
@@ -103,17 +105,19 @@ impl OpenFile {
         Ok(())
     }
 
-    /// Writes what was changed, and this header, and closes the gate. Where nothing was changed, it does nothing. After a fault the
-    /// file is refused, or it is closed.
+    /// Writes what was changed, and this header, and closes the gate. Where nothing was changed, it does nothing.
+    /// After a fault the file is refused, or it is closed.
     pub fn close<S: Shelf>(&mut self, shelf: &mut S, header: &[u8; 4096]) -> Result<(), Fault>
         requires ready { IsOpenOver self.old (S.state shelf.old) }
         ensures nothing { self.old.changed ≡ false → (S.state shelf.new).file ≡ (S.state shelf.old).file }
         ensures closed { OnOk result (IsTrue (S.state shelf.new).is_honest → self.old.changed ≡ true →
-            ClosedWith header.now self.old.cache (S.state shelf.old) (unit_file (S.state shelf.new) self.old.cache.store.unit)) }
+            ClosedWith header.now self.old.cache (S.state shelf.old)
+            (unit_file (S.state shelf.new) self.old.cache.store.unit)) }
         // At each moment a crash leaves a refused file, or that which is closed at the end.
         ensures images { let old = unit_file (S.state shelf.old) self.old.cache.store.unit in
             IsTrue (S.state shelf.new).is_honest → self.old.changed ≡ true →
-            Closes header.now self.old.cache (S.state shelf.old) old (unit_file (S.state shelf.new) self.old.cache.store.unit) }
+            Closes header.now self.old.cache (S.state shelf.old) old
+            (unit_file (S.state shelf.new) self.old.cache.store.unit) }
         ensures others { KeepsOthers self.old.cache.store.unit (S.state shelf.old) (S.state shelf.new) }
         ensures cause { HasCause (S.fault_count shelf.old) (S.fault_count shelf.new) result }
     {

@@ -45,19 +45,20 @@ impl Pager {
         self.free as u64 + self.limit.saturating_sub(self.count) as u64
     }
 
-    /// Takes the first of the free pages, or else the next new one. Its bytes have no meaning. Full where none is available;
-    /// Damage where the first free page is not one. A fault leaves each page as it was.
+    /// Takes the first of the free pages, or else the next new one. Its bytes have no meaning. Full where none is
+    /// available; Damage where the first free page is not one. A fault leaves each page as it was.
     pub fn take<S: Shelf>(&mut self, cache: &mut Cache, shelf: &mut S) -> Result<u32, Fault>
         requires ready { IsJoined cache.old self.old (S.state shelf.old) }
-        ensures taken { IfOk result
-            (Taken (pages_state cache.old self.old (S.state shelf.old)) (pages_state cache.new self.new (S.state shelf.new))) }
-        ensures kept { OnErr result
-            (Rests (pages_state cache.old self.old (S.state shelf.old)) (pages_state cache.new self.new (S.state shelf.new))) }
+        ensures taken { let old = pages_state cache.old self.old (S.state shelf.old) in
+            IfOk result (Taken old (pages_state cache.new self.new (S.state shelf.new))) }
+        ensures kept { let old = pages_state cache.old self.old (S.state shelf.old) in
+            OnErr result (Rests old (pages_state cache.new self.new (S.state shelf.new))) }
         ensures fails { let old = pages_state cache.old self.old (S.state shelf.old) in
             IfErr result (CallFails (IsTrue (S.state shelf.new).is_honest × IsTrue old.is_sound)
             (HasFailed (S.fault_count shelf.old) (S.fault_count shelf.new)) (available_of self.old ≡ 0)) }
         ensures asked { cache.new.asked ≤ cache.old.asked + 1 }
-        ensures goes { PartsGo cache.old cache.new (S.state shelf.old) (S.state shelf.new) (S.fault_count shelf.old) (S.fault_count shelf.new) }
+        ensures goes { PartsGo cache.old cache.new (S.state shelf.old) (S.state shelf.new)
+            (S.fault_count shelf.old) (S.fault_count shelf.new) }
         ensures ready { IsJoined cache.new self.new (S.state shelf.new) }
     {
         if self.free > 0 {
@@ -71,15 +72,16 @@ impl Pager {
     fn take_free<S: Shelf>(&mut self, cache: &mut Cache, shelf: &mut S) -> Result<u32, Fault>
         requires ready { IsJoined cache.old self.old (S.state shelf.old) }
         requires free { 0 < self.old.free }
-        ensures taken { IfOk result
-            (Taken (pages_state cache.old self.old (S.state shelf.old)) (pages_state cache.new self.new (S.state shelf.new))) }
-        ensures kept { OnErr result
-            (Rests (pages_state cache.old self.old (S.state shelf.old)) (pages_state cache.new self.new (S.state shelf.new))) }
+        ensures taken { let old = pages_state cache.old self.old (S.state shelf.old) in
+            IfOk result (Taken old (pages_state cache.new self.new (S.state shelf.new))) }
+        ensures kept { let old = pages_state cache.old self.old (S.state shelf.old) in
+            OnErr result (Rests old (pages_state cache.new self.new (S.state shelf.new))) }
         ensures fails { let old = pages_state cache.old self.old (S.state shelf.old) in
             IfErr result (CallFails (IsTrue (S.state shelf.new).is_honest × IsTrue old.is_sound)
             (HasFailed (S.fault_count shelf.old) (S.fault_count shelf.new)) ⊥) }
         ensures asked { cache.new.asked ≤ cache.old.asked + 1 }
-        ensures goes { PartsGo cache.old cache.new (S.state shelf.old) (S.state shelf.new) (S.fault_count shelf.old) (S.fault_count shelf.new) }
+        ensures goes { PartsGo cache.old cache.new (S.state shelf.old) (S.state shelf.new)
+            (S.fault_count shelf.old) (S.fault_count shelf.new) }
         ensures ready { IsJoined cache.new self.new (S.state shelf.new) }
     {
         let n = self.first;
@@ -96,14 +98,15 @@ impl Pager {
     fn take_new<S: Shelf>(&mut self, cache: &mut Cache, shelf: &mut S) -> Result<u32, Fault>
         requires ready { IsJoined cache.old self.old (S.state shelf.old) }
         requires free { self.old.free ≡ 0 }
-        ensures taken { IfOk result
-            (Taken (pages_state cache.old self.old (S.state shelf.old)) (pages_state cache.new self.new (S.state shelf.new))) }
-        ensures kept { OnErr result
-            (Rests (pages_state cache.old self.old (S.state shelf.old)) (pages_state cache.new self.new (S.state shelf.new))) }
+        ensures taken { let old = pages_state cache.old self.old (S.state shelf.old) in
+            IfOk result (Taken old (pages_state cache.new self.new (S.state shelf.new))) }
+        ensures kept { let old = pages_state cache.old self.old (S.state shelf.old) in
+            OnErr result (Rests old (pages_state cache.new self.new (S.state shelf.new))) }
         ensures fails { IfErr result (CallFails ⊤
             (HasFailed (S.fault_count shelf.old) (S.fault_count shelf.new)) (available_of self.old ≡ 0)) }
         ensures asked { cache.new.asked ≤ cache.old.asked + 1 }
-        ensures goes { PartsGo cache.old cache.new (S.state shelf.old) (S.state shelf.new) (S.fault_count shelf.old) (S.fault_count shelf.new) }
+        ensures goes { PartsGo cache.old cache.new (S.state shelf.old) (S.state shelf.new)
+            (S.fault_count shelf.old) (S.fault_count shelf.new) }
         ensures ready { IsJoined cache.new self.new (S.state shelf.new) }
     {
         if self.count >= self.limit {
@@ -115,19 +118,20 @@ impl Pager {
         Ok(n)
     }
 
-    /// Puts a page in use in front of the free ones, so that it is the next one taken. Damage where it is not in use. A fault leaves
-    /// each page as it was.
+    /// Puts a page in use in front of the free ones, so that it is the next one taken. Damage where it is not in use.
+    /// A fault leaves each page as it was.
     pub fn give<S: Shelf>(&mut self, cache: &mut Cache, shelf: &mut S, n: u32) -> Result<(), Fault>
         requires ready { IsJoined cache.old self.old (S.state shelf.old) }
-        ensures given { OnOk result
-            (Given (pages_state cache.old self.old (S.state shelf.old)) (pages_state cache.new self.new (S.state shelf.new)) n) }
-        ensures kept { OnErr result
-            (Rests (pages_state cache.old self.old (S.state shelf.old)) (pages_state cache.new self.new (S.state shelf.new))) }
+        ensures given { let old = pages_state cache.old self.old (S.state shelf.old) in
+            OnOk result (Given old (pages_state cache.new self.new (S.state shelf.new)) n) }
+        ensures kept { let old = pages_state cache.old self.old (S.state shelf.old) in
+            OnErr result (Rests old (pages_state cache.new self.new (S.state shelf.new))) }
         ensures fails { let old = pages_state cache.old self.old (S.state shelf.old) in
             IfErr result (CallFails (IsTrue (S.state shelf.new).is_honest × IsSome (old.live n))
             (HasFailed (S.fault_count shelf.old) (S.fault_count shelf.new)) ⊥) }
         ensures asked { cache.new.asked ≤ cache.old.asked + 1 }
-        ensures goes { PartsGo cache.old cache.new (S.state shelf.old) (S.state shelf.new) (S.fault_count shelf.old) (S.fault_count shelf.new) }
+        ensures goes { PartsGo cache.old cache.new (S.state shelf.old) (S.state shelf.new)
+            (S.fault_count shelf.old) (S.fault_count shelf.new) }
         ensures ready { IsJoined cache.new self.new (S.state shelf.new) }
     {
         if n == 0 || n >= self.count || self.free >= self.count - 1 {
@@ -147,7 +151,8 @@ fn next_free<S: Shelf>(cache: &mut Cache, shelf: &mut S, n: u32) -> Result<u32, 
     ensures next { IsTrue (S.state shelf.new).is_honest →
         IfOk result (λ next. next ≡ next_of (pages_of cache.old (S.state shelf.old) n)) }
     ensures kept { KeepsPages cache.old cache.new (S.state shelf.old) (S.state shelf.new) }
-    ensures fails { IfErr result (CallFails (IsTrue (S.state shelf.new).is_honest × IsTrue (is_free (pages_of cache.old (S.state shelf.old) n)))
+    ensures fails { let page = pages_of cache.old (S.state shelf.old) n in
+        IfErr result (CallFails (IsTrue (S.state shelf.new).is_honest × IsTrue (is_free page))
         (HasFailed (S.fault_count shelf.old) (S.fault_count shelf.new)) ⊥) }
     ensures asked { cache.new.asked ≤ cache.old.asked + 1 }
     ensures faults { S.fault_count shelf.old ≤ S.fault_count shelf.new }
@@ -168,7 +173,8 @@ fn make_free<S: Shelf>(cache: &mut Cache, shelf: &mut S, n: u32, next: u32) -> R
     ensures kept { OnErr result (KeepsPages cache.old cache.new (S.state shelf.old) (S.state shelf.new)) }
     ensures fails { IfErr result (CallFails ⊤ (HasFailed (S.fault_count shelf.old) (S.fault_count shelf.new)) ⊥) }
     ensures asked { cache.new.asked ≤ cache.old.asked + 1 }
-    ensures goes { PartsGo cache.old cache.new (S.state shelf.old) (S.state shelf.new) (S.fault_count shelf.old) (S.fault_count shelf.new) }
+    ensures goes { PartsGo cache.old cache.new (S.state shelf.old) (S.state shelf.new)
+        (S.fault_count shelf.old) (S.fault_count shelf.new) }
     ensures over { IsOver cache.new (S.state shelf.new) }
 {
     cache.load(shelf, n)?;

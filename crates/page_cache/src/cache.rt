@@ -27,13 +27,15 @@ pub struct Cache {
 }
 
 impl Cache {
-    /// A cache that holds no page yet, and at most `frames` pages later.
+    /// A cache that holds no page yet, and at most `frames` pages later. Memory is its only fault, and no file is
+    /// changed.
     pub fn new(alloc: Global, store: Store, frames: NonZeroUsize) -> Result<Cache, Fault>
         ensures store { IfOk result (λ cache. cache.store ≡ store) }
         ensures frames { IfOk result (λ cache. cache.frames ≡ lru_cache [] (non_zero_usize_get frames)) }
         ensures asked { IfOk result (λ cache. cache.asked ≡ 0) }
         ensures memory { OnErr result (result ≡ Err Fault.Memory) }
-        ensures over { IfOk result (λ cache. (shelf : ShelfState) → HasUnit shelf store.unit → WhereHonest shelf store.unit (HasPages store.pages) → IsOver cache shelf) }
+        ensures over { IfOk result (λ cache. (shelf : ShelfState) →
+            HasUnit shelf store.unit → WhereHonest shelf store.unit (HasPages store.pages) → IsOver cache shelf) }
         // It shows the pages of the file.
         ensures pages { IfOk result (λ cache. (shelf : ShelfState) (n : ℕ) →
             pages_of cache shelf n ≡ (if is_counted cache n then page_of (content (unit_file shelf store.unit)) n else [])) }
@@ -55,20 +57,23 @@ impl Cache {
         self.frames.len()
     }
 
-    /// How often a page was asked for since the last restart.
+    /// How often a page was asked for since the last restart, at most 2^64 - 1.
     pub fn asked(&self) -> u64
         ensures { result ≡ self.now.asked }
     {
         self.asked
     }
 
+    /// Counts from 0 again.
     pub fn restart_count(&mut self)
         ensures { self.new ≡ record self.old { asked = 0 } }
     {
         self.asked = 0;
     }
 
-    /// Sees to it that page n is held. All reading and writing is here.
+    /// Sees to it that page `n` is held, and counts one page asked. Where all frames are taken, the page used last
+    /// longest ago is pushed out, and written first where it was changed. A fault loses no page, and leaves the list
+    /// of pages as it was.
     pub fn load<S: Shelf>(&mut self, shelf: &mut S, n: u32) -> Result<(), Fault>
         requires over { IsOver self.old (S.state shelf.old) }
         requires page { IsTrue (is_counted self.old n) }
@@ -85,7 +90,8 @@ impl Cache {
         self.bring(shelf, n)
     }
 
-    /// Page n becomes zeros. Where n is the number of pages, it is added and written at once.
+    /// Makes page `n` one of zeros, and counts one page asked. Where `n` is the number of pages, it is added, and
+    /// written at once.
     pub fn zero<S: Shelf>(&mut self, shelf: &mut S, n: u32) -> Result<(), Fault>
         requires over { IsOver self.old (S.state shelf.old) }
         requires page { (0 < n) × (n ≤ self.old.store.pages) × (n < 2 ^ 32 - 1) }
@@ -154,7 +160,7 @@ impl Cache {
         }
     }
 
-    /// Writes each page that was changed. A fault leaves the rest for the next flush.
+    /// Writes each page that was changed; all stay held. A fault leaves the rest for the next flush.
     pub fn flush<S: Shelf>(&mut self, shelf: &mut S) -> Result<(), Fault>
         requires over { IsOver self.old (S.state shelf.old) }
         ensures clean { OnOk result (IsClean self.new) }
@@ -168,7 +174,8 @@ impl Cache {
         Ok(())
     }
 
-    // Writes the last page where it was changed, and puts it in front. After as many turns as there are frames each stands where it stood.
+    // Writes the last page where it was changed, and puts it in front. After as many turns as there are frames each
+    // stands where it stood.
     fn settle_last<S: Shelf>(&mut self, shelf: &mut S) -> Result<(), Fault>
         requires over { IsOver self.old (S.state shelf.old) }
         ensures turned { OnOk result (Turned self.old self.new) }

@@ -15,7 +15,7 @@ use io_state::Fault;
 use page_store::Shelf;
 
 impl Cache {
-    /// Reads the header page.
+    /// Reads the header page, past the frames.
     pub fn read_header<S: Shelf>(&self, shelf: &mut S, page: &mut [u8; 4096]) -> Result<(), Fault>
         requires over { IsOver self.now (S.state shelf.old) }
         requires header { 0 < self.now.store.pages }
@@ -28,12 +28,13 @@ impl Cache {
         self.store.read_page(shelf, 0, page)
     }
 
-    /// Writes the header page, but for its first byte.
+    /// Writes the header page, past the frames, but for its first byte.
     pub fn write_header<S: Shelf>(&mut self, shelf: &mut S, page: &[u8; 4096]) -> Result<(), Fault>
         requires over { IsOver self.old (S.state shelf.old) }
         requires header { 0 < self.old.store.pages }
         ensures written { OnOk result (IsTrue (S.state shelf.new).is_honest →
-            page_of (content (unit_file (S.state shelf.new) self.old.store.unit)) 0 ≡ page_over 0 (content (unit_file (S.state shelf.old) self.old.store.unit)) page.now) }
+            page_of (content (unit_file (S.state shelf.new) self.old.store.unit)) 0
+            ≡ page_over 0 (content (unit_file (S.state shelf.old) self.old.store.unit)) page.now) }
         ensures kept { KeepsPages self.old self.new (S.state shelf.old) (S.state shelf.new) }
         ensures same { self.new ≡ self.old }
         ensures cause { HasCause (S.fault_count shelf.old) (S.fault_count shelf.new) result }
