@@ -1,0 +1,6 @@
+pub mod ChainLemmas
+pub mod SlotLemmas
+pub mod EditLemmas
+pub mod StandLemmas
+pub mod GrowLemmas
+pub mod HeapLemmas

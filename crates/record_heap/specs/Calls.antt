@@ -1,0 +1,65 @@
+-- What the calls on one page ensure.
+use Rattle.std.specs.Prelude.{◌≡◌, ◌≢◌, ℕ, ◌+◌, ◌≤◌, ◌<◌, List, [], ◌++◌, length, drop, Option, Some, IsTrue, Result, IfOk, IfErr, OnErr}
+use Rattle.std.specs.Option.{option_map_or}
+use Rattle.pages.specs.PageMap.{PageMap}
+use Rattle.pages.specs.PagesState.{PagesState}
+use Rattle.io_state.specs.declared.fault.Fault.{Fault}
+use Rattle.io_state.specs.declared.fault.Fault.TheVariants.{Damage}
+use Rattle.record_heap.specs.declared.shape.Shape.{Shape}
+use Rattle.record_heap.specs.declared.shape.Place.{Place}
+use Rattle.record_heap.specs.Slot.{room, used_in, behind_in}
+use Rattle.record_heap.specs.Slots.{slot_at, IsHeapPage}
+
+-- the bytes of the slot at a place
+abbrev pub slot_of : Shape → PageMap → Place → List ℕ
+slot_of shape pages p = option_map_or (λ page. slot_at shape page p.slot) (pages p.page) []
+
+-- the stamps and the record at a place in use
+abbrev pub used_at : Shape → PageMap → Place → Option (List ℕ)
+used_at shape pages p = used_in shape (slot_of shape pages p)
+
+-- the free slot behind that at a place
+abbrev pub behind_at : Shape → PageMap → Place → Option Place
+behind_at shape pages p = behind_in (slot_of shape pages p)
+
+-- page n is a heap page in use, and this is the next one
+pub record IsHeapAt (pages : PageMap) (n next : ℕ) : Type 0 where
+  pub bytes : List ℕ
+  pub there : pages n ≡ Some bytes
+  pub heap : IsHeapPage next bytes
+
+-- P holds of the answer, and a fault is no damage
+pub record IsAnswer {X : Type 0} (result : Result X Fault) (P : X → Type 0) : Type 0 where
+  pub answer : IfOk result P
+  pub no_damage : IfErr result (λ e. e ≢ Damage)
+
+-- The slot at a place has other bytes now, of which P holds; its page is a heap page still. Every other slot and every other page is as it was.
+pub record Rewrites (shape : Shape) (before after : PageMap) (place : Place) (P : List ℕ → Type 0) : Type 0 where
+  pub is : P (slot_of shape after place)
+  pub heap : (next : ℕ) → IsHeapAt before place.page next → IsHeapAt after place.page next
+  pub others : (q : Place) → q ≢ place → slot_of shape after q ≡ slot_of shape before q
+  pub pages : (n : ℕ) → n ≢ place.page → after n ≡ before n
+
+-- a call that rewrites the slot at a place of a heap page
+abbrev pub Rewriting : {X : Type 0} → Shape → PagesState → PagesState → Place → (X → List ℕ → Type 0) → Result X Fault → Type 0
+Rewriting shape before after place P result =
+    IsTrue after.is_honest → IsTrue before.is_sound → (next : ℕ) → IsHeapAt before.live place.page next → place.slot < room shape
+    → IsAnswer result (λ x. Rewrites shape before.live after.live place (P x) × IsTrue after.is_sound)
+
+-- a call that rewrites a free slot, and answers the place of the one behind it
+abbrev pub Refilling : Shape → PagesState → PagesState → Place → List ℕ → Result Place Fault → Type 0
+Refilling shape before after place bytes result =
+    (behind : Place) → behind_at shape before.live place ≡ Some behind
+    → Rewriting shape before after place (λ x slot. (x ≡ behind) × (used_in shape slot ≡ Some bytes)) result
+
+-- the answer of a call that reads a slot: its length, and its bytes at the front of `to`
+abbrev pub Gets : Shape → PageMap → Place → List ℕ → List ℕ → Result ℕ Fault → Type 0
+Gets shape pages place old new result =
+    (bytes : List ℕ) → place.slot < room shape → used_at shape pages place ≡ Some bytes → IsAnswer result (λ n. (n ≡ length bytes) × (new ≡ bytes ++ drop (length bytes) old))
+
+-- what a call that reads a slot leaves in `to`, whatever the pages hold: the answer is a length that the heap has, and at a fault nothing has changed
+pub record FillsFront (shape : Shape) (old new : List ℕ) (result : Result ℕ Fault) : Type 0 where
+  pub least : IfOk result (λ n. shape.stamps + shape.least ≤ n)
+  pub greatest : IfOk result (λ n. n ≤ shape.stamps + shape.greatest)
+  pub long : length new ≡ length old
+  pub kept : OnErr result (new ≡ old)

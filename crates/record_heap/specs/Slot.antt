@@ -1,0 +1,42 @@
+-- The bytes of one slot of a heap page.
+use Rattle.std.specs.Prelude.{ℕ, ◌+◌, ◌/◌, ◌==◌, ◌&&◌, nat_lt, nat_le, max, Bool, List, take, drop, length, ◌++◌, slice_index, Option, Some, None, if◌then◌else◌}
+use Rattle.byteorder.specs.Endian.{big_number}
+use Rattle.record_heap.specs.declared.shape.Shape.{Shape}
+use Rattle.record_heap.specs.declared.shape.Place.{Place}
+
+-- the records of the heap have several lengths
+abbrev pub is_varying : Shape → Bool
+is_varying shape = nat_lt shape.least shape.greatest
+
+-- the bytes before the stamps of a slot in use: its mark, and the record's length where lengths vary
+abbrev pub head : Shape → ℕ
+head shape = if is_varying shape then 3 else 1
+
+-- the bytes of a slot: a record of the greatest length, or the link of a free slot
+abbrev pub size : Shape → ℕ
+size shape = max (head shape + shape.stamps + shape.greatest) 7
+
+-- the slots of a page
+abbrev pub room : Shape → ℕ
+room shape = 4080 / size shape
+
+-- the length of the record in a slot in use
+abbrev pub record_length : Shape → List ℕ → ℕ
+record_length shape slot = if is_varying shape then big_number 2 (drop 1 slot) else shape.greatest
+
+-- the slot is in use, with a record of a length that the heap takes
+abbrev pub is_used : Shape → List ℕ → Bool
+is_used shape slot = (slice_index slot 0 == 1) && (nat_le shape.least (record_length shape slot) && nat_le (record_length shape slot) shape.greatest)
+
+-- the stamps and the record of a slot in use
+abbrev pub used_in : Shape → List ℕ → Option (List ℕ)
+used_in shape slot = if is_used shape slot then Some (take (shape.stamps + record_length shape slot) (drop (head shape) slot)) else None
+
+-- the free slot behind a free one
+abbrev pub behind_in : List ℕ → Option Place
+behind_in slot = if slice_index slot 0 == 0 then Some (record { page = big_number 4 (drop 1 slot); slot = big_number 2 (drop 5 slot) }) else None
+
+-- these bytes over the front of others
+abbrev pub over : Option (List ℕ) → List ℕ → List ℕ
+over None to = to
+over (Some bytes) to = bytes ++ drop (length bytes) to

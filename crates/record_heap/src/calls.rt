@@ -1,0 +1,106 @@
+//! One call on one page.
+
+ghost use Rattle.std.specs.Prelude.{◌≡◌, ◌≤◌, ◌<◌, ◌+◌, IsTrue, IfOk, IfErr, OnErr, Some, length};
+ghost use Rattle.pages.specs.Cause.{IsCaused};
+ghost use Rattle.record_heap.specs.Slot.{used_in, behind_in};
+ghost use Rattle.record_heap.specs.Calls.{Rewriting, Refilling, Gets, FillsFront};
+
+use crate::shape::{Place, Shape};
+use crate::slot::{behind, fetch};
+use crate::slots::{put_free, put_used, slot};
+use io_state::Fault;
+use pages::Pages;
+
+/// The stamps and the record at a place go to the front of `to`.
+pub fn read_used<P: Pages>(
+    pages: &mut P,
+    shape: Shape,
+    place: Place,
+    to: &mut [u8],
+) -> Result<usize, Fault>
+    requires ready { P.IsReady pages.old }
+    requires room { shape.stamps + shape.greatest ≤ length to.old }
+    ensures got { IsTrue (P.state pages.new).is_honest → Gets shape (P.state pages.old).live place to.old to.new result }
+    ensures front { FillsFront shape to.old to.new result }
+    ensures cause { IfErr result (IsCaused (P.HasFailed pages.old pages.new) ⊥) }
+    ensures asked { (P.state pages.new).asked ≤ (P.state pages.old).asked + 1 }
+    ensures reads { P.Reads pages.old pages.new }
+{
+    let page = pages.page(place.page)?;
+    if place.slot as usize >= shape.room() {
+        return Err(Fault::Damage);
+    }
+    match fetch(slot(page, shape, place.slot as usize), shape, to) {
+        None => Err(Fault::Damage),
+        Some(n) => Ok(n),
+    }
+}
+
+/// Makes the slot at a place free, with another behind it.
+pub fn link<P: Pages>(pages: &mut P, shape: Shape, place: Place, next: Place) -> Result<(), Fault>
+    requires ready { P.IsReady pages.old }
+    requires open { P.CanChange pages.old }
+    ensures linked { Rewriting shape (P.state pages.old) (P.state pages.new) place (λ u slot. behind_in slot ≡ Some next) result }
+    ensures available { (P.state pages.new).available ≡ (P.state pages.old).available }
+    ensures cause { IfErr result (IsCaused (P.HasFailed pages.old pages.new) ⊥) }
+    ensures asked { (P.state pages.new).asked ≤ (P.state pages.old).asked + 1 }
+    ensures goes { P.Goes pages.old pages.new }
+{
+    let page = pages.page_mut(place.page)?;
+    if page[0] != b'H' || place.slot as usize >= shape.room() {
+        return Err(Fault::Damage);
+    }
+    put_free(page, shape, place.slot as usize, next);
+    Ok(())
+}
+
+/// Puts stamps and a record into the slot at a place.
+pub fn fill<P: Pages>(pages: &mut P, shape: Shape, place: Place, bytes: &[u8]) -> Result<(), Fault>
+    requires ready { P.IsReady pages.old }
+    requires open { P.CanChange pages.old }
+    requires least { shape.stamps + shape.least ≤ length bytes.now }
+    requires greatest { length bytes.now ≤ shape.stamps + shape.greatest }
+    ensures filled { Rewriting shape (P.state pages.old) (P.state pages.new) place (λ u slot. used_in shape slot ≡ Some bytes.now) result }
+    ensures available { (P.state pages.new).available ≡ (P.state pages.old).available }
+    ensures cause { IfErr result (IsCaused (P.HasFailed pages.old pages.new) ⊥) }
+    ensures asked { (P.state pages.new).asked ≤ (P.state pages.old).asked + 1 }
+    ensures goes { P.Goes pages.old pages.new }
+{
+    let page = pages.page_mut(place.page)?;
+    if page[0] != b'H' || place.slot as usize >= shape.room() {
+        return Err(Fault::Damage);
+    }
+    put_used(page, shape, place.slot as usize, bytes);
+    Ok(())
+}
+
+/// Puts stamps and a record into a free slot, and answers the place of the free slot behind it.
+pub fn refill<P: Pages>(
+    pages: &mut P,
+    shape: Shape,
+    place: Place,
+    bytes: &[u8],
+) -> Result<Place, Fault>
+    requires ready { P.IsReady pages.old }
+    requires open { P.CanChange pages.old }
+    requires least { shape.stamps + shape.least ≤ length bytes.now }
+    requires greatest { length bytes.now ≤ shape.stamps + shape.greatest }
+    ensures refilled { Refilling shape (P.state pages.old) (P.state pages.new) place bytes.now result }
+    ensures available { (P.state pages.new).available ≡ (P.state pages.old).available }
+    ensures cause { IfErr result (IsCaused (P.HasFailed pages.old pages.new) ⊥) }
+    ensures asked { (P.state pages.new).asked ≤ (P.state pages.old).asked + 1 }
+    ensures goes { P.Goes pages.old pages.new }
+{
+    let page = pages.page_mut(place.page)?;
+    if page[0] != b'H' || place.slot as usize >= shape.room() {
+        return Err(Fault::Damage);
+    }
+    let i = place.slot as usize;
+    match behind(slot(page, shape, i)) {
+        None => Err(Fault::Damage),
+        Some(next) => {
+            put_used(page, shape, i, bytes);
+            Ok(next)
+        }
+    }
+}

@@ -1,0 +1,147 @@
+//! The heap.
+
+use crate::calls::{fill, link, read_used, refill};
+use crate::shape::{Place, Shape};
+use crate::slots::{PAGE_SIZE, new_page};
+use io_state::Fault;
+use pages::{Pages, store};
+
+/// Records, each with its stamps before it, in slots. `first` is the first page of the chain of heap pages, and `free` the first free slot; page 0 is none.
+#[derive(Clone, Copy, Debug, PartialEq, Eq)]
+pub struct Heap {
+    pub shape: Shape,
+    pub first: u32,
+    pub free: Place,
+}
+
+impl Heap {
+    ghost use Rattle.std.specs.Prelude.{◌≡◌, ◌≢◌, ◌≤◌, ◌+◌, ℕ, [], None, Some, IsTrue, IfOk, IfErr, OnOk, OnErr, length};
+    ghost use Rattle.pages.specs.PageMap.{PageMap};
+    ghost use Rattle.pages.specs.Cause.{IsCaused};
+    ghost use Rattle.record_heap.specs.Chain.{no_slots};
+    ghost use Rattle.record_heap.specs.Calls.{FillsFront};
+    ghost use Rattle.record_heap.specs.Standing.{HeapStands};
+    ghost use Rattle.record_heap.specs.Found.{Got, Adds, MakesRoom, Sets, TakesFew, LacksRoom};
+
+    /// A heap without records and without pages.
+    pub fn new(shape: Shape) -> Heap
+        ensures shape { result.shape ≡ shape }
+        ensures empty { (pages : PageMap) → HeapStands result pages no_slots [] }
+    {
+        Heap {
+            shape,
+            first: 0,
+            free: Place { page: 0, slot: 0 },
+        }
+    }
+
+    /// Reads the stamps and the record at a place in use to the front of `to`, and answers how many bytes they are. The rest of `to` stays; at a fault it all does.
+    ///
+    /// Device, Memory; Damage where the place has no record.
+    pub fn get<P: Pages>(&self, pages: &mut P, place: Place, to: &mut [u8]) -> Result<usize, Fault>
+        requires ready { P.IsReady pages.old }
+        requires room { self.now.shape.stamps + self.now.shape.greatest ≤ length to.old }
+        ensures got { IsTrue (P.state pages.new).is_honest → Got self.now (P.state pages.old).live place to.old to.new result }
+        ensures front { FillsFront self.now.shape to.old to.new result }
+        ensures cause { IfErr result (IsCaused (P.HasFailed pages.old pages.new) ⊥) }
+        ensures asked { (P.state pages.new).asked ≤ (P.state pages.old).asked + 1 }
+        ensures reads { P.Reads pages.old pages.new }
+    {
+        read_used(pages, self.shape, place, to)
+    }
+
+    /// Puts stamps and a record, together, into the slot that was freed last, and answers its place. Where no slot is free, a new page is taken for it.
+    ///
+    /// Device, Memory; Full where no slot is free and no page is left; Damage where a page is none of a heap.
+    pub fn add<P: Pages>(&mut self, pages: &mut P, bytes: &[u8]) -> Result<Place, Fault>
+        requires ready { P.IsReady pages.old }
+        requires open { P.CanChange pages.old }
+        requires least { self.old.shape.stamps + self.old.shape.least ≤ length bytes.now }
+        requires greatest { length bytes.now ≤ self.old.shape.stamps + self.old.shape.greatest }
+        ensures added { Adds (P.state pages.old) (P.state pages.new) self.old self.new bytes.now result }
+        ensures shape { self.new.shape ≡ self.old.shape }
+        ensures few { TakesFew self.old (P.state pages.old) (P.state pages.new) }
+        ensures cause { IfErr result (IsCaused (P.HasFailed pages.old pages.new) (LacksRoom self.old (P.state pages.old))) }
+        ensures asked { (P.state pages.new).asked ≤ (P.state pages.old).asked + 3 }
+        ensures goes { P.Goes pages.old pages.new }
+    {
+        self.make_room(pages)?;
+        let place = self.free;
+        self.free = refill(pages, self.shape, place, bytes)?;
+        Ok(place)
+    }
+
+    /// Puts other stamps and another record at a place in use. No page is taken.
+    ///
+    /// Device, Memory; Damage where the page is none of a heap.
+    pub fn set<P: Pages>(&self, pages: &mut P, place: Place, bytes: &[u8]) -> Result<(), Fault>
+        requires ready { P.IsReady pages.old }
+        requires open { P.CanChange pages.old }
+        requires least { self.now.shape.stamps + self.now.shape.least ≤ length bytes.now }
+        requires greatest { length bytes.now ≤ self.now.shape.stamps + self.now.shape.greatest }
+        ensures set { Sets (P.state pages.old) (P.state pages.new) self.now self.now place (Some bytes.now) result }
+        ensures available { (P.state pages.new).available ≡ (P.state pages.old).available }
+        ensures cause { IfErr result (IsCaused (P.HasFailed pages.old pages.new) ⊥) }
+        ensures asked { (P.state pages.new).asked ≤ (P.state pages.old).asked + 1 }
+        ensures goes { P.Goes pages.old pages.new }
+    {
+        fill(pages, self.shape, place, bytes)?;
+        Ok(())
+    }
+
+    /// Gives a slot in use back. It is the next one that is taken; its page stays the heap's.
+    ///
+    /// Device, Memory; Damage where the page is none of a heap.
+    pub fn free<P: Pages>(&mut self, pages: &mut P, place: Place) -> Result<(), Fault>
+        requires ready { P.IsReady pages.old }
+        requires open { P.CanChange pages.old }
+        ensures freed { Sets (P.state pages.old) (P.state pages.new) self.old self.new place None result }
+        ensures shape { self.new.shape ≡ self.old.shape }
+        ensures available { (P.state pages.new).available ≡ (P.state pages.old).available }
+        ensures cause { IfErr result (IsCaused (P.HasFailed pages.old pages.new) ⊥) }
+        ensures asked { (P.state pages.new).asked ≤ (P.state pages.old).asked + 1 }
+        ensures goes { P.Goes pages.old pages.new }
+    {
+        link(pages, self.shape, place, self.free)?;
+        self.free = place;
+        Ok(())
+    }
+
+    /// Takes a new page where no slot is free.
+    fn make_room<P: Pages>(&mut self, pages: &mut P) -> Result<(), Fault>
+        requires ready { P.IsReady pages.old }
+        requires open { P.CanChange pages.old }
+        ensures room { MakesRoom (P.state pages.old) (P.state pages.new) self.old self.new result }
+        ensures shape { self.new.shape ≡ self.old.shape }
+        ensures few { TakesFew self.old (P.state pages.old) (P.state pages.new) }
+        ensures cause { IfErr result (IsCaused (P.HasFailed pages.old pages.new) (LacksRoom self.old (P.state pages.old))) }
+        ensures asked { (P.state pages.new).asked ≤ (P.state pages.old).asked + 2 }
+        ensures goes { P.Goes pages.old pages.new }
+    {
+        if self.free.page != 0 {
+            return Ok(());
+        }
+        self.grow(pages)
+    }
+
+    /// Takes a new page, which goes to the front of the chain with all its slots free, in rising order.
+    fn grow<P: Pages>(&mut self, pages: &mut P) -> Result<(), Fault>
+        requires ready { P.IsReady pages.old }
+        requires open { P.CanChange pages.old }
+        requires none { self.old.free.page ≡ 0 }
+        ensures room { MakesRoom (P.state pages.old) (P.state pages.new) self.old self.new result }
+        ensures shape { self.new.shape ≡ self.old.shape }
+        ensures few { (P.state pages.old).available ≤ (P.state pages.new).available + 1 }
+        ensures cause { IfErr result (IsCaused (P.HasFailed pages.old pages.new) ((P.state pages.old).available ≡ 0)) }
+        ensures asked { (P.state pages.new).asked ≤ (P.state pages.old).asked + 2 }
+        ensures goes { P.Goes pages.old pages.new }
+    {
+        let n = pages.take()?;
+        let mut page = [0; PAGE_SIZE];
+        new_page(&mut page, self.shape, n, self.first);
+        store(pages, n, &page)?;
+        self.first = n;
+        self.free = Place { page: n, slot: 0 };
+        Ok(())
+    }
+}

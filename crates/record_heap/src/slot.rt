@@ -1,0 +1,125 @@
+//! The bytes of one slot of a heap page.
+//!
+//! A slot in use:
+//!
+//! | Bytes | Content |
+//! |---|---|
+//! | 0 | `01` |
+//! | 1 to 2, where lengths vary | length of the record |
+//! | then | stamps, 8 bytes each |
+//! | then | record |
+//!
+//! A free slot:
+//!
+//! | Bytes | Content |
+//! |---|---|
+//! | 0 | `00` |
+//! | 1 to 4 | page of the next free slot, 0 at the end of the chain |
+//! | 5 to 6 | slot of the next free slot |
+
+ghost use Rattle.std.specs.Prelude.{◌≡◌, ◌≤◌, ◌<◌, ◌+◌, ℕ, Some, length, option_map};
+ghost use Rattle.record_heap.specs.Slot.{head, size, record_length, used_in, behind_in, over};
+
+use crate::shape::{Place, Shape};
+use byteorder::{BigEndian, ByteOrder};
+
+/// The length of the record.
+fn record_length(slot: &[u8], shape: Shape) -> usize
+    requires { size shape ≤ length slot.now }
+    ensures { result ≡ record_length shape slot.now }
+{
+    if shape.least < shape.greatest {
+        BigEndian::read_u16(&slot[1..]) as usize
+    } else {
+        shape.greatest as usize
+    }
+}
+
+/// The stamps and the record go to the front of `to`, the rest of which stays. The answer is how many bytes they are; none where the slot is not in use.
+pub fn fetch(slot: &[u8], shape: Shape, to: &mut [u8]) -> Option<usize>
+    requires slot { size shape ≤ length slot.now }
+    requires room { shape.stamps + shape.greatest ≤ length to.old }
+    ensures value { result ≡ option_map length (used_in shape slot.now) }
+    ensures to { to.new ≡ over (used_in shape slot.now) to.old }
+{
+    if slot[0] != 1 {
+        return None;
+    }
+    let record = record_length(slot, shape);
+    if record < shape.least as usize {
+        return None;
+    }
+    if record > shape.greatest as usize {
+        return None;
+    }
+    let n = shape.stamps as usize + record;
+    let head = shape.head();
+    to[..n].copy_from_slice(&slot[head..head + n]);
+    Some(n)
+}
+
+/// The slot behind a free one.
+pub fn behind(slot: &[u8]) -> Option<Place>
+    requires { 7 ≤ length slot.now }
+    ensures { result ≡ behind_in slot.now }
+{
+    if slot[0] != 0 {
+        return None;
+    }
+    let page = BigEndian::read_u32(&slot[1..]);
+    let slot = BigEndian::read_u16(&slot[5..]);
+    Some(Place { page, slot })
+}
+
+/// Makes the slot free, with another behind it.
+pub fn write_free(slot: &mut [u8], next: Place)
+    requires { 7 ≤ length slot.old }
+    ensures free { behind_in slot.new ≡ Some next }
+    ensures long { length slot.new ≡ length slot.old }
+{
+    slot[0] = 0;
+    BigEndian::write_u32(&mut slot[1..5], next.page);
+    BigEndian::write_u16(&mut slot[5..7], next.slot);
+}
+
+/// Puts stamps and a record into the slot.
+pub fn write_used(slot: &mut [u8], shape: Shape, bytes: &[u8])
+    requires slot { size shape ≤ length slot.old }
+    requires least { shape.stamps + shape.least ≤ length bytes.now }
+    requires greatest { length bytes.now ≤ shape.stamps + shape.greatest }
+    ensures used { used_in shape slot.new ≡ Some bytes.now }
+    ensures long { length slot.new ≡ length slot.old }
+{
+    if shape.least < shape.greatest {
+        write_varying(slot, shape, bytes);
+    } else {
+        write_fixed(slot, shape, bytes);
+    }
+}
+
+/// The slot of a record with its length.
+fn write_varying(slot: &mut [u8], shape: Shape, bytes: &[u8])
+    requires slot { size shape ≤ length slot.old }
+    requires varying { shape.least < shape.greatest }
+    requires least { shape.stamps + shape.least ≤ length bytes.now }
+    requires greatest { length bytes.now ≤ shape.stamps + shape.greatest }
+    ensures used { used_in shape slot.new ≡ Some bytes.now }
+    ensures long { length slot.new ≡ length slot.old }
+{
+    let record = bytes.len() - shape.stamps as usize;
+    slot[0] = 1;
+    BigEndian::write_u16(&mut slot[1..3], record as u16);
+    slot[3..3 + bytes.len()].copy_from_slice(bytes);
+}
+
+/// The slot of a record of the one length.
+fn write_fixed(slot: &mut [u8], shape: Shape, bytes: &[u8])
+    requires slot { size shape ≤ length slot.old }
+    requires fixed { shape.least ≡ shape.greatest }
+    requires long { length bytes.now ≡ shape.stamps + shape.greatest }
+    ensures used { used_in shape slot.new ≡ Some bytes.now }
+    ensures long { length slot.new ≡ length slot.old }
+{
+    slot[0] = 1;
+    slot[1..1 + bytes.len()].copy_from_slice(bytes);
+}

@@ -1,0 +1,101 @@
+//! The slots of a heap page.
+//!
+//! | Bytes | Content |
+//! |---|---|
+//! | 0 | `H` |
+//! | 1 to 3 | zero |
+//! | 4 to 7 | next heap page, 0 at the end of the chain |
+//! | 8 to 15 | zero |
+//! | from 16 | as many slots of one size as fit |
+
+ghost use Rattle.std.specs.Prelude.{◌≡◌, ◌≤◌, ◌<◌, ◌+◌, ℕ, Some, length, take};
+ghost use Rattle.record_heap.specs.Slot.{room, size, used_in, behind_in};
+ghost use Rattle.record_heap.specs.Slots.{slot_at, start_of, behind_new, AreLinked, Edits, IsHeapPage};
+
+use crate::shape::{Place, Shape};
+use crate::slot;
+use byteorder::{BigEndian, ByteOrder};
+
+/// The bytes of a page.
+pub const PAGE_SIZE: usize = 4096;
+
+/// Where the slots begin.
+pub const FIRST_SLOT: usize = 16;
+
+/// The bytes of slot `i`.
+pub fn slot(page: &[u8; PAGE_SIZE], shape: Shape, i: usize) -> &[u8]
+    requires { i < room shape }
+    ensures value { result.now ≡ slot_at shape page.now i }
+    ensures len { length result.now ≡ size shape }
+{
+    let size = shape.size();
+    let at = FIRST_SLOT + i * size;
+    &page[at..at + size]
+}
+
+/// Makes slot `i` free, with another behind it.
+pub fn put_free(page: &mut [u8; PAGE_SIZE], shape: Shape, i: usize, next: Place)
+    requires { i < room shape }
+    ensures { Edits shape page.old page.new i (λ slot. behind_in slot ≡ Some next) }
+{
+    let size = shape.size();
+    let at = FIRST_SLOT + i * size;
+    slot::write_free(&mut page[at..at + size], next);
+}
+
+/// Puts stamps and a record into slot `i`.
+pub fn put_used(page: &mut [u8; PAGE_SIZE], shape: Shape, i: usize, bytes: &[u8])
+    requires slot { i < room shape }
+    requires least { shape.stamps + shape.least ≤ length bytes.now }
+    requires greatest { length bytes.now ≤ shape.stamps + shape.greatest }
+    ensures { Edits shape page.old page.new i (λ slot. used_in shape slot ≡ Some bytes.now) }
+{
+    let size = shape.size();
+    let at = FIRST_SLOT + i * size;
+    slot::write_used(&mut page[at..at + size], shape, bytes);
+}
+
+/// Makes the page the heap page `n` before the page `next`, with all its slots free.
+pub fn new_page(page: &mut [u8; PAGE_SIZE], shape: Shape, n: u32, next: u32)
+    ensures heap { IsHeapPage next page.new }
+    ensures linked { AreLinked shape n (room shape) page.new }
+{
+    write_start(page, next);
+    link_all(page, shape, n);
+}
+
+/// Writes the bytes before the slots.
+fn write_start(page: &mut [u8; PAGE_SIZE], next: u32)
+    ensures { take 16 page.new ≡ start_of next }
+{
+    page[..FIRST_SLOT].fill(0);
+    page[0] = b'H';
+    BigEndian::write_u32(&mut page[4..8], next);
+}
+
+/// Makes all slots of page `n` free, each with the one after it behind it.
+fn link_all(page: &mut [u8; PAGE_SIZE], shape: Shape, n: u32)
+    ensures linked { AreLinked shape n (room shape) page.new }
+    ensures start { take 16 page.new ≡ take 16 page.old }
+{
+    let room = shape.room();
+    for i in 0..room {
+        put_free(page, shape, i, place_behind(n, room, i));
+    }
+}
+
+/// The place behind slot `i` of page `n`, where all its slots are free.
+fn place_behind(n: u32, room: usize, i: usize) -> Place
+    requires few { room < 65536 }
+    requires slot { i < room }
+    ensures { result ≡ behind_new room n i }
+{
+    if i + 1 < room {
+        Place {
+            page: n,
+            slot: (i + 1) as u16,
+        }
+    } else {
+        Place { page: 0, slot: 0 }
+    }
+}
