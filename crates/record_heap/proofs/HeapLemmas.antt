@@ -10,7 +10,8 @@ use Rattle.record_heap.specs.declared.shape.Place.{Place}
 use Rattle.record_heap.specs.declared.heap.Heap.{Heap}
 use Rattle.record_heap.specs.Slot.{room, used_in, behind_in}
 use Rattle.record_heap.specs.Chain.{Slots, put, Keeps}
-use Rattle.record_heap.specs.Calls.{used_at, behind_at, IsHeapAt, IsAnswer, Rewrites, Rewriting, Refilling, Gets}
+use Rattle.record_heap.specs.Calls.{used_at, behind_at, IsHeapAt, Rewrites, Rewriting, Refilling, Gets}
+use Rattle.pages.specs.Answer.{IsAnswer}
 use Rattle.record_heap.specs.Standing.{HeapStands}
 use Rattle.record_heap.specs.Found.{HeapHas, Got, Sets, Adds, MakesRoom}
 use Rattle.record_heap.proofs.StandLemmas.{in_heap, page_of_chain, slot_rewritten, heap_freed, heap_set}

@@ -1,10 +1,10 @@
 -- What the calls on one page ensure.
-use Rattle.std.specs.Prelude.{◌≡◌, ◌≢◌, ℕ, ◌+◌, ◌≤◌, ◌<◌, List, [], ◌++◌, length, drop, Option, Some, IsTrue, Result, IfOk, IfErr, OnErr}
+use Rattle.std.specs.Prelude.{◌≡◌, ◌≢◌, ℕ, ◌+◌, ◌≤◌, ◌<◌, List, [], ◌++◌, length, drop, Option, Some, IsTrue, Result, IfOk, OnErr}
 use Rattle.std.specs.Option.{option_map_or}
 use Rattle.pages.specs.PageMap.{PageMap}
 use Rattle.pages.specs.PagesState.{PagesState}
+use Rattle.pages.specs.Answer.{IsAnswer}
 use Rattle.io_state.specs.declared.fault.Fault.{Fault}
-use Rattle.io_state.specs.declared.fault.Fault.TheVariants.{Damage}
 use Rattle.record_heap.specs.declared.shape.Shape.{Shape}
 use Rattle.record_heap.specs.declared.shape.Place.{Place}
 use Rattle.record_heap.specs.Slot.{room, used_in, behind_in}
@@ -27,11 +27,6 @@ pub record IsHeapAt (pages : PageMap) (n next : ℕ) : Type 0 where
   pub bytes : List ℕ
   pub there : pages n ≡ Some bytes
   pub heap : IsHeapPage next bytes
-
--- P holds of the answer, and a fault is no damage
-pub record IsAnswer {X : Type 0} (result : Result X Fault) (P : X → Type 0) : Type 0 where
-  pub answer : IfOk result P
-  pub no_damage : IfErr result (λ e. e ≢ Damage)
 
 -- The slot at a place has other bytes now, of which P holds; its page is a heap page still. Every other slot and every other page is as it was.
 pub record Rewrites (shape : Shape) (before after : PageMap) (place : Place) (P : List ℕ → Type 0) : Type 0 where

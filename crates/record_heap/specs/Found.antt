@@ -7,7 +7,7 @@ use Rattle.io_state.specs.declared.fault.Fault.{Fault}
 use Rattle.record_heap.specs.declared.shape.Place.{Place}
 use Rattle.record_heap.specs.declared.heap.Heap.{Heap}
 use Rattle.record_heap.specs.Chain.{Slots, put}
-use Rattle.record_heap.specs.Calls.{IsAnswer}
+use Rattle.pages.specs.Answer.{IsAnswer}
 use Rattle.record_heap.specs.Standing.{HeapStands}
 
 -- the heap has these slots now, in pages of which those new to it were free
