@@ -4,3 +4,4 @@ pub mod EditLemmas
 pub mod StandLemmas
 pub mod GrowLemmas
 pub mod HeapLemmas
+pub mod MemoryPagesLemmas

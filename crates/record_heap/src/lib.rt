@@ -12,6 +12,8 @@ mod laws;
 mod shape;
 mod slot;
 mod slots;
+#[cfg(test)]
+mod tests;
 
 pub use heap::Heap;
 pub use laws::heap_laws;

@@ -1,0 +1,214 @@
+//! What no clause says: numbers and bytes that a person reads off the format, and that each call can succeed.
+
+mod memory_pages;
+
+use crate::{Heap, Place, Shape, heap_laws};
+use io_state::Fault;
+use memory_pages::MemoryPages;
+use std::alloc::Global;
+use std::process::Abort;
+use std::test::Fail;
+
+const FIXED: Shape = Shape {
+    stamps: 0,
+    least: 16,
+    greatest: 16,
+};
+
+const VARYING: Shape = Shape {
+    stamps: 0,
+    least: 10,
+    greatest: 16,
+};
+
+// A header and so many other pages, and room for one page of the heap, or more.
+fn pages_before(alloc: Global, others: usize, room: usize) -> Result<MemoryPages, Fail> {
+    let mut pages = Vec::new(alloc);
+    for _ in 0..others.saturating_add(1) {
+        pages.push([0; 4096])?;
+    }
+    let limit = pages.len().saturating_add(room);
+    Ok(MemoryPages { pages, limit })
+}
+
+fn add(
+    rt: &impl Abort,
+    heap: &mut Heap,
+    pages: &mut MemoryPages,
+    record: &[u8],
+) -> Result<Place, Fault> {
+    let shape = heap.shape;
+    assert!(rt; shape.stamps as usize + shape.least as usize <= record.len());
+    assert!(rt; record.len() <= shape.stamps as usize + shape.greatest as usize);
+    heap.add(pages, record)
+}
+
+fn set(
+    rt: &impl Abort,
+    heap: &Heap,
+    pages: &mut MemoryPages,
+    place: Place,
+    record: &[u8],
+) -> Result<(), Fault> {
+    let shape = heap.shape;
+    assert!(rt; shape.stamps as usize + shape.least as usize <= record.len());
+    assert!(rt; record.len() <= shape.stamps as usize + shape.greatest as usize);
+    heap.set(pages, place, record)
+}
+
+// Reads a place into an area of dots.
+fn get(
+    rt: &impl Abort,
+    heap: &Heap,
+    pages: &mut MemoryPages,
+    place: Place,
+) -> Result<(usize, [u8; 16]), Fault> {
+    let shape = heap.shape;
+    let mut area = [b'.'; 16];
+    assert!(rt; shape.stamps as usize + shape.greatest as usize <= area.len());
+    let n = heap.get(pages, place, &mut area)?;
+    Ok((n, area))
+}
+
+// A record of 16 bytes that begins with a number.
+fn numbered(i: usize) -> [u8; 16] {
+    let mut record = [b' '; 16];
+    record[..8].copy_from_slice(&(i as u64).to_be_bytes());
+    record
+}
+
+#[test]
+fn slots_are_as_many_as_fit(rt: HostRuntime) {
+    let cases = [
+        (0, 16, 16, 17, 240),
+        (0, 10, 16, 19, 214),
+        (0, 10, 10, 11, 370),
+        (0, 1, 1, 7, 582),
+        (64, 4000, 4000, 4065, 1),
+        (64, 1, 4000, 4067, 1),
+    ];
+    for (stamps, least, greatest, size, room) in cases {
+        assert!(rt; least <= greatest && stamps <= 64 && greatest <= 4000);
+        let shape = Shape {
+            stamps,
+            least,
+            greatest,
+        };
+        assert_eq!(rt; shape.size(), size, "{shape:?}");
+        assert_eq!(rt; shape.room(), room, "{shape:?}");
+    }
+}
+
+#[test]
+fn freed_slots_are_taken_before_a_page_is(rt: HostRuntime) -> Result<(), Fail> {
+    heap_laws();
+    let mut pages = pages_before(rt.alloc(), 0, 3)?;
+    let mut heap = Heap::new(FIXED);
+    let mut places = Vec::new(rt.alloc());
+    for i in 0..500 {
+        places.push(add(&rt, &mut heap, &mut pages, &numbered(i))?)?;
+    }
+    assert_eq!(rt; pages.pages.len(), 4);
+    for (i, &place) in places.iter().enumerate() {
+        assert_eq!(rt;
+            get(&rt, &heap, &mut pages, place)?,
+            (16, numbered(i)),
+            "{place:?}"
+        );
+    }
+    for &place in places.iter() {
+        heap.free(&mut pages, place)?;
+    }
+    for i in 0..500 {
+        add(&rt, &mut heap, &mut pages, &numbered(i))?;
+    }
+    assert_eq!(rt; pages.pages.len(), 4);
+    Ok(())
+}
+
+#[test]
+fn a_shorter_record_leaves_the_rest_of_the_area(rt: HostRuntime) -> Result<(), Fail> {
+    let mut pages = pages_before(rt.alloc(), 0, 1)?;
+    let mut heap = Heap::new(VARYING);
+    let first = add(&rt, &mut heap, &mut pages, b"0002SVEN  ")?;
+    let second = add(&rt, &mut heap, &mut pages, b"0001SMITH OSLO  ")?;
+    assert_eq!(rt;
+        get(&rt, &heap, &mut pages, first)?,
+        (10, *b"0002SVEN  ......")
+    );
+    set(&rt, &heap, &mut pages, first, b"0002SVEN  MOSS  ")?;
+    set(&rt, &heap, &mut pages, second, b"0001SMITH ")?;
+    assert_eq!(rt;
+        get(&rt, &heap, &mut pages, first)?,
+        (16, *b"0002SVEN  MOSS  ")
+    );
+    assert_eq!(rt;
+        get(&rt, &heap, &mut pages, second)?,
+        (10, *b"0001SMITH ......")
+    );
+    heap.free(&mut pages, first)?;
+    assert_eq!(rt; get(&rt, &heap, &mut pages, first), Err(Fault::Damage));
+    assert_eq!(rt;
+        get(&rt, &heap, &mut pages, second)?,
+        (10, *b"0001SMITH ......")
+    );
+    Ok(())
+}
+
+#[test]
+fn a_heap_is_full_where_no_slot_and_no_page_is_left(rt: HostRuntime) -> Result<(), Fail> {
+    let mut pages = pages_before(rt.alloc(), 0, 1)?;
+    let mut heap = Heap::new(FIXED);
+    for i in 0..240 {
+        add(&rt, &mut heap, &mut pages, &numbered(i))?;
+    }
+    assert_eq!(rt;
+        add(&rt, &mut heap, &mut pages, &numbered(240)),
+        Err(Fault::Full)
+    );
+    heap.free(&mut pages, Place { page: 1, slot: 7 })?;
+    assert_eq!(rt;
+        add(&rt, &mut heap, &mut pages, &numbered(240)),
+        Ok(Place { page: 1, slot: 7 })
+    );
+    Ok(())
+}
+
+// The page of the first record: of a file of records of 10 bytes with one key, and of one of records of 10 to 16 bytes with two.
+#[test]
+fn a_heap_page_is_written_byte_for_byte(rt: HostRuntime) -> Result<(), Fail> {
+    let ten = Shape {
+        stamps: 0,
+        least: 10,
+        greatest: 10,
+    };
+    let tens: [(usize, &[u8]); 5] = [
+        (0, b"H\0\0\0\0\0\0\0\0\0\0\0\0\0\0\0"),
+        (16, b"\x010001SMITH "),
+        (27, b"\0\0\0\0\x02\0\x02"),
+        (4064, b"\0\0\0\0\x02\x01\x71"),
+        (4075, b"\0\0\0\0\0\0\0"),
+    ];
+    let varying: [(usize, &[u8]); 5] = [
+        (0, b"H\0\0\0\0\0\0\0\0\0\0\0\0\0\0\0"),
+        (16, b"\x01\0\x0a0001SMITH "),
+        (35, b"\0\0\0\0\x03\0\x02"),
+        (4044, b"\0\0\0\0\x03\0\xd5"),
+        (4063, b"\0\0\0\0\0\0\0"),
+    ];
+    for (shape, others, parts) in [(ten, 1, tens), (VARYING, 2, varying)] {
+        let mut pages = pages_before(rt.alloc(), others, 1)?;
+        let mut heap = Heap::new(shape);
+        let place = add(&rt, &mut heap, &mut pages, b"0001SMITH ")?;
+        assert_eq!(rt; place.page as usize, others + 1);
+        let page = pages.pages.last().expect(&rt, "a page");
+        for (at, bytes) in parts {
+            assert_eq!(rt;
+                page.get(at..at + bytes.len()),
+                Some(bytes),
+                "{shape:?} at {at}"
+            );
+        }
+    }
+    Ok(())
+}
