@@ -54,7 +54,7 @@ rewriting_fails heap new before after place bytes P fault out rewriting was hone
 
 pub gets : (heap : Heap) (pages : PageMap) (place : Place) (old new : List ℕ) (result : Result ℕ Fault) → Gets heap.shape pages place old new result → Got heap pages place old new result
 gets heap pages place old new result reads slots own bytes stands here =
-    let at = in_heap heap pages slots own place bytes stands here in reads bytes at.within at.used
+    let at = in_heap heap pages slots own place bytes stands here in reads at.next at.at at.within bytes at.used
 
 -- the first free slot holds a record now
 pub heap_refilled : (heap : Heap) (before after : PageMap) (slots : Slots) (own bytes : List ℕ) (next : Place) → HeapStands heap before slots own → 1 ≤ heap.free.page

@@ -26,8 +26,8 @@ pushed pages page =
         → (ltb m (length pages) ≡ true) ⊎ (ltb m (length pages) ≡ false)
         → pages_in (pages ++ page ∷ []) m ≡ pages_in pages m
     go m other longer (inl a) =
-      let both : ltb m (length (pages ++ page ∷ [])) ≡ true = lt-ltb m (length (pages ++ page ∷ [])) (let less = ltb-true m (length pages) a in omega (arith, less)) in
-      rw (both, a) (ap Some (get_or_append_left pages (page ∷ []) [] m (ltb-true m (length pages) a)))
+        let both : ltb m (length (pages ++ page ∷ [])) ≡ true = lt-ltb m (length (pages ++ page ∷ [])) (let less = ltb-true m (length pages) a in omega (arith, less)) in
+        rw (both, a) (ap Some (get_or_append_left pages (page ∷ []) [] m (ltb-true m (length pages) a)))
     go m other longer (inr b) =
-      let both : ltb m (length (pages ++ page ∷ [])) ≡ false = le-ltb m (length (pages ++ page ∷ [])) (let more = ltb-false m (length pages) b in omega (arith, more, other)) in
-      rw (both, b) refl
+        let both : ltb m (length (pages ++ page ∷ [])) ≡ false = le-ltb m (length (pages ++ page ∷ [])) (let more = ltb-false m (length pages) b in omega (arith, more, other)) in
+        rw (both, b) refl

@@ -20,14 +20,15 @@ pub fn read_used<P: Pages>(
 ) -> Result<usize, Fault>
     requires ready { P.IsReady pages.old }
     requires room { shape.stamps + shape.greatest ≤ length to.old }
-    ensures got { IsTrue (P.state pages.new).is_honest → Gets shape (P.state pages.old).live place to.old to.new result }
+    ensures got { IsTrue (P.state pages.new).is_honest
+        → Gets shape (P.state pages.old).live place to.old to.new result }
     ensures front { FillsFront shape to.old to.new result }
     ensures cause { IfErr result (IsCaused (P.HasFailed pages.old pages.new) ⊥) }
     ensures asked { (P.state pages.new).asked ≤ (P.state pages.old).asked + 1 }
     ensures reads { P.Reads pages.old pages.new }
 {
     let page = pages.page(place.page)?;
-    if place.slot as usize >= shape.room() {
+    if page[0] != b'H' || place.slot as usize >= shape.room() {
         return Err(Fault::Damage);
     }
     match fetch(slot(page, shape, place.slot as usize), shape, to) {
@@ -40,7 +41,8 @@ pub fn read_used<P: Pages>(
 pub fn link<P: Pages>(pages: &mut P, shape: Shape, place: Place, next: Place) -> Result<(), Fault>
     requires ready { P.IsReady pages.old }
     requires open { P.CanChange pages.old }
-    ensures linked { Rewriting shape (P.state pages.old) (P.state pages.new) place (λ u slot. behind_in slot ≡ Some next) result }
+    ensures linked { Rewriting shape (P.state pages.old) (P.state pages.new) place
+        (λ u slot. behind_in slot ≡ Some next) result }
     ensures available { (P.state pages.new).available ≡ (P.state pages.old).available }
     ensures cause { IfErr result (IsCaused (P.HasFailed pages.old pages.new) ⊥) }
     ensures asked { (P.state pages.new).asked ≤ (P.state pages.old).asked + 1 }
@@ -60,7 +62,8 @@ pub fn fill<P: Pages>(pages: &mut P, shape: Shape, place: Place, bytes: &[u8]) -
     requires open { P.CanChange pages.old }
     requires least { shape.stamps + shape.least ≤ length bytes.now }
     requires greatest { length bytes.now ≤ shape.stamps + shape.greatest }
-    ensures filled { Rewriting shape (P.state pages.old) (P.state pages.new) place (λ u slot. used_in shape slot ≡ Some bytes.now) result }
+    ensures filled { Rewriting shape (P.state pages.old) (P.state pages.new) place
+        (λ u slot. used_in shape slot ≡ Some bytes.now) result }
     ensures available { (P.state pages.new).available ≡ (P.state pages.old).available }
     ensures cause { IfErr result (IsCaused (P.HasFailed pages.old pages.new) ⊥) }
     ensures asked { (P.state pages.new).asked ≤ (P.state pages.old).asked + 1 }

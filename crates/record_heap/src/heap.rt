@@ -41,7 +41,8 @@ impl Heap {
     pub fn get<P: Pages>(&self, pages: &mut P, place: Place, to: &mut [u8]) -> Result<usize, Fault>
         requires ready { P.IsReady pages.old }
         requires room { self.now.shape.stamps + self.now.shape.greatest ≤ length to.old }
-        ensures got { IsTrue (P.state pages.new).is_honest → Got self.now (P.state pages.old).live place to.old to.new result }
+        ensures got { IsTrue (P.state pages.new).is_honest
+            → Got self.now (P.state pages.old).live place to.old to.new result }
         ensures front { FillsFront self.now.shape to.old to.new result }
         ensures cause { IfErr result (IsCaused (P.HasFailed pages.old pages.new) ⊥) }
         ensures asked { (P.state pages.new).asked ≤ (P.state pages.old).asked + 1 }
@@ -61,7 +62,8 @@ impl Heap {
         ensures added { Adds (P.state pages.old) (P.state pages.new) self.old self.new bytes.now result }
         ensures shape { self.new.shape ≡ self.old.shape }
         ensures few { TakesFew self.old (P.state pages.old) (P.state pages.new) }
-        ensures cause { IfErr result (IsCaused (P.HasFailed pages.old pages.new) (LacksRoom self.old (P.state pages.old))) }
+        ensures cause { IfErr result (IsCaused (P.HasFailed pages.old pages.new)
+            (LacksRoom self.old (P.state pages.old))) }
         ensures asked { (P.state pages.new).asked ≤ (P.state pages.old).asked + 3 }
         ensures goes { P.Goes pages.old pages.new }
     {
@@ -79,7 +81,8 @@ impl Heap {
         requires open { P.CanChange pages.old }
         requires least { self.now.shape.stamps + self.now.shape.least ≤ length bytes.now }
         requires greatest { length bytes.now ≤ self.now.shape.stamps + self.now.shape.greatest }
-        ensures set { Sets (P.state pages.old) (P.state pages.new) self.now self.now place (Some bytes.now) result }
+        ensures set { Sets (P.state pages.old) (P.state pages.new) self.now self.now place
+            (Some bytes.now) result }
         ensures available { (P.state pages.new).available ≡ (P.state pages.old).available }
         ensures cause { IfErr result (IsCaused (P.HasFailed pages.old pages.new) ⊥) }
         ensures asked { (P.state pages.new).asked ≤ (P.state pages.old).asked + 1 }
@@ -114,7 +117,8 @@ impl Heap {
         ensures room { MakesRoom (P.state pages.old) (P.state pages.new) self.old self.new result }
         ensures shape { self.new.shape ≡ self.old.shape }
         ensures few { TakesFew self.old (P.state pages.old) (P.state pages.new) }
-        ensures cause { IfErr result (IsCaused (P.HasFailed pages.old pages.new) (LacksRoom self.old (P.state pages.old))) }
+        ensures cause { IfErr result (IsCaused (P.HasFailed pages.old pages.new)
+            (LacksRoom self.old (P.state pages.old))) }
         ensures asked { (P.state pages.new).asked ≤ (P.state pages.old).asked + 2 }
         ensures goes { P.Goes pages.old pages.new }
     {
@@ -132,7 +136,8 @@ impl Heap {
         ensures room { MakesRoom (P.state pages.old) (P.state pages.new) self.old self.new result }
         ensures shape { self.new.shape ≡ self.old.shape }
         ensures few { (P.state pages.old).available ≤ (P.state pages.new).available + 1 }
-        ensures cause { IfErr result (IsCaused (P.HasFailed pages.old pages.new) ((P.state pages.old).available ≡ 0)) }
+        ensures cause { IfErr result (IsCaused (P.HasFailed pages.old pages.new)
+            ((P.state pages.old).available ≡ 0)) }
         ensures asked { (P.state pages.new).asked ≤ (P.state pages.old).asked + 2 }
         ensures goes { P.Goes pages.old pages.new }
     {

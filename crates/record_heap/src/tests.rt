@@ -147,7 +147,18 @@ fn a_shorter_record_leaves_the_rest_of_the_area(rt: HostRuntime) -> Result<(), F
         (10, *b"0001SMITH ......")
     );
     heap.free(&mut pages, first)?;
-    assert_eq!(rt; get(&rt, &heap, &mut pages, first), Err(Fault::Damage));
+    for place in [
+        first,
+        Place { page: 0, slot: 0 },
+        Place { page: 1, slot: 214 },
+        Place { page: 2, slot: 0 },
+    ] {
+        assert_eq!(rt;
+            get(&rt, &heap, &mut pages, place),
+            Err(Fault::Damage),
+            "{place:?}"
+        );
+    }
     assert_eq!(rt;
         get(&rt, &heap, &mut pages, second)?,
         (10, *b"0001SMITH ......")
