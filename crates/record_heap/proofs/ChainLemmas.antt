@@ -44,7 +44,7 @@ pub put_there : (slots : Slots) (p q : Place) (b : Option (List ℕ)) → q ≢ 
 put_there slots p q b h = rw (place_not p q h) refl
 
 -- a place is the written one, or it is another
-at_place : (R : Type 0) (p q : Place) → (q ≡ p → R) → (q ≢ p → R) → R
+pub at_place : (R : Type 0) (p q : Place) → (q ≡ p → R) → (q ≢ p → R) → R
 at_place R p q same other = go (place_tells p q)
   where
     go : ((is_place p q ≡ true) × (p ≡ q)) ⊎ ((is_place p q ≡ false) × (p ≢ q)) → R

@@ -4,4 +4,6 @@ pub mod EditLemmas
 pub mod StandLemmas
 pub mod GrowLemmas
 pub mod HeapLemmas
+pub mod WalkLemmas
+pub mod SlotWalkLemmas
 pub mod MemoryPagesLemmas

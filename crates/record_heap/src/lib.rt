@@ -3,7 +3,8 @@
 //! A place, a page and a slot in it, holds a record until it is freed. A freed slot is the next one taken, and a new page is taken only where no slot is
 //! free; heap pages are never given back. Which record lies where is not known here.
 //!
-//! Read `shape` (the size of a slot), `slot` (the bytes of one), `slots` (those of a page), `calls` (one call on one page), then `heap`.
+//! Read `shape` (the size of a slot), `slot` (the bytes of one), `slots` (those of a page), `calls` (one call on one page), then `heap`; `walk` is for whoever
+//! checks a file whose pages were all read.
 #![tactic(auto)]
 
 mod calls;
@@ -14,7 +15,9 @@ mod slot;
 mod slots;
 #[cfg(test)]
 mod tests;
+mod walk;
 
 pub use heap::Heap;
 pub use laws::heap_laws;
 pub use shape::{Place, Shape};
+pub use walk::walk_heap;

@@ -18,7 +18,7 @@
 //! | 5 to 6 | slot of the next free slot |
 
 ghost use Rattle.std.specs.Prelude.{◌≡◌, ◌≤◌, ◌<◌, ◌+◌, ℕ, Some, length, option_map};
-ghost use Rattle.record_heap.specs.Slot.{head, size, record_length, used_in, behind_in, over};
+ghost use Rattle.record_heap.specs.Slot.{head, size, record_length, is_used, used_in, behind_in, over};
 
 use crate::shape::{Place, Shape};
 use byteorder::{BigEndian, ByteOrder};
@@ -33,6 +33,15 @@ fn record_length(slot: &[u8], shape: Shape) -> usize
     } else {
         shape.greatest as usize
     }
+}
+
+/// The slot is in use, with a record of a length that the heap takes.
+pub fn is_used(slot: &[u8], shape: Shape) -> bool
+    requires { size shape ≤ length slot.now }
+    ensures { result ≡ is_used shape slot.now }
+{
+    let record = record_length(slot, shape);
+    slot[0] == 1 && shape.least as usize <= record && record <= shape.greatest as usize
 }
 
 /// The stamps and the record go to the front of `to`, the rest of which stays. The answer is how many bytes they are; none where the slot is not in use.

@@ -68,9 +68,17 @@ pub fn new_page(page: &mut [u8; PAGE_SIZE], shape: Shape, n: u32, next: u32)
 fn write_start(page: &mut [u8; PAGE_SIZE], next: u32)
     ensures { take 16 page.new ≡ start_of next }
 {
-    page[..FIRST_SLOT].fill(0);
-    page[0] = b'H';
-    BigEndian::write_u32(&mut page[4..8], next);
+    page[..FIRST_SLOT].copy_from_slice(&start_of(next));
+}
+
+/// The bytes before the slots.
+pub fn start_of(next: u32) -> [u8; FIRST_SLOT]
+    ensures { result ≡ start_of next }
+{
+    let mut start = [0; FIRST_SLOT];
+    start[0] = b'H';
+    BigEndian::write_u32(&mut start[4..8], next);
+    start
 }
 
 /// Makes all slots of page `n` free, each with the one after it behind it.

@@ -2,7 +2,7 @@
 
 mod memory_pages;
 
-use crate::{Heap, Place, Shape, heap_laws};
+use crate::{Heap, Place, Shape, heap_laws, walk_heap};
 use io_state::Fault;
 use memory_pages::MemoryPages;
 use std::alloc::Global;
@@ -68,6 +68,15 @@ fn get(
     assert!(rt; shape.stamps as usize + shape.greatest as usize <= area.len());
     let n = heap.get(pages, place, &mut area)?;
     Ok((n, area))
+}
+
+// Puts another byte into a page, and answers the one that stood there.
+fn put_byte(rt: &impl Abort, pages: &mut MemoryPages, n: usize, at: usize, byte: u8) -> u8 {
+    assert!(rt; n < pages.pages.len() && at < 4096);
+    let page = &mut pages.pages[n];
+    let was = page[at];
+    page[at] = byte;
+    was
 }
 
 // A record of 16 bytes that begins with a number.
@@ -220,6 +229,37 @@ fn a_heap_page_is_written_byte_for_byte(rt: HostRuntime) -> Result<(), Fail> {
                 "{shape:?} at {at}"
             );
         }
+    }
+    Ok(())
+}
+
+#[test]
+fn a_walk_finds_the_pages_of_a_heap_and_what_is_lost(rt: HostRuntime) -> Result<(), Fail> {
+    let mut pages = pages_before(rt.alloc(), 0, 2)?;
+    let mut heap = Heap::new(FIXED);
+    for i in 0..250 {
+        add(&rt, &mut heap, &mut pages, &numbered(i))?;
+    }
+    heap.free(&mut pages, Place { page: 1, slot: 7 })?;
+    let mut reached = [false; 3];
+    let own = walk_heap(rt.alloc(), &pages.pages, &heap, &mut reached)?;
+    assert_eq!(rt; own.as_slice(), [2, 1].as_slice());
+    assert_eq!(rt; reached, [false, true, true]);
+    assert!(rt; walk_heap(rt.alloc(), &pages.pages, &heap, &mut reached).is_err());
+    let changes: [(usize, usize, u8, &str); 7] = [
+        (2, 0, b'L', "a page of another kind"),
+        (1, 1, 1, "a byte that should be zero"),
+        (2, 7, 2, "a page that leads to itself"),
+        (1, 7, 9, "a page that is not there"),
+        (1, 16, 2, "a mark that is none"),
+        (1, 16, 0, "a free slot that nothing leads to"),
+        (1, 141, 9, "a link to a slot in use"),
+    ];
+    for (n, at, byte, what) in changes {
+        let was = put_byte(&rt, &mut pages, n, at, byte);
+        let found = walk_heap(rt.alloc(), &pages.pages, &heap, &mut [false; 3]);
+        assert_eq!(rt; found.err(), Some(Fault::Damage), "{what}");
+        put_byte(&rt, &mut pages, n, at, was);
     }
     Ok(())
 }

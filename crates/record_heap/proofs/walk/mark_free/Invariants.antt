@@ -1,0 +1,10 @@
+use Rattle.std.proofs.Common.{◌≡◌, length, take}
+use Rattle.record_heap.specs.PageList.{pages_in}
+use Rattle.record_heap.specs.Walk.{AreMarked}
+use Rattle.record_heap.proofs.walk.mark_free.Given as goal
+
+abbrev pub invariant-loop-n : goal.invariant-loop-n
+invariant-loop-n l = record {
+  marked : AreMarked l.shape (pages_in l.pages) (take l.n-index l.own) l.marks;
+  long : length l.marks ≡ length l.initial.marks;
+}

@@ -1,0 +1,9 @@
+use Rattle.record_heap.specs.PageList.{pages_in}
+use Rattle.record_heap.proofs.SlotWalkLemmas.{slots_kept}
+use Rattle.record_heap.proofs.walk.walk_own.Goals as goal
+
+pub returns : goal.returns
+returns c some =
+    let w = c.in_ok-walk_slots.ensures in
+    slots_kept c.args.heap.now.shape (pages_in c.args.pages.now) c.args.own.now c.args.heap.now.free w.0 c.mark_free.new.marks c.walk_slots.new.marks w.2.0
+    c.in_ok-mark_free.ensures.marked w.2.1 w.1 (c.none_is_left.ensures c.if-not-none_is_left.false) some

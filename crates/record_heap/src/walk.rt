@@ -1,0 +1,258 @@
+//! The heap of a file whose pages were read into a list.
+
+ghost use Rattle.std.specs.Prelude.{◌≡◌, ℕ, List, false, ◌<◌, ◌≤◌, ◌*◌, ◌+◌, ◌∷◌, [], IfOk, OnOk, IsTrue, Some, length};
+ghost use Rattle.record_heap.specs.Slot.{room, size, is_used};
+ghost use Rattle.record_heap.specs.Calls.{IsHeapAt};
+ghost use Rattle.record_heap.specs.Standing.{HeapStands};
+ghost use Rattle.record_heap.specs.PageList.{pages_in};
+ghost use Rattle.record_heap.specs.Marks.{Marks, marked_in};
+ghost use Rattle.record_heap.specs.Walk.{PagesWalked, SlotsWalked, SlotsKept, AreMarked, PageMarked, SlotMarked, SetsMark, TakesMark, marked_slot, slots_of};
+
+use crate::heap::Heap;
+use crate::shape::{Place, Shape};
+use crate::slot::{behind, is_used};
+use crate::slots::{FIRST_SLOT, PAGE_SIZE, slot, start_of};
+use byteorder::{BigEndian, ByteOrder};
+use io_state::Fault;
+use std::alloc::Global;
+
+/// The most slots that a page may have.
+const MOST_SLOTS: usize = 582;
+
+/// Marks a page, where it was not reached before.
+fn mark(reached: &mut [bool], n: u32) -> Result<(), Fault>
+    ensures { OnOk result (Marks (marked_in reached.old) (marked_in reached.new) (n ∷ [])) }
+{
+    let i = n as usize;
+    if i >= reached.len() || reached[i] {
+        return Err(Fault::Damage);
+    }
+    reached[i] = true;
+    Ok(())
+}
+
+/// The page behind a heap page.
+fn page_behind(pages: &[[u8; PAGE_SIZE]], n: u32) -> Result<u32, Fault>
+    ensures { IfOk result (λ next. IsHeapAt (pages_in pages.now) n next) }
+{
+    if n as usize >= pages.len() {
+        return Err(Fault::Damage);
+    }
+    let page = &pages[n as usize];
+    let next = BigEndian::read_u32(&page[4..8]);
+    if &page[..FIRST_SLOT] != &start_of(next)[..] {
+        return Err(Fault::Damage);
+    }
+    Ok(next)
+}
+
+/// Walks the chain of heap pages, and marks them.
+fn walk_pages(
+    alloc: Global,
+    pages: &[[u8; PAGE_SIZE]],
+    first: u32,
+    reached: &mut [bool],
+) -> Result<Vec<u32>, Fault>
+    ensures { IfOk result (λ own. PagesWalked (pages_in pages.now) first 0 (marked_in reached.old) (marked_in reached.new) own.items) }
+{
+    let mut own = Vec::new(alloc);
+    let mut at = first;
+    for _ in 0..reached.len() {
+        if at == 0 {
+            return Ok(own);
+        }
+        let next = page_behind(pages, at)?;
+        mark(reached, at)?;
+        match own.push(at) {
+            Err(_) => return Err(Fault::Memory),
+            Ok(()) => at = next,
+        }
+    }
+    if at != 0 {
+        return Err(Fault::Damage);
+    }
+    Ok(own)
+}
+
+/// Where the mark of a slot stands.
+fn index(place: Place) -> usize
+    ensures { result ≡ 582 * place.page + place.slot }
+{
+    MOST_SLOTS * place.page as usize + place.slot as usize
+}
+
+/// Marks a slot, or takes its mark.
+fn set_mark(marks: &mut [bool], place: Place, to: bool)
+    requires slot { place.slot < 582 }
+    requires long { 582 * place.page + place.slot < length marks.old }
+    ensures set { SetsMark place to marks.old marks.new }
+    ensures long { length marks.new ≡ length marks.old }
+{
+    marks[index(place)] = to;
+}
+
+/// No marks, for the slots of so many pages.
+fn no_marks(alloc: Global, pages: usize) -> Result<Vec<bool>, Fault>
+    ensures none { IfOk result (λ marks. (p : Place) → marked_slot marks.items p ≡ false) }
+    ensures long { IfOk result (λ marks. length marks.items ≡ 582 * pages) }
+{
+    if pages > u32::MAX as usize {
+        return Err(Fault::Damage);
+    }
+    vec![in alloc; false; MOST_SLOTS * pages].map_err(|_| Fault::Memory)
+}
+
+/// Marks a slot where it is free; else it is in use.
+fn mark_slot(bytes: &[u8], shape: Shape, place: Place, marks: &mut [bool]) -> Result<(), Fault>
+    requires size { size shape ≤ length bytes.now }
+    requires slot { place.slot < 582 }
+    requires place { 582 * place.page + place.slot < length marks.old }
+    ensures marked { OnOk result (SlotMarked shape bytes.now place marks.old marks.new) }
+    ensures long { length marks.new ≡ length marks.old }
+{
+    match behind(bytes) {
+        Some(_) => {
+            set_mark(marks, place, true);
+            Ok(())
+        }
+        None => {
+            if !is_used(bytes, shape) {
+                return Err(Fault::Damage);
+            }
+            Ok(())
+        }
+    }
+}
+
+/// Marks the free slots of a page; each other slot of it is in use.
+fn mark_page(page: &[u8; PAGE_SIZE], shape: Shape, n: u32, marks: &mut [bool]) -> Result<(), Fault>
+    requires { 582 * n + 582 ≤ length marks.old }
+    ensures marked { OnOk result (PageMarked shape page.now n (room shape) marks.old marks.new) }
+    ensures long { length marks.new ≡ length marks.old }
+{
+    let room = shape.room();
+    for i in 0..room {
+        let place = Place {
+            page: n,
+            slot: i as u16,
+        };
+        mark_slot(slot(page, shape, i), shape, place, marks)?;
+    }
+    Ok(())
+}
+
+/// Marks the free slots of these pages; each other slot of them is in use.
+fn mark_free(
+    pages: &[[u8; PAGE_SIZE]],
+    shape: Shape,
+    own: &[u32],
+    marks: &mut [bool],
+) -> Result<(), Fault>
+    requires none { (p : Place) → marked_slot marks.old p ≡ false }
+    requires long { length marks.old ≡ 582 * length pages.now }
+    ensures marked { OnOk result (AreMarked shape (pages_in pages.now) own.now marks.new) }
+    ensures long { length marks.new ≡ length marks.old }
+{
+    for &n in own {
+        if n as usize >= pages.len() {
+            return Err(Fault::Damage);
+        }
+        mark_page(&pages[n as usize], shape, n, marks)?;
+    }
+    Ok(())
+}
+
+/// Takes the mark of a free slot, and answers the place of the one behind it.
+fn take_mark(
+    pages: &[[u8; PAGE_SIZE]],
+    shape: Shape,
+    at: Place,
+    marks: &mut [bool],
+) -> Result<Place, Fault>
+    ensures taken { IfOk result (λ next. TakesMark shape (pages_in pages.now) at next marks.old marks.new) }
+    ensures long { length marks.new ≡ length marks.old }
+{
+    if at.slot as usize >= shape.room() || at.page as usize >= pages.len() {
+        return Err(Fault::Damage);
+    }
+    let i = index(at);
+    if i >= marks.len() || !marks[i] {
+        return Err(Fault::Damage);
+    }
+    match behind(slot(&pages[at.page as usize], shape, at.slot as usize)) {
+        None => Err(Fault::Damage),
+        Some(next) => {
+            set_mark(marks, at, false);
+            Ok(next)
+        }
+    }
+}
+
+/// Walks the chain of free slots, and takes their marks.
+fn walk_slots(
+    pages: &[[u8; PAGE_SIZE]],
+    shape: Shape,
+    first: Place,
+    marks: &mut [bool],
+) -> Result<(), Fault>
+    ensures { OnOk result ((at : Place) × (at.page ≡ 0)
+        × ((free : List Place) × SlotsWalked shape (pages_in pages.now) first at marks.old marks.new free)) }
+{
+    let mut at = first;
+    for _ in 0..marks.len() {
+        if at.page == 0 {
+            return Ok(());
+        }
+        at = take_mark(pages, shape, at, marks)?;
+    }
+    if at.page != 0 {
+        return Err(Fault::Damage);
+    }
+    Ok(())
+}
+
+/// No slot is marked.
+fn none_is_left(marks: &[bool]) -> bool
+    ensures { IsTrue result → (p : Place) → marked_slot marks.now p ≡ false }
+{
+    !marks.contains(&true)
+}
+
+/// Finds each slot of these pages in use, or once in the chain of free slots.
+fn walk_own(
+    pages: &[[u8; PAGE_SIZE]],
+    heap: &Heap,
+    own: &[u32],
+    marks: &mut [bool],
+) -> Result<(), Fault>
+    requires none { (p : Place) → marked_slot marks.old p ≡ false }
+    requires long { length marks.old ≡ 582 * length pages.now }
+    ensures { OnOk result (SlotsKept heap.now (pages_in pages.now) own.now) }
+{
+    mark_free(pages, heap.shape, own, marks)?;
+    walk_slots(pages, heap.shape, heap.free, marks)?;
+    if !none_is_left(marks) {
+        return Err(Fault::Damage);
+    }
+    Ok(())
+}
+
+/// Walks the heap over the pages of a file, as they were read. Answers its own pages in the order of their chain, and marks them as reached; each slot of
+/// them is in use, or stands once in the chain of free slots.
+///
+/// Memory; Damage where the pages are no such heap, or one of them was reached before. At a fault some of its pages may be marked.
+pub fn walk_heap(
+    alloc: Global,
+    pages: &[[u8; PAGE_SIZE]],
+    heap: &Heap,
+    reached: &mut [bool],
+) -> Result<Vec<u32>, Fault>
+    ensures stands { IfOk result (λ own. HeapStands heap.now (pages_in pages.now)
+        (slots_of heap.now.shape (pages_in pages.now) own.items) own.items) }
+    ensures marks { IfOk result (λ own. Marks (marked_in reached.old) (marked_in reached.new) own.items) }
+{
+    let own = walk_pages(alloc, pages, heap.first, reached)?;
+    let mut marks = no_marks(alloc, pages.len())?;
+    walk_own(pages, heap, &own, &mut marks)?;
+    Ok(own)
+}
