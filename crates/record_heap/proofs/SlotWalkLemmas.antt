@@ -1,5 +1,5 @@
 -- Slots that are marked, and found again in the chain of free slots.
-use Rattle.std.proofs.Common.{rules, length, get_or, take, drop, ◌≡◌, ◌≢◌, ◌⊎◌, ℕ, ◌+◌, ◌*◌, ◌<◌, ◌≤◌, Bool, true, false, ◌&&◌, ◌==◌, List, [], ◌∷◌, ◌++◌, Option, Some, None, refl, ap, sym, subst, ◌∙◌, arith, inl, inr}
+use Rattle.std.proofs.Common.{rules, length, get_or, take, drop, ◌≡◌, ◌≢◌, ◌⊎◌, ℕ, ◌+◌, ◌*◌, ◌<◌, ◌≤◌, Bool, true, false, ◌&&◌, List, [], ◌∷◌, ◌++◌, Option, Some, None, refl, ap, sym, subst, ◌∙◌, arith, inl, inr}
 use Rattle.std.specs.Prelude.{slice_index, nat_lt, if◌then◌else◌}
 use Rattle.std.proofs.lemmas.Bool.{lt-ltb, ltb-true}
 use Rattle.std.proofs.lemmas.Bool.Decides.{eqb_tells}
@@ -12,10 +12,10 @@ use Rattle.record_heap.specs.declared.shape.Shape.{Shape}
 use Rattle.record_heap.specs.declared.shape.Place.{Place}
 use Rattle.record_heap.specs.Slot.{room, size, head, record_length, used_in, behind_in, is_used}
 use Rattle.record_heap.specs.Slots.{slot_at}
-use Rattle.record_heap.specs.Chain.{IsOneOf, AreOnce, IsOf, IsFreeChain, Keeps}
+use Rattle.record_heap.specs.Chain.{IsOneOf, IsOf, IsFreeChain, Keeps}
 use Rattle.record_heap.specs.Calls.{slot_of, used_at, behind_at}
 use Rattle.record_heap.specs.PageList.{pages_in}
-use Rattle.record_heap.specs.Walk.{is_one_of, slots_of, marked_slot, IsUsedAt, IsFreeAt, SetsMark, SlotMarked, PageMarked, AreMarked, IsFreePath, SlotsWalked, TakesMark}
+use Rattle.record_heap.specs.Walk.{is_one_of, slots_of, marked_slot, IsUsedAt, IsFreeAt, SlotMarked, PageMarked, AreMarked, IsFreePath, SlotsWalked, TakesMark}
 use Rattle.record_heap.proofs.ChainLemmas.{each_weaker, at_place, place_made, some_none}
 use Rattle.record_heap.proofs.StandLemmas.{each_of, slot_there}
 use Rattle.record_heap.proofs.WalkLemmas.{clash, each_more, once_more, free_path_more}

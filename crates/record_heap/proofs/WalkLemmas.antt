@@ -1,13 +1,11 @@
 -- A walk goes one step on, and what it finds at its end.
-use Rattle.std.proofs.Common.{◌≡◌, ◌≢◌, ◌⊎◌, ℕ, ◌+◌, ◌*◌, ◌<◌, ◌≤◌, Bool, true, false, List, [], ◌∷◌, ◌++◌, Option, Some, None, refl, ap, sym, subst, ◌∙◌, arith, inl, inr}
+use Rattle.std.proofs.Common.{◌≡◌, ◌≢◌, ℕ, ◌≤◌, Bool, true, false, List, [], ◌∷◌, ◌++◌, Option, Some, refl, ap, sym, subst, ◌∙◌, arith}
 use Rattle.page_bytes.specs.Each.{Each}
 use Rattle.pages.specs.PageMap.{PageMap}
-use Rattle.pages.specs.Owners.{IsOutside, AreApart}
-use Rattle.record_heap.specs.declared.shape.Shape.{Shape}
+use Rattle.pages.specs.Owners.{AreApart}
 use Rattle.record_heap.specs.declared.shape.Place.{Place}
-use Rattle.record_heap.specs.Slot.{room}
-use Rattle.record_heap.specs.Chain.{IsOneOf, AreOnce}
-use Rattle.record_heap.specs.Calls.{IsHeapAt, behind_at}
+use Rattle.record_heap.specs.Chain.{AreOnce}
+use Rattle.record_heap.specs.Calls.{IsHeapAt}
 use Rattle.record_heap.specs.Marks.{Marks}
 use Rattle.record_heap.specs.Standing.{IsPageChain}
 use Rattle.record_heap.specs.Walk.{IsPagePath, PagesWalked, IsFreePath}

@@ -1,5 +1,5 @@
 -- Pages kept in a list, which the tests put under a heap.
-use Rattle.std.specs.Prelude.{ℕ, ◌-◌, true, nat_lt, List, [], length, slice_index_or, Option, Some, None, if◌then◌else◌}
+use Rattle.std.specs.Prelude.{ℕ, ◌-◌, true, List, length}
 use Rattle.record_heap.specs.PageList.{pages_in}
 use Rattle.pages.specs.PagesState.{PagesState}
 

@@ -23,13 +23,33 @@ ghost use Rattle.record_heap.specs.Slot.{head, size, record_length, is_used, use
 use crate::shape::{Place, Shape};
 use byteorder::{BigEndian, ByteOrder};
 
+/// The mark of a free slot.
+const FREE: u8 = 0;
+
+/// The mark of a slot in use.
+const USED: u8 = 1;
+
+/// The length of a record, where lengths vary.
+const LENGTH: usize = 1;
+
+const LENGTH_END: usize = 3;
+
+/// The place of the next free slot.
+const NEXT_PAGE: usize = 1;
+
+const NEXT_PAGE_END: usize = 5;
+
+const NEXT_SLOT: usize = 5;
+
+const NEXT_SLOT_END: usize = 7;
+
 /// The length of the record.
 fn record_length(slot: &[u8], shape: Shape) -> usize
     requires { size shape ≤ length slot.now }
     ensures { result ≡ record_length shape slot.now }
 {
     if shape.least < shape.greatest {
-        BigEndian::read_u16(&slot[1..]) as usize
+        BigEndian::read_u16(&slot[LENGTH..]) as usize
     } else {
         shape.greatest as usize
     }
@@ -41,7 +61,7 @@ pub fn is_used(slot: &[u8], shape: Shape) -> bool
     ensures { result ≡ is_used shape slot.now }
 {
     let record = record_length(slot, shape);
-    slot[0] == 1 && shape.least as usize <= record && record <= shape.greatest as usize
+    slot[0] == USED && shape.least as usize <= record && record <= shape.greatest as usize
 }
 
 /// The stamps and the record go to the front of `to`, the rest of which stays. The answer is how many bytes they are; none where the slot is not in use.
@@ -51,16 +71,10 @@ pub fn fetch(slot: &[u8], shape: Shape, to: &mut [u8]) -> Option<usize>
     ensures value { result ≡ option_map length (used_in shape slot.now) }
     ensures to { to.new ≡ over (used_in shape slot.now) to.old }
 {
-    if slot[0] != 1 {
+    if !is_used(slot, shape) {
         return None;
     }
     let record = record_length(slot, shape);
-    if record < shape.least as usize {
-        return None;
-    }
-    if record > shape.greatest as usize {
-        return None;
-    }
     let n = shape.stamps as usize + record;
     let head = shape.head();
     to[..n].copy_from_slice(&slot[head..head + n]);
@@ -72,11 +86,11 @@ pub fn behind(slot: &[u8]) -> Option<Place>
     requires { 7 ≤ length slot.now }
     ensures { result ≡ behind_in slot.now }
 {
-    if slot[0] != 0 {
+    if slot[0] != FREE {
         return None;
     }
-    let page = BigEndian::read_u32(&slot[1..]);
-    let slot = BigEndian::read_u16(&slot[5..]);
+    let page = BigEndian::read_u32(&slot[NEXT_PAGE..]);
+    let slot = BigEndian::read_u16(&slot[NEXT_SLOT..]);
     Some(Place { page, slot })
 }
 
@@ -86,9 +100,9 @@ pub fn write_free(slot: &mut [u8], next: Place)
     ensures free { behind_in slot.new ≡ Some next }
     ensures long { length slot.new ≡ length slot.old }
 {
-    slot[0] = 0;
-    BigEndian::write_u32(&mut slot[1..5], next.page);
-    BigEndian::write_u16(&mut slot[5..7], next.slot);
+    slot[0] = FREE;
+    BigEndian::write_u32(&mut slot[NEXT_PAGE..NEXT_PAGE_END], next.page);
+    BigEndian::write_u16(&mut slot[NEXT_SLOT..NEXT_SLOT_END], next.slot);
 }
 
 /// Puts stamps and a record into the slot.
@@ -116,9 +130,9 @@ fn write_varying(slot: &mut [u8], shape: Shape, bytes: &[u8])
     ensures long { length slot.new ≡ length slot.old }
 {
     let record = bytes.len() - shape.stamps as usize;
-    slot[0] = 1;
-    BigEndian::write_u16(&mut slot[1..3], record as u16);
-    slot[3..3 + bytes.len()].copy_from_slice(bytes);
+    slot[0] = USED;
+    BigEndian::write_u16(&mut slot[LENGTH..LENGTH_END], record as u16);
+    slot[LENGTH_END..LENGTH_END + bytes.len()].copy_from_slice(bytes);
 }
 
 /// The slot of a record of the one length.
@@ -129,6 +143,6 @@ fn write_fixed(slot: &mut [u8], shape: Shape, bytes: &[u8])
     ensures used { used_in shape slot.new ≡ Some bytes.now }
     ensures long { length slot.new ≡ length slot.old }
 {
-    slot[0] = 1;
+    slot[0] = USED;
     slot[1..1 + bytes.len()].copy_from_slice(bytes);
 }

@@ -19,6 +19,11 @@ use byteorder::{BigEndian, ByteOrder};
 /// The bytes of a page.
 pub const PAGE_SIZE: usize = 4096;
 
+/// The next heap page.
+pub const NEXT: usize = 4;
+
+pub const NEXT_END: usize = 8;
+
 /// Where the slots begin.
 pub const FIRST_SLOT: usize = 16;
 
@@ -77,7 +82,7 @@ pub fn start_of(next: u32) -> [u8; FIRST_SLOT]
 {
     let mut start = [0; FIRST_SLOT];
     start[0] = b'H';
-    BigEndian::write_u32(&mut start[4..8], next);
+    BigEndian::write_u32(&mut start[NEXT..NEXT_END], next);
     start
 }
 

@@ -11,7 +11,7 @@ ghost use Rattle.record_heap.specs.Walk.{PagesWalked, SlotsWalked, SlotsKept, Ar
 use crate::heap::Heap;
 use crate::shape::{Place, Shape};
 use crate::slot::{behind, is_used};
-use crate::slots::{FIRST_SLOT, PAGE_SIZE, slot, start_of};
+use crate::slots::{FIRST_SLOT, NEXT, NEXT_END, PAGE_SIZE, slot, start_of};
 use byteorder::{BigEndian, ByteOrder};
 use io_state::Fault;
 use std::alloc::Global;
@@ -39,7 +39,7 @@ fn page_behind(pages: &[[u8; PAGE_SIZE]], n: u32) -> Result<u32, Fault>
         return Err(Fault::Damage);
     }
     let page = &pages[n as usize];
-    let next = BigEndian::read_u32(&page[4..8]);
+    let next = BigEndian::read_u32(&page[NEXT..NEXT_END]);
     if &page[..FIRST_SLOT] != &start_of(next)[..] {
         return Err(Fault::Damage);
     }

@@ -1,6 +1,5 @@
-use Rattle.std.proofs.Common.{◌≡◌, ◌∙◌, ◌<◌, ℕ, ◌+◌, suc, take, get_or, List, [], ◌++◌, ◌∷◌, Some, refl, sym, subst, arith, length}
+use Rattle.std.proofs.Common.{◌≡◌, ◌∙◌, ◌<◌, ℕ, ◌+◌, suc, take, get_or, List, [], ◌++◌, ◌∷◌, sym, subst, arith, length}
 use Rattle.std.proofs.Math.Seq.{take-suc}
-use Rattle.std.proofs.lemmas.Bool.{lt-ltb}
 use Rattle.record_heap.specs.PageList.{pages_in}
 use Rattle.record_heap.specs.Walk.{AreMarked}
 use Rattle.record_heap.proofs.SlotWalkLemmas.{marked_more, room_few, page_there}

@@ -1,4 +1,4 @@
-use Rattle.std.proofs.Common.{◌≡◌, ◌≤◌, ◌<◌, ◌++◌, ◌∷◌, [], ℕ, List, subst, sym, ◌∙◌, arith, length, replicate}
+use Rattle.std.proofs.Common.{◌≡◌, ◌≤◌, ℕ, List, subst, sym, ◌∙◌, arith, length, replicate}
 use Rattle.pages.specs.PageMap.{Takes}
 use Rattle.record_heap.specs.PageList.{pages_in}
 use Rattle.record_heap.proofs.MemoryPagesLemmas.{pushed}
