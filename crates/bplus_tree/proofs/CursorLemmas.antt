@@ -1,0 +1,161 @@
+-- A cursor and its tree.
+use Rattle.std.proofs.Common.{◌≡◌, ◌≢◌, ℕ, zero, suc, ◌+◌, ◌<◌, true, false, List, [], ◌∷◌, ◌++◌, length, take, get_or, Some, None, Ok, Err, refl, ap, sym, subst, ◌∙◌, arith}
+use Rattle.std.proofs.lemmas.List.{length-append}
+use Rattle.arrayvec.specs.ArrayVec.{ArrayVec}
+use Rattle.tree_node.specs.Order.{less, Ascends}
+use Rattle.tree_node.proofs.OrderLemmas.{less_itself, upto_through, above_through}
+use Rattle.pages.specs.PageMap.{PageMap}
+use Rattle.bplus_tree.specs.declared.tree.Tree.{Tree}
+use Rattle.bplus_tree.specs.declared.cursor.Cursor.{Cursor}
+use Rattle.bplus_tree.specs.declared.spot.Spot.{Spot}
+use Rattle.bplus_tree.specs.Calls.{first_after}
+use Rattle.bplus_tree.specs.Standing.{Stands, one_more}
+use Rattle.io_state.specs.declared.fault.Fault.{Fault}
+use Rattle.io_state.specs.declared.fault.Fault.TheVariants.{Damage}
+use Rattle.pages.specs.Owners.{IsOutside}
+use Rattle.bplus_tree.specs.Stored.{IsLeafAt}
+use Rattle.bplus_tree.specs.Spot.{EntryAt, StandsAt}
+use Rattle.bplus_tree.specs.Cursor.{IsAt, Belongs, HasNeighbour, IsBehind, HasMoved}
+use Rattle.bplus_tree.proofs.SearchLemmas.{after_at}
+use Rattle.bplus_tree.proofs.RemoveLemmas.{tree_ascends}
+
+-- ---- the entry behind another one
+
+in_front : (here behind : List (List ℕ)) (n : ℕ) → n < length here → get_or (here ++ behind) n [] ≡ get_or here n []
+in_front [] behind n h = absurd (omega arith)
+in_front (x ∷ xs) behind zero h = refl
+in_front (x ∷ xs) behind (suc n) h = in_front xs behind n (omega arith)
+
+between : (before here behind : List (List ℕ)) (n : ℕ) → n < length here → get_or (before ++ (here ++ behind)) (length before + n) [] ≡ get_or here n []
+between [] here behind n h =
+    let e : 0 + n ≡ n = omega arith in
+    ap (λ (m : ℕ). get_or (here ++ behind) m []) e ∙ in_front here behind n h
+between (x ∷ before) here behind n h =
+    let e : length (x ∷ before) + n ≡ suc (length before + n) = omega arith in
+    ap (λ (m : ℕ). get_or (x ∷ (before ++ (here ++ behind))) m []) e ∙ between before here behind n h
+
+rises_at : (width : ℕ) (es : List (List ℕ)) (i : ℕ) → suc i < length es → Ascends width es → less (take width (get_or es i [])) (take width (get_or es (suc i) [])) ≡ true
+rises_at width [] i h rises = absurd (omega arith)
+rises_at width (x ∷ []) i h rises = absurd (omega arith)
+rises_at width (x ∷ y ∷ es) zero h rises = rises.0.0
+rises_at width (x ∷ y ∷ es) (suc i) h rises = rises_at width (y ∷ es) i (omega arith) rises.1
+
+after_entry : (width : ℕ) (key : List ℕ) (es : List (List ℕ)) (i : ℕ) → suc i < length es → Ascends width es → take width (get_or es i []) ≡ key → first_after width key es ≡ Some (get_or es (suc i) [])
+after_entry width key es i inside rises is =
+    let here : i < length es = omega arith in
+    let not_above : less key (take width (get_or es i [])) ≡ false = subst (λ (k : List ℕ). less key k ≡ false) (sym is) (less_itself key) in
+    let above : less key (take width (get_or es (suc i) [])) ≡ true = subst (λ (k : List ℕ). less k (take width (get_or es (suc i) [])) ≡ true) is (rises_at width es i inside rises) in
+    after_at width key es (suc i)
+    (record { within = omega arith; upto = upto_through width key es i [] here rises not_above; above = above_through width key es (suc i) [] inside rises above }) inside
+
+-- the entry behind that of the cursor in its leaf is the one behind it in the tree
+pub neighbour : (cursor : Cursor) (tree : Tree) (pages : PageMap) (entries : List (List ℕ)) (own : List ℕ) → Stands tree pages entries own → (is : IsAt cursor tree pages entries own) → cursor.spot.place + 1 < cursor.spot.count
+    → first_after tree.shape.width cursor.key.items entries ≡ Some (get_or is.stands.here (cursor.spot.place + 1) [])
+neighbour cursor tree pages entries own stands is more =
+    let at = is.stands in
+    let width = tree.shape.width in
+    let count = at.count in
+    let inside : suc cursor.spot.place < length at.here = omega arith in
+    let rises : Ascends width (at.before ++ (at.here ++ at.behind)) = subst (Ascends width) (stands.has ∙ at.parts)
+    (tree_ascends width tree.levels None None stands.value stands.whole.stands.ordered) in
+    let i = length at.before + cursor.spot.place in
+    let long : length (at.before ++ (at.here ++ at.behind)) ≡ length at.before + (length at.here + length at.behind) = length-append at.before (at.here ++ at.behind) ∙ ap (λ (n : ℕ). length at.before + n) (length-append at.here at.behind) in
+    let within : suc i < length (at.before ++ (at.here ++ at.behind)) = omega arith in
+    let key : take width (get_or (at.before ++ (at.here ++ at.behind)) i []) ≡ cursor.key.items =
+    ap (take width) (between at.before at.here at.behind cursor.spot.place at.within ∙ sym at.entry_is) ∙ is.key in
+    let next : suc i ≡ length at.before + suc cursor.spot.place = omega arith in
+    let plus : suc cursor.spot.place ≡ cursor.spot.place + 1 = omega arith in
+    ap (first_after width cursor.key.items) at.parts
+    ∙ after_entry width cursor.key.items (at.before ++ (at.here ++ at.behind)) i within rises key
+    ∙ ap (λ (n : ℕ). Some (get_or (at.before ++ (at.here ++ at.behind)) n [])) next
+    ∙ ap Some (between at.before at.here at.behind (suc cursor.spot.place) inside)
+    ∙ ap (λ (n : ℕ). Some (get_or at.here n [])) plus
+
+is_at : (cursor : Cursor) (tree : Tree) (pages : PageMap) (entries : List (List ℕ)) (own : List ℕ) → Belongs cursor tree pages entries own → HasNeighbour cursor tree → IsAt cursor tree pages entries own
+is_at cursor tree pages entries own belongs near =
+    let more = near.more in
+    let some : 0 < cursor.spot.count = omega arith in
+    belongs.at near.unchanged near.counted some
+
+module _ (cursor : Cursor) (tree : Tree) (pages : PageMap) (entries : List (List ℕ)) (own : List ℕ) (stands : Stands tree pages entries own) (belongs : Belongs cursor tree pages entries own) (near : HasNeighbour cursor tree)
+    (place : ℕ) (is_place : place ≡ cursor.spot.place + 1) (spot : Spot) where
+  pub stepped : (e : ArrayVec ℕ) → EntryAt tree.shape pages cursor.spot.leaf place spot (Ok (Some e)) → IsBehind cursor tree pages entries own spot (Some e)
+  stepped e at =
+      let is = is_at cursor tree pages entries own belongs near in
+      let here = is.stands.here in
+      let found = (at here is.stands.leaf).answer in
+      let same : get_or here spot.place [] ≡ get_or here (cursor.spot.place + 1) [] = ap (λ (n : ℕ). get_or here n []) (found.0 ∙ is_place) in
+      record {
+        found_is = ap Some (found.1.entry_is ∙ same) ∙ sym (neighbour cursor tree pages entries own stands is near.more);
+        at = record {
+          before = is.stands.before;
+          here = here;
+          behind = is.stands.behind;
+          parts = is.stands.parts;
+          leaf = subst (λ (n : ℕ). IsLeafAt tree.shape pages n here) (sym found.1.leaf_is) is.stands.leaf;
+          inside = subst (λ (n : ℕ). IsOutside own n → ⊥) (sym found.1.leaf_is) is.stands.inside;
+          within = found.1.within;
+          count = found.1.count;
+          entry_is = found.1.entry_is;
+        };
+      }
+
+  pub has_next : EntryAt tree.shape pages cursor.spot.leaf place spot (Ok None) → ⊥
+  has_next at =
+      let is = is_at cursor tree pages entries own belongs near in
+      let past = (at is.stands.here is.stands.leaf).answer in
+      let more = near.more in
+      let count = is.stands.count in
+      omega arith
+
+  pub no_damage : (fault : Fault) → EntryAt tree.shape pages cursor.spot.leaf place spot (Err fault) → fault ≢ Damage
+  no_damage fault at =
+      let is = is_at cursor tree pages entries own belongs near in
+      (at is.stands.here is.stands.leaf).no_damage
+
+-- ---- the cursor after a step
+
+pub moved : (old new : Cursor) (tree : Tree) (pages : PageMap) (entries : List (List ℕ)) (own : List ℕ) (spot : Spot) (e : ArrayVec ℕ) → IsBehind old tree pages entries own spot (Some e)
+    → new.key.items ≡ take tree.shape.width e.items → new.changes ≡ tree.changes → new.spot ≡ spot → HasMoved old new tree pages entries own (Some e)
+moved old new tree pages entries own spot e is key changes at = record {
+  found_is = is.found_is;
+  belongs = record {
+    earlier = λ low. omega arith;
+    at = λ same low some. record { entry = e.items; stands = subst (λ (s : Spot). StandsAt tree.shape pages own entries s e.items) (sym at) is.at; key = sym key };
+  };
+}
+
+-- ---- the cursor of a tree that changes, and of one that does not
+
+-- after a change of the tree it is still one of the tree, wherever that stands now
+pub belongs_changed : (cursor : Cursor) (old new : Tree) (pages late : PageMap) (entries now : List (List ℕ)) (own own_now : List ℕ) → Belongs cursor old pages entries own → new.changes ≡ one_more old.changes
+    → Belongs cursor new late now own_now
+belongs_changed cursor old new pages late entries now own own_now belongs more =
+    let earlier = belongs.earlier in
+    record { earlier = λ low. let under = earlier low in omega arith; at = λ same low some. let under = earlier low in absurd (omega arith) }
+
+-- while its pages are as they were, it is where it was
+pub belongs_still : (cursor : Cursor) (tree : Tree) (pages late : PageMap) (entries : List (List ℕ)) (own : List ℕ) → ((n : ℕ) → (IsOutside own n → ⊥) → late n ≡ pages n) → Belongs cursor tree pages entries own
+    → Belongs cursor tree late entries own
+belongs_still cursor tree pages late entries own still belongs = record {
+  earlier = belongs.earlier;
+  at = λ same low some.
+      let is = belongs.at same low some in
+      let at = is.stands in
+      let leaf = at.leaf in
+      record {
+        entry = is.entry;
+        stands = record {
+          before = at.before;
+          here = at.here;
+          behind = at.behind;
+          parts = at.parts;
+          leaf = record { bytes = leaf.bytes; there = still cursor.spot.leaf at.inside ∙ leaf.there; leaf = leaf.leaf; holds = leaf.holds };
+          inside = at.inside;
+          within = at.within;
+          count = at.count;
+          entry_is = at.entry_is;
+        };
+        key = is.key;
+      };
+}

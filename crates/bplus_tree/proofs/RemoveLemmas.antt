@@ -1,0 +1,453 @@
+-- A removal below a child, seen from its parent; and in a leaf.
+use Rattle.std.proofs.Common.{◌≡◌, ◌≢◌, ℕ, zero, suc, ◌+◌, ◌-◌, ◌<◌, ◌≤◌, ◌↔◌, Bool, true, false, not, List, [], ◌∷◌, ◌++◌, length, take, drop, get_or, map, Option, Some, None, Ok, Err, Result, cond, IsSome, IsTrue, refl, ap, sym, subst, ◌∙◌, arith, flat_map, bytes_eq, add-one}
+use Rattle.std.specs.Prelude.{IsErrAnd, IfOk, filter, option_map}
+use Rattle.std.specs.List.{remove}
+use Rattle.std.proofs.lemmas.Result.{err_from_is_err_and}
+use Rattle.std.proofs.Math.Seq.{drop-cons}
+use Rattle.std.proofs.lemmas.List.{map-append, take-append-drop, append-nil}
+use Rattle.std.proofs.lemmas.Slice.Eq.{bytes_eq-Decides}
+use Rattle.bplus_tree.proofs.ShareLemmas.{ascends_join}
+use Rattle.bplus_tree.proofs.RowLemmas.{row_bounded}
+use Rattle.bplus_tree.proofs.DescentLemmas.{bounded}
+use Rattle.std.proofs.lemmas.List.Elements.{filter-append}
+use Rattle.std.proofs.lemmas.List.Edits.{length-remove}
+use Rattle.std.proofs.lemmas.Grind.{flat_map-append}
+use Rattle.arrayvec.specs.ArrayVec.{ArrayVec}
+use Rattle.io_state.specs.declared.fault.Fault.{Fault}
+use Rattle.io_state.specs.declared.fault.Fault.TheVariants.{Damage}
+use Rattle.tree_node.specs.declared.shape.Shape.{Shape}
+use Rattle.page_bytes.specs.Each.{Each}
+use Rattle.tree_node.specs.Order.{less, Ascends, IsRank}
+use Rattle.tree_node.proofs.InnerLemmas.{inner_room_some}
+use Rattle.tree_node.proofs.OrderLemmas.{Each-weaker, either}
+use Rattle.pages.specs.PageMap.{PageMap}
+use Rattle.bplus_tree.specs.declared.descent.Step.{Step}
+use Rattle.bplus_tree.specs.declared.descent.Look.{Look}
+use Rattle.bplus_tree.specs.declared.remove.Shrunk.{Shrunk}
+use Rattle.bplus_tree.specs.declared.remove.Shrunk.TheVariants.{Absent, Taken}
+use Rattle.bplus_tree.specs.Tree.{TreeOf, page_of, entries_of, pages_of, size_of, least, IsRooted, Bound, IsRow, IsOrdered}
+use Rattle.bplus_tree.specs.Stored.{Holds, IsLeafAt, IsInnerAt}
+use Rattle.pages.specs.Owners.{AreApart, Changes}
+use Rattle.bplus_tree.specs.Edits.{without_key}
+use Rattle.bplus_tree.specs.Calls.{entry_of, IsTree, IsWhole, IsAnswer}
+use Rattle.bplus_tree.specs.Descent.{IsStep, Steps, IsLook}
+use Rattle.bplus_tree.specs.Remove.{Becomes, BecomesShort, HasRemoved, Removes, AreFullBut, IsFull, LacksOne, Mends, TakesOut, OutOfLeaf}
+use Rattle.bplus_tree.proofs.FindLemmas.{differs, differs_back, found_past, missed_at, apart_behind}
+use Rattle.bplus_tree.proofs.RowLemmas.{RowAt, Inside, Each-append}
+use Rattle.bplus_tree.proofs.PageLemmas.{each_left, each_right, apart_left, apart_right, change_within, pages_live, rows_still}
+use Rattle.bplus_tree.proofs.DescentLemmas.{below, entry_below}
+
+-- a fault that is no damage is handed on
+pub fails : {X : Type 0} (r : Result X Fault) (fault : Fault) (P : X → Type 0) → IsErrAnd r (λ e. e ≡ fault) → fault ≢ Damage → IsAnswer r P
+fails r fault P was sound =
+    let p = err_from_is_err_and r was in
+    rw (p.1, p.2) (record { answer = tt; no_damage = sound })
+
+-- one of two cases
+le_or : (a b : ℕ) (Q : Type 0) → (a ≤ b → Q) → (b < a → Q) → Q
+le_or zero b Q f g = f (omega arith)
+le_or (suc a) zero Q f g = g (omega arith)
+le_or (suc a) (suc b) Q f g = le_or a b Q (λ h. f (omega arith)) (λ h. g (omega arith))
+
+-- ---- entries without a key
+
+keep_all : {X : Type 0} (p : X → Bool) (xs : List X) → Each (λ x. p x ≡ true) xs → filter p xs ≡ xs
+keep_all p [] h = refl
+keep_all p (x ∷ xs) h = ap (λ b. cond b (x ∷ filter p xs) (filter p xs)) h.0 ∙ ap (λ (l : List _). x ∷ l) (keep_all p xs h.1)
+
+each_filter : {X : Type 0} (P : X → Type 0) (p : X → Bool) (xs : List X) → Each P xs → Each P (filter p xs)
+each_filter P p [] h = tt
+each_filter P p (x ∷ xs) h =
+    either (p x) (Each P (filter p (x ∷ xs)))
+    (λ yes. subst (Each P) (sym (ap (λ b. cond b (x ∷ filter p xs) (filter p xs)) yes)) (h.0, each_filter P p xs h.1))
+    (λ no. subst (Each P) (sym (ap (λ b. cond b (x ∷ filter p xs) (filter p xs)) no)) (each_filter P p xs h.1))
+
+ascends_filter : (width : ℕ) (p : List ℕ → Bool) (xs : List (List ℕ)) → Ascends width xs → Ascends width (filter p xs)
+ascends_filter width p [] h = tt
+ascends_filter width p (x ∷ xs) h =
+    either (p x) (Ascends width (filter p (x ∷ xs)))
+    (λ yes. subst (Ascends width) (sym (ap (λ b. cond b (x ∷ filter p xs) (filter p xs)) yes)) (each_filter (λ y. less (take width x) (take width y) ≡ true) p xs h.0, ascends_filter width p xs h.1))
+    (λ no. subst (Ascends width) (sym (ap (λ b. cond b (x ∷ filter p xs) (filter p xs)) no)) (ascends_filter width p xs h.1))
+
+module _ (width : ℕ) (key : List ℕ) where
+  keeps_below : (es : List (List ℕ)) → Each (λ e. less (take width e) key ≡ true) es → without_key width key es ≡ es
+  keeps_below es h = keep_all (λ e. not (bytes_eq (take width e) key)) es
+      (Each-weaker (λ e. less (take width e) key ≡ true) (λ e. not (bytes_eq (take width e) key) ≡ true) (λ e b. ap not (differs (take width e) key b)) es h)
+
+  keeps_above : (es : List (List ℕ)) → Each (λ e. less key (take width e) ≡ true) es → without_key width key es ≡ es
+  keeps_above es h = keep_all (λ e. not (bytes_eq (take width e) key)) es
+      (Each-weaker (λ e. less key (take width e) ≡ true) (λ e. not (bytes_eq (take width e) key) ≡ true) (λ e b. ap not (differs_back (take width e) key b)) es h)
+
+  -- the entries of a row, where the key belongs below one member
+  pub without_within : {X : Type 0} (f : X → List (List ℕ)) (front : List X) (here new : X) (back : List X)
+      → Each (λ x. less (take width x) key ≡ true) (flat_map f front) → Each (λ x. less key (take width x) ≡ true) (flat_map f back)
+      → f new ≡ without_key width key (f here) → flat_map f (front ++ new ∷ back) ≡ without_key width key (flat_map f (front ++ here ∷ back))
+  without_within f front here new back low high is =
+      let p = λ (e : List ℕ). not (bytes_eq (take width e) key) in
+      flat_map-append f front (new ∷ back)
+      ∙ ap (λ (l : List (List ℕ)). flat_map f front ++ (l ++ flat_map f back)) is
+      ∙ sym (ap (without_key width key) (flat_map-append f front (here ∷ back))
+      ∙ filter-append p (flat_map f front) (f here ++ flat_map f back)
+      ∙ ap (λ (l : List (List ℕ)). l ++ filter p (f here ++ flat_map f back)) (keeps_below (flat_map f front) low)
+      ∙ ap (λ (l : List (List ℕ)). flat_map f front ++ l) (filter-append p (f here) (flat_map f back)
+      ∙ ap (λ (l : List (List ℕ)). filter p (f here) ++ l) (keeps_above (flat_map f back) high)))
+
+  -- the entry of a key, at its place in a leaf
+  pub record IsThere (es : List (List ℕ)) (i : ℕ) : Type 0 where
+    pub within : i < length es
+    pub without : remove es i ≡ without_key width key es
+
+  there_at : (es : List (List ℕ)) (i : ℕ) → IsRank width key es i → Ascends width es → i < length es → bytes_eq (take width (get_or es i [])) key ≡ true → IsThere es i
+  there_at es i rank rises inside hit =
+      let p = λ (e : List ℕ). not (bytes_eq (take width e) key) in
+      let first = (rw (drop-cons es i [] inside) at rank.above).0 in
+      let behind = apart_behind width key es i inside rises first in
+      record {
+        within = inside;
+        without = sym (ap (without_key width key) (sym (take-append-drop i es))
+            ∙ filter-append p (take i es) (drop i es)
+            ∙ ap (λ (l : List (List ℕ)). l ++ filter p (drop i es)) (keeps_below (take i es) rank.below)
+            ∙ ap (λ (l : List (List ℕ)). take i es ++ filter p l) (drop-cons es i [] inside)
+            ∙ ap (λ b. take i es ++ cond (not b) (get_or es i [] ∷ filter p (drop (suc i) es)) (filter p (drop (suc i) es))) hit
+            ∙ ap (λ (l : List (List ℕ)). take i es ++ l) (keep_all p (drop (suc i) es)
+            (Each-weaker (λ e. bytes_eq (take width e) key ≡ false) (λ e. p e ≡ true) (λ e b. ap not b) (drop (suc i) es) behind)));
+      }
+
+  some_none : (e : List ℕ) (o : Option (List ℕ)) → o ≡ Some e → o ≡ None → ⊥
+  some_none e o h k = cc (h, k)
+
+  pub there : (es : List (List ℕ)) (i : ℕ) (e : List ℕ) → IsRank width key es i → Ascends width es → entry_of width key es ≡ Some e → IsThere es i
+  there es i e rank rises found =
+      let inside : i < length es = le_or (length es) i (i < length es) (λ past. absurd (some_none e (entry_of width key es) found (found_past width key es i rank past))) (λ h. h) in
+      either (bytes_eq (take width (get_or es i [])) key) (IsThere es i) (there_at es i rank rises inside)
+      (λ miss. absurd (some_none e (entry_of width key es) found (missed_at width key es i rank rises inside miss)))
+
+-- ---- a leaf
+
+pub leaf_removes : (shape : Shape) (before mid after : PageMap) (is_sound : Type 0) (page : ℕ) (low high : Bound) (key : List ℕ) (t : TreeOf zero) (look : Look) (entry : ArrayVec ℕ) (result : Result Bool Fault)
+    → mid ≡ before → IsTree shape before zero page low high t → IsLook shape.width key t.1 look → look.found ≡ Some entry → OutOfLeaf shape mid after is_sound page look.place result
+    → IsAnswer result (λ short. HasRemoved shape before after zero page low high key t (Taken entry short) × is_sound)
+leaf_removes shape before mid after is_sound page low high key t look entry result same tree is found out =
+    let was : entry_of shape.width key t.1 ≡ Some entry.items = sym is.found ∙ ap (option_map (λ (e : ArrayVec ℕ). e.items)) found in
+    let here = there shape.width key t.1 look.place entry.items is.rank tree.ordered.0 was in
+    let at : IsLeafAt shape mid page t.1 = subst (λ (m : PageMap). IsLeafAt shape m page t.1) (sym same) (subst (λ (n : ℕ). IsLeafAt shape before n t.1) tree.root tree.holds) in
+    let answer = out t.1 at here.within in
+    let p = λ (e : List ℕ). not (bytes_eq (take shape.width e) key) in
+    record {
+      no_damage = answer.no_damage;
+      answer = if_ok result (λ short. TakesOut shape mid after page (remove t.1 look.place) short × is_sound) (λ short. HasRemoved shape before after zero page low high key t (Taken entry short) × is_sound)
+          (λ short taken.
+          let took = taken.0 in
+          let fewer = length-remove t.1 look.place here.within in
+          let long : length (without_key shape.width key t.1) + 1 ≡ length t.1 = ap (λ (l : List (List ℕ)). length l + 1) (sym here.without) ∙ fewer in
+          let frame : (n : ℕ) → n ≢ page → after n ≡ before n = λ n ne. took.others n ne ∙ ap (λ (m : PageMap). m n) same in
+          let root = tree.root in (
+            (
+              was,
+              record {
+                becomes = record {
+                  tree = (page, without_key shape.width key t.1);
+                  stands = record {
+                    holds = subst (IsLeafAt shape after page) here.without took.leaf;
+                    root = refl;
+                    ordered = (ascends_filter shape.width p t.1 tree.ordered.0, each_filter (Inside shape.width low high) p t.1 tree.ordered.1);
+                  };
+                  filled = tt;
+                  large = omega arith;
+                  has = refl;
+                  changes = record {
+                    others = λ n here_ off. let ne : n ≢ page = λ e. off.0 (e ∙ sym root) in (frame n ne, (ne, tt));
+                    no_stray = λ n here_ off. (rw (← frame n off.0) here_, ((λ e. off.0 (e ∙ root)), tt));
+                    apart = (tt, tt);
+                  };
+                };
+                short_is = subst (λ (l : List (List ℕ)). IsTrue short ↔ (length l < least shape 0)) here.without took.short_is;
+              },
+            ),
+            taken.1,
+          ))
+          answer.answer;
+    }
+  where
+    if_ok : {X : Type 0} (r : Result X Fault) (P Q : X → Type 0) → ((x : X) → P x → Q x) → IfOk r P → IfOk r Q
+    if_ok (Ok x) P Q f h = f x h
+    if_ok (Err e) P Q f h = tt
+
+-- ---- a node
+
+pub changes_trans : (a b c : PageMap) (old mid new : List ℕ) → Changes a b old mid → Changes b c mid new → Changes a c old new
+changes_trans a b c old mid new first second = record {
+  others = λ n here out.
+      let f = first.others n here out in
+      let alive : IsSome (b n) = rw f.0 here in
+      let s = second.others n alive f.1 in
+      (s.0 ∙ f.0, s.1);
+  no_stray = λ n here out. let s = second.no_stray n here out in first.no_stray n s.0 s.1;
+  apart = second.apart;
+}
+
+-- a member of a row has a tree in its place that heads the same page
+pub record Replaced (shape : Shape) (before after : PageMap) (k : ℕ) (low high : Bound) (page : ℕ) (own : List ℕ) (ss : List (List ℕ)) (xs : List (TreeOf k)) : Type 0 where
+  pub stands : IsTree shape after (suc k) page low high (page, ss, xs)
+  pub changes : Changes before after own (page ∷ flat_map (pages_of k) xs)
+
+pub replaced : (shape : Shape) (before after : PageMap) (k : ℕ) (low high : Bound) (page : ℕ) (t : TreeOf (suc k)) (front : List (TreeOf k)) (here new : TreeOf k) (back : List (TreeOf k))
+    → IsTree shape before (suc k) page low high t → AreApart (pages_of (suc k) t) → t.2 ≡ front ++ here ∷ back → Holds shape after k new → page_of k new ≡ page_of k here
+    → Changes before after (pages_of k here) (pages_of k new) → IsRow (IsOrdered shape.width k) low t.1 (front ++ new ∷ back) high
+    → Replaced shape before after k low high page (pages_of (suc k) t) t.1 (front ++ new ∷ back)
+replaced shape before after k low high page t front here new back tree apart is holds root change row =
+    let ahead = page ∷ flat_map (pages_of k) front in
+    let behind = flat_map (pages_of k) back in
+    let own : pages_of (suc k) t ≡ ahead ++ (pages_of k here ++ behind) =
+    ap (λ (n : ℕ). n ∷ flat_map (pages_of k) t.2) tree.root ∙ ap (λ (l : List (TreeOf k)). page ∷ flat_map (pages_of k) l) is ∙ ap (λ (l : List ℕ). page ∷ l) (flat_map-append (pages_of k) front (here ∷ back)) in
+    let own' : page ∷ flat_map (pages_of k) (front ++ new ∷ back) ≡ ahead ++ (pages_of k new ++ behind) = ap (λ (l : List ℕ). page ∷ l) (flat_map-append (pages_of k) front (new ∷ back)) in
+    let live = subst (Each (λ n. IsSome (before n))) own (pages_live shape before (suc k) t tree.holds) in
+    let live_back = each_right (λ n. IsSome (before n)) (pages_of k here) behind (each_right (λ n. IsSome (before n)) ahead (pages_of k here ++ behind) live) in
+    let within = change_within before after ahead (pages_of k here) (pages_of k new) behind (subst AreApart own apart)
+    (each_left (λ n. IsSome (before n)) ahead (pages_of k here ++ behind) live) live_back change in
+    let same_pages : map (page_of k) (front ++ new ∷ back) ≡ map (page_of k) t.2 =
+    map-append (page_of k) front (new ∷ back) ∙ ap (λ (n : ℕ). map (page_of k) front ++ n ∷ map (page_of k) back) root ∙ sym (map-append (page_of k) front (here ∷ back)) ∙ ap (map (page_of k)) (sym is) in
+    let kids = subst (Each (Holds shape before k)) is tree.holds.1 in
+    let node = tree.holds.0 in
+    record {
+      stands = record {
+        holds = (
+          record { bytes = node.bytes; there = within.same_front.0 ∙ ap before (sym tree.root) ∙ node.there; inner = node.inner; rises = node.rises; leads = node.leads ∙ sym same_pages },
+          Each-append (Holds shape after k) front (new ∷ back)
+              (rows_still shape before after k front (each_left (Holds shape before k) front (here ∷ back) kids) within.same_front.1)
+              (holds, rows_still shape before after k back (each_right (Holds shape before k) front (here ∷ back) kids).1 within.same_back),
+        );
+        root = refl;
+        ordered = (tree.ordered.0, row);
+      };
+      changes = subst (λ (l : List ℕ). Changes before after l (page ∷ flat_map (pages_of k) (front ++ new ∷ back))) (sym own)
+          (subst (λ (l : List ℕ). Changes before after (ahead ++ (pages_of k here ++ behind)) l) (sym own') within.changes);
+    }
+
+-- the child below which a key belongs, as a tree of its own
+pub record Child (shape : Shape) (before : PageMap) (k page : ℕ) (low high : Bound) (key : List ℕ) (t : TreeOf (suc k)) (step : Step) : Type 0 where
+  pub row : RowAt shape.width (TreeOf k) (IsOrdered shape.width k) (entries_of k) low t.1 t.2 high key step.place
+  pub whole : IsWhole shape before k step.child row.from row.to row.here
+  pub size : least shape k ≤ size_of k row.here
+  pub in_front : Each (IsFull shape k) row.front
+  pub behind : Each (IsFull shape k) row.back
+
+pub full_rooted : (shape : Shape) (k : ℕ) (t : TreeOf k) → least shape k ≤ size_of k t → IsRooted k t
+full_rooted shape zero t h = tt
+full_rooted shape (suc k) t h = let room = inner_room_some shape in omega arith
+
+pub child_of_whole : (shape : Shape) (before : PageMap) (k page : ℕ) (low high : Bound) (key : List ℕ) (t : TreeOf (suc k)) (step : Step)
+    → IsWhole shape before (suc k) page low high t → IsStep shape.width key t.1 (map (page_of k) t.2) step → Child shape before k page low high key t step
+child_of_whole shape before k page low high key t step whole is =
+    let b = below shape before k page low high key t step whole.stands is in
+    let fill = subst (Each (IsFull shape k)) b.row.is whole.filled in
+    let rest = each_right (IsFull shape k) b.row.front (b.row.here ∷ b.row.back) fill in
+    let own = ap (flat_map (pages_of k)) b.row.is ∙ flat_map-append (pages_of k) b.row.front (b.row.here ∷ b.row.back) in
+    let apart = subst AreApart own whole.apart.1 in
+    record {
+      row = b.row;
+      whole = record {
+        stands = b.child;
+        apart = apart_left (pages_of k b.row.here) (flat_map (pages_of k) b.row.back) (apart_right (flat_map (pages_of k) b.row.front) (pages_of k b.row.here ++ flat_map (pages_of k) b.row.back) apart);
+        filled = rest.0.1;
+        rooted = full_rooted shape k b.row.here rest.0.0;
+      };
+      size = rest.0.0;
+      in_front = each_left (IsFull shape k) b.row.front (b.row.here ∷ b.row.back) fill;
+      behind = rest.1;
+    }
+
+-- the node with the child as it is now
+pub record WithChild (shape : Shape) (before after : PageMap) (k page : ℕ) (low high : Bound) (key : List ℕ) (t : TreeOf (suc k)) (xs : List (TreeOf k)) : Type 0 where
+  pub put : Replaced shape before after k low high page (pages_of (suc k) t) t.1 xs
+  pub has : flat_map (entries_of k) xs ≡ without_key shape.width key (flat_map (entries_of k) t.2)
+
+pub with_child : (shape : Shape) (before after : PageMap) (k page : ℕ) (low high : Bound) (key : List ℕ) (t : TreeOf (suc k)) (step : Step)
+    → IsWhole shape before (suc k) page low high t → (child : Child shape before k page low high key t step)
+    → (new : Becomes shape before after k step.child child.row.from child.row.to (pages_of k child.row.here) (size_of k child.row.here - 1) (without_key shape.width key (entries_of k child.row.here)))
+    → WithChild shape before after k page low high key t (child.row.front ++ new.tree ∷ child.row.back)
+with_child shape before after k page low high key t step whole child new =
+    let row = child.row in
+    record {
+      put = replaced shape before after k low high page t row.front row.here new.tree row.back whole.stands whole.apart row.is new.stands.holds (new.stands.root ∙ sym child.whole.stands.root)
+          new.changes (row.put new.tree new.stands.ordered);
+      has = without_within shape.width key (entries_of k) row.front row.here new.tree row.back row.below row.above new.has
+          ∙ ap (λ (l : List (TreeOf k)). without_key shape.width key (flat_map (entries_of k) l)) (sym row.is);
+    }
+
+but_here : {X : Type 0} (F L : X → Type 0) (front : List X) (x : X) (back : List X) (place : ℕ) → length front ≡ place → Each F front → L x → Each F back → AreFullBut F L place (front ++ x ∷ back)
+but_here F L [] x back zero is a l b = (l, b)
+but_here F L [] x back (suc place) is a l b = absurd (omega arith)
+but_here F L (y ∷ front) x back zero is a l b = absurd (omega arith)
+but_here F L (y ∷ front) x back (suc place) is a l b = (a.0, but_here F L front x back place (omega arith) a.1 l b)
+
+pub step_of : (shape : Shape) (before : PageMap) (k page : ℕ) (low high : Bound) (key : List ℕ) (t : TreeOf (suc k)) (r : Result Step Fault) → IsTree shape before (suc k) page low high t → Steps shape before page key r
+    → IsAnswer r (IsStep shape.width key t.1 (map (page_of k) t.2))
+step_of shape before k page low high key t r tree steps =
+    steps t.1 (map (page_of k) t.2) (subst (λ (n : ℕ). IsInnerAt shape before n t.1 (map (page_of k) t.2)) tree.root tree.holds.0)
+
+module _ (shape : Shape) (h k page : ℕ) (key : List ℕ) (one : h ≡ suc k) where
+  at_one : (before after : PageMap) (is_sound : Type 0) (out : Result Shrunk Fault) → Removes shape before after is_sound (suc k) page key out → Removes shape before after is_sound h page key out
+  at_one before after is_sound out r = subst (λ (n : ℕ). Removes shape before after is_sound n page key out) (sym one) r
+
+  pub down_fails : (before after : PageMap) (is_sound : Type 0) (fault : Fault) (out : Result Shrunk Fault) → Steps shape before page key (Err fault) → IsErrAnd out (λ e. e ≡ fault)
+      → Removes shape before after is_sound h page key out
+  down_fails before after is_sound fault out steps was = at_one before after is_sound out (λ t low high whole.
+      let a = step_of shape before k page low high key t (Err fault) whole.stands steps in
+      fails out fault (λ shrunk. HasRemoved shape before after (suc k) page low high key t shrunk × is_sound) was a.no_damage)
+
+  module _ (before mid : PageMap) (same : mid ≡ before) (step : Step) (steps : Steps shape before page key (Ok step)) where
+    child_at : (low high : Bound) (t : TreeOf (suc k)) → IsWhole shape before (suc k) page low high t → Child shape before k page low high key t step
+    child_at low high t whole = child_of_whole shape before k page low high key t step whole (step_of shape before k page low high key t (Ok step) whole.stands steps).answer
+
+    below_answer : (after : PageMap) (is_sound : Type 0) (out : Result Shrunk Fault) (low high : Bound) (t : TreeOf (suc k)) (whole : IsWhole shape before (suc k) page low high t) → Removes shape mid after is_sound k step.child key out
+        → (let child = child_at low high t whole in IsAnswer out (λ shrunk. HasRemoved shape before after k step.child child.row.from child.row.to key child.row.here shrunk × is_sound))
+    below_answer after is_sound out low high t whole removes =
+        let child = child_at low high t whole in
+        (subst (λ (m : PageMap). Removes shape m after is_sound k step.child key out) same removes) child.row.here child.row.from child.row.to child.whole
+
+    pub child_fails : (after : PageMap) (is_sound : Type 0) (fault : Fault) (out : Result Shrunk Fault) → Removes shape mid after is_sound k step.child key (Err fault) → IsErrAnd out (λ e. e ≡ fault)
+        → Removes shape before after is_sound h page key out
+    child_fails after is_sound fault out removes was = at_one before after is_sound out (λ t low high whole.
+        let a = below_answer after is_sound (Err fault) low high t whole removes in
+        fails out fault (λ shrunk. HasRemoved shape before after (suc k) page low high key t shrunk × is_sound) was a.no_damage)
+
+    pub child_absent : (after : PageMap) (is_sound : Type 0) → Removes shape mid after is_sound k step.child key (Ok Absent) → Removes shape before after is_sound h page key (Ok Absent)
+    child_absent after is_sound removes = at_one before after is_sound (Ok Absent) (λ t low high whole.
+        let child = child_at low high t whole in
+        let a = (below_answer after is_sound (Ok Absent) low high t whole removes).answer in
+        record { answer = ((entry_below shape.width k key low high t.1 t.2 step.place child.row ∙ a.0.0, a.0.1), a.1); no_damage = tt })
+
+    -- the child has enough still
+    pub child_taken : (after : PageMap) (is_sound : Type 0) (entry : ArrayVec ℕ) (short few : Bool) → short ≡ false → IsTrue few ↔ (step.count < least shape 1)
+        → Removes shape mid after is_sound k step.child key (Ok (Taken entry short)) → Removes shape before after is_sound h page key (Ok (Taken entry few))
+    child_taken after is_sound entry short few enough few_is removes = at_one before after is_sound (Ok (Taken entry few)) (λ t low high whole.
+        let child = child_at low high t whole in
+        let a = (below_answer after is_sound (Ok (Taken entry short)) low high t whole removes).answer in
+        let new = a.0.1.becomes in
+        let w = with_child shape before after k page low high key t step whole child new in
+        let full : least shape k ≤ size_of k new.tree = not_short (size_of k new.tree) (least shape k) short enough a.0.1.short_is in
+        let count = (step_of shape before k page low high key t (Ok step) whole.stands steps).answer.count in
+        record {
+          no_damage = tt;
+          answer = (
+            (
+              entry_below shape.width k key low high t.1 t.2 step.place child.row ∙ a.0.0,
+              record {
+                becomes = record {
+                  tree = (page, t.1, child.row.front ++ new.tree ∷ child.row.back);
+                  stands = w.put.stands;
+                  filled = Each-append (IsFull shape k) child.row.front (new.tree ∷ child.row.back) child.in_front ((full, new.filled), child.behind);
+                  large = omega arith;
+                  has = w.has;
+                  changes = w.put.changes;
+                };
+                short_is = subst (λ (n : ℕ). IsTrue few ↔ (n < least shape 1)) count few_is;
+              },
+            ),
+            a.1,
+          );
+        })
+      where
+        not_short : (size room : ℕ) (short : Bool) → short ≡ false → IsTrue short ↔ (size < room) → room ≤ size
+        not_short size room short enough is = le_or room size (room ≤ size) (λ h. h) (λ h. let yes = is.1 h in absurd (cc (yes, enough)))
+
+    -- the child lacked one, and the node was mended
+    pub child_mended : (after late : PageMap) (is_sound : Type 0) (was_sound : Type 0) (entry : ArrayVec ℕ) (short : Bool) (mended : Result Bool Fault) → short ≡ true
+        → Removes shape mid after was_sound k step.child key (Ok (Taken entry short)) → (was_sound → Mends shape after late is_sound k page step.place mended)
+        → (t : TreeOf (suc k)) (low high : Bound) → IsWhole shape before (suc k) page low high t
+        → IsAnswer mended (λ few. HasRemoved shape before late (suc k) page low high key t (Taken entry few) × is_sound)
+    child_mended after late is_sound was_sound entry short mended lacks removes mends t low high whole =
+        let child = child_at low high t whole in
+        let a = (below_answer after was_sound (Ok (Taken entry short)) low high t whole removes).answer in
+        let new = a.0.1.becomes in
+        let w = with_child shape before after k page low high key t step whole child new in
+        let size = child.size in
+        let large = new.large in
+        let under : size_of k new.tree < least shape k = a.0.1.short_is.0 (rw lacks refl) in
+        let one_less : least shape k ≡ size_of k new.tree + 1 = omega arith in
+        let xs = child.row.front ++ new.tree ∷ child.row.back in
+        let but = but_here (IsFull shape k) (LacksOne shape k) child.row.front new.tree child.row.back step.place child.row.at child.in_front (one_less, new.filled) child.behind in
+        let m = mends a.1 (page, t.1, xs) low high w.put.stands w.put.changes.apart but whole.rooted in
+        record {
+          no_damage = m.no_damage;
+          answer = if_ok mended (λ few. BecomesShort shape after late (suc k) page low high (page ∷ flat_map (pages_of k) xs) (length t.1 - 1) (flat_map (entries_of k) xs) few × is_sound)
+              (λ few. HasRemoved shape before late (suc k) page low high key t (Taken entry few) × is_sound)
+              (λ few done.
+              let b = done.0.becomes in (
+                (
+                  entry_below shape.width k key low high t.1 t.2 step.place child.row ∙ a.0.0,
+                  record {
+                    becomes = record {
+                      tree = b.tree;
+                      stands = b.stands;
+                      filled = b.filled;
+                      large = b.large;
+                      has = b.has ∙ w.has;
+                      changes = changes_trans before after late (pages_of (suc k) t) (page ∷ flat_map (pages_of k) xs) (pages_of (suc k) b.tree) w.put.changes b.changes;
+                    };
+                    short_is = done.0.short_is;
+                  },
+                ),
+                done.1,
+              ))
+              m.answer;
+        }
+      where
+        if_ok : {X : Type 0} (r : Result X Fault) (P Q : X → Type 0) → ((x : X) → P x → Q x) → IfOk r P → IfOk r Q
+        if_ok (Ok x) P Q f h = f x h
+        if_ok (Err e) P Q f h = tt
+
+    pub mended_ok : (after late : PageMap) (is_sound was_sound : Type 0) (entry : ArrayVec ℕ) (short few : Bool) → short ≡ true
+        → Removes shape mid after was_sound k step.child key (Ok (Taken entry short)) → (was_sound → Mends shape after late is_sound k page step.place (Ok few))
+        → Removes shape before late is_sound h page key (Ok (Taken entry few))
+    mended_ok after late is_sound was_sound entry short few lacks removes mends = at_one before late is_sound (Ok (Taken entry few)) (λ t low high whole.
+        record { answer = (child_mended after late is_sound was_sound entry short (Ok few) lacks removes mends t low high whole).answer; no_damage = tt })
+
+    pub mend_fails : (after late : PageMap) (is_sound was_sound : Type 0) (entry : ArrayVec ℕ) (short : Bool) (fault : Fault) (out : Result Shrunk Fault) → short ≡ true
+        → Removes shape mid after was_sound k step.child key (Ok (Taken entry short)) → (was_sound → Mends shape after late is_sound k page step.place (Err fault)) → IsErrAnd out (λ e. e ≡ fault)
+        → Removes shape before late is_sound h page key out
+    mend_fails after late is_sound was_sound entry short fault out lacks removes mends was = at_one before late is_sound out (λ t low high whole.
+        fails out fault (λ shrunk. HasRemoved shape before late (suc k) page low high key t shrunk × is_sound) was
+        (child_mended after late is_sound was_sound entry short (Err fault) lacks removes mends t low high whole).no_damage)
+
+-- ---- one entry less
+
+-- keys rise through a whole tree
+row_ascends : (width k : ℕ) → ((low high : Bound) (t : TreeOf k) → IsOrdered width k low high t → Ascends width (entries_of k t))
+    → (low : Bound) (ss : List (List ℕ)) (xs : List (TreeOf k)) (high : Bound) → IsRow (IsOrdered width k) low ss xs high → Ascends width (flat_map (entries_of k) xs)
+row_ascends width k each low [] [] high row = absurd row
+row_ascends width k each low [] (x ∷ []) high row = subst (Ascends width) (sym (append-nil (entries_of k x))) (each low high x row)
+row_ascends width k each low [] (x ∷ y ∷ xs) high row = absurd row
+row_ascends width k each low (s ∷ ss) [] high row = absurd row
+row_ascends width k each low (s ∷ ss) (x ∷ xs) high row =
+    ascends_join width s (entries_of k x) (flat_map (entries_of k) xs) (each low (Some s) x row.2) (row_ascends width k each (Some s) ss xs high row.3)
+    (Each-weaker (Inside width low (Some s)) (λ e. less (take width e) s ≡ true) (λ e i. i.1) (entries_of k x) (bounded width k low (Some s) x row.2))
+    (Each-weaker (Inside width (Some s) high) (λ e. less (take width e) s ≡ false) (λ e i. i.0) (flat_map (entries_of k) xs) (row_bounded width (IsOrdered width k) (entries_of k) (bounded width k) (Some s) ss xs high row.3))
+
+pub tree_ascends : (width h : ℕ) (low high : Bound) (t : TreeOf h) → IsOrdered width h low high t → Ascends width (entries_of h t)
+tree_ascends width zero low high t ordered = ordered.0
+tree_ascends width (suc h) low high t ordered = row_ascends width h (tree_ascends width h) low t.1 t.2 high ordered.1
+
+differ_behind : (width : ℕ) (key x : List ℕ) (xs : List (List ℕ)) → bytes_eq (take width x) key ≡ true → Each (λ y. less (take width x) (take width y) ≡ true) xs → Each (λ y. not (bytes_eq (take width y) key) ≡ true) xs
+differ_behind width key x xs hit h =
+    let same : take width x ≡ key = (bytes_eq-Decides (take width x) key).0 hit in
+    Each-weaker (λ y. less (take width x) (take width y) ≡ true) (λ y. not (bytes_eq (take width y) key) ≡ true)
+    (λ y a. ap not (differs_back (take width y) key (subst (λ (k : List ℕ). less k (take width y) ≡ true) same a))) xs h
+
+one_less : (width : ℕ) (key e : List ℕ) (xs : List (List ℕ)) → Ascends width xs → entry_of width key xs ≡ Some e → length (without_key width key xs) + 1 ≡ length xs
+one_less width key e [] rises found = absurd (cc found)
+one_less width key e (x ∷ xs) rises found =
+    either (bytes_eq (take width x) key) (length (without_key width key (x ∷ xs)) + 1 ≡ length (x ∷ xs))
+    (λ yes.
+    let kept = keep_all (λ e. not (bytes_eq (take width e) key)) xs (differ_behind width key x xs yes rises.0) in
+    ap (λ b. length (cond (not b) (x ∷ without_key width key xs) (without_key width key xs)) + 1) yes ∙ ap (λ (l : List (List ℕ)). length l + 1) kept ∙ add-one (length xs))
+    (λ none.
+    let later : entry_of width key xs ≡ Some e = sym (ap (λ b. cond b (Some x) (entry_of width key xs)) none) ∙ found in
+    let rec = one_less width key e xs rises.1 later in
+    let kept : length (without_key width key (x ∷ xs)) ≡ suc (length (without_key width key xs)) = ap (λ b. length (cond (not b) (x ∷ without_key width key xs) (without_key width key xs))) none in
+    omega arith)
+
+pub taken_once : (width : ℕ) (key : List ℕ) (h : ℕ) (t : TreeOf h) → IsOrdered width h None None t → (e : List ℕ) → entry_of width key (entries_of h t) ≡ Some e
+    → length (without_key width key (entries_of h t)) + 1 ≡ length (entries_of h t)
+taken_once width key h t ordered e found = one_less width key e (entries_of h t) (tree_ascends width h None None t ordered) found

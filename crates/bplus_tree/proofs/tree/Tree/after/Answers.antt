@@ -1,0 +1,9 @@
+use Rattle.std.proofs.Common.{ℕ, List, None, subst}
+use Rattle.bplus_tree.specs.Calls.{IsAnswer, first_after}
+use Rattle.bplus_tree.specs.Search.{IsFound}
+use Rattle.bplus_tree.proofs.tree.Tree.after.Goals as goal
+
+pub returns-clause-found : goal.returns-clause-found
+returns-clause-found g c honest entries own stands =
+    subst (λ (es : List (List ℕ)). IsAnswer c.next_below.result (IsFound (first_after c.args.self.now.shape.width c.args.key.now) es)) stands.has
+    (c.next_below.ensures.found honest stands.value None None stands.whole.stands stands.whole.filled)

@@ -1,0 +1,9 @@
+use Rattle.std.proofs.Common.{ℕ, List, None, subst}
+use Rattle.bplus_tree.specs.Calls.{IsAnswer, last_of}
+use Rattle.bplus_tree.specs.Search.{IsFound}
+use Rattle.bplus_tree.proofs.tree.Tree.last.Goals as goal
+
+pub returns-clause-found : goal.returns-clause-found
+returns-clause-found g c honest entries own stands =
+    subst (λ (es : List (List ℕ)). IsAnswer c.last_below.result (IsFound last_of es)) stands.has
+    (c.last_below.ensures.last honest stands.value None None stands.whole.stands stands.whole.filled)

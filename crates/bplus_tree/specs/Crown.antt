@@ -1,0 +1,42 @@
+-- The root after a removal.
+use Rattle.std.specs.Prelude.{◌≡◌, ◌≢◌, ℕ, ◌≤◌, List, length, slice_index, Option, Some, None, Result}
+use Rattle.io_state.specs.declared.fault.Fault.{Fault}
+use Rattle.tree_node.specs.declared.shape.Shape.{Shape}
+use Rattle.pages.specs.PageMap.{PageMap}
+use Rattle.bplus_tree.specs.declared.crown.Base.{Base}
+use Rattle.bplus_tree.specs.Tree.{TreeOf, entries_of, pages_of, IsFilled}
+use Rattle.pages.specs.Owners.{AreApart, Changes}
+use Rattle.bplus_tree.specs.Stored.{IsInnerAt}
+use Rattle.bplus_tree.specs.Calls.{IsTree, IsWhole, IsAnswer}
+
+-- the child of an inner node without separators
+abbrev pub IsOnly : List (List ℕ) → List ℕ → Option ℕ → Type 0
+IsOnly separators below None = 1 ≤ length separators
+IsOnly separators below (Some child) = (length separators ≡ 0) × (child ≡ slice_index below 0)
+
+abbrev pub Sees : Shape → PageMap → ℕ → Result (Option ℕ) Fault → Type 0
+Sees shape page_map page result =
+    (separators : List (List ℕ)) (below : List ℕ) → IsInnerAt shape page_map page separators below → IsAnswer result (IsOnly separators below)
+
+-- the only child of an inner node without separators, which is given back; where it has separators, nothing is done
+abbrev pub HasCrown : PageMap → PageMap → ℕ → List (List ℕ) → List ℕ → Option ℕ → Type 0
+HasCrown before after page separators below None = (1 ≤ length separators) × (after ≡ before)
+HasCrown before after page separators below (Some child) =
+    (length separators ≡ 0) × (child ≡ slice_index below 0) × (after page ≡ None) × ((n : ℕ) → n ≢ page → after n ≡ before n)
+
+abbrev pub Crowns : Shape → PageMap → PageMap → Type 0 → ℕ → Result (Option ℕ) Fault → Type 0
+Crowns shape before after is_sound page result =
+    (separators : List (List ℕ)) (below : List ℕ) → IsInnerAt shape before page separators below
+    → IsAnswer result (λ child. HasCrown before after page separators below child × is_sound)
+
+-- the tree, without a root that has one child only
+pub record IsSettled (shape : Shape) (before after : PageMap) (h : ℕ) (t : TreeOf h) (base : Base) : Type 0 where
+  pub tree : TreeOf base.levels
+  pub whole : IsWhole shape after base.levels base.root None None tree
+  pub has : entries_of base.levels tree ≡ entries_of h t
+  pub changes : Changes before after (pages_of h t) (pages_of base.levels tree)
+
+abbrev pub Settles : Shape → PageMap → PageMap → Type 0 → ℕ → ℕ → Result Base Fault → Type 0
+Settles shape before after is_sound h root result =
+    (t : TreeOf h) → IsTree shape before h root None None t → AreApart (pages_of h t) → IsFilled shape h t
+    → IsAnswer result (λ base. IsSettled shape before after h t base × is_sound)

@@ -1,0 +1,53 @@
+-- Where a cursor is in its tree.
+use Rattle.std.specs.Prelude.{◌≡◌, ℕ, ◌+◌, ◌^◌, ◌-◌, ◌<◌, ◌≤◌, List, take, Option, Some, None, Result, option_map}
+use Rattle.arrayvec.specs.ArrayVec.{ArrayVec}
+use Rattle.io_state.specs.declared.fault.Fault.{Fault}
+use Rattle.pages.specs.PageMap.{PageMap}
+use Rattle.bplus_tree.specs.declared.tree.Tree.{Tree}
+use Rattle.bplus_tree.specs.declared.cursor.Cursor.{Cursor}
+use Rattle.bplus_tree.specs.declared.spot.Spot.{Spot}
+use Rattle.bplus_tree.specs.Calls.{first_after, IsAnswer}
+use Rattle.bplus_tree.specs.Spot.{StandsAt, FoundAt}
+use Rattle.bplus_tree.specs.Standing.{Stands}
+
+-- the entry that the cursor gave last stands where the cursor says
+pub record IsAt (cursor : Cursor) (tree : Tree) (pages : PageMap) (entries : List (List ℕ)) (own : List ℕ) : Type 0 where
+  pub entry : List ℕ
+  pub stands : StandsAt tree.shape pages own entries cursor.spot entry
+  pub key : take tree.shape.width entry ≡ cursor.key.items
+
+-- The cursor is one of this tree. Where the tree has not changed since the cursor gave an entry, the cursor is at that entry.
+pub record Belongs (cursor : Cursor) (tree : Tree) (pages : PageMap) (entries : List (List ℕ)) (own : List ℕ) : Type 0 where
+  pub earlier : cursor.changes < 2 ^ 64 - 1 → cursor.changes ≤ tree.changes
+  pub at : cursor.changes ≡ tree.changes → cursor.changes < 2 ^ 64 - 1 → 0 < cursor.spot.count → IsAt cursor tree pages entries own
+
+-- there is an entry behind the one that was given last, in the same leaf, and the tree has not changed since
+pub record HasNeighbour (cursor : Cursor) (tree : Tree) : Type 0 where
+  pub unchanged : cursor.changes ≡ tree.changes
+  pub counted : cursor.changes < 2 ^ 64 - 1
+  pub more : cursor.spot.place + 1 < cursor.spot.count
+
+-- the first entry above the cursor's key, and where it stands
+pub record IsBehind (cursor : Cursor) (tree : Tree) (pages : PageMap) (entries : List (List ℕ)) (own : List ℕ) (spot : Spot) (found : Option (ArrayVec ℕ)) : Type 0 where
+  pub found_is : option_map (λ e. e.items) found ≡ first_after tree.shape.width cursor.key.items entries
+  pub at : FoundAt tree.shape pages own entries spot found
+
+abbrev pub LooksBehind : Cursor → Tree → PageMap → Spot → Result (Option (ArrayVec ℕ)) Fault → Type 0
+LooksBehind cursor tree pages spot result =
+    (entries : List (List ℕ)) (own : List ℕ) → Stands tree pages entries own → Belongs cursor tree pages entries own
+    → IsAnswer result (IsBehind cursor tree pages entries own spot)
+
+-- the first entry above the cursor's key, and a cursor at that entry
+pub record HasMoved (old new : Cursor) (tree : Tree) (pages : PageMap) (entries : List (List ℕ)) (own : List ℕ) (found : Option (ArrayVec ℕ)) : Type 0 where
+  pub found_is : option_map (λ e. e.items) found ≡ first_after tree.shape.width old.key.items entries
+  pub belongs : Belongs new tree pages entries own
+
+abbrev pub Moves : Cursor → Cursor → Tree → PageMap → Result (Option (ArrayVec ℕ)) Fault → Type 0
+Moves old new tree pages result =
+    (entries : List (List ℕ)) (own : List ℕ) → Stands tree pages entries own → Belongs old tree pages entries own
+    → IsAnswer result (HasMoved old new tree pages entries own)
+
+-- the key of the entry that was given, or the one before where none was
+abbrev pub key_after : ℕ → List ℕ → Option (ArrayVec ℕ) → List ℕ
+key_after width key None = key
+key_after width key (Some e) = take width e.items

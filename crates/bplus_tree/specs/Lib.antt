@@ -1,0 +1,16 @@
+pub mod Tree
+pub mod Stored
+pub mod Edits
+pub mod Calls
+pub mod Descent
+pub mod Even
+pub mod Mend
+pub mod Remove
+pub mod Crown
+pub mod Standing
+pub mod ReadOff
+pub mod Search
+pub mod Count
+pub mod Cursor
+pub mod Start
+pub mod Spot

@@ -1,0 +1,69 @@
+-- What a removal ensures below one page.
+use Rattle.std.specs.Prelude.{◌≡◌, ◌≢◌, ℕ, zero, suc, ◌+◌, ◌-◌, ◌<◌, ◌≤◌, ◌↔◌, Bool, List, [], ◌∷◌, length, remove, Some, None, Result, IsTrue}
+use Rattle.io_state.specs.declared.fault.Fault.{Fault}
+use Rattle.tree_node.specs.declared.shape.Shape.{Shape}
+use Rattle.page_bytes.specs.Each.{Each}
+use Rattle.pages.specs.PageMap.{PageMap}
+use Rattle.bplus_tree.specs.declared.remove.Shrunk.{Shrunk}
+use Rattle.bplus_tree.specs.declared.remove.Shrunk.TheVariants.{Absent, Taken}
+use Rattle.bplus_tree.specs.Tree.{TreeOf, entries_of, pages_of, size_of, least, Bound, IsFilled}
+use Rattle.bplus_tree.specs.Stored.{IsLeafAt}
+use Rattle.bplus_tree.specs.Calls.{entry_of, IsTree, IsWhole, IsAnswer}
+use Rattle.pages.specs.Owners.{AreApart, Changes}
+use Rattle.bplus_tree.specs.Edits.{without_key}
+
+-- The page heads a tree of these entries now, filled below its root. The root has at least `floor` entries or separators.
+pub record Becomes (shape : Shape) (before after : PageMap) (h page : ℕ) (low high : Bound) (own : List ℕ) (floor : ℕ) (entries : List (List ℕ)) : Type 0 where
+  pub tree : TreeOf h
+  pub stands : IsTree shape after h page low high tree
+  pub filled : IsFilled shape h tree
+  pub large : floor ≤ size_of h tree
+  pub has : entries_of h tree ≡ entries
+  pub changes : Changes before after own (pages_of h tree)
+
+-- such a tree; and whether its root has too little for a node below another one
+pub record BecomesShort (shape : Shape) (before after : PageMap) (h page : ℕ) (low high : Bound) (own : List ℕ) (floor : ℕ) (entries : List (List ℕ)) (short : Bool) : Type 0 where
+  pub becomes : Becomes shape before after h page low high own floor entries
+  pub short_is : IsTrue short ↔ (size_of h becomes.tree < least shape h)
+
+abbrev pub HasRemoved : (shape : Shape) → PageMap → PageMap → (h page : ℕ) → (low high : Bound) → List ℕ → TreeOf h → Shrunk → Type 0
+HasRemoved shape before after h page low high key t Absent =
+    (entry_of shape.width key (entries_of h t) ≡ None) × (after ≡ before)
+HasRemoved shape before after h page low high key t (Taken entry short) =
+    (entry_of shape.width key (entries_of h t) ≡ Some entry.items)
+    × BecomesShort shape before after h page low high (pages_of h t) (size_of h t - 1) (without_key shape.width key (entries_of h t)) short
+
+abbrev pub Removes : Shape → PageMap → PageMap → Type 0 → ℕ → ℕ → List ℕ → Result Shrunk Fault → Type 0
+Removes shape before after is_sound h page key result =
+    (t : TreeOf h) (low high : Bound) → IsWhole shape before h page low high t
+    → IsAnswer result (λ shrunk. HasRemoved shape before after h page low high key t shrunk × is_sound)
+
+-- all are at least half full, but for the one at this place, which lacks one entry or separator
+abbrev pub AreFullBut : {X : Type 0} → (X → Type 0) → (X → Type 0) → ℕ → List X → Type 0
+AreFullBut IsFull Lacks place [] = ⊥
+AreFullBut IsFull Lacks zero (x ∷ xs) = Lacks x × Each IsFull xs
+AreFullBut IsFull Lacks (suc place) (x ∷ xs) = IsFull x × AreFullBut IsFull Lacks place xs
+
+abbrev pub IsFull : Shape → (h : ℕ) → TreeOf h → Type 0
+IsFull shape h t = (least shape h ≤ size_of h t) × IsFilled shape h t
+
+abbrev pub LacksOne : Shape → (h : ℕ) → TreeOf h → Type 0
+LacksOne shape h t = (least shape h ≡ size_of h t + 1) × IsFilled shape h t
+
+-- a node one of whose children lacks one
+abbrev pub Mends : Shape → PageMap → PageMap → Type 0 → ℕ → ℕ → ℕ → Result Bool Fault → Type 0
+Mends shape before after is_sound k page place result =
+    (t : TreeOf (suc k)) (low high : Bound) → IsTree shape before (suc k) page low high t → AreApart (pages_of (suc k) t)
+    → AreFullBut (IsFull shape k) (LacksOne shape k) place t.2 → 1 ≤ length t.1
+    → IsAnswer result (λ short. BecomesShort shape before after (suc k) page low high (pages_of (suc k) t) (length t.1 - 1) (entries_of (suc k) t) short × is_sound)
+
+-- the leaf has one entry less, and every other page is as it was
+pub record TakesOut (shape : Shape) (before after : PageMap) (page : ℕ) (entries : List (List ℕ)) (short : Bool) : Type 0 where
+  pub leaf : IsLeafAt shape after page entries
+  pub others : (n : ℕ) → n ≢ page → after n ≡ before n
+  pub short_is : IsTrue short ↔ (length entries < least shape 0)
+
+abbrev pub OutOfLeaf : Shape → PageMap → PageMap → Type 0 → ℕ → ℕ → Result Bool Fault → Type 0
+OutOfLeaf shape before after is_sound page place result =
+    (entries : List (List ℕ)) → IsLeafAt shape before page entries → place < length entries
+    → IsAnswer result (λ short. TakesOut shape before after page (remove entries place) short × is_sound)

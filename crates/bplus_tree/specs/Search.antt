@@ -1,0 +1,67 @@
+-- What searches answer below one page.
+use Rattle.std.specs.Prelude.{◌≡◌, ℕ, ◌≤◌, Bool, true, false, List, find, length, slice_index, Some, Option, option_map, Result}
+use Rattle.arrayvec.specs.ArrayVec.{ArrayVec}
+use Rattle.io_state.specs.declared.fault.Fault.{Fault}
+use Rattle.tree_node.specs.declared.shape.Shape.{Shape}
+use Rattle.tree_node.specs.Order.{Ascends, IsRank, IsRankAfter}
+use Rattle.pages.specs.PageMap.{PageMap}
+use Rattle.bplus_tree.specs.Tree.{TreeOf, page_of, entries_of, size_of, Bound, IsFilled}
+use Rattle.bplus_tree.specs.Stored.{Holds, IsLeafAt, IsInnerAt}
+use Rattle.bplus_tree.specs.Calls.{IsTree, IsAnswer, first_from, first_after, last_of}
+
+-- the first entry at a key or behind it; where `past`, the first one behind it
+abbrev pub first_of : Bool → ℕ → List ℕ → List (List ℕ) → Option (List ℕ)
+first_of false width key = first_from width key
+first_of true width key = first_after width key
+
+-- how many entries come before it in a leaf
+abbrev pub IsPlace : Bool → ℕ → List ℕ → List (List ℕ) → ℕ → Type 0
+IsPlace false width key entries place = IsRank width key entries place
+IsPlace true width key entries place = IsRankAfter width key entries place
+
+-- the first entry
+abbrev pub head_of : List (List ℕ) → Option (List ℕ)
+head_of = find (λ e. true)
+
+abbrev pub IsFound : (List (List ℕ) → Option (List ℕ)) → List (List ℕ) → Option (ArrayVec ℕ) → Type 0
+IsFound look entries found = option_map (λ e. e.items) found ≡ look entries
+
+-- of a tree that stands, and of a tree that is filled too
+abbrev pub Finds : Shape → PageMap → ℕ → ℕ → (List (List ℕ) → Option (List ℕ)) → Result (Option (ArrayVec ℕ)) Fault → Type 0
+Finds shape pages h page look result =
+    (t : TreeOf h) (low high : Bound) → IsTree shape pages h page low high t → IsAnswer result (IsFound look (entries_of h t))
+
+abbrev pub FindsFilled : Shape → PageMap → ℕ → ℕ → (List (List ℕ) → Option (List ℕ)) → Result (Option (ArrayVec ℕ)) Fault → Type 0
+FindsFilled shape pages h page look result =
+    (t : TreeOf h) (low high : Bound) → IsTree shape pages h page low high t → IsFilled shape h t → IsAnswer result (IsFound look (entries_of h t))
+
+abbrev pub FindsInLeaf : Shape → PageMap → ℕ → (List (List ℕ) → Option (List ℕ)) → Result (Option (ArrayVec ℕ)) Fault → Type 0
+FindsInLeaf shape pages page look result =
+    (entries : List (List ℕ)) → IsLeafAt shape pages page entries → Ascends shape.width entries → IsAnswer result (IsFound look entries)
+
+-- the first entry of a tree that has one
+abbrev pub FindsFirst : Shape → PageMap → ℕ → ℕ → Result (ArrayVec ℕ) Fault → Type 0
+FindsFirst shape pages h page result =
+    (t : TreeOf h) → Holds shape pages h t → page_of h t ≡ page → IsFilled shape h t → 1 ≤ size_of h t
+    → IsAnswer result (λ e. head_of (entries_of h t) ≡ Some e.items)
+
+abbrev pub FirstOfLeaf : Shape → PageMap → ℕ → Result (ArrayVec ℕ) Fault → Type 0
+FirstOfLeaf shape pages page result =
+    (entries : List (List ℕ)) → IsLeafAt shape pages page entries → 1 ≤ length entries → IsAnswer result (λ e. head_of entries ≡ Some e.items)
+
+abbrev pub FirstChild : Shape → PageMap → ℕ → Result ℕ Fault → Type 0
+FirstChild shape pages page result =
+    (separators : List (List ℕ)) (below : List ℕ) → IsInnerAt shape pages page separators below → IsAnswer result (λ child. child ≡ slice_index below 0)
+
+-- the last entry of a tree that is filled
+abbrev pub FindsLast : Shape → PageMap → ℕ → ℕ → Result (Option (ArrayVec ℕ)) Fault → Type 0
+FindsLast shape pages h page result =
+    (t : TreeOf h) (low high : Bound) → IsTree shape pages h page low high t → IsFilled shape h t → IsAnswer result (IsFound last_of (entries_of h t))
+
+abbrev pub LastOfLeaf : Shape → PageMap → ℕ → Result (Option (ArrayVec ℕ)) Fault → Type 0
+LastOfLeaf shape pages page result =
+    (entries : List (List ℕ)) → IsLeafAt shape pages page entries → IsAnswer result (IsFound last_of entries)
+
+abbrev pub LastChild : Shape → PageMap → ℕ → Result ℕ Fault → Type 0
+LastChild shape pages page result =
+    (separators : List (List ℕ)) (below : List ℕ) → IsInnerAt shape pages page separators below → IsAnswer result (λ child. child ≡ slice_index below (length separators))

@@ -1,0 +1,79 @@
+//! The root after a removal.
+
+ghost use Rattle.std.specs.Prelude.{◌≡◌, ◌+◌, ◌<◌, ◌≤◌, ℕ, IsTrue, IfErr, IfOk};
+ghost use Rattle.pages.specs.Cause.{IsCaused};
+ghost use Rattle.bplus_tree.specs.Crown.{Sees, Crowns, Settles};
+
+use io_state::Fault;
+use pages::Pages;
+use tree_node::{InnerView, Shape, is_inner};
+
+/// A root, and how many levels are above the leaves.
+#[derive(Clone, Copy)]
+pub struct Base {
+    pub root: u32,
+    pub levels: u8,
+}
+
+/// Gives the root back where it has one child only, which is the root then.
+pub fn settle<P: Pages>(pages: &mut P, shape: Shape, root: u32, levels: u8) -> Result<Base, Fault>
+    requires ready { P.IsReady pages.old }
+    requires open { P.CanChange pages.old }
+    ensures settled { IsTrue (P.state pages.new).is_honest → IsTrue (P.state pages.old).is_sound
+        → Settles shape (P.state pages.old).live (P.state pages.new).live (IsTrue (P.state pages.new).is_sound) levels root result }
+    ensures height { IfOk result (λ base. base.levels ≤ levels) }
+    ensures few { (P.state pages.old).available ≤ (P.state pages.new).available }
+    ensures cause { IfErr result (IsCaused (P.HasFailed pages.old pages.new) ⊥) }
+    ensures asked { (P.state pages.new).asked ≤ (P.state pages.old).asked + 2 }
+    ensures goes { P.Goes pages.old pages.new }
+{
+    if levels == 0 {
+        return Ok(Base { root, levels });
+    }
+    match crown(pages, shape, root)? {
+        None => Ok(Base { root, levels }),
+        Some(child) => Ok(Base {
+            root: child,
+            levels: levels - 1,
+        }),
+    }
+}
+
+/// Gives an inner node back that has one child only, and answers the child.
+fn crown<P: Pages>(pages: &mut P, shape: Shape, page: u32) -> Result<Option<u32>, Fault>
+    requires ready { P.IsReady pages.old }
+    requires open { P.CanChange pages.old }
+    ensures crowned { IsTrue (P.state pages.new).is_honest → IsTrue (P.state pages.old).is_sound
+        → Crowns shape (P.state pages.old).live (P.state pages.new).live (IsTrue (P.state pages.new).is_sound) page result }
+    ensures few { (P.state pages.old).available ≤ (P.state pages.new).available }
+    ensures cause { IfErr result (IsCaused (P.HasFailed pages.old pages.new) ⊥) }
+    ensures asked { (P.state pages.new).asked ≤ (P.state pages.old).asked + 2 }
+    ensures goes { P.Goes pages.old pages.new }
+{
+    match only_child(pages, shape, page)? {
+        None => Ok(None),
+        Some(child) => {
+            pages.give(page)?;
+            Ok(Some(child))
+        }
+    }
+}
+
+/// The child of an inner node that has no separator.
+fn only_child<P: Pages>(pages: &mut P, shape: Shape, page: u32) -> Result<Option<u32>, Fault>
+    requires ready { P.IsReady pages.old }
+    ensures child { IsTrue (P.state pages.new).is_honest → Sees shape (P.state pages.old).live page result }
+    ensures cause { IfErr result (IsCaused (P.HasFailed pages.old pages.new) ⊥) }
+    ensures asked { (P.state pages.new).asked ≤ (P.state pages.old).asked + 1 }
+    ensures reads { P.Reads pages.old pages.new }
+{
+    let bytes = pages.page(page)?;
+    if !is_inner(bytes, shape) {
+        return Err(Fault::Damage);
+    }
+    let node = InnerView { page: bytes, shape };
+    if node.count() > 0 {
+        return Ok(None);
+    }
+    Ok(Some(node.child(0)))
+}

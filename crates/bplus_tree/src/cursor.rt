@@ -1,0 +1,116 @@
+//! A cursor: a place among the entries of a tree that is kept from one call to the next.
+
+ghost use Rattle.std.specs.Prelude.{◌≡◌, ◌+◌, ◌*◌, ◌≤◌, ◌↔◌, ℕ, List, IsTrue, IfErr, IfOk, OnErr, length, take};
+ghost use Rattle.pages.specs.PageMap.{PageMap};
+ghost use Rattle.pages.specs.Cause.{IsCaused};
+
+use crate::search::next_below;
+use crate::spot::{Spot, entry_in_leaf};
+use crate::tree::Tree;
+use io_state::Fault;
+use pages::Pages;
+use tree_node::{Entry, Shape, TreeKey};
+
+/// The key of the entry that was given last, at first the one that the cursor was made for. While the tree has not changed, also where that
+/// entry stands.
+#[derive(Drop)]
+pub struct Cursor {
+    pub key: TreeKey,
+    pub changes: u64,
+    pub spot: Spot,
+}
+
+impl Tree {
+    ghost use Rattle.bplus_tree.specs.Cursor.{Belongs};
+
+    /// A cursor that gives the entries whose keys are above this one.
+    pub fn cursor(&self, key: &[u8]) -> Cursor
+        requires width { length key.now ≤ 258 }
+        ensures key { result.key.items ≡ key.now }
+        ensures belongs { (pages : PageMap) (entries : List (List ℕ)) (own : List ℕ)
+            → Belongs result self.now pages entries own }
+    {
+        let mut start = TreeKey::new();
+        let _ = start.try_extend_from_slice(key);
+        Cursor {
+            key: start,
+            changes: self.changes,
+            spot: Spot::nowhere(),
+        }
+    }
+}
+
+impl Cursor {
+    ghost use Rattle.bplus_tree.specs.Cursor.{HasNeighbour, LooksBehind, Moves, key_after};
+
+    /// The next entry: the first one whose key is above that of the entry given last. Where there is none the cursor stays where it is, and
+    /// at a fault. It asks one page mostly, and never more than twice the height.
+    pub fn next<P: Pages>(&mut self, tree: &Tree, pages: &mut P) -> Result<Option<Entry>, Fault>
+        requires ready { P.IsReady pages.old }
+        ensures moved { IsTrue (P.state pages.new).is_honest
+            → Moves self.old self.new tree.now (P.state pages.old).live result }
+        ensures key { IfOk result (λ found. self.new.key.items
+            ≡ key_after tree.now.shape.width self.old.key.items found) }
+        ensures cause { IfErr result (IsCaused (P.HasFailed pages.old pages.new) ⊥) }
+        ensures asked { (P.state pages.new).asked ≤ (P.state pages.old).asked + 2 * (tree.now.levels + 1) }
+        ensures reads { P.Reads pages.old pages.new }
+        ensures err { OnErr result (self.new ≡ self.old) }
+    {
+        let mut spot = Spot::nowhere();
+        match self.look_behind(tree, pages, &mut spot)? {
+            None => Ok(None),
+            Some(entry) => {
+                *self = Cursor {
+                    key: key_of(&entry, tree.shape),
+                    changes: tree.changes,
+                    spot,
+                };
+                Ok(Some(entry))
+            }
+        }
+    }
+
+    /// The first entry above the key, and where it stands.
+    fn look_behind<P: Pages>(
+        &self,
+        tree: &Tree,
+        pages: &mut P,
+        spot: &mut Spot,
+    ) -> Result<Option<Entry>, Fault>
+        requires ready { P.IsReady pages.old }
+        ensures found { IsTrue (P.state pages.new).is_honest
+            → LooksBehind self.now tree.now (P.state pages.old).live spot.new result }
+        ensures cause { IfErr result (IsCaused (P.HasFailed pages.old pages.new) ⊥) }
+        ensures asked { (P.state pages.new).asked ≤ (P.state pages.old).asked + 2 * (tree.now.levels + 1) }
+        ensures reads { P.Reads pages.old pages.new }
+    {
+        if self.has_neighbour(tree) {
+            let place = self.spot.place as usize + 1;
+            return match entry_in_leaf(pages, tree.shape, self.spot.leaf, place, spot)? {
+                Some(entry) => Ok(Some(entry)),
+                None => Err(Fault::Damage),
+            };
+        }
+        let key = self.key.as_slice();
+        next_below(pages, tree.shape, tree.root, tree.levels, key, true, spot)
+    }
+
+    /// The next entry stands behind the one given last, in the same leaf.
+    fn has_neighbour(&self, tree: &Tree) -> bool
+        ensures { IsTrue result ↔ HasNeighbour self.now tree.now }
+    {
+        self.changes == tree.changes
+            && self.changes < u64::MAX
+            && (self.spot.place as u32) + 1 < self.spot.count as u32
+    }
+}
+
+/// The tree key of an entry.
+fn key_of(entry: &Entry, shape: Shape) -> TreeKey
+    ensures { result.items ≡ take shape.width entry.now.items }
+{
+    let width = (shape.width as usize).min(entry.len());
+    let mut key = TreeKey::new();
+    let _ = key.try_extend_from_slice(&entry[..width]);
+    key
+}

@@ -1,0 +1,131 @@
+//! Removals by descent. A node that has too little takes from a neighbour or becomes one with it.
+
+ghost use Rattle.std.specs.Prelude.{◌≡◌, ◌+◌, ◌*◌, ◌<◌, ◌≤◌, ◌↔◌, ℕ, IsTrue, IfErr, length, remove};
+ghost use Rattle.tree_node.specs.Leaf.{IsLeaf, leaf_entries};
+ghost use Rattle.bplus_tree.specs.Tree.{least};
+ghost use Rattle.pages.specs.Cause.{IsCaused};
+ghost use Rattle.bplus_tree.specs.Remove.{Removes, TakesOut, OutOfLeaf};
+
+use crate::descent::{Look, descend, seek};
+use crate::mend::mend;
+use io_state::Fault;
+use pages::Pages;
+use tree_node::{Entry, LeafView, LeafViewMut, PAGE_SIZE, Shape, is_leaf};
+
+/// What is left below a page.
+#[derive(Drop)]
+pub enum Shrunk {
+    /// The key is not there.
+    Absent,
+    /// This entry was taken out, and whether the page has too little now.
+    Taken { entry: Entry, short: bool },
+}
+
+/// Takes the entry of a key out of a tree with `levels` levels above its leaves.
+pub fn remove_below<P: Pages>(
+    pages: &mut P,
+    shape: Shape,
+    page: u32,
+    levels: u8,
+    key: &[u8],
+) -> Result<Shrunk, Fault>
+    requires ready { P.IsReady pages.old }
+    requires open { P.CanChange pages.old }
+    ensures removed { IsTrue (P.state pages.new).is_honest → IsTrue (P.state pages.old).is_sound
+        → Removes shape (P.state pages.old).live (P.state pages.new).live (IsTrue (P.state pages.new).is_sound) levels page key.now result }
+    ensures few { (P.state pages.old).available ≤ (P.state pages.new).available }
+    ensures cause { IfErr result (IsCaused (P.HasFailed pages.old pages.new) ⊥) }
+    ensures asked { (P.state pages.new).asked ≤ (P.state pages.old).asked + 7 * (levels + 1) }
+    ensures goes { P.Goes pages.old pages.new }
+{
+    if levels == 0 {
+        return remove_from_leaf(pages, shape, page, key);
+    }
+    let down = descend(pages, shape, page, key)?;
+    match remove_below(pages, shape, down.child, levels - 1, key)? {
+        Shrunk::Absent => Ok(Shrunk::Absent),
+        Shrunk::Taken { entry, short } => {
+            if short {
+                let short = mend(pages, shape, page, levels - 1, down.place)?;
+                Ok(Shrunk::Taken { entry, short })
+            } else {
+                let short = is_few(down.count, shape);
+                Ok(Shrunk::Taken { entry, short })
+            }
+        }
+    }
+}
+
+/// Takes the entry of a key out of a leaf.
+fn remove_from_leaf<P: Pages>(
+    pages: &mut P,
+    shape: Shape,
+    page: u32,
+    key: &[u8],
+) -> Result<Shrunk, Fault>
+    requires ready { P.IsReady pages.old }
+    requires open { P.CanChange pages.old }
+    ensures removed { IsTrue (P.state pages.new).is_honest → IsTrue (P.state pages.old).is_sound
+        → Removes shape (P.state pages.old).live (P.state pages.new).live (IsTrue (P.state pages.new).is_sound) 0 page key.now result }
+    ensures few { (P.state pages.old).available ≤ (P.state pages.new).available }
+    ensures cause { IfErr result (IsCaused (P.HasFailed pages.old pages.new) ⊥) }
+    ensures asked { (P.state pages.new).asked ≤ (P.state pages.old).asked + 2 }
+    ensures goes { P.Goes pages.old pages.new }
+{
+    let Look { place, found } = seek(pages, shape, page, key)?;
+    match found {
+        None => Ok(Shrunk::Absent),
+        Some(entry) => {
+            let short = take_out(pages, shape, page, place)?;
+            Ok(Shrunk::Taken { entry, short })
+        }
+    }
+}
+
+/// Takes entry `place` out of a leaf. The answer is whether the leaf has too little now.
+fn take_out<P: Pages>(pages: &mut P, shape: Shape, page: u32, place: usize) -> Result<bool, Fault>
+    requires ready { P.IsReady pages.old }
+    requires open { P.CanChange pages.old }
+    ensures taken { IsTrue (P.state pages.new).is_honest → IsTrue (P.state pages.old).is_sound
+        → OutOfLeaf shape (P.state pages.old).live (P.state pages.new).live (IsTrue (P.state pages.new).is_sound) page place result }
+    ensures few { (P.state pages.old).available ≤ (P.state pages.new).available }
+    ensures cause { IfErr result (IsCaused (P.HasFailed pages.old pages.new) ⊥) }
+    ensures asked { (P.state pages.new).asked ≤ (P.state pages.old).asked + 1 }
+    ensures goes { P.Goes pages.old pages.new }
+{
+    let bytes = pages.page_mut(page)?;
+    if !is_leaf(bytes, shape) {
+        return Err(Fault::Damage);
+    }
+    if place >= (LeafView { page: bytes, shape }).count() {
+        return Err(Fault::Damage);
+    }
+    Ok(cut_out(bytes, shape, place))
+}
+
+/// Takes entry `place` out of the bytes of a leaf. The answer is whether the leaf has too little now.
+fn cut_out(page: &mut [u8; PAGE_SIZE], shape: Shape, place: usize) -> bool
+    requires leaf { IsLeaf shape page.old }
+    requires within { place < length (leaf_entries shape page.old) }
+    ensures leaf { IsLeaf shape page.new }
+    ensures removed { leaf_entries shape page.new ≡ remove (leaf_entries shape page.old) place }
+    ensures short { IsTrue result ↔ (length (leaf_entries shape page.new) < least shape 0) }
+{
+    LeafViewMut { page, shape }.remove_at(place);
+    is_short(page, shape)
+}
+
+/// A leaf has too little for one below another node.
+fn is_short(page: &[u8; PAGE_SIZE], shape: Shape) -> bool
+    requires leaf { IsLeaf shape page.now }
+    ensures { IsTrue result ↔ (length (leaf_entries shape page.now) < least shape 0) }
+{
+    LeafView { page, shape }.count() < shape.leaf_room() / 2
+}
+
+/// So many separators are too few for an inner node below another one.
+fn is_few(count: usize, shape: Shape) -> bool
+    ensures { IsTrue result ↔ (count < least shape 1) }
+{
+    count < shape.inner_room() / 2
+}

@@ -1,0 +1,154 @@
+//! A tree, from its root.
+
+ghost use Rattle.std.specs.Prelude.{◌≡◌, ◌≢◌, ◌+◌, ◌*◌, ◌<◌, ◌≤◌, ℕ, IsTrue, IsSome, IfErr, IfOk, Ok, Err, None, length, take};
+ghost use Rattle.pages.specs.Cause.{IsCaused};
+
+use crate::crown::settle;
+use crate::remove::{Shrunk, remove_below};
+use crate::search::{find_below, last_below, next_below};
+use crate::spot::Spot;
+use crate::start::start;
+use io_state::Fault;
+use pages::Pages;
+use tree_node::{Entry, Shape};
+
+/// A tree: the page of its root, how many levels are above its leaves, how many entries it has, and how often it has changed.
+#[derive(Clone, Copy)]
+pub struct Tree {
+    pub shape: Shape,
+    pub root: u32,
+    pub levels: u8,
+    pub count: u64,
+    pub changes: u64,
+    ghost low: { levels < 64 },
+}
+
+impl Tree {
+    ghost use Rattle.bplus_tree.specs.Standing.{Answers, Makes, Inserts, Removes, one_more};
+    ghost use Rattle.bplus_tree.specs.Calls.{entry_of, first_from, first_after, last_of};
+
+    /// A tree without entries, in a page of its own.
+    pub fn empty<P: Pages>(pages: &mut P, shape: Shape) -> Result<Tree, Fault>
+        requires ready { P.IsReady pages.old }
+        requires open { P.CanChange pages.old }
+        ensures made { IsTrue (P.state pages.new).is_honest → IsTrue (P.state pages.old).is_sound
+            → Makes shape (P.state pages.old).live (P.state pages.new).live (IsTrue (P.state pages.new).is_sound) result }
+        ensures few { (P.state pages.old).available ≤ (P.state pages.new).available + 1 }
+        ensures cause { IfErr result (IsCaused (P.HasFailed pages.old pages.new) ((P.state pages.old).available ≡ 0)) }
+        ensures asked { (P.state pages.new).asked ≤ (P.state pages.old).asked + 2 }
+        ensures goes { P.Goes pages.old pages.new }
+    {
+        let root = pages.take()?;
+        start(pages, shape, root)?;
+        Ok(Tree {
+            shape,
+            root,
+            levels: 0,
+            count: 0,
+            changes: 0,
+        })
+    }
+
+    /// How many levels it has.
+    pub fn height(&self) -> u8
+        ensures { result ≡ self.now.levels + 1 }
+    {
+        self.levels + 1
+    }
+
+    /// The entry of a key.
+    pub fn find<P: Pages>(&self, pages: &mut P, key: &[u8]) -> Result<Option<Entry>, Fault>
+        requires ready { P.IsReady pages.old }
+        ensures found { IsTrue (P.state pages.new).is_honest
+            → Answers self.now (P.state pages.old).live (entry_of self.now.shape.width key.now) result }
+        ensures cause { IfErr result (IsCaused (P.HasFailed pages.old pages.new) ⊥) }
+        ensures asked { (P.state pages.new).asked ≤ (P.state pages.old).asked + (self.now.levels + 1) }
+        ensures reads { P.Reads pages.old pages.new }
+    {
+        find_below(pages, self.shape, self.root, self.levels, key)
+    }
+
+    /// The first entry whose key is not below this one.
+    pub fn at_or_after<P: Pages>(&self, pages: &mut P, key: &[u8]) -> Result<Option<Entry>, Fault>
+        requires ready { P.IsReady pages.old }
+        ensures found { IsTrue (P.state pages.new).is_honest
+            → Answers self.now (P.state pages.old).live (first_from self.now.shape.width key.now) result }
+        ensures cause { IfErr result (IsCaused (P.HasFailed pages.old pages.new) ⊥) }
+        ensures asked { (P.state pages.new).asked ≤ (P.state pages.old).asked + 2 * (self.now.levels + 1) }
+        ensures reads { P.Reads pages.old pages.new }
+    {
+        let mut spot = Spot::nowhere();
+        next_below(
+            pages,
+            self.shape,
+            self.root,
+            self.levels,
+            key,
+            false,
+            &mut spot,
+        )
+    }
+
+    /// The first entry whose key is above this one.
+    pub fn after<P: Pages>(&self, pages: &mut P, key: &[u8]) -> Result<Option<Entry>, Fault>
+        requires ready { P.IsReady pages.old }
+        ensures found { IsTrue (P.state pages.new).is_honest
+            → Answers self.now (P.state pages.old).live (first_after self.now.shape.width key.now) result }
+        ensures cause { IfErr result (IsCaused (P.HasFailed pages.old pages.new) ⊥) }
+        ensures asked { (P.state pages.new).asked ≤ (P.state pages.old).asked + 2 * (self.now.levels + 1) }
+        ensures reads { P.Reads pages.old pages.new }
+    {
+        let mut spot = Spot::nowhere();
+        next_below(
+            pages,
+            self.shape,
+            self.root,
+            self.levels,
+            key,
+            true,
+            &mut spot,
+        )
+    }
+
+    /// The entry of the greatest key.
+    pub fn last<P: Pages>(&self, pages: &mut P) -> Result<Option<Entry>, Fault>
+        requires ready { P.IsReady pages.old }
+        ensures found { IsTrue (P.state pages.new).is_honest
+            → Answers self.now (P.state pages.old).live (last_of) result }
+        ensures cause { IfErr result (IsCaused (P.HasFailed pages.old pages.new) ⊥) }
+        ensures asked { (P.state pages.new).asked ≤ (P.state pages.old).asked + (self.now.levels + 1) }
+        ensures reads { P.Reads pages.old pages.new }
+    {
+        last_below(pages, self.shape, self.root, self.levels)
+    }
+
+    /// Takes the entry of a key out.
+    pub fn remove<P: Pages>(&mut self, pages: &mut P, key: &[u8]) -> Result<Option<Entry>, Fault>
+        requires ready { P.IsReady pages.old }
+        requires open { P.CanChange pages.old }
+        ensures removed { IsTrue (P.state pages.new).is_honest → IsTrue (P.state pages.old).is_sound
+            → Removes (P.state pages.old).live (P.state pages.new).live (IsTrue (P.state pages.new).is_sound) self.old self.new key.now result }
+        ensures shape { self.new.shape ≡ self.old.shape }
+        ensures height { self.new.levels ≤ self.old.levels }
+        ensures changes { IfOk result (λ found. IsSome found → self.new.changes ≡ one_more self.old.changes) }
+        ensures few { (P.state pages.old).available ≤ (P.state pages.new).available }
+        ensures cause { IfErr result (IsCaused (P.HasFailed pages.old pages.new) ⊥) }
+        ensures asked { (P.state pages.new).asked ≤ (P.state pages.old).asked + 8 * (self.old.levels + 2) }
+        ensures goes { P.Goes pages.old pages.new }
+    {
+        match remove_below(pages, self.shape, self.root, self.levels, key)? {
+            Shrunk::Absent => Ok(None),
+            Shrunk::Taken { entry, short: _ } => {
+                let base = settle(pages, self.shape, self.root, self.levels)?;
+                *self = Tree {
+                    shape: self.shape,
+                    root: base.root,
+                    levels: base.levels,
+                    count: self.count.saturating_sub(1),
+                    changes: self.changes.saturating_add(1),
+                };
+                Ok(Some(entry))
+            }
+        }
+    }
+}
