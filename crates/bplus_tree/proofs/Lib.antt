@@ -16,3 +16,9 @@ pub mod SearchLemmas
 pub mod CountLemmas
 pub mod SpotLemmas
 pub mod CursorLemmas
+pub mod WithEntryLemmas
+pub mod GrowLemmas
+pub mod InsertLemmas
+pub mod RaiseLemmas
+pub mod RootLemmas
+pub mod HeightLemmas

@@ -49,13 +49,13 @@ low_then_above (Some low) x y h k =
     (λ same. ap (λ (v : List ℕ). less v y) same ∙ k) (λ above. absurd (cc (above, h)))
 
 -- the key of the first entry behind parts the entries
-record Parts (width : ℕ) (from to : Bound) (key : List ℕ) (xs ys : List (List ℕ)) : Type 0 where
+pub record Parts (width : ℕ) (from to : Bound) (key : List ℕ) (xs ys : List (List ℕ)) : Type 0 where
   pub under : Above from key
   pub over : Below to key
   pub left : Ascends width xs × Each (Inside width from (Some key)) xs
   pub right : Ascends width ys × Each (Inside width (Some key) to) ys
 
-parts : (width : ℕ) (from to : Bound) (xs ys : List (List ℕ)) → 1 ≤ length xs → 1 ≤ length ys → Ascends width (xs ++ ys) → Each (Inside width from to) (xs ++ ys)
+pub parts : (width : ℕ) (from to : Bound) (xs ys : List (List ℕ)) → 1 ≤ length xs → 1 ≤ length ys → Ascends width (xs ++ ys) → Each (Inside width from to) (xs ++ ys)
     → Parts width from to (take width (get_or ys 0 [])) xs ys
 parts width from to [] ys some some' rises all = absurd (omega arith)
 parts width from to (x ∷ xs) [] some some' rises all = absurd (omega arith)

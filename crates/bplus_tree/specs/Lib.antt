@@ -14,3 +14,8 @@ pub mod Count
 pub mod Cursor
 pub mod Start
 pub mod Spot
+pub mod Put
+pub mod Split
+pub mod Grow
+pub mod Insert
+pub mod Raise

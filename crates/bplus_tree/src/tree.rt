@@ -4,6 +4,8 @@ ghost use Rattle.std.specs.Prelude.{◌≡◌, ◌≢◌, ◌+◌, ◌*◌, ◌<
 ghost use Rattle.pages.specs.Cause.{IsCaused};
 
 use crate::crown::settle;
+use crate::insert::{Grown, insert_below};
+use crate::raise::raise;
 use crate::remove::{Shrunk, remove_below};
 use crate::search::{find_below, last_below, next_below};
 use crate::spot::Spot;
@@ -120,6 +122,48 @@ impl Tree {
         ensures reads { P.Reads pages.old pages.new }
     {
         last_below(pages, self.shape, self.root, self.levels)
+    }
+
+    /// Puts an entry in where its key is not there, and answers none. Where the key is there, its
+    /// entry is answered, and nothing is changed.
+    ///
+    /// Full where no page is available; Memory also where as many entries as a number of 64 bits
+    /// can count are there. After a fault nothing is known of the tree.
+    pub fn insert<P: Pages>(&mut self, pages: &mut P, entry: &[u8]) -> Result<Option<Entry>, Fault>
+        requires size { length entry.now ≡ self.old.shape.entry }
+        requires ready { P.IsReady pages.old }
+        requires open { P.CanChange pages.old }
+        ensures inserted { IsTrue (P.state pages.new).is_honest → IsTrue (P.state pages.old).is_sound
+            → Inserts (P.state pages.old).live (P.state pages.new).live (IsTrue (P.state pages.new).is_sound) self.old self.new entry.now result }
+        ensures shape { self.new.shape ≡ self.old.shape }
+        ensures height { self.new.levels ≤ self.old.levels + 1 }
+        ensures few { (P.state pages.old).available ≤ (P.state pages.new).available + (self.old.levels + 2) }
+        ensures changes { result ≡ Ok None → self.new.changes ≡ one_more self.old.changes }
+        ensures cause { IfErr result (IsCaused (P.HasFailed pages.old pages.new)
+            ((P.state pages.old).available < self.old.levels + 2)) }
+        ensures asked { (P.state pages.new).asked ≤ (P.state pages.old).asked + 8 * (self.old.levels + 2) }
+        ensures goes { P.Goes pages.old pages.new }
+    {
+        if self.levels >= 63 {
+            return Err(Fault::Damage);
+        }
+        if self.count == u64::MAX {
+            return Err(Fault::Memory);
+        }
+        match insert_below(pages, self.shape, self.root, self.levels, entry)? {
+            Grown::Present(found) => Ok(Some(found)),
+            Grown::Added(up) => {
+                let base = raise(pages, self.shape, self.root, self.levels, up)?;
+                *self = Tree {
+                    shape: self.shape,
+                    root: base.root,
+                    levels: base.levels,
+                    count: self.count + 1,
+                    changes: self.changes.saturating_add(1),
+                };
+                Ok(None)
+            }
+        }
     }
 
     /// Takes the entry of a key out.

@@ -1,0 +1,147 @@
+-- One entry or separator more in a node: from its bytes to its pages.
+use Rattle.std.proofs.Common.{◌≡◌, ◌≢◌, ℕ, ◌+◌, ◌-◌, ◌<◌, ◌≤◌, List, [], ◌∷◌, ◌++◌, length, take, drop, get_or, Option, Some, None, Ok, Err, Result, refl, ap, sym, subst, ◌∙◌, arith, add-one}
+use Rattle.std.specs.Prelude.{IfOk, IfErr, IsErrAnd, option_map, insert}
+use Rattle.std.proofs.lemmas.Result.{err_from_is_err_and}
+use Rattle.pages.specs.Cause.{IsCaused}
+use Rattle.std.proofs.Math.Seq.{drop-cons}
+use Rattle.std.proofs.lemmas.List.{take-append-drop, length-drop}
+use Rattle.arrayvec.specs.ArrayVec.{ArrayVec}
+use Rattle.io_state.specs.declared.fault.Fault.{Fault}
+use Rattle.tree_node.specs.declared.shape.Shape.{Shape}
+use Rattle.tree_node.specs.Leaf.{leaf_entries}
+use Rattle.tree_node.specs.Inner.{separators, children}
+use Rattle.tree_node.proofs.InnerLemmas.{inner_room_some}
+use Rattle.pages.specs.PageMap.{PageMap}
+use Rattle.bplus_tree.specs.declared.separator.Separator.{Separator}
+use Rattle.bplus_tree.specs.Stored.{IsLeafAt, IsInnerAt}
+use Rattle.bplus_tree.specs.Calls.{IsAnswer}
+use Rattle.bplus_tree.specs.Put.{PutInLeaf, PutInInner}
+use Rattle.bplus_tree.specs.Split.{HasParts, WritesParts}
+use Rattle.bplus_tree.specs.Grow.{HasLeaf, HasAddedToLeaf, AddsToLeaf, HasAddedToInner}
+
+if_ok : {X : Type 0} (r : Result X Fault) (P Q : X → Type 0) → ((x : X) → P x → Q x) → IfOk r P → IfOk r Q
+if_ok (Ok x) P Q f h = f x h
+if_ok (Err e) P Q f h = tt
+
+-- an answer says as much of what follows from it
+pub answer_map : {X : Type 0} (r : Result X Fault) (P Q : X → Type 0) → ((x : X) → P x → Q x) → IsAnswer r P → IsAnswer r Q
+answer_map r P Q f a = record { answer = if_ok r P Q f a.answer; no_damage = a.no_damage }
+
+module _ (shape : Shape) (before after : PageMap) (page : ℕ) (lower upper : List ℕ) where
+  leaf_parts : (entries : List (List ℕ)) (key : Option (ArrayVec ℕ)) (up : Option Separator) → PutInLeaf shape lower upper entries key → HasParts before after page lower upper key up
+      → option_map (λ (s : Separator). s.key) up ≡ key → HasAddedToLeaf shape before after page entries up
+  leaf_parts entries None None put parts same =
+      record { leaf = record { bytes = lower; there = parts.page; leaf = put.leaf; holds = put.has }; others = parts.others }
+  leaf_parts entries (Some key) (Some separator) put parts same =
+      let m = put.middle in
+      let is : separator.key ≡ key = cc same in
+      record {
+        lower = leaf_entries shape lower;
+        upper = leaf_entries shape upper;
+        has = ap (λ (l : List (List ℕ)). l ++ leaf_entries shape upper) put.cut.below ∙ ap (λ (l : List (List ℕ)). take m entries ++ l) put.cut.above ∙ take-append-drop m entries;
+        first = record { bytes = lower; there = parts.first; leaf = put.leaf; holds = refl };
+        second = record { bytes = upper; there = parts.second; leaf = put.upper_leaf; holds = refl };
+        full = put.full;
+        key = ap (λ (k : ArrayVec ℕ). k.items) is ∙ put.first;
+        free = parts.free;
+        others = parts.others;
+      }
+  leaf_parts entries None (Some separator) put parts same = absurd parts
+  leaf_parts entries (Some key) None put parts same = absurd parts
+
+  inner_parts : (seps : List (List ℕ)) (below : List ℕ) (key : Option (ArrayVec ℕ)) (up : Option Separator) → PutInInner shape lower upper seps below key → HasParts before after page lower upper key up
+      → option_map (λ (s : Separator). s.key) up ≡ key → HasAddedToInner shape before after page seps below up
+  inner_parts seps below None None put parts same =
+      record { inner = record { bytes = lower; there = parts.page; inner = put.inner; rises = put.has; leads = put.leads }; others = parts.others }
+  inner_parts seps below (Some key) (Some separator) put parts same =
+      let m = put.middle in
+      let is : separator.key ≡ key = cc same in
+      let room = inner_room_some shape in
+      let some = put.full.1 in
+      let long : length (separators shape upper) ≡ length seps - (m + 1) = ap length put.split.above ∙ length-drop (m + 1) seps in
+      let inside : m < length seps = omega arith in
+      let behind : separator.key.items ∷ separators shape upper ≡ drop m seps =
+      ap (λ (k : ArrayVec ℕ). k.items ∷ separators shape upper) is ∙ ap (λ (k : List ℕ). k ∷ separators shape upper) put.split.between ∙ ap (λ (l : List (List ℕ)). get_or seps m [] ∷ l) (put.split.above ∙ ap (λ (n : ℕ). drop n seps) (add-one m))
+      ∙ sym (drop-cons seps m [] inside) in
+      record {
+        lower = separators shape lower;
+        upper = separators shape upper;
+        lower_children = children shape lower;
+        upper_children = children shape upper;
+        has = ap (λ (l : List (List ℕ)). l ++ separator.key.items ∷ separators shape upper) put.split.below ∙ ap (λ (l : List (List ℕ)). take m seps ++ l) behind ∙ take-append-drop m seps;
+        leads = ap (λ (l : List ℕ). l ++ children shape upper) put.cut.below ∙ ap (λ (l : List ℕ). take (m + 1) below ++ l) put.cut.above ∙ take-append-drop (m + 1) below;
+        first = record { bytes = lower; there = parts.first; inner = put.inner; rises = refl; leads = refl };
+        second = record { bytes = upper; there = parts.second; inner = put.upper_inner; rises = refl; leads = refl };
+        full = put.full;
+        free = parts.free;
+        others = parts.others;
+      }
+  inner_parts seps below None (Some separator) put parts same = absurd parts
+  inner_parts seps below (Some key) None put parts same = absurd parts
+
+both_ok : {X : Type 0} (r : Result X Fault) (P Q R : X → Type 0) → ((x : X) → P x → Q x → R x) → IsAnswer r P → IfOk r Q → IsAnswer r R
+both_ok (Ok x) P Q R f a q = record { answer = f x a.answer q; no_damage = tt }
+both_ok (Err e) P Q R f a q = record { answer = tt; no_damage = a.no_damage }
+
+-- a copy of a node was changed and written back
+module _ (shape : Shape) (before mid after : PageMap) (is_sound : Type 0) (page place : ℕ) (bytes lower upper : List ℕ) (key : Option (ArrayVec ℕ)) (result : Result (Option Separator) Fault)
+    (same : mid ≡ before) (there : before page ≡ Some bytes) (written : WritesParts mid after is_sound page lower upper key result) (keyed : IfOk result (λ up. option_map (λ (s : Separator). s.key) up ≡ key)) where
+  wrote : IsAnswer result (λ up. HasParts before after page lower upper key up × is_sound)
+  wrote = (subst (λ (m : PageMap). WritesParts m after is_sound page lower upper key result) same written) (rw there refl)
+
+  pub leaf_rebuilt : (e : List ℕ) (entries : List (List ℕ)) → IsLeafAt shape before page entries → PutInLeaf shape lower upper (insert (leaf_entries shape bytes) place e) key
+      → IsAnswer result (λ up. HasAddedToLeaf shape before after page (insert entries place e) up × is_sound)
+  leaf_rebuilt e entries at put =
+      let is : bytes ≡ at.bytes = cc (there, at.there) in
+      let had : leaf_entries shape bytes ≡ entries = ap (leaf_entries shape) is ∙ at.holds in
+      let put' = subst (λ (l : List (List ℕ)). PutInLeaf shape lower upper (insert l place e) key) had put in
+      both_ok result (λ up. HasParts before after page lower upper key up × is_sound) (λ up. option_map (λ (s : Separator). s.key) up ≡ key) (λ up. HasAddedToLeaf shape before after page (insert entries place e) up × is_sound)
+      (λ up parts k. (leaf_parts shape before after page lower upper (insert entries place e) key up put' parts.0 k, parts.1)) wrote keyed
+
+  pub inner_rebuilt : (new : Separator) (seps : List (List ℕ)) (below : List ℕ) → IsInnerAt shape before page seps below
+      → PutInInner shape lower upper (insert (separators shape bytes) place new.key.items) (insert (children shape bytes) (place + 1) new.child) key
+      → IsAnswer result (λ up. HasAddedToInner shape before after page (insert seps place new.key.items) (insert below (place + 1) new.child) up × is_sound)
+  inner_rebuilt new seps below at put =
+      let is : bytes ≡ at.bytes = cc (there, at.there) in
+      let had : separators shape bytes ≡ seps = ap (separators shape) is ∙ at.rises in
+      let led : children shape bytes ≡ below = ap (children shape) is ∙ at.leads in
+      let put' = subst (λ (l : List (List ℕ)). PutInInner shape lower upper (insert l place new.key.items) (insert below (place + 1) new.child) key) had
+      (subst (λ (l : List ℕ). PutInInner shape lower upper (insert (separators shape bytes) place new.key.items) (insert l (place + 1) new.child) key) led put) in
+      both_ok result (λ up. HasParts before after page lower upper key up × is_sound) (λ up. option_map (λ (s : Separator). s.key) up ≡ key)
+      (λ up. HasAddedToInner shape before after page (insert seps place new.key.items) (insert below (place + 1) new.child) up × is_sound)
+      (λ up parts k. (inner_parts shape before after page lower upper (insert seps place new.key.items) (insert below (place + 1) new.child) key up put' parts.0 k, parts.1)) wrote keyed
+
+-- a leaf that was as it is, and was changed then
+module _ (shape : Shape) (before mid after : PageMap) (page : ℕ) (entries : List (List ℕ)) (first : HasLeaf shape before mid page entries) where
+  added_later : (es : List (List ℕ)) (up : Option Separator) → HasAddedToLeaf shape mid after page es up → HasAddedToLeaf shape before after page es up
+  added_later es None put = record { leaf = put.leaf; others = λ n ne. put.others n ne ∙ first.others n ne }
+  added_later es (Some separator) put =
+      let ne : separator.child ≢ page = λ e. let none : mid page ≡ None = ap mid (sym e) ∙ put.free in let some = first.leaf.there in cc (none, some) in
+      record {
+        lower = put.lower;
+        upper = put.upper;
+        has = put.has;
+        first = put.first;
+        second = put.second;
+        full = put.full;
+        key = put.key;
+        free = sym (first.others separator.child ne) ∙ put.free;
+        others = λ n off other. put.others n off other ∙ first.others n off;
+      }
+
+  pub leaf_retried : (is_sound : Type 0) (place : ℕ) (e : List ℕ) (result : Result (Option Separator) Fault) → place ≤ length entries → AddsToLeaf shape mid after is_sound page place e result
+      → IsAnswer result (λ up. HasAddedToLeaf shape before after page (insert entries place e) up × is_sound)
+  leaf_retried is_sound place e result within adds =
+      answer_map result (λ up. HasAddedToLeaf shape mid after page (insert entries place e) up × is_sound) (λ up. HasAddedToLeaf shape before after page (insert entries place e) up × is_sound)
+      (λ up a. (added_later (insert entries place e) up a.0, a.1)) (adds entries first.leaf within)
+
+-- a fault, seen from an earlier state
+pub caused_since : {X : Type 0} (r : Result X Fault) (failed failed' lacks lacks' : Type 0) → (failed → failed') → (lacks → lacks') → IfErr r (IsCaused failed lacks) → IfErr r (IsCaused failed' lacks')
+caused_since (Ok x) failed failed' lacks lacks' f g h = tt
+caused_since (Err e) failed failed' lacks lacks' f g h = record { device = λ k. f (h.device k); full = λ k. g (h.full k); not_broken = h.not_broken }
+
+pub caused_on : {X : Type 0} (r : Result X Fault) (fault : Fault) (failed failed' lacks lacks' : Type 0) → IsErrAnd r (λ e. e ≡ fault) → (failed → failed') → (lacks → lacks') → IsCaused failed lacks fault
+    → IfErr r (IsCaused failed' lacks')
+caused_on r fault failed failed' lacks lacks' was f g h =
+    let p = err_from_is_err_and r was in
+    rw (p.1, p.2) (record { device = λ k. f (h.device k); full = λ k. g (h.full k); not_broken = h.not_broken })

@@ -1,0 +1,51 @@
+-- What an insert ensures below one page.
+use Rattle.std.specs.Prelude.{◌≡◌, ℕ, List, ◌++◌, take, Some, None, Option, Result, ⊤}
+use Rattle.io_state.specs.declared.fault.Fault.{Fault}
+use Rattle.tree_node.specs.declared.shape.Shape.{Shape}
+use Rattle.pages.specs.PageMap.{PageMap}
+use Rattle.pages.specs.Owners.{Changes}
+use Rattle.bplus_tree.specs.declared.separator.Separator.{Separator}
+use Rattle.bplus_tree.specs.declared.insert.Grown.{Grown}
+use Rattle.bplus_tree.specs.declared.insert.Grown.TheVariants.{Present, Added}
+use Rattle.bplus_tree.specs.Tree.{TreeOf, entries_of, pages_of, size_of, Bound, NotBelow, Above, Below}
+use Rattle.bplus_tree.specs.Calls.{entry_of, IsTree, IsWhole, IsAnswer}
+use Rattle.bplus_tree.specs.Edits.{with_entry}
+use Rattle.bplus_tree.specs.Split.{HasWidth}
+use Rattle.bplus_tree.specs.Remove.{Becomes, IsFull}
+
+-- The page heads the first of two trees now, which have these entries together, and the separator leads to the second. Both are at least half full.
+pub record BecomesTwo (shape : Shape) (before after : PageMap) (h page : ℕ) (low high : Bound) (own : List ℕ) (entries : List (List ℕ)) (separator : Separator) : Type 0 where
+  pub left : TreeOf h
+  pub right : TreeOf h
+  pub under : Above low separator.key.items
+  pub over : Below high separator.key.items
+  pub left_stands : IsTree shape after h page low (Some separator.key.items) left
+  pub right_stands : IsTree shape after h separator.child (Some separator.key.items) high right
+  pub left_full : IsFull shape h left
+  pub right_full : IsFull shape h right
+  pub has : entries_of h left ++ entries_of h right ≡ entries
+  pub changes : Changes before after own (pages_of h left ++ pages_of h right)
+
+-- The page heads a tree of these entries now, or two where it was split. The root has at least `floor` entries or separators.
+abbrev pub HasGrown : (shape : Shape) → PageMap → PageMap → (h page : ℕ) → (low high : Bound) → List ℕ → ℕ → List (List ℕ) → Option Separator → Type 0
+HasGrown shape before after h page low high own floor entries None = Becomes shape before after h page low high own floor entries
+HasGrown shape before after h page low high own floor entries (Some separator) = BecomesTwo shape before after h page low high own entries separator
+
+-- the key is there with this entry, and nothing has changed; or it was not, and the entry stands in order now
+abbrev pub HasInserted : (shape : Shape) → PageMap → PageMap → (h page : ℕ) → (low high : Bound) → List ℕ → TreeOf h → Grown → Type 0
+HasInserted shape before after h page low high e t (Present found) =
+    (entry_of shape.width (take shape.width e) (entries_of h t) ≡ Some found.items) × (after ≡ before)
+HasInserted shape before after h page low high e t (Added up) =
+    (entry_of shape.width (take shape.width e) (entries_of h t) ≡ None)
+    × HasGrown shape before after h page low high (pages_of h t) (size_of h t) (with_entry shape.width e (entries_of h t)) up
+
+-- of a tree within bounds between which the key belongs
+abbrev pub Inserts : Shape → PageMap → PageMap → Type 0 → ℕ → ℕ → List ℕ → Result Grown Fault → Type 0
+Inserts shape before after is_sound h page e result =
+    (t : TreeOf h) (low high : Bound) → IsWhole shape before h page low high t → NotBelow low (take shape.width e) → Below high (take shape.width e)
+    → IsAnswer result (λ grown. HasInserted shape before after h page low high e t grown × is_sound)
+
+-- where a separator goes up, it has a whole key
+abbrev pub HasWholeKey : Shape → Grown → Type 0
+HasWholeKey shape (Present found) = ⊤
+HasWholeKey shape (Added up) = HasWidth shape.width up

@@ -1,0 +1,49 @@
+-- One entry or separator more in a node, part of which goes to another page where it is full.
+use Rattle.std.specs.Prelude.{◌≡◌, ℕ, ◌+◌, ◌≤◌, List, [], take, length, slice_index_or, Some, None, Option}
+use Rattle.arrayvec.specs.ArrayVec.{ArrayVec}
+use Rattle.tree_node.specs.declared.shape.Shape.{Shape}
+use Rattle.tree_node.specs.Leaf.{IsLeaf, leaf_entries}
+use Rattle.tree_node.specs.Inner.{IsInner, separators, children}
+use Rattle.tree_node.specs.Split.{IsCut, IsSplit}
+use Rattle.bplus_tree.specs.Tree.{least}
+
+-- the leaf has these entries
+pub record LeafHas (shape : Shape) (page : List ℕ) (entries : List (List ℕ)) : Type 0 where
+  pub leaf : IsLeaf shape page
+  pub has : leaf_entries shape page ≡ entries
+
+-- two leaves have these entries, both at least half full, and the key is the first of the second one
+pub record LeavesHave (shape : Shape) (page upper : List ℕ) (entries : List (List ℕ)) (key : List ℕ) : Type 0 where
+  pub leaf : IsLeaf shape page
+  pub upper_leaf : IsLeaf shape upper
+  pub middle : ℕ
+  pub cut : IsCut middle entries (leaf_entries shape page) (leaf_entries shape upper)
+  pub full : (least shape 0 ≤ length (leaf_entries shape page)) × (least shape 0 ≤ length (leaf_entries shape upper))
+  pub first : key ≡ take shape.width (slice_index_or (leaf_entries shape upper) 0 [])
+  pub width : length key ≡ shape.width
+
+-- the leaf has these entries; or, where a key is answered, two leaves have them
+abbrev pub PutInLeaf : Shape → (page upper : List ℕ) → List (List ℕ) → Option (ArrayVec ℕ) → Type 0
+PutInLeaf shape page upper entries None = LeafHas shape page entries
+PutInLeaf shape page upper entries (Some key) = LeavesHave shape page upper entries key.items
+
+-- the node has these separators and children
+pub record InnerHas (shape : Shape) (page : List ℕ) (seps : List (List ℕ)) (below : List ℕ) : Type 0 where
+  pub inner : IsInner shape page
+  pub has : separators shape page ≡ seps
+  pub leads : children shape page ≡ below
+
+-- two nodes have them, both at least half full, but for the separator between the two
+pub record InnersHave (shape : Shape) (page upper : List ℕ) (seps : List (List ℕ)) (below : List ℕ) (key : List ℕ) : Type 0 where
+  pub inner : IsInner shape page
+  pub upper_inner : IsInner shape upper
+  pub middle : ℕ
+  pub split : IsSplit middle seps (separators shape page) key (separators shape upper)
+  pub cut : IsCut (middle + 1) below (children shape page) (children shape upper)
+  pub full : (least shape 1 ≤ length (separators shape page)) × (least shape 1 ≤ length (separators shape upper))
+  pub width : length key ≡ shape.width
+
+-- the node has these separators and children; or, where a key is answered, two nodes have them
+abbrev pub PutInInner : Shape → (page upper : List ℕ) → List (List ℕ) → List ℕ → Option (ArrayVec ℕ) → Type 0
+PutInInner shape page upper seps below None = InnerHas shape page seps below
+PutInInner shape page upper seps below (Some key) = InnersHave shape page upper seps below key.items

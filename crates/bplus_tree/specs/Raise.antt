@@ -1,0 +1,24 @@
+-- The root after an insert.
+use Rattle.std.specs.Prelude.{◌≡◌, ℕ, List, None, Option, Result}
+use Rattle.io_state.specs.declared.fault.Fault.{Fault}
+use Rattle.tree_node.specs.declared.shape.Shape.{Shape}
+use Rattle.pages.specs.PageMap.{PageMap}
+use Rattle.pages.specs.Owners.{Changes}
+use Rattle.bplus_tree.specs.declared.crown.Base.{Base}
+use Rattle.bplus_tree.specs.declared.separator.Separator.{Separator}
+use Rattle.bplus_tree.specs.Tree.{TreeOf, entries_of, pages_of, size_of, IsRooted}
+use Rattle.bplus_tree.specs.Calls.{IsWhole, IsAnswer}
+use Rattle.bplus_tree.specs.Insert.{HasGrown}
+
+-- a tree of these entries stands below the root
+pub record IsRaised (shape : Shape) (before after : PageMap) (own : List ℕ) (entries : List (List ℕ)) (base : Base) : Type 0 where
+  pub tree : TreeOf base.levels
+  pub whole : IsWhole shape after base.levels base.root None None tree
+  pub has : entries_of base.levels tree ≡ entries
+  pub changes : Changes before after own (pages_of base.levels tree)
+
+-- of a tree that has grown since an earlier state of the pages
+abbrev pub Raises : Shape → PageMap → PageMap → Type 0 → ℕ → ℕ → Option Separator → Result Base Fault → Type 0
+Raises shape mid after is_sound h root up result =
+    (before : PageMap) (t : TreeOf h) (entries : List (List ℕ)) → IsRooted h t → HasGrown shape before mid h root None None (pages_of h t) (size_of h t) entries up
+    → IsAnswer result (λ base. IsRaised shape before after (pages_of h t) entries base × is_sound)

@@ -1,0 +1,36 @@
+-- A page that was written, and whose upper part went to a new page where it was split.
+use Rattle.std.specs.Prelude.{◌≡◌, ◌≢◌, ℕ, List, length, Some, None, Option, Result, IsSome, ⊤}
+use Rattle.arrayvec.specs.ArrayVec.{ArrayVec}
+use Rattle.io_state.specs.declared.fault.Fault.{Fault}
+use Rattle.pages.specs.PageMap.{PageMap, Writes}
+use Rattle.bplus_tree.specs.declared.separator.Separator.{Separator}
+use Rattle.bplus_tree.specs.Calls.{IsAnswer}
+
+-- one page holds these bytes, and one that was free those
+pub record HasSplit (before after : PageMap) (page : ℕ) (lower upper : List ℕ) (right : ℕ) : Type 0 where
+  pub first : after page ≡ Some lower
+  pub second : after right ≡ Some upper
+  pub free : before right ≡ None
+  pub others : (n : ℕ) → n ≢ page → n ≢ right → after n ≡ before n
+
+-- the two parts of a page that is in use are written
+abbrev pub Splits : PageMap → PageMap → Type 0 → ℕ → (lower upper : List ℕ) → Result ℕ Fault → Type 0
+Splits before after is_sound page lower upper result =
+    IsSome (before page) → IsAnswer result (λ right. HasSplit before after page lower upper right × is_sound)
+
+-- the page was split where there is a key, which goes up
+abbrev pub HasParts : PageMap → PageMap → ℕ → (lower upper : List ℕ) → Option (ArrayVec ℕ) → Option Separator → Type 0
+HasParts before after page lower upper None None = Writes before after page lower
+HasParts before after page lower upper (Some key) (Some separator) = HasSplit before after page lower upper separator.child
+HasParts before after page lower upper None (Some separator) = ⊥
+HasParts before after page lower upper (Some key) None = ⊥
+
+-- a page that is in use is written, in two parts where there is a key
+abbrev pub WritesParts : PageMap → PageMap → Type 0 → ℕ → (lower upper : List ℕ) → Option (ArrayVec ℕ) → Result (Option Separator) Fault → Type 0
+WritesParts before after is_sound page lower upper key result =
+    IsSome (before page) → IsAnswer result (λ separator. HasParts before after page lower upper key separator × is_sound)
+
+-- where there is a separator, its key has this width
+abbrev pub HasWidth : ℕ → Option Separator → Type 0
+HasWidth width None = ⊤
+HasWidth width (Some separator) = length separator.key.items ≡ width

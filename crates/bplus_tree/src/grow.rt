@@ -1,0 +1,198 @@
+//! One entry more in a leaf, one separator more in an inner node, one level more above a root.
+
+ghost use Rattle.std.specs.Prelude.{◌≡◌, ◌≢◌, ◌+◌, ◌<◌, ◌≤◌, ◌↔◌, ℕ, IsTrue, IfErr, IfOk, length, insert, ◌∷◌, []};
+ghost use Rattle.tree_node.specs.Leaf.{IsLeaf, leaf_entries, leaf_room};
+ghost use Rattle.tree_node.specs.Inner.{IsInner, separators};
+ghost use Rattle.pages.specs.Cause.{IsCaused};
+ghost use Rattle.bplus_tree.specs.Split.{HasWidth};
+ghost use Rattle.bplus_tree.specs.Grow.{AddsToLeaf, PutsWhereRoom, AddsToInner, IsOver, AddsRoot};
+
+use crate::put::{put_in_inner, put_in_leaf};
+use crate::separator::Separator;
+use crate::split::write_parts;
+use io_state::Fault;
+use pages::{Pages, copy, store};
+use tree_node::{
+    InnerView, InnerViewMut, LeafView, LeafViewMut, PAGE_SIZE, Shape, is_inner, is_leaf,
+    write_inner,
+};
+
+/// Puts an entry before entry `place` of a leaf. Where the leaf is full, its upper half goes to a
+/// new page, to which the separator leads that is answered.
+///
+/// Full where no page is available.
+pub fn add_to_leaf<P: Pages>(
+    pages: &mut P,
+    shape: Shape,
+    page: u32,
+    place: usize,
+    entry: &[u8],
+) -> Result<Option<Separator>, Fault>
+    requires size { length entry.now ≡ shape.entry }
+    requires ready { P.IsReady pages.old }
+    requires open { P.CanChange pages.old }
+    ensures added { IsTrue (P.state pages.new).is_honest → IsTrue (P.state pages.old).is_sound
+        → AddsToLeaf shape (P.state pages.old).live (P.state pages.new).live
+        (IsTrue (P.state pages.new).is_sound) page place entry.now result }
+    ensures width { IfOk result (HasWidth shape.width) }
+    ensures few { (P.state pages.old).available ≤ (P.state pages.new).available + 1 }
+    ensures cause { IfErr result
+        (IsCaused (P.HasFailed pages.old pages.new) ((P.state pages.old).available ≡ 0)) }
+    ensures asked { (P.state pages.new).asked ≤ (P.state pages.old).asked + 5 }
+    ensures goes { P.Goes pages.old pages.new }
+{
+    if put_where_room(pages, shape, page, place, entry)? {
+        return Ok(None);
+    }
+    rebuild_leaf(pages, shape, page, place, entry)
+}
+
+/// Puts an entry into a leaf that is not full. The answer is whether it did.
+fn put_where_room<P: Pages>(
+    pages: &mut P,
+    shape: Shape,
+    page: u32,
+    place: usize,
+    entry: &[u8],
+) -> Result<bool, Fault>
+    requires size { length entry.now ≡ shape.entry }
+    requires ready { P.IsReady pages.old }
+    requires open { P.CanChange pages.old }
+    ensures put { IsTrue (P.state pages.new).is_honest → IsTrue (P.state pages.old).is_sound
+        → PutsWhereRoom shape (P.state pages.old).live (P.state pages.new).live
+        (IsTrue (P.state pages.new).is_sound) page place entry.now result }
+    ensures available { (P.state pages.new).available ≡ (P.state pages.old).available }
+    ensures cause { IfErr result (IsCaused (P.HasFailed pages.old pages.new) ⊥) }
+    ensures asked { (P.state pages.new).asked ≤ (P.state pages.old).asked + 1 }
+    ensures goes { P.Goes pages.old pages.new }
+{
+    let bytes = pages.page_mut(page)?;
+    if !is_leaf(bytes, shape) || !has_entry_place(bytes, shape, place) {
+        return Err(Fault::Damage);
+    }
+    if (LeafView { page: bytes, shape }).is_full() {
+        return Ok(false);
+    }
+    LeafViewMut { page: bytes, shape }.insert_at(place, entry);
+    Ok(true)
+}
+
+/// Puts an entry into a copy of a leaf, and writes it back, in two parts where it was full.
+fn rebuild_leaf<P: Pages>(
+    pages: &mut P,
+    shape: Shape,
+    page: u32,
+    place: usize,
+    entry: &[u8],
+) -> Result<Option<Separator>, Fault>
+    requires size { length entry.now ≡ shape.entry }
+    requires ready { P.IsReady pages.old }
+    requires open { P.CanChange pages.old }
+    ensures added { IsTrue (P.state pages.new).is_honest → IsTrue (P.state pages.old).is_sound
+        → AddsToLeaf shape (P.state pages.old).live (P.state pages.new).live
+        (IsTrue (P.state pages.new).is_sound) page place entry.now result }
+    ensures width { IfOk result (HasWidth shape.width) }
+    ensures few { (P.state pages.old).available ≤ (P.state pages.new).available + 1 }
+    ensures cause { IfErr result
+        (IsCaused (P.HasFailed pages.old pages.new) ((P.state pages.old).available ≡ 0)) }
+    ensures asked { (P.state pages.new).asked ≤ (P.state pages.old).asked + 4 }
+    ensures goes { P.Goes pages.old pages.new }
+{
+    let mut lower = [0; PAGE_SIZE];
+    copy(pages, page, &mut lower)?;
+    if !is_leaf(&lower, shape) || !has_entry_place(&lower, shape, place) {
+        return Err(Fault::Damage);
+    }
+    let mut upper = [0; PAGE_SIZE];
+    let key = put_in_leaf(&mut lower, &mut upper, shape, place, entry);
+    write_parts(pages, page, &lower, &upper, key)
+}
+
+/// A leaf has at least so many entries.
+fn has_entry_place(page: &[u8; PAGE_SIZE], shape: Shape, place: usize) -> bool
+    requires leaf { IsLeaf shape page.now }
+    ensures { IsTrue result ↔ (place ≤ length (leaf_entries shape page.now)) }
+{
+    place <= LeafView { page, shape }.count()
+}
+
+/// Puts a separator before separator `place` of an inner node, with the child to its right. Where
+/// the node is full, its upper part goes to a new page, to which the separator leads that is
+/// answered.
+///
+/// Full where no page is available.
+pub fn add_to_inner<P: Pages>(
+    pages: &mut P,
+    shape: Shape,
+    page: u32,
+    place: usize,
+    separator: &Separator,
+) -> Result<Option<Separator>, Fault>
+    requires width { length separator.now.key.items ≡ shape.width }
+    requires ready { P.IsReady pages.old }
+    requires open { P.CanChange pages.old }
+    ensures added { IsTrue (P.state pages.new).is_honest → IsTrue (P.state pages.old).is_sound
+        → AddsToInner shape (P.state pages.old).live (P.state pages.new).live
+        (IsTrue (P.state pages.new).is_sound) page place separator.now result }
+    ensures width { IfOk result (HasWidth shape.width) }
+    ensures few { (P.state pages.old).available ≤ (P.state pages.new).available + 1 }
+    ensures cause { IfErr result
+        (IsCaused (P.HasFailed pages.old pages.new) ((P.state pages.old).available ≡ 0)) }
+    ensures asked { (P.state pages.new).asked ≤ (P.state pages.old).asked + 4 }
+    ensures goes { P.Goes pages.old pages.new }
+{
+    let mut lower = [0; PAGE_SIZE];
+    copy(pages, page, &mut lower)?;
+    if !is_inner(&lower, shape) || !has_separator_place(&lower, shape, place) {
+        return Err(Fault::Damage);
+    }
+    let mut upper = [0; PAGE_SIZE];
+    let key = put_in_inner(&mut lower, &mut upper, shape, place, separator);
+    write_parts(pages, page, &lower, &upper, key)
+}
+
+/// An inner node has at least so many separators.
+fn has_separator_place(page: &[u8; PAGE_SIZE], shape: Shape, place: usize) -> bool
+    requires inner { IsInner shape page.now }
+    ensures { IsTrue result ↔ (place ≤ length (separators shape page.now)) }
+{
+    place <= InnerView { page, shape }.count()
+}
+
+/// Writes an inner node above two nodes to a page that was free, which is answered.
+///
+/// Full where no page is available.
+pub fn add_root<P: Pages>(
+    pages: &mut P,
+    shape: Shape,
+    left: u32,
+    separator: &Separator,
+) -> Result<u32, Fault>
+    requires width { length separator.now.key.items ≡ shape.width }
+    requires ready { P.IsReady pages.old }
+    requires open { P.CanChange pages.old }
+    ensures added { IsTrue (P.state pages.new).is_honest → IsTrue (P.state pages.old).is_sound
+        → AddsRoot shape (P.state pages.old).live (P.state pages.new).live
+        (IsTrue (P.state pages.new).is_sound) left separator.now result }
+    ensures few { (P.state pages.old).available ≤ (P.state pages.new).available + 1 }
+    ensures cause { IfErr result
+        (IsCaused (P.HasFailed pages.old pages.new) ((P.state pages.old).available ≡ 0)) }
+    ensures asked { (P.state pages.new).asked ≤ (P.state pages.old).asked + 2 }
+    ensures goes { P.Goes pages.old pages.new }
+{
+    let root = pages.take()?;
+    let mut bytes = [0; PAGE_SIZE];
+    write_over(&mut bytes, shape, left, separator);
+    store(pages, root, &bytes)?;
+    Ok(root)
+}
+
+/// Makes the page an inner node of one separator, between this child and the one to which the
+/// separator leads.
+fn write_over(page: &mut [u8; PAGE_SIZE], shape: Shape, left: u32, separator: &Separator)
+    requires width { length separator.now.key.items ≡ shape.width }
+    ensures { IsOver shape page.new left separator.now }
+{
+    write_inner(page, shape, left);
+    InnerViewMut { page, shape }.insert_at(0, &separator.key, separator.child);
+}

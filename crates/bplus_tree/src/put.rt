@@ -1,0 +1,70 @@
+//! One entry or separator more in the bytes of a node.
+
+ghost use Rattle.std.specs.Prelude.{◌≡◌, ◌+◌, ◌/◌, ◌<◌, ◌≤◌, ℕ, length, insert, take, slice_index_or, []};
+ghost use Rattle.tree_node.specs.Leaf.{IsLeaf, leaf_entries};
+ghost use Rattle.tree_node.specs.Inner.{IsInner, separators, children};
+ghost use Rattle.bplus_tree.specs.Put.{PutInLeaf, PutInInner};
+
+use crate::separator::Separator;
+use tree_node::{InnerView, InnerViewMut, LeafView, LeafViewMut, PAGE_SIZE, Shape, TreeKey};
+
+/// Puts an entry before entry `place` of a leaf. Where the leaf is full, its upper half goes to
+/// another page, and the first key there is answered.
+pub fn put_in_leaf(
+    page: &mut [u8; PAGE_SIZE],
+    upper: &mut [u8; PAGE_SIZE],
+    shape: Shape,
+    place: usize,
+    entry: &[u8],
+) -> Option<TreeKey>
+    requires leaf { IsLeaf shape page.old }
+    requires within { place ≤ length (leaf_entries shape page.old) }
+    requires size { length entry.now ≡ shape.entry }
+    ensures { PutInLeaf shape page.new upper.new
+        (insert (leaf_entries shape page.old) place entry.now) result }
+{
+    let full = LeafView { page, shape }.is_full();
+    if !full {
+        LeafViewMut { page, shape }.insert_at(place, entry);
+        return None;
+    }
+    LeafViewMut { page, shape }.split_into(upper, place, entry);
+    Some(first_key(upper, shape))
+}
+
+/// The first key of a leaf.
+fn first_key(page: &[u8; PAGE_SIZE], shape: Shape) -> TreeKey
+    requires leaf { IsLeaf shape page.now }
+    requires some { 0 < length (leaf_entries shape page.now) }
+    ensures value { result.items ≡ take shape.width (slice_index_or (leaf_entries shape page.now) 0 []) }
+    ensures width { length result.items ≡ shape.width }
+{
+    let mut key = TreeKey::new();
+    let _ = key.try_extend_from_slice(LeafView { page, shape }.key(0));
+    key
+}
+
+/// Puts a separator before separator `place` of an inner node, with the child to its right. Where
+/// the node is full, its upper part goes to another page, and the separator between the two is
+/// answered.
+pub fn put_in_inner(
+    page: &mut [u8; PAGE_SIZE],
+    upper: &mut [u8; PAGE_SIZE],
+    shape: Shape,
+    place: usize,
+    separator: &Separator,
+) -> Option<TreeKey>
+    requires inner { IsInner shape page.old }
+    requires within { place ≤ length (separators shape page.old) }
+    requires width { length separator.now.key.items ≡ shape.width }
+    ensures { PutInInner shape page.new upper.new
+        (insert (separators shape page.old) place separator.now.key.items)
+        (insert (children shape page.old) (place + 1) separator.now.child) result }
+{
+    let full = InnerView { page, shape }.is_full();
+    if !full {
+        InnerViewMut { page, shape }.insert_at(place, &separator.key, separator.child);
+        return None;
+    }
+    Some(InnerViewMut { page, shape }.split_into(upper, place, &separator.key, separator.child))
+}

@@ -1,0 +1,69 @@
+//! A page that has changed, and part of which may have gone to a new page.
+
+ghost use Rattle.std.specs.Prelude.{◌≡◌, ◌≢◌, ◌+◌, ◌≤◌, IsTrue, IfErr, IfOk, option_map};
+ghost use Rattle.pages.specs.Cause.{IsCaused};
+ghost use Rattle.bplus_tree.specs.Split.{Splits, WritesParts};
+
+use crate::separator::Separator;
+use io_state::Fault;
+use pages::{Pages, store};
+use tree_node::{PAGE_SIZE, TreeKey};
+
+/// Writes a page whole; and where it was split at a key, its upper part to a page that was free, to
+/// which the separator leads that is answered.
+///
+/// Full where no page is available. After a fault the page may be written and its upper part not.
+pub fn write_parts<P: Pages>(
+    pages: &mut P,
+    page: u32,
+    lower: &[u8; PAGE_SIZE],
+    upper: &[u8; PAGE_SIZE],
+    key: Option<TreeKey>,
+) -> Result<Option<Separator>, Fault>
+    requires ready { P.IsReady pages.old }
+    requires open { P.CanChange pages.old }
+    ensures written { IsTrue (P.state pages.new).is_honest → IsTrue (P.state pages.old).is_sound
+        → WritesParts (P.state pages.old).live (P.state pages.new).live
+        (IsTrue (P.state pages.new).is_sound) page lower.now upper.now key result }
+    ensures key { IfOk result (λ up. option_map (λ separator. separator.key) up ≡ key) }
+    ensures few { (P.state pages.old).available ≤ (P.state pages.new).available + 1 }
+    ensures cause { IfErr result
+        (IsCaused (P.HasFailed pages.old pages.new) ((P.state pages.old).available ≡ 0)) }
+    ensures asked { (P.state pages.new).asked ≤ (P.state pages.old).asked + 3 }
+    ensures goes { P.Goes pages.old pages.new }
+{
+    match key {
+        None => {
+            store(pages, page, lower)?;
+            Ok(None)
+        }
+        Some(key) => {
+            let child = write_split(pages, page, lower, upper)?;
+            Ok(Some(Separator { key, child }))
+        }
+    }
+}
+
+/// Writes the two parts of a page, the upper one to a page that was free, which is answered.
+fn write_split<P: Pages>(
+    pages: &mut P,
+    page: u32,
+    lower: &[u8; PAGE_SIZE],
+    upper: &[u8; PAGE_SIZE],
+) -> Result<u32, Fault>
+    requires ready { P.IsReady pages.old }
+    requires open { P.CanChange pages.old }
+    ensures split { IsTrue (P.state pages.new).is_honest → IsTrue (P.state pages.old).is_sound
+        → Splits (P.state pages.old).live (P.state pages.new).live
+        (IsTrue (P.state pages.new).is_sound) page lower.now upper.now result }
+    ensures few { (P.state pages.old).available ≤ (P.state pages.new).available + 1 }
+    ensures cause { IfErr result
+        (IsCaused (P.HasFailed pages.old pages.new) ((P.state pages.old).available ≡ 0)) }
+    ensures asked { (P.state pages.new).asked ≤ (P.state pages.old).asked + 3 }
+    ensures goes { P.Goes pages.old pages.new }
+{
+    let right = pages.take()?;
+    store(pages, page, lower)?;
+    store(pages, right, upper)?;
+    Ok(right)
+}
