@@ -5,7 +5,8 @@ use Rattle.tree_node.specs.declared.shape.Shape.{Shape}
 use Rattle.page_bytes.specs.Each.{Each}
 use Rattle.tree_node.proofs.LeafLemmas.{leaf_room_some}
 use Rattle.tree_node.proofs.InnerLemmas.{inner_room_some}
-use Rattle.bplus_tree.specs.Tree.{TreeOf, entries_of, size_of, least, IsFilled, Bound, IsRow, IsOrdered}
+use Rattle.node_balance.specs.Fill.{least}
+use Rattle.bplus_tree.specs.Tree.{TreeOf, entries_of, size_of, IsFilled, Bound, IsRow, IsOrdered}
 use Rattle.bplus_tree.specs.Count.{fewest, HaveManyEntries}
 use Rattle.bplus_tree.proofs.MendLemmas.{row_length}
 

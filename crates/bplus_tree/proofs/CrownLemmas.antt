@@ -7,7 +7,8 @@ use Rattle.tree_node.specs.declared.shape.Shape.{Shape}
 use Rattle.page_bytes.specs.Each.{Each}
 use Rattle.pages.specs.PageMap.{PageMap}
 use Rattle.bplus_tree.specs.declared.crown.Base.{Base}
-use Rattle.bplus_tree.specs.Tree.{TreeOf, page_of, entries_of, pages_of, size_of, least, IsFilled, IsRooted, Bound, IsRow, IsOrdered}
+use Rattle.node_balance.specs.Fill.{least}
+use Rattle.bplus_tree.specs.Tree.{TreeOf, page_of, entries_of, pages_of, size_of, IsFilled, IsRooted, Bound, IsRow, IsOrdered}
 use Rattle.bplus_tree.specs.Stored.{Holds, IsInnerAt}
 use Rattle.pages.specs.Owners.{IsOutside, AreApart, Changes}
 use Rattle.bplus_tree.specs.Calls.{IsTree}

@@ -12,10 +12,10 @@ use Rattle.tree_node.specs.Leaf.{leaf_entries}
 use Rattle.tree_node.specs.Inner.{separators, children}
 use Rattle.tree_node.proofs.InnerLemmas.{inner_room_some}
 use Rattle.pages.specs.PageMap.{PageMap}
-use Rattle.bplus_tree.specs.declared.separator.Separator.{Separator}
+use Rattle.node_balance.specs.declared.separator.Separator.{Separator}
 use Rattle.bplus_tree.specs.Stored.{IsLeafAt, IsInnerAt}
-use Rattle.bplus_tree.specs.Calls.{IsAnswer}
-use Rattle.bplus_tree.specs.Put.{PutInLeaf, PutInInner}
+use Rattle.pages.specs.Answer.{IsAnswer}
+use Rattle.node_balance.specs.Put.{PutInLeaf, PutInInner}
 use Rattle.bplus_tree.specs.Split.{HasParts, WritesParts}
 use Rattle.bplus_tree.specs.Grow.{HasLeaf, HasAddedToLeaf, AddsToLeaf, HasAddedToInner}
 

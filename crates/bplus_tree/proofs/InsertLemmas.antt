@@ -17,13 +17,15 @@ use Rattle.pages.specs.PageMap.{PageMap}
 use Rattle.pages.specs.Owners.{AreApart, Changes}
 use Rattle.bplus_tree.specs.declared.descent.Step.{Step}
 use Rattle.bplus_tree.specs.declared.descent.Look.{Look}
-use Rattle.bplus_tree.specs.declared.separator.Separator.{Separator}
+use Rattle.node_balance.specs.declared.separator.Separator.{Separator}
 use Rattle.bplus_tree.specs.declared.insert.Grown.{Grown}
 use Rattle.bplus_tree.specs.declared.insert.Grown.TheVariants.{Present, Added}
-use Rattle.bplus_tree.specs.Tree.{TreeOf, page_of, entries_of, pages_of, size_of, least, Bound, NotBelow, Below, IsRow, IsOrdered}
+use Rattle.node_balance.specs.Fill.{least}
+use Rattle.bplus_tree.specs.Tree.{TreeOf, page_of, entries_of, pages_of, size_of, Bound, NotBelow, Below, IsRow, IsOrdered}
 use Rattle.bplus_tree.specs.Stored.{Holds, IsLeafAt, IsInnerAt}
 use Rattle.bplus_tree.specs.Edits.{with_entry}
-use Rattle.bplus_tree.specs.Calls.{entry_of, IsTree, IsWhole, IsAnswer}
+use Rattle.pages.specs.Answer.{IsAnswer}
+use Rattle.bplus_tree.specs.Calls.{entry_of, IsTree, IsWhole}
 use Rattle.bplus_tree.specs.Descent.{Steps, IsLook}
 use Rattle.bplus_tree.specs.Remove.{Becomes, IsFull}
 use Rattle.bplus_tree.specs.Grow.{HasLeaf, HasLeaves, HasAddedToLeaf, AddsToLeaf, HasInner, HasInners, HasAddedToInner, AddsToInner}

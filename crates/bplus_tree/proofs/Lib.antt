@@ -1,4 +1,3 @@
-pub mod EvenLemmas
 pub mod RowLemmas
 pub mod PageLemmas
 pub mod FindLemmas

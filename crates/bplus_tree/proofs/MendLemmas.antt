@@ -9,11 +9,12 @@ use Rattle.page_bytes.specs.Each.{Each}
 use Rattle.tree_node.specs.Inner.{separators, children}
 use Rattle.pages.specs.PageMap.{PageMap}
 use Rattle.bplus_tree.specs.declared.mend.Pair.{Pair}
-use Rattle.bplus_tree.specs.Tree.{TreeOf, page_of, entries_of, pages_of, pages_below, size_of, least, IsFilled, Bound, IsRow, IsOrdered}
+use Rattle.node_balance.specs.Fill.{least}
+use Rattle.bplus_tree.specs.Tree.{TreeOf, page_of, entries_of, pages_of, pages_below, size_of, IsFilled, Bound, IsRow, IsOrdered}
 use Rattle.bplus_tree.specs.Stored.{Holds, IsInnerAt}
 use Rattle.pages.specs.Owners.{AreApart, Changes}
 use Rattle.bplus_tree.specs.Calls.{IsTree}
-use Rattle.bplus_tree.specs.Even.{IsNode, count_at, Joins, Shares, AreJoined, AreShared}
+use Rattle.node_balance.specs.Even.{IsNode, count_at, Joins, Shares, AreJoined, AreShared}
 use Rattle.bplus_tree.specs.Mend.{AreThree, HasJoined, HasShared, IsBeside, IsParent}
 use Rattle.bplus_tree.specs.Remove.{BecomesShort, AreFullBut, IsFull, LacksOne}
 use Rattle.bplus_tree.proofs.RowLemmas.{Each-append, row_rises}

@@ -6,7 +6,7 @@ use Rattle.tree_node.specs.declared.shape.Shape.{Shape}
 use Rattle.tree_node.proofs.OrderLemmas.{Each-weaker}
 use Rattle.pages.specs.PageMap.{PageMap}
 use Rattle.pages.specs.Owners.{IsOutside, Changes}
-use Rattle.bplus_tree.specs.declared.separator.Separator.{Separator}
+use Rattle.node_balance.specs.declared.separator.Separator.{Separator}
 use Rattle.bplus_tree.specs.Tree.{TreeOf, page_of, entries_of, pages_of, size_of, IsRooted}
 use Rattle.bplus_tree.specs.Stored.{Holds, IsInnerAt}
 use Rattle.bplus_tree.specs.Calls.{IsWhole}

@@ -25,11 +25,13 @@ use Rattle.bplus_tree.specs.declared.descent.Step.{Step}
 use Rattle.bplus_tree.specs.declared.descent.Look.{Look}
 use Rattle.bplus_tree.specs.declared.remove.Shrunk.{Shrunk}
 use Rattle.bplus_tree.specs.declared.remove.Shrunk.TheVariants.{Absent, Taken}
-use Rattle.bplus_tree.specs.Tree.{TreeOf, page_of, entries_of, pages_of, size_of, least, IsRooted, Bound, IsRow, IsOrdered}
+use Rattle.node_balance.specs.Fill.{least}
+use Rattle.bplus_tree.specs.Tree.{TreeOf, page_of, entries_of, pages_of, size_of, IsRooted, Bound, IsRow, IsOrdered}
 use Rattle.bplus_tree.specs.Stored.{Holds, IsLeafAt, IsInnerAt}
 use Rattle.pages.specs.Owners.{AreApart, Changes}
 use Rattle.bplus_tree.specs.Edits.{without_key}
-use Rattle.bplus_tree.specs.Calls.{entry_of, IsTree, IsWhole, IsAnswer}
+use Rattle.pages.specs.Answer.{IsAnswer}
+use Rattle.bplus_tree.specs.Calls.{entry_of, IsTree, IsWhole}
 use Rattle.bplus_tree.specs.Descent.{IsStep, Steps, IsLook}
 use Rattle.bplus_tree.specs.Remove.{Becomes, BecomesShort, HasRemoved, Removes, AreFullBut, IsFull, LacksOne, Mends, TakesOut, OutOfLeaf}
 use Rattle.bplus_tree.proofs.FindLemmas.{differs, differs_back, found_past, missed_at, apart_behind}

@@ -17,9 +17,11 @@ use Rattle.tree_node.proofs.InnerLemmas.{inner_room_some}
 use Rattle.pages.specs.PageMap.{PageMap}
 use Rattle.bplus_tree.specs.declared.descent.Step.{Step}
 use Rattle.bplus_tree.specs.declared.descent.Look.{Look}
-use Rattle.bplus_tree.specs.Tree.{TreeOf, page_of, entries_of, size_of, least, IsFilled, Bound, IsRow, IsOrdered}
+use Rattle.node_balance.specs.Fill.{least}
+use Rattle.bplus_tree.specs.Tree.{TreeOf, page_of, entries_of, size_of, IsFilled, Bound, IsRow, IsOrdered}
 use Rattle.bplus_tree.specs.Stored.{Holds, IsLeafAt, IsInnerAt}
-use Rattle.bplus_tree.specs.Calls.{entry_of, first_from, first_after, last_of, IsTree, IsAnswer}
+use Rattle.pages.specs.Answer.{IsAnswer}
+use Rattle.bplus_tree.specs.Calls.{entry_of, first_from, first_after, last_of, IsTree}
 use Rattle.bplus_tree.specs.Descent.{Steps, Looks}
 use Rattle.bplus_tree.specs.Search.{first_of, head_of, IsFound, Finds, FindsFilled, FindsInLeaf, FindsFirst, FirstOfLeaf, FirstChild, FindsLast, LastOfLeaf, LastChild}
 use Rattle.bplus_tree.proofs.FindLemmas.{find_behind}

@@ -10,10 +10,11 @@ use Rattle.tree_node.specs.Inner.{separators, children}
 use Rattle.tree_node.proofs.InnerLemmas.{length_separators, length_children}
 use Rattle.tree_node.proofs.OrderLemmas.{Each-weaker, less-trans, less_itself, not_less, between_less, compared}
 use Rattle.pages.specs.PageMap.{PageMap}
-use Rattle.bplus_tree.specs.Tree.{TreeOf, page_of, entries_of, pages_of, pages_below, size_of, least, IsFilled, Bound, NotBelow, Above, Below, IsRow, IsOrdered}
+use Rattle.node_balance.specs.Fill.{least}
+use Rattle.bplus_tree.specs.Tree.{TreeOf, page_of, entries_of, pages_of, pages_below, size_of, IsFilled, Bound, NotBelow, Above, Below, IsRow, IsOrdered}
 use Rattle.bplus_tree.specs.Stored.{Holds, IsLeafAt, IsInnerAt}
 use Rattle.bplus_tree.specs.Calls.{IsTree}
-use Rattle.bplus_tree.specs.Even.{LeavesJoined, LeavesShared, InnersJoined, InnersShared, AreJoined, AreShared}
+use Rattle.node_balance.specs.Even.{LeavesJoined, LeavesShared, InnersJoined, InnersShared, AreJoined, AreShared}
 use Rattle.bplus_tree.proofs.RowLemmas.{Inside, Each-append, NotBelow-trans, above_not_below, Below-trans, row_split, row_rises}
 use Rattle.bplus_tree.proofs.PageLemmas.{each_left, each_right, each_both, rows_still}
 use Rattle.bplus_tree.proofs.DescentLemmas.{node_whole, each_take, each_drop}

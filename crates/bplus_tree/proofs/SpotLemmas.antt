@@ -11,7 +11,8 @@ use Rattle.pages.specs.PageMap.{PageMap}
 use Rattle.pages.specs.Owners.{IsOutside}
 use Rattle.bplus_tree.specs.declared.descent.Step.{Step}
 use Rattle.bplus_tree.specs.declared.spot.Spot.{Spot}
-use Rattle.bplus_tree.specs.Tree.{TreeOf, page_of, entries_of, pages_of, size_of, least, IsFilled}
+use Rattle.node_balance.specs.Fill.{least}
+use Rattle.bplus_tree.specs.Tree.{TreeOf, page_of, entries_of, pages_of, size_of, IsFilled}
 use Rattle.bplus_tree.specs.Stored.{Holds, IsLeafAt, IsInnerAt}
 use Rattle.bplus_tree.specs.Descent.{Steps}
 use Rattle.bplus_tree.specs.Search.{first_of, head_of, IsFound, IsPlace, FirstChild}

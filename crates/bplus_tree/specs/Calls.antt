@@ -1,8 +1,6 @@
 -- What look-ups ensure.
-use Rattle.std.specs.Prelude.{◌≡◌, ◌≢◌, ℕ, not, List, [], ◌∷◌, Some, None, take, find, bytes_eq, Option, Result, IfOk, IfErr}
+use Rattle.std.specs.Prelude.{◌≡◌, ℕ, not, List, [], ◌∷◌, Some, None, take, find, bytes_eq, Option}
 use Rattle.std.specs.Option.{option_or}
-use Rattle.io_state.specs.declared.fault.Fault.{Fault}
-use Rattle.io_state.specs.declared.fault.Fault.TheVariants.{Damage}
 use Rattle.tree_node.specs.declared.shape.Shape.{Shape}
 use Rattle.tree_node.specs.Order.{less}
 use Rattle.pages.specs.PageMap.{PageMap}
@@ -39,8 +37,3 @@ pub record IsWhole (shape : Shape) (pages : PageMap) (h page : ℕ) (low high : 
   pub apart : AreApart (pages_of h t)
   pub filled : IsFilled shape h t
   pub rooted : IsRooted h t
-
--- what is answered has this property, and no damage was met
-pub record IsAnswer {X : Type 0} (result : Result X Fault) (P : X → Type 0) : Type 0 where
-  pub answer : IfOk result P
-  pub no_damage : IfErr result (λ e. e ≢ Damage)

@@ -7,7 +7,8 @@ use Rattle.bplus_tree.specs.declared.crown.Base.{Base}
 use Rattle.bplus_tree.specs.Tree.{TreeOf, entries_of, pages_of, IsFilled}
 use Rattle.pages.specs.Owners.{AreApart, Changes}
 use Rattle.bplus_tree.specs.Stored.{IsInnerAt}
-use Rattle.bplus_tree.specs.Calls.{IsTree, IsWhole, IsAnswer}
+use Rattle.pages.specs.Answer.{IsAnswer}
+use Rattle.bplus_tree.specs.Calls.{IsTree, IsWhole}
 
 -- the child of an inner node without separators
 abbrev pub IsOnly : List (List ℕ) → List ℕ → Option ℕ → Type 0

@@ -6,7 +6,8 @@ use Rattle.pages.specs.PageMap.{PageMap}
 use Rattle.bplus_tree.specs.declared.tree.Tree.{Tree}
 use Rattle.bplus_tree.specs.declared.cursor.Cursor.{Cursor}
 use Rattle.bplus_tree.specs.declared.spot.Spot.{Spot}
-use Rattle.bplus_tree.specs.Calls.{first_after, IsAnswer}
+use Rattle.pages.specs.Answer.{IsAnswer}
+use Rattle.bplus_tree.specs.Calls.{first_after}
 use Rattle.bplus_tree.specs.Spot.{StandsAt, FoundAt}
 use Rattle.bplus_tree.specs.Standing.{Stands}
 

@@ -7,7 +7,8 @@ use Rattle.pages.specs.PageMap.{PageMap}
 use Rattle.bplus_tree.specs.declared.descent.Step.{Step}
 use Rattle.bplus_tree.specs.declared.descent.Look.{Look}
 use Rattle.bplus_tree.specs.Stored.{IsLeafAt, IsInnerAt}
-use Rattle.bplus_tree.specs.Calls.{entry_of, IsAnswer}
+use Rattle.pages.specs.Answer.{IsAnswer}
+use Rattle.bplus_tree.specs.Calls.{entry_of}
 
 -- the child to the right of all separators that are not above the key, and the one behind it
 pub record IsStep (width : ℕ) (key : List ℕ) (separators : List (List ℕ)) (below : List ℕ) (step : Step) : Type 0 where

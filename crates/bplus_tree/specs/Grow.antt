@@ -4,10 +4,10 @@ use Rattle.io_state.specs.declared.fault.Fault.{Fault}
 use Rattle.tree_node.specs.declared.shape.Shape.{Shape}
 use Rattle.tree_node.specs.Inner.{IsInner, separators, children}
 use Rattle.pages.specs.PageMap.{PageMap}
-use Rattle.bplus_tree.specs.declared.separator.Separator.{Separator}
-use Rattle.bplus_tree.specs.Tree.{least}
+use Rattle.node_balance.specs.declared.separator.Separator.{Separator}
+use Rattle.node_balance.specs.Fill.{least}
 use Rattle.bplus_tree.specs.Stored.{IsLeafAt, IsInnerAt}
-use Rattle.bplus_tree.specs.Calls.{IsAnswer}
+use Rattle.pages.specs.Answer.{IsAnswer}
 
 -- the page is a leaf of these entries now, and every other page is as it was
 pub record HasLeaf (shape : Shape) (before after : PageMap) (page : ℕ) (entries : List (List ℕ)) : Type 0 where

@@ -3,7 +3,6 @@ pub mod Stored
 pub mod Edits
 pub mod Calls
 pub mod Descent
-pub mod Even
 pub mod Mend
 pub mod Remove
 pub mod Crown
@@ -14,7 +13,6 @@ pub mod Count
 pub mod Cursor
 pub mod Start
 pub mod Spot
-pub mod Put
 pub mod Split
 pub mod Grow
 pub mod Insert

@@ -5,7 +5,7 @@ use Rattle.tree_node.specs.declared.shape.Shape.{Shape}
 use Rattle.tree_node.specs.Inner.{IsInner, separators, children}
 use Rattle.pages.specs.PageMap.{PageMap}
 use Rattle.bplus_tree.specs.declared.mend.Pair.{Pair}
-use Rattle.bplus_tree.specs.Calls.{IsAnswer}
+use Rattle.pages.specs.Answer.{IsAnswer}
 
 -- three pages in use, no two of them one
 pub record AreThree (pages : PageMap) (p q r : ℕ) : Type 0 where

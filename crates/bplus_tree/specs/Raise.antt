@@ -5,9 +5,10 @@ use Rattle.tree_node.specs.declared.shape.Shape.{Shape}
 use Rattle.pages.specs.PageMap.{PageMap}
 use Rattle.pages.specs.Owners.{Changes}
 use Rattle.bplus_tree.specs.declared.crown.Base.{Base}
-use Rattle.bplus_tree.specs.declared.separator.Separator.{Separator}
+use Rattle.node_balance.specs.declared.separator.Separator.{Separator}
 use Rattle.bplus_tree.specs.Tree.{TreeOf, entries_of, pages_of, size_of, IsRooted}
-use Rattle.bplus_tree.specs.Calls.{IsWhole, IsAnswer}
+use Rattle.pages.specs.Answer.{IsAnswer}
+use Rattle.bplus_tree.specs.Calls.{IsWhole}
 use Rattle.bplus_tree.specs.Insert.{HasGrown}
 
 -- a tree of these entries stands below the root

@@ -6,9 +6,11 @@ use Rattle.page_bytes.specs.Each.{Each}
 use Rattle.pages.specs.PageMap.{PageMap}
 use Rattle.bplus_tree.specs.declared.remove.Shrunk.{Shrunk}
 use Rattle.bplus_tree.specs.declared.remove.Shrunk.TheVariants.{Absent, Taken}
-use Rattle.bplus_tree.specs.Tree.{TreeOf, entries_of, pages_of, size_of, least, Bound, IsFilled}
+use Rattle.node_balance.specs.Fill.{least}
+use Rattle.bplus_tree.specs.Tree.{TreeOf, entries_of, pages_of, size_of, Bound, IsFilled}
 use Rattle.bplus_tree.specs.Stored.{IsLeafAt}
-use Rattle.bplus_tree.specs.Calls.{entry_of, IsTree, IsWhole, IsAnswer}
+use Rattle.pages.specs.Answer.{IsAnswer}
+use Rattle.bplus_tree.specs.Calls.{entry_of, IsTree, IsWhole}
 use Rattle.pages.specs.Owners.{AreApart, Changes}
 use Rattle.bplus_tree.specs.Edits.{without_key}
 

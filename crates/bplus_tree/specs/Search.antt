@@ -7,7 +7,8 @@ use Rattle.tree_node.specs.Order.{Ascends, IsRank, IsRankAfter}
 use Rattle.pages.specs.PageMap.{PageMap}
 use Rattle.bplus_tree.specs.Tree.{TreeOf, page_of, entries_of, size_of, Bound, IsFilled}
 use Rattle.bplus_tree.specs.Stored.{Holds, IsLeafAt, IsInnerAt}
-use Rattle.bplus_tree.specs.Calls.{IsTree, IsAnswer, first_from, first_after, last_of}
+use Rattle.pages.specs.Answer.{IsAnswer}
+use Rattle.bplus_tree.specs.Calls.{IsTree, first_from, first_after, last_of}
 
 -- the first entry at a key or behind it; where `past`, the first one behind it
 abbrev pub first_of : Bool → ℕ → List ℕ → List (List ℕ) → Option (List ℕ)

@@ -3,8 +3,8 @@ use Rattle.std.specs.Prelude.{◌≡◌, ◌≢◌, ℕ, List, length, Some, Non
 use Rattle.arrayvec.specs.ArrayVec.{ArrayVec}
 use Rattle.io_state.specs.declared.fault.Fault.{Fault}
 use Rattle.pages.specs.PageMap.{PageMap, Writes}
-use Rattle.bplus_tree.specs.declared.separator.Separator.{Separator}
-use Rattle.bplus_tree.specs.Calls.{IsAnswer}
+use Rattle.node_balance.specs.declared.separator.Separator.{Separator}
+use Rattle.pages.specs.Answer.{IsAnswer}
 
 -- one page holds these bytes, and one that was free those
 pub record HasSplit (before after : PageMap) (page : ℕ) (lower upper : List ℕ) (right : ℕ) : Type 0 where

@@ -8,7 +8,8 @@ use Rattle.pages.specs.Owners.{IsOutside}
 use Rattle.bplus_tree.specs.declared.spot.Spot.{Spot}
 use Rattle.bplus_tree.specs.Tree.{TreeOf, page_of, entries_of, pages_of, size_of, Bound, IsFilled}
 use Rattle.bplus_tree.specs.Stored.{Holds, IsLeafAt}
-use Rattle.bplus_tree.specs.Calls.{IsTree, IsAnswer}
+use Rattle.pages.specs.Answer.{IsAnswer}
+use Rattle.bplus_tree.specs.Calls.{IsTree}
 
 -- the entry stands in this leaf, where the spot says
 pub record IsInLeaf (leaf : ℕ) (entries : List (List ℕ)) (spot : Spot) (entry : List ℕ) : Type 0 where

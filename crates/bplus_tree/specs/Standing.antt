@@ -8,7 +8,8 @@ use Rattle.pages.specs.Owners.{Changes}
 use Rattle.bplus_tree.specs.declared.tree.Tree.{Tree}
 use Rattle.bplus_tree.specs.Tree.{TreeOf, entries_of, pages_of}
 use Rattle.bplus_tree.specs.Edits.{with_entry, without_key}
-use Rattle.bplus_tree.specs.Calls.{entry_of, IsWhole, IsAnswer}
+use Rattle.pages.specs.Answer.{IsAnswer}
+use Rattle.bplus_tree.specs.Calls.{entry_of, IsWhole}
 
 -- these are its entries, by rising tree key, and these its pages
 pub record Stands (tree : Tree) (pages : PageMap) (entries : List (List ℕ)) (own : List ℕ) : Type 0 where

@@ -4,7 +4,7 @@ use Rattle.io_state.specs.declared.fault.Fault.{Fault}
 use Rattle.tree_node.specs.declared.shape.Shape.{Shape}
 use Rattle.pages.specs.PageMap.{PageMap}
 use Rattle.bplus_tree.specs.Stored.{IsLeafAt}
-use Rattle.bplus_tree.specs.Calls.{IsAnswer}
+use Rattle.pages.specs.Answer.{IsAnswer}
 
 -- a leaf without entries stands there now, and every other page is as it was
 pub record HasStarted (shape : Shape) (before after : PageMap) (page : ℕ) : Type 0 where

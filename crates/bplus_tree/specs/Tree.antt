@@ -1,9 +1,8 @@
 -- A B+ tree as a value: its pages by their numbers, the entries of its leaves and the separators between children.
-use Rattle.std.specs.Prelude.{◌≡◌, ℕ, zero, suc, ◌/◌, ◌≤◌, List, [], ◌∷◌, length, take, flat_map, Option, Some, None, true, false, ⊤}
+use Rattle.std.specs.Prelude.{◌≡◌, ℕ, zero, suc, ◌≤◌, List, [], ◌∷◌, length, take, flat_map, Option, Some, None, true, false, ⊤}
 use Rattle.tree_node.specs.declared.shape.Shape.{Shape}
-use Rattle.tree_node.specs.Leaf.{leaf_room}
-use Rattle.tree_node.specs.Inner.{inner_room}
 use Rattle.page_bytes.specs.Each.{Each}
+use Rattle.node_balance.specs.Fill.{least}
 use Rattle.tree_node.specs.Order.{less, Ascends}
 
 -- A tree with `h` levels above its leaves: its page, and in a leaf the entries, else the separators and the children.
@@ -34,11 +33,6 @@ pages_below (suc h) t = flat_map (pages_of h) t.2
 abbrev pub size_of : (h : ℕ) → TreeOf h → ℕ
 size_of zero t = length t.1
 size_of (suc h) t = length t.1
-
--- how many of them a node must have that is not the root
-abbrev pub least : Shape → ℕ → ℕ
-least shape zero = leaf_room shape / 2
-least shape (suc h) = inner_room shape / 2
 
 -- every node below the root is at least half full
 abbrev pub IsFilled : Shape → (h : ℕ) → TreeOf h → Type 0

@@ -7,10 +7,9 @@ ghost use Rattle.pages.specs.Cause.{IsCaused};
 ghost use Rattle.bplus_tree.specs.Split.{HasWidth};
 ghost use Rattle.bplus_tree.specs.Grow.{AddsToLeaf, PutsWhereRoom, AddsToInner, IsOver, AddsRoot};
 
-use crate::put::{put_in_inner, put_in_leaf};
-use crate::separator::Separator;
 use crate::split::write_parts;
 use io_state::Fault;
+use node_balance::{Separator, put_in_inner, put_in_leaf};
 use pages::{Pages, copy, store};
 use tree_node::{
     InnerView, InnerViewMut, LeafView, LeafViewMut, PAGE_SIZE, Shape, is_inner, is_leaf,

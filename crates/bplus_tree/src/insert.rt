@@ -6,8 +6,8 @@ ghost use Rattle.bplus_tree.specs.Insert.{Inserts, HasWholeKey};
 
 use crate::descent::{Look, descend, seek};
 use crate::grow::{add_to_inner, add_to_leaf};
-use crate::separator::Separator;
 use io_state::Fault;
+use node_balance::Separator;
 use pages::Pages;
 use tree_node::{Entry, Shape};
 

@@ -3,13 +3,13 @@
 ghost use Rattle.std.specs.Prelude.{◌≡◌, ◌≢◌, ◌+◌, ◌*◌, ◌<◌, ◌≤◌, ℕ, ◌↔◌, IsTrue, IsSome, IfOk, IfErr, OnOk, length, slice_index};
 ghost use Rattle.tree_node.specs.Inner.{IsInner, separators, children};
 ghost use Rattle.pages.specs.Cause.{IsCaused};
-ghost use Rattle.bplus_tree.specs.Even.{Evens};
-ghost use Rattle.bplus_tree.specs.Tree.{least};
+ghost use Rattle.node_balance.specs.Even.{Evens};
+ghost use Rattle.node_balance.specs.Fill.{least};
 ghost use Rattle.bplus_tree.specs.Mend.{EndsJoined, EndsShared, IsPairAt, ReadsPair};
 ghost use Rattle.bplus_tree.specs.Remove.{Mends};
 
-use crate::even::even;
 use io_state::Fault;
+use node_balance::even;
 use pages::{Pages, copy, store};
 use tree_node::{InnerView, PAGE_SIZE, Shape, is_inner};
 

@@ -7,8 +7,8 @@ ghost use Rattle.bplus_tree.specs.Raise.{Raises};
 
 use crate::crown::Base;
 use crate::grow::add_root;
-use crate::separator::Separator;
 use io_state::Fault;
+use node_balance::Separator;
 use pages::Pages;
 use tree_node::Shape;
 

@@ -2,7 +2,7 @@
 
 ghost use Rattle.std.specs.Prelude.{◌≡◌, ◌+◌, ◌*◌, ◌<◌, ◌≤◌, ◌↔◌, ℕ, IsTrue, IfErr, length, remove};
 ghost use Rattle.tree_node.specs.Leaf.{IsLeaf, leaf_entries};
-ghost use Rattle.bplus_tree.specs.Tree.{least};
+ghost use Rattle.node_balance.specs.Fill.{least};
 ghost use Rattle.pages.specs.Cause.{IsCaused};
 ghost use Rattle.bplus_tree.specs.Remove.{Removes, TakesOut, OutOfLeaf};
 

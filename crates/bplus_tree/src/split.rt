@@ -4,8 +4,8 @@ ghost use Rattle.std.specs.Prelude.{◌≡◌, ◌≢◌, ◌+◌, ◌≤◌, Is
 ghost use Rattle.pages.specs.Cause.{IsCaused};
 ghost use Rattle.bplus_tree.specs.Split.{Splits, WritesParts};
 
-use crate::separator::Separator;
 use io_state::Fault;
+use node_balance::Separator;
 use pages::{Pages, store};
 use tree_node::{PAGE_SIZE, TreeKey};
 

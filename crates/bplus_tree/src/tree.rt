@@ -14,7 +14,11 @@ use io_state::Fault;
 use pages::Pages;
 use tree_node::{Entry, Shape};
 
-/// A tree: the page of its root, how many levels are above its leaves, how many entries it has, and how often it has changed.
+/// A tree: the page of its root, how many levels are above its leaves, how many entries it has, and how often it has changed, a number
+/// that stays at its greatest value. One that is read off a header begins at 0 changes.
+///
+/// Each call may answer Device or Memory, and Damage where a page is not what its place requires. After a fault of a call that changes the
+/// tree nothing is known of it.
 #[derive(Clone, Copy)]
 pub struct Tree {
     pub shape: Shape,
@@ -29,12 +33,13 @@ impl Tree {
     ghost use Rattle.bplus_tree.specs.Standing.{Answers, Makes, Inserts, Removes, one_more};
     ghost use Rattle.bplus_tree.specs.Calls.{entry_of, first_from, first_after, last_of};
 
-    /// A tree without entries, in a page of its own.
+    /// A tree without entries, in a page of its own. Full where no page is available.
     pub fn empty<P: Pages>(pages: &mut P, shape: Shape) -> Result<Tree, Fault>
         requires ready { P.IsReady pages.old }
         requires open { P.CanChange pages.old }
         ensures made { IsTrue (P.state pages.new).is_honest → IsTrue (P.state pages.old).is_sound
             → Makes shape (P.state pages.old).live (P.state pages.new).live (IsTrue (P.state pages.new).is_sound) result }
+        ensures shape { IfOk result (λ tree. (tree.shape ≡ shape) × (tree.levels ≡ 0)) }
         ensures few { (P.state pages.old).available ≤ (P.state pages.new).available + 1 }
         ensures cause { IfErr result (IsCaused (P.HasFailed pages.old pages.new) ((P.state pages.old).available ≡ 0)) }
         ensures asked { (P.state pages.new).asked ≤ (P.state pages.old).asked + 2 }
@@ -58,7 +63,7 @@ impl Tree {
         self.levels + 1
     }
 
-    /// The entry of a key.
+    /// The entry of a key. A key may have any length; one that is too short or too long is not found.
     pub fn find<P: Pages>(&self, pages: &mut P, key: &[u8]) -> Result<Option<Entry>, Fault>
         requires ready { P.IsReady pages.old }
         ensures found { IsTrue (P.state pages.new).is_honest
@@ -70,7 +75,7 @@ impl Tree {
         find_below(pages, self.shape, self.root, self.levels, key)
     }
 
-    /// The first entry whose key is not below this one.
+    /// The first entry whose key is not below this one, which may have any length.
     pub fn at_or_after<P: Pages>(&self, pages: &mut P, key: &[u8]) -> Result<Option<Entry>, Fault>
         requires ready { P.IsReady pages.old }
         ensures found { IsTrue (P.state pages.new).is_honest
@@ -91,7 +96,7 @@ impl Tree {
         )
     }
 
-    /// The first entry whose key is above this one.
+    /// The first entry whose key is above this one, which may have any length.
     pub fn after<P: Pages>(&self, pages: &mut P, key: &[u8]) -> Result<Option<Entry>, Fault>
         requires ready { P.IsReady pages.old }
         ensures found { IsTrue (P.state pages.new).is_honest
@@ -166,7 +171,7 @@ impl Tree {
         }
     }
 
-    /// Takes the entry of a key out.
+    /// Takes the entry of a key out, and answers it. Where the key is not there, nothing is changed.
     pub fn remove<P: Pages>(&mut self, pages: &mut P, key: &[u8]) -> Result<Option<Entry>, Fault>
         requires ready { P.IsReady pages.old }
         requires open { P.CanChange pages.old }

@@ -1,5 +1,5 @@
 use Rattle.std.proofs.Common.{◌+◌, Option, Ok, IsTrue, refl, sym, subst, add-one}
-use Rattle.bplus_tree.specs.declared.separator.Separator.{Separator}
+use Rattle.node_balance.specs.declared.separator.Separator.{Separator}
 use Rattle.bplus_tree.specs.Raise.{Raises}
 use Rattle.bplus_tree.proofs.RaiseLemmas.{raises_none, raises_above}
 use Rattle.bplus_tree.proofs.raise.raise.Goals as goal

@@ -1,5 +1,6 @@
 use Rattle.std.proofs.Common.{ℕ, List, None, subst}
-use Rattle.bplus_tree.specs.Calls.{IsAnswer, first_after}
+use Rattle.pages.specs.Answer.{IsAnswer}
+use Rattle.bplus_tree.specs.Calls.{first_after}
 use Rattle.bplus_tree.specs.Search.{IsFound}
 use Rattle.bplus_tree.proofs.tree.Tree.after.Goals as goal
 

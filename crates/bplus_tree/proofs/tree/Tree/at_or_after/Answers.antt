@@ -1,5 +1,6 @@
 use Rattle.std.proofs.Common.{ℕ, List, None, subst}
-use Rattle.bplus_tree.specs.Calls.{IsAnswer, first_from}
+use Rattle.pages.specs.Answer.{IsAnswer}
+use Rattle.bplus_tree.specs.Calls.{first_from}
 use Rattle.bplus_tree.specs.Search.{IsFound}
 use Rattle.bplus_tree.proofs.tree.Tree.at_or_after.Goals as goal
 

@@ -1,5 +1,6 @@
 use Rattle.std.proofs.Common.{ℕ, List, None, subst}
-use Rattle.bplus_tree.specs.Calls.{IsAnswer, entry_of}
+use Rattle.pages.specs.Answer.{IsAnswer}
+use Rattle.bplus_tree.specs.Calls.{entry_of}
 use Rattle.bplus_tree.specs.Search.{IsFound}
 use Rattle.bplus_tree.proofs.tree.Tree.find.Goals as goal
 

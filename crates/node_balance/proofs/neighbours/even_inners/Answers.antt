@@ -1,7 +1,7 @@
 use Rattle.std.proofs.Common.{List, ℕ, subst, arith, ◌∙◌}
-use Rattle.bplus_tree.specs.Even.{InnersShared}
-use Rattle.bplus_tree.proofs.EvenLemmas.{left_inner, right_inner, only_shared}
-use Rattle.bplus_tree.proofs.even.even_inners.Goals as goal
+use Rattle.node_balance.specs.Even.{InnersShared}
+use Rattle.node_balance.proofs.EvenLemmas.{left_inner, right_inner, only_shared}
+use Rattle.node_balance.proofs.neighbours.even_inners.Goals as goal
 
 pub returns-then-lower-upper-2 : goal.returns-then-lower-upper-2
 returns-then-lower-upper-2 c =

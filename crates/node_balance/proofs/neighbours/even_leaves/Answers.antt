@@ -1,6 +1,6 @@
 use Rattle.std.proofs.Common.{arith}
-use Rattle.bplus_tree.proofs.EvenLemmas.{left_filled, right_filled, only_shared}
-use Rattle.bplus_tree.proofs.even.even_leaves.Goals as goal
+use Rattle.node_balance.proofs.EvenLemmas.{left_filled, right_filled, only_shared}
+use Rattle.node_balance.proofs.neighbours.even_leaves.Goals as goal
 
 pub returns-then-lower-upper-2 : goal.returns-then-lower-upper-2
 returns-then-lower-upper-2 c =

@@ -5,7 +5,7 @@ use Rattle.tree_node.specs.declared.shape.Shape.{Shape}
 use Rattle.tree_node.specs.Leaf.{IsLeaf, leaf_entries, leaf_room}
 use Rattle.tree_node.proofs.LeafLemmas.{leaf_room_some}
 use Rattle.tree_node.specs.Inner.{IsInner, separators, children, inner_room}
-use Rattle.bplus_tree.specs.Even.{HasSeparator, LeavesShared, InnersShared, AreShared, Evens}
+use Rattle.node_balance.specs.Even.{HasSeparator, LeavesShared, InnersShared, AreShared, Evens}
 
 pub lengths : {X : Type 0} (a b c d : List X) → a ++ b ≡ c ++ d → length a + length b ≡ length c + length d
 lengths a b c d e = sym (length-append a b) ∙ ap length e ∙ length-append c d

@@ -3,7 +3,7 @@ use Rattle.std.specs.Prelude.{◌≡◌, ℕ, zero, suc, ◌+◌, ◌*◌, ◌�
 use Rattle.tree_node.specs.declared.shape.Shape.{Shape}
 use Rattle.tree_node.specs.Leaf.{IsLeaf, leaf_entries}
 use Rattle.tree_node.specs.Inner.{IsInner, separators, children}
-use Rattle.bplus_tree.specs.Tree.{least}
+use Rattle.node_balance.specs.Fill.{least}
 
 -- the separator at this place left, and the child to its right
 pub record LosesSeparator (shape : Shape) (at : ℕ) (old new : List ℕ) : Type 0 where

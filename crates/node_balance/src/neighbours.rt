@@ -3,8 +3,8 @@
 ghost use Rattle.std.specs.Prelude.{◌≡◌, ◌+◌, ◌-◌, ◌*◌, ◌<◌, ◌≤◌, ℕ, length, ◌++◌, ◌∷◌, [], take, remove, slice_set, slice_index_or};
 ghost use Rattle.tree_node.specs.Leaf.{IsLeaf, leaf_entries, leaf_room};
 ghost use Rattle.tree_node.specs.Inner.{IsInner, separators, children, inner_room};
-ghost use Rattle.bplus_tree.specs.Tree.{least};
-ghost use Rattle.bplus_tree.specs.Even.{LosesSeparator, HasSeparator, LeavesJoined, LeavesShared, InnersJoined, InnersShared, Joins, Shares, Evens};
+ghost use Rattle.node_balance.specs.Fill.{least};
+ghost use Rattle.node_balance.specs.Even.{LosesSeparator, HasSeparator, LeavesJoined, LeavesShared, InnersJoined, InnersShared, Joins, Shares, Evens};
 
 use tree_node::{
     InnerView, InnerViewMut, LeafView, LeafViewMut, PAGE_SIZE, Shape, TreeKey, is_inner, is_leaf,

@@ -3,7 +3,7 @@
 ghost use Rattle.std.specs.Prelude.{◌≡◌, ◌+◌, ◌/◌, ◌<◌, ◌≤◌, ℕ, length, insert, take, slice_index_or, []};
 ghost use Rattle.tree_node.specs.Leaf.{IsLeaf, leaf_entries};
 ghost use Rattle.tree_node.specs.Inner.{IsInner, separators, children};
-ghost use Rattle.bplus_tree.specs.Put.{PutInLeaf, PutInInner};
+ghost use Rattle.node_balance.specs.Put.{PutInLeaf, PutInInner};
 
 use crate::separator::Separator;
 use tree_node::{InnerView, InnerViewMut, LeafView, LeafViewMut, PAGE_SIZE, Shape, TreeKey};

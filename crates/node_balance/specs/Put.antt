@@ -5,7 +5,7 @@ use Rattle.tree_node.specs.declared.shape.Shape.{Shape}
 use Rattle.tree_node.specs.Leaf.{IsLeaf, leaf_entries}
 use Rattle.tree_node.specs.Inner.{IsInner, separators, children}
 use Rattle.tree_node.specs.Split.{IsCut, IsSplit}
-use Rattle.bplus_tree.specs.Tree.{least}
+use Rattle.node_balance.specs.Fill.{least}
 
 -- the leaf has these entries
 pub record LeafHas (shape : Shape) (page : List ℕ) (entries : List (List ℕ)) : Type 0 where

@@ -1,0 +1,3 @@
+pub mod Even
+pub mod Fill
+pub mod Put
