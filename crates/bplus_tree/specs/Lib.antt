@@ -17,3 +17,4 @@ pub mod Split
 pub mod Grow
 pub mod Insert
 pub mod Raise
+pub mod MemoryPages
