@@ -1,0 +1,71 @@
+-- A step of a cursor, from a step in its tree.
+use Rattle.std.proofs.Common.{◌≡◌, ℕ, ◌+◌, ◌^◌, ◌<◌, List, ◌++◌, length, take, map, Option, None, Some, Result, Ok, refl, sym, ap, subst, ◌∙◌}
+use Rattle.std.specs.Prelude.{find, option_map, IfSome}
+use Rattle.std.specs.Int.{bytes_high_first}
+use Rattle.arrayvec.specs.ArrayVec.{ArrayVec}
+use Rattle.io_state.specs.declared.fault.Fault.{Fault}
+use Rattle.pages.specs.PageMap.{PageMap}
+use Rattle.pages.specs.Answer.{IsAnswer}
+use Rattle.bplus_tree.specs.Cursor.{HasMoved, key_after}
+use Rattle.key_index.specs.Stored.{prime_bytes, alt_bytes, IsPrimeEntry, IsAltEntry}
+use Rattle.key_index.specs.Entries.{after_prime, after_rank}
+use Rattle.key_index.specs.Standing.{PrimeStands, AltStands}
+use Rattle.key_index.specs.Cursors.{value_after, rank_after, PrimeHasMoved, AltHasMoved}
+use Rattle.key_index.specs.declared.entry.PrimeEntry.{PrimeEntry}
+use Rattle.key_index.specs.declared.entry.AltEntry.{AltEntry}
+use Rattle.key_index.specs.declared.prime_index.PrimeIndex.{PrimeIndex}
+use Rattle.key_index.specs.declared.alt_index.AltIndex.{AltIndex}
+use Rattle.key_index.specs.declared.cursor.PrimeCursor.{PrimeCursor}
+use Rattle.key_index.specs.declared.cursor.AltCursor.{AltCursor}
+use Rattle.key_index.proofs.ListLemmas.{found, found_fits}
+use Rattle.key_index.proofs.KeyLemmas.{prime_key, alt_key}
+use Rattle.key_index.proofs.LookLemmas.{prime_after_at, alt_after_at}
+
+prime_key_after : (w : ℕ) (key : List ℕ) (gave : Option (ArrayVec ℕ)) (e : Option PrimeEntry) → IfSome e (IsPrimeEntry w)
+    → option_map (λ b. b.items) gave ≡ option_map prime_bytes e → key_after w key gave ≡ value_after key e
+prime_key_after w key None None fit same = refl
+prime_key_after w key None (Some e) fit same = cc
+prime_key_after w key (Some b) None fit same = cc
+prime_key_after w key (Some b) (Some e) fit same =
+    let is : b.items ≡ prime_bytes e = cc in ap (take w) is ∙ prime_key w e fit
+
+pub prime_moved : (old new : PrimeCursor) (index : PrimeIndex) (pages : PageMap) (entries : List PrimeEntry) (own : List ℕ)
+    (result : Result (Option PrimeEntry) Fault) (gave : Option (ArrayVec ℕ))
+    → ((e : Option PrimeEntry) → IfSome e (IsPrimeEntry index.width) → option_map (λ b. b.items) gave ≡ option_map prime_bytes e → result ≡ Ok e)
+    → PrimeStands index pages entries own → HasMoved old.cursor new.cursor index.tree pages (map prime_bytes entries) own gave
+    → new.cursor.key.items ≡ key_after index.tree.shape.width old.cursor.key.items gave
+    → IsAnswer result (PrimeHasMoved old new index pages entries own)
+prime_moved old new index pages entries own result gave told stands moved key =
+    let e : Option PrimeEntry = find (after_prime old.cursor.key.items) entries in
+    let fits : IfSome e (IsPrimeEntry index.width) = found_fits prime_bytes (IsPrimeEntry index.width) (after_prime old.cursor.key.items) entries stands.each in
+    let same : option_map (λ b. b.items) gave ≡ option_map prime_bytes e =
+    moved.found_is ∙ found prime_bytes (IsPrimeEntry index.width) _ (after_prime old.cursor.key.items) (prime_after_at index old.cursor.key.items) entries stands.each in
+    let after : new.cursor.key.items ≡ value_after old.cursor.key.items e =
+    key ∙ ap (λ (n : ℕ). key_after n old.cursor.key.items gave) index.keys ∙ prime_key_after index.width old.cursor.key.items gave e fits same in
+    subst (λ (r : Result (Option PrimeEntry) Fault). IsAnswer r (PrimeHasMoved old new index pages entries own)) (sym (told e fits same))
+    (record { answer = record { found_is = refl; after = after; belongs = moved.belongs }; no_damage = tt })
+
+alt_key_after : (w p : ℕ) (key : List ℕ) (gave : Option (ArrayVec ℕ)) (e : Option AltEntry) → IfSome e (IsAltEntry w p)
+    → option_map (λ b. b.items) gave ≡ option_map alt_bytes e → key_after (w + 8) key gave ≡ rank_after key e
+alt_key_after w p key None None fit same = refl
+alt_key_after w p key None (Some e) fit same = cc
+alt_key_after w p key (Some b) None fit same = cc
+alt_key_after w p key (Some b) (Some e) fit same =
+    let is : b.items ≡ alt_bytes e = cc in ap (take (w + 8)) is ∙ alt_key w p e fit
+
+pub alt_moved : (value : List ℕ) (stamp : ℕ) (old new : AltCursor) (index : AltIndex) (pages : PageMap) (entries : List AltEntry) (own : List ℕ)
+    (result : Result (Option AltEntry) Fault) (gave : Option (ArrayVec ℕ))
+    → ((e : Option AltEntry) → IfSome e (IsAltEntry index.width index.prime) → option_map (λ b. b.items) gave ≡ option_map alt_bytes e → result ≡ Ok e)
+    → AltStands index pages entries own → HasMoved old.cursor new.cursor index.tree pages (map alt_bytes entries) own gave
+    → new.cursor.key.items ≡ key_after index.tree.shape.width old.cursor.key.items gave
+    → length value ≡ index.width → stamp < 2 ^ 64 → old.cursor.key.items ≡ value ++ bytes_high_first 8 stamp
+    → IsAnswer result (AltHasMoved value stamp old new index pages entries own)
+alt_moved value stamp old new index pages entries own result gave told stands moved key long small behind =
+    let e : Option AltEntry = find (after_rank value stamp) entries in
+    let fits : IfSome e (IsAltEntry index.width index.prime) = found_fits alt_bytes (IsAltEntry index.width index.prime) (after_rank value stamp) entries stands.each in
+    let same : option_map (λ b. b.items) gave ≡ option_map alt_bytes e =
+    moved.found_is ∙ found alt_bytes (IsAltEntry index.width index.prime) _ (after_rank value stamp) (alt_after_at index old.cursor.key.items value stamp behind long small) entries stands.each in
+    let after : new.cursor.key.items ≡ rank_after old.cursor.key.items e =
+    key ∙ ap (λ (n : ℕ). key_after n old.cursor.key.items gave) index.keys ∙ alt_key_after index.width index.prime old.cursor.key.items gave e fits same in
+    subst (λ (r : Result (Option AltEntry) Fault). IsAnswer r (AltHasMoved value stamp old new index pages entries own)) (sym (told e fits same))
+    (record { answer = record { found_is = refl; after = after; belongs = moved.belongs }; no_damage = tt })

@@ -1,0 +1,9 @@
+pub mod OrderLemmas
+pub mod ListLemmas
+pub mod KeyLemmas
+pub mod StoredLemmas
+pub mod LookLemmas
+pub mod EditLemmas
+pub mod LawLemmas
+pub mod MemoryPagesLemmas
+pub mod CursorLemmas

@@ -1,0 +1,7 @@
+use Rattle.std.proofs.Common.{◌∙◌}
+use Rattle.std.proofs.lemmas.List.{length-map}
+use Rattle.key_index.specs.Stored.{prime_bytes}
+use Rattle.key_index.proofs.prime_index.PrimeIndex.count.Goals as goal
+
+pub returns : goal.returns
+returns c pages entries own stands = stands.tree.count ∙ length-map entries prime_bytes

@@ -1,0 +1,56 @@
+-- Where a cursor is in its index.
+use Rattle.std.specs.Prelude.{◌≡◌, ℕ, ◌^◌, ◌<◌, List, ◌++◌, length, map, find, Option, Some, None, Result}
+use Rattle.byteorder.specs.Endian.{big_bytes}
+use Rattle.io_state.specs.declared.fault.Fault.{Fault}
+use Rattle.pages.specs.PageMap.{PageMap}
+use Rattle.pages.specs.Answer.{IsAnswer}
+use Rattle.bplus_tree.specs.Cursor.{Belongs}
+use Rattle.key_index.specs.declared.entry.PrimeEntry.{PrimeEntry}
+use Rattle.key_index.specs.declared.entry.AltEntry.{AltEntry}
+use Rattle.key_index.specs.declared.prime_index.PrimeIndex.{PrimeIndex}
+use Rattle.key_index.specs.declared.alt_index.AltIndex.{AltIndex}
+use Rattle.key_index.specs.declared.cursor.PrimeCursor.{PrimeCursor}
+use Rattle.key_index.specs.declared.cursor.AltCursor.{AltCursor}
+use Rattle.key_index.specs.Stored.{prime_bytes, alt_bytes}
+use Rattle.key_index.specs.Entries.{after_prime, after_rank}
+use Rattle.key_index.specs.Standing.{PrimeStands, AltStands}
+
+-- the cursor is one of this index
+abbrev pub PrimeBelongs : PrimeCursor → PrimeIndex → PageMap → List PrimeEntry → List ℕ → Type 0
+PrimeBelongs cursor index pages entries own = Belongs cursor.cursor index.tree pages (map prime_bytes entries) own
+
+abbrev pub AltBelongs : AltCursor → AltIndex → PageMap → List AltEntry → List ℕ → Type 0
+AltBelongs cursor index pages entries own = Belongs cursor.cursor index.tree pages (map alt_bytes entries) own
+
+-- the value of the entry that was given, or the one before where none was
+abbrev pub value_after : List ℕ → Option PrimeEntry → List ℕ
+value_after value None = value
+value_after value (Some e) = e.value.items
+
+-- the value and stamp of the entry that was given, as one key, or the one before where none was
+abbrev pub rank_after : List ℕ → Option AltEntry → List ℕ
+rank_after key None = key
+rank_after key (Some e) = e.value.items ++ big_bytes 8 e.stamp
+
+-- the first entry behind the cursor, which stands behind that one then
+pub record PrimeHasMoved (old new : PrimeCursor) (index : PrimeIndex) (pages : PageMap) (entries : List PrimeEntry) (own : List ℕ) (found : Option PrimeEntry) : Type 0 where
+  pub found_is : found ≡ find (after_prime old.cursor.key.items) entries
+  pub after : new.cursor.key.items ≡ value_after old.cursor.key.items found
+  pub belongs : PrimeBelongs new index pages entries own
+
+abbrev pub PrimeMoves : PrimeCursor → PrimeCursor → PrimeIndex → PageMap → Result (Option PrimeEntry) Fault → Type 0
+PrimeMoves old new index pages result =
+    (entries : List PrimeEntry) (own : List ℕ) → PrimeStands index pages entries own → PrimeBelongs old index pages entries own
+    → IsAnswer result (PrimeHasMoved old new index pages entries own)
+
+pub record AltHasMoved (value : List ℕ) (stamp : ℕ) (old new : AltCursor) (index : AltIndex) (pages : PageMap) (entries : List AltEntry) (own : List ℕ) (found : Option AltEntry) : Type 0 where
+  pub found_is : found ≡ find (after_rank value stamp) entries
+  pub after : new.cursor.key.items ≡ rank_after old.cursor.key.items found
+  pub belongs : AltBelongs new index pages entries own
+
+-- of a cursor behind a value and stamp
+abbrev pub AltMoves : AltCursor → AltCursor → AltIndex → PageMap → Result (Option AltEntry) Fault → Type 0
+AltMoves old new index pages result =
+    (value : List ℕ) (stamp : ℕ) (entries : List AltEntry) (own : List ℕ) → AltStands index pages entries own → AltBelongs old index pages entries own
+    → length value ≡ index.width → stamp < 2 ^ 64 → old.cursor.key.items ≡ value ++ big_bytes 8 stamp
+    → IsAnswer result (AltHasMoved value stamp old new index pages entries own)

@@ -1,0 +1,10 @@
+pub mod Rank
+pub mod Entries
+pub mod Stored
+pub mod Standing
+pub mod Calls
+pub mod Cost
+pub mod Keys
+pub mod Laws
+pub mod Cursors
+pub mod MemoryPages

@@ -1,0 +1,42 @@
+-- Entries as bytes: what a leaf of an index has of each. Numbers have their high byte first.
+use Rattle.std.specs.Prelude.{◌≡◌, ℕ, ◌+◌, ◌<◌, ◌^◌, List, ◌++◌, length, take, drop}
+use Rattle.byteorder.specs.Endian.{big_bytes, big_number}
+use Rattle.page_bytes.specs.Each.{Each}
+use Rattle.key_index.specs.declared.entry.PrimeEntry.{PrimeEntry}
+use Rattle.key_index.specs.declared.entry.AltEntry.{AltEntry}
+
+-- a value, then the page (4 bytes) and the slot (2) of its record
+abbrev pub prime_bytes : PrimeEntry → List ℕ
+prime_bytes e = e.value.items ++ (big_bytes 4 e.place.page ++ big_bytes 2 e.place.slot)
+
+-- a value and a stamp (8 bytes), then the prime value of its record
+abbrev pub alt_bytes : AltEntry → List ℕ
+alt_bytes e = e.value.items ++ (big_bytes 8 e.stamp ++ e.prime.items)
+
+-- the entry of these bytes
+abbrev pub prime_entry : ℕ → List ℕ → PrimeEntry
+prime_entry width bytes = record {
+  value = record { items = take width bytes };
+  place = record { page = big_number 4 (drop width bytes); slot = big_number 2 (drop (width + 4) bytes) };
+}
+
+abbrev pub alt_entry : ℕ → List ℕ → AltEntry
+alt_entry width bytes = record {
+  value = record { items = take width bytes };
+  stamp = big_number 8 (drop width bytes);
+  prime = record { items = drop (width + 8) bytes };
+}
+
+-- an entry whose value has so many bytes
+pub record IsPrimeEntry (width : ℕ) (e : PrimeEntry) : Type 0 where
+  pub long : length e.value.items ≡ width
+  pub bytes : Each (λ b. b < 256) e.value.items
+  pub page : e.place.page < 2 ^ 32
+  pub slot : e.place.slot < 2 ^ 16
+
+-- an entry whose value, and whose record's prime value, have so many bytes
+pub record IsAltEntry (width prime : ℕ) (e : AltEntry) : Type 0 where
+  pub long : length e.value.items ≡ width
+  pub bytes : Each (λ b. b < 256) e.value.items
+  pub stamp : e.stamp < 2 ^ 64
+  pub prime_long : length e.prime.items ≡ prime

@@ -1,0 +1,259 @@
+//! The index of an alternate key.
+
+ghost use Rattle.std.specs.Prelude.{◌≡◌, ◌+◌, ◌*◌, ◌<◌, ◌≤◌, [], find, length, Ok, Option, option_map, IfSome, IsTrue, IfOk, IfErr};
+ghost use Rattle.pages.specs.Cause.{IsCaused};
+
+use crate::entry::AltEntry;
+use crate::keys::{greatest_key, rank_key};
+use bplus_tree::Tree;
+use io_state::Fault;
+use pages::Pages;
+use tree_node::{Entry, Shape};
+
+/// The index of an alternate key: no two of its entries have one value and stamp.
+#[derive(Clone, Copy)]
+pub struct AltIndex {
+    /// The length of a value, and that of a prime value, in bytes.
+    pub width: u16,
+    pub prime: u16,
+    pub tree: Tree,
+    ghost some: { 1 ≤ width },
+    ghost wide: { width ≤ 250 },
+    ghost narrow: { prime ≤ 250 },
+    ghost keys: { tree.shape.width ≡ width + 8 },
+    ghost entries: { tree.shape.entry ≡ width + 8 + prime },
+}
+
+impl AltIndex {
+    ghost use Rattle.pages.specs.Answer.{IsAnswer};
+    ghost use Rattle.key_index.specs.Entries.{from_value, after_rank, past_value, last_of};
+    ghost use Rattle.key_index.specs.Standing.{AltChanged, IsAltStored, CountsAlt, alt_height};
+    ghost use Rattle.key_index.specs.Calls.{AltFinds, AltAdds, AltRemoves};
+    ghost use Rattle.key_index.specs.Stored.{IsAltEntry, alt_bytes};
+    ghost use Rattle.key_index.specs.Cost.{Spends, AltGrows};
+
+    /// An index without entries for values of `width` bytes and prime values of `prime` bytes. `key` is the number of the key. One page is taken for its root, which may be answered Full.
+    pub fn empty<P: Pages>(
+        pages: &mut P,
+        key: u8,
+        width: u16,
+        prime: u16,
+    ) -> Result<AltIndex, Fault>
+        requires ready { P.IsReady pages.old }
+        requires open { P.CanChange pages.old }
+        requires some { 1 ≤ width }
+        requires narrow { width ≤ 250 }
+        requires prime { prime ≤ 250 }
+        ensures made { IsTrue (P.state pages.new).is_honest → IsTrue (P.state pages.old).is_sound
+            → IsAnswer result (λ index. AltChanged (P.state pages.old).live (P.state pages.new).live index [] []
+            × IsTrue (P.state pages.new).is_sound) }
+        ensures width { IfOk result (λ index. (index.width ≡ width) × (index.prime ≡ prime) × (alt_height index ≡ 1)) }
+        ensures spends { Spends (P.state pages.old) (P.state pages.new) 1 2 }
+        ensures cause { IfErr result (IsCaused (P.HasFailed pages.old pages.new) ((P.state pages.old).available < 1)) }
+        ensures goes { P.Goes pages.old pages.new }
+    {
+        let shape = Shape {
+            key,
+            width: width + 8,
+            entry: width + 8 + prime,
+        };
+        let tree = Tree::empty(pages, shape)?;
+        Ok(AltIndex { width, prime, tree })
+    }
+
+    /// The index that a header tells of: the page of its root, how many levels it has, and how many entries.
+    pub fn stored(key: u8, width: u16, prime: u16, root: u32, height: u8, count: u64) -> AltIndex
+        requires some { 1 ≤ width }
+        requires narrow { width ≤ 250 }
+        requires prime { prime ≤ 250 }
+        requires levels { 1 ≤ height }
+        requires low { height ≤ 64 }
+        ensures { IsAltStored result width prime root height count }
+    {
+        let shape = Shape {
+            key,
+            width: width + 8,
+            entry: width + 8 + prime,
+        };
+        let tree = Tree {
+            shape,
+            root,
+            levels: height - 1,
+            count,
+            changes: 0,
+        };
+        AltIndex { width, prime, tree }
+    }
+
+    /// How many levels its tree has.
+    pub fn height(&self) -> u8
+        ensures { result ≡ alt_height self.now }
+    {
+        self.tree.levels + 1
+    }
+
+    /// How many entries there are.
+    pub fn count(&self) -> u64
+        ensures { CountsAlt self.now result }
+    {
+        self.tree.count
+    }
+
+    /// The first entry whose value is not less than this one, which may have any length.
+    pub fn first_from<P: Pages>(
+        &self,
+        pages: &mut P,
+        value: &[u8],
+    ) -> Result<Option<AltEntry>, Fault>
+        requires ready { P.IsReady pages.old }
+        ensures found { IsTrue (P.state pages.new).is_honest
+            → AltFinds self.now (P.state pages.old).live (find (from_value value.now)) result }
+        ensures cause { IfErr result (IsCaused (P.HasFailed pages.old pages.new) ⊥) }
+        ensures asked { (P.state pages.new).asked ≤ (P.state pages.old).asked + 2 * alt_height self.now }
+        ensures reads { P.Reads pages.old pages.new }
+    {
+        if value.len() > usize::from(self.width) {
+            return self.first_past(pages, value);
+        }
+        let found = self.tree.at_or_after(pages, value)?;
+        self.told(found)
+    }
+
+    /// The first entry whose value and stamp come after these. The value may have any length; one that goes on where it ends comes after it.
+    pub fn first_after<P: Pages>(
+        &self,
+        pages: &mut P,
+        value: &[u8],
+        stamp: u64,
+    ) -> Result<Option<AltEntry>, Fault>
+        requires ready { P.IsReady pages.old }
+        ensures found { IsTrue (P.state pages.new).is_honest
+            → AltFinds self.now (P.state pages.old).live (find (after_rank value.now stamp)) result }
+        ensures cause { IfErr result (IsCaused (P.HasFailed pages.old pages.new) ⊥) }
+        ensures asked { (P.state pages.new).asked ≤ (P.state pages.old).asked + 2 * alt_height self.now }
+        ensures reads { P.Reads pages.old pages.new }
+    {
+        let width = usize::from(self.width);
+        if value.len() > width {
+            return self.first_past(pages, value);
+        }
+        if value.len() < width {
+            return self.first_from(pages, value);
+        }
+        let key = rank_key(value, stamp);
+        let found = self.tree.after(pages, key.as_slice())?;
+        self.told(found)
+    }
+
+    /// The first entry past every value that begins with these bytes.
+    pub fn first_past<P: Pages>(
+        &self,
+        pages: &mut P,
+        value: &[u8],
+    ) -> Result<Option<AltEntry>, Fault>
+        requires ready { P.IsReady pages.old }
+        ensures found { IsTrue (P.state pages.new).is_honest
+            → AltFinds self.now (P.state pages.old).live (find (past_value value.now)) result }
+        ensures cause { IfErr result (IsCaused (P.HasFailed pages.old pages.new) ⊥) }
+        ensures asked { (P.state pages.new).asked ≤ (P.state pages.old).asked + 2 * alt_height self.now }
+        ensures reads { P.Reads pages.old pages.new }
+    {
+        let width = usize::from(self.width);
+        let key = greatest_key(value, width, width + 8);
+        let found = self.tree.after(pages, key.as_slice())?;
+        self.told(found)
+    }
+
+    /// The entry of the greatest value, and of these the greatest stamp.
+    pub fn last<P: Pages>(&self, pages: &mut P) -> Result<Option<AltEntry>, Fault>
+        requires ready { P.IsReady pages.old }
+        ensures found { IsTrue (P.state pages.new).is_honest
+            → AltFinds self.now (P.state pages.old).live last_of result }
+        ensures cause { IfErr result (IsCaused (P.HasFailed pages.old pages.new) ⊥) }
+        ensures asked { (P.state pages.new).asked ≤ (P.state pages.old).asked + alt_height self.now }
+        ensures reads { P.Reads pages.old pages.new }
+    {
+        let found = self.tree.last(pages)?;
+        self.told(found)
+    }
+
+    /// Adds an entry, and answers true; where its value and stamp are there, answers false, and nothing is changed. Full only where fewer pages are left
+    /// than the height and one; Memory also where as many entries are there as a u64 can count. After a fault nothing is said of the index.
+    pub fn add<P: Pages>(
+        &mut self,
+        pages: &mut P,
+        value: &[u8],
+        stamp: u64,
+        prime: &[u8],
+    ) -> Result<bool, Fault>
+        requires ready { P.IsReady pages.old }
+        requires open { P.CanChange pages.old }
+        requires value { length value.now ≡ self.old.width }
+        requires prime { length prime.now ≡ self.old.prime }
+        ensures added { IsTrue (P.state pages.new).is_honest → IsTrue (P.state pages.old).is_sound
+            → AltAdds (P.state pages.old).live (P.state pages.new).live (IsTrue (P.state pages.new).is_sound) self.old self.new
+            (record { value = record { items = value.now }; stamp = stamp; prime = record { items = prime.now } }) result }
+        ensures grows { AltGrows self.old self.new 1 }
+        ensures spends { Spends (P.state pages.old) (P.state pages.new) (alt_height self.old + 1) (8 * (alt_height self.old + 1)) }
+        ensures cause { IfErr result (IsCaused (P.HasFailed pages.old pages.new) ((P.state pages.old).available < alt_height self.old + 1)) }
+        ensures goes { P.Goes pages.old pages.new }
+    {
+        let entry = AltEntry::bytes(value, stamp, prime);
+        let mut tree = self.tree;
+        match tree.insert(pages, entry.as_slice())? {
+            Some(_) => Ok(false),
+            None => {
+                self.tree = tree;
+                Ok(true)
+            }
+        }
+    }
+
+    /// Takes out the entry of a value and stamp, and answers whether it was there; where it was not, nothing is changed. No page is taken.
+    /// After a fault nothing is said of the index.
+    pub fn remove<P: Pages>(
+        &mut self,
+        pages: &mut P,
+        value: &[u8],
+        stamp: u64,
+    ) -> Result<bool, Fault>
+        requires ready { P.IsReady pages.old }
+        requires open { P.CanChange pages.old }
+        ensures removed { IsTrue (P.state pages.new).is_honest → IsTrue (P.state pages.old).is_sound
+            → AltRemoves (P.state pages.old).live (P.state pages.new).live (IsTrue (P.state pages.new).is_sound) self.old self.new value.now stamp result }
+        ensures grows { AltGrows self.old self.new 0 }
+        ensures spends { Spends (P.state pages.old) (P.state pages.new) 0 (8 * (alt_height self.old + 1)) }
+        ensures cause { IfErr result (IsCaused (P.HasFailed pages.old pages.new) ⊥) }
+        ensures goes { P.Goes pages.old pages.new }
+    {
+        if value.len() != usize::from(self.width) {
+            return Ok(false);
+        }
+        let rank = rank_key(value, stamp);
+        let mut tree = self.tree;
+        match tree.remove(pages, rank.as_slice())? {
+            Some(_) => {
+                self.tree = tree;
+                Ok(true)
+            }
+            None => Ok(false),
+        }
+    }
+
+    /// The entry whose bytes the tree gave. Damage where they are not as many as an entry has.
+    pub(crate) fn told(&self, found: Option<Entry>) -> Result<Option<AltEntry>, Fault>
+        ensures told { (e : Option AltEntry) → IfSome e (IsAltEntry self.now.width self.now.prime)
+            → option_map (λ bytes. bytes.items) found ≡ option_map alt_bytes e → result ≡ Ok e }
+        ensures damage { IfErr result (λ fault. fault ≡ Fault.Damage) }
+    {
+        let Some(bytes) = found else {
+            return Ok(None);
+        };
+        let width = usize::from(self.width);
+        let prime = usize::from(self.prime);
+        if bytes.len() != width + 8 + prime {
+            return Err(Fault::Damage);
+        }
+        Ok(Some(AltEntry::read(bytes.as_slice(), width, prime)))
+    }
+}

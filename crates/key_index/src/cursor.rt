@@ -1,0 +1,121 @@
+//! A place among the entries of an index that is kept from one call to the next.
+
+ghost use Rattle.std.specs.Prelude.{◌≡◌, ◌+◌, ◌*◌, ◌≤◌, ◌↔◌, ◌++◌, ℕ, List, length, IsTrue, IfErr};
+ghost use Rattle.byteorder.specs.Endian.{big_bytes};
+ghost use Rattle.pages.specs.PageMap.{PageMap};
+ghost use Rattle.pages.specs.Cause.{IsCaused};
+
+use crate::alt_index::AltIndex;
+use crate::entry::{AltEntry, PrimeEntry};
+use crate::keys::rank_key;
+use crate::prime_index::PrimeIndex;
+use bplus_tree::Cursor;
+use io_state::Fault;
+use pages::Pages;
+
+/// Gives the entries of a prime index behind a value, one after another.
+#[derive(Drop)]
+pub struct PrimeCursor {
+    pub cursor: Cursor,
+}
+
+/// Gives the entries of an index of an alternate key behind a value and stamp, one after another.
+#[derive(Drop)]
+pub struct AltCursor {
+    pub cursor: Cursor,
+}
+
+impl PrimeIndex {
+    ghost use Rattle.key_index.specs.Cursors.{PrimeBelongs};
+
+    /// A cursor behind a value.
+    pub fn cursor(&self, value: &[u8]) -> PrimeCursor
+        requires { length value.now ≡ self.now.width }
+        ensures after { result.cursor.key.items ≡ value.now }
+        ensures belongs { (pages : PageMap) (entries : List PrimeEntry) (own : List ℕ)
+            → PrimeBelongs result self.now pages entries own }
+    {
+        PrimeCursor {
+            cursor: self.tree.cursor(value),
+        }
+    }
+}
+
+impl PrimeCursor {
+    ghost use Rattle.key_index.specs.Standing.{prime_height};
+    ghost use Rattle.key_index.specs.Cursors.{PrimeMoves};
+
+    /// Whether it gives what comes after this value.
+    pub fn is_after(&self, value: &[u8]) -> bool
+        ensures { IsTrue result ↔ (self.now.cursor.key.items ≡ value.now) }
+    {
+        self.cursor.key.as_slice() == value
+    }
+
+    /// The next entry, behind which the cursor stands then; where there is none it stays. While the index has not changed it asks for one page
+    /// mostly. After a fault nothing is said of the cursor.
+    pub fn next<P: Pages>(
+        &mut self,
+        index: &PrimeIndex,
+        pages: &mut P,
+    ) -> Result<Option<PrimeEntry>, Fault>
+        requires ready { P.IsReady pages.old }
+        ensures moved { IsTrue (P.state pages.new).is_honest
+            → PrimeMoves self.old self.new index.now (P.state pages.old).live result }
+        ensures cause { IfErr result (IsCaused (P.HasFailed pages.old pages.new) ⊥) }
+        ensures asked { (P.state pages.new).asked ≤ (P.state pages.old).asked + 2 * prime_height index.now }
+        ensures reads { P.Reads pages.old pages.new }
+    {
+        let found = self.cursor.next(&index.tree, pages)?;
+        index.told(found)
+    }
+}
+
+impl AltIndex {
+    ghost use Rattle.key_index.specs.Cursors.{AltBelongs};
+
+    /// A cursor behind a value and stamp.
+    pub fn cursor(&self, value: &[u8], stamp: u64) -> AltCursor
+        requires { length value.now ≡ self.now.width }
+        ensures after { result.cursor.key.items ≡ value.now ++ big_bytes 8 stamp }
+        ensures belongs { (pages : PageMap) (entries : List AltEntry) (own : List ℕ)
+            → AltBelongs result self.now pages entries own }
+    {
+        let key = rank_key(value, stamp);
+        AltCursor {
+            cursor: self.tree.cursor(key.as_slice()),
+        }
+    }
+}
+
+impl AltCursor {
+    ghost use Rattle.key_index.specs.Standing.{alt_height};
+    ghost use Rattle.key_index.specs.Cursors.{AltMoves};
+
+    /// Whether it gives what comes after this value and stamp.
+    pub fn is_after(&self, value: &[u8], stamp: u64) -> bool
+        requires { length value.now ≤ 250 }
+        ensures { IsTrue result ↔ (self.now.cursor.key.items ≡ value.now ++ big_bytes 8 stamp) }
+    {
+        let key = rank_key(value, stamp);
+        self.cursor.key.as_slice() == key.as_slice()
+    }
+
+    /// The next entry, behind which the cursor stands then; where there is none it stays. While the index has not changed it asks for one page
+    /// mostly. After a fault nothing is said of the cursor.
+    pub fn next<P: Pages>(
+        &mut self,
+        index: &AltIndex,
+        pages: &mut P,
+    ) -> Result<Option<AltEntry>, Fault>
+        requires ready { P.IsReady pages.old }
+        ensures moved { IsTrue (P.state pages.new).is_honest
+            → AltMoves self.old self.new index.now (P.state pages.old).live result }
+        ensures cause { IfErr result (IsCaused (P.HasFailed pages.old pages.new) ⊥) }
+        ensures asked { (P.state pages.new).asked ≤ (P.state pages.old).asked + 2 * alt_height index.now }
+        ensures reads { P.Reads pages.old pages.new }
+    {
+        let found = self.cursor.next(&index.tree, pages)?;
+        index.told(found)
+    }
+}

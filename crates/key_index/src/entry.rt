@@ -1,0 +1,113 @@
+//! What an index has of a record, and its bytes in a leaf.
+//!
+//! | Bytes of a prime entry, for values of w bytes | Content |
+//! |---|---|
+//! | 0 to w - 1 | value |
+//! | w to w + 3, w + 4 to w + 5 | place: page, slot |
+//!
+//! | Bytes of an alternate entry | Content |
+//! |---|---|
+//! | 0 to w - 1 | value |
+//! | w to w + 7 | stamp |
+//! | from w + 8 | prime value of the record |
+
+ghost use Rattle.std.specs.Prelude.{◌≡◌, ◌+◌, ◌^◌, ◌<◌, ◌≤◌, ◌++◌, length};
+ghost use Rattle.byteorder.specs.Endian.{big_bytes};
+
+use byteorder::{BigEndian, ByteOrder};
+use io_state::Key;
+use record_heap::Place;
+use tree_node::Entry;
+
+/// The value of the prime key, and the place of the record.
+#[derive(Drop)]
+pub struct PrimeEntry {
+    pub value: Key,
+    pub place: Place,
+}
+
+/// A value of an alternate key and its stamp, and the prime value of the record.
+#[derive(Drop)]
+pub struct AltEntry {
+    pub value: Key,
+    pub stamp: u64,
+    pub prime: Key,
+}
+
+impl PrimeEntry {
+    ghost use Rattle.key_index.specs.Stored.{prime_entry};
+
+    /// The bytes of an entry.
+    pub fn bytes(value: &[u8], place: Place) -> Entry
+        requires { length value.now ≤ 250 }
+        ensures bytes { result.items ≡ value.now ++ (big_bytes 4 place.page ++ big_bytes 2 place.slot) }
+        ensures page { place.page < 2 ^ 32 }
+        ensures slot { place.slot < 2 ^ 16 }
+    {
+        let mut target = [0; 6];
+        BigEndian::write_u32(&mut target, place.page);
+        BigEndian::write_u16(&mut target[4..], place.slot);
+        let mut bytes = Entry::new();
+        let _ = bytes.try_extend_from_slice(value);
+        let _ = bytes.try_extend_from_slice(&target);
+        bytes
+    }
+
+    /// The entry of bytes whose first `width` are the value.
+    pub fn read(bytes: &[u8], width: usize) -> PrimeEntry
+        requires width { width ≤ 250 }
+        requires long { length bytes.now ≡ width + 6 }
+        ensures { result ≡ prime_entry width bytes.now }
+    {
+        PrimeEntry {
+            value: key_of(&bytes[..width]),
+            place: Place {
+                page: BigEndian::read_u32(&bytes[width..]),
+                slot: BigEndian::read_u16(&bytes[width + 4..]),
+            },
+        }
+    }
+}
+
+impl AltEntry {
+    ghost use Rattle.key_index.specs.Stored.{alt_entry};
+
+    /// The bytes of an entry.
+    pub fn bytes(value: &[u8], stamp: u64, prime: &[u8]) -> Entry
+        requires value { length value.now ≤ 250 }
+        requires prime { length prime.now ≤ 250 }
+        ensures { result.items ≡ value.now ++ (big_bytes 8 stamp ++ prime.now) }
+    {
+        let mut order = [0; 8];
+        BigEndian::write_u64(&mut order, stamp);
+        let mut bytes = Entry::new();
+        let _ = bytes.try_extend_from_slice(value);
+        let _ = bytes.try_extend_from_slice(&order);
+        let _ = bytes.try_extend_from_slice(prime);
+        bytes
+    }
+
+    /// The entry of bytes whose first `width` are the value, and the last `prime` the prime value.
+    pub fn read(bytes: &[u8], width: usize, prime: usize) -> AltEntry
+        requires width { width ≤ 250 }
+        requires prime { prime ≤ 250 }
+        requires long { length bytes.now ≡ width + 8 + prime }
+        ensures { result ≡ alt_entry width bytes.now }
+    {
+        AltEntry {
+            value: key_of(&bytes[..width]),
+            stamp: BigEndian::read_u64(&bytes[width..]),
+            prime: key_of(&bytes[width + 8..]),
+        }
+    }
+}
+
+/// A value that outlives its page.
+fn key_of(value: &[u8]) -> Key
+    requires { length value.now ≤ 250 }
+    ensures { result.items ≡ value.now }
+{
+    let mut key = Key::new();
+    let _ = key.try_extend_from_slice(value);
+    key
+}

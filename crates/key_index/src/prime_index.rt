@@ -1,0 +1,239 @@
+//! The index of the prime key.
+
+ghost use Rattle.std.specs.Prelude.{◌≡◌, ◌+◌, ◌*◌, ◌<◌, ◌≤◌, [], find, length, Ok, Option, option_map, IfSome, IsTrue, IfOk, IfErr};
+ghost use Rattle.pages.specs.Cause.{IsCaused};
+
+use crate::entry::PrimeEntry;
+use crate::keys::greatest_key;
+use bplus_tree::Tree;
+use io_state::Fault;
+use pages::Pages;
+use record_heap::Place;
+use tree_node::{Entry, Shape};
+
+/// The index of the prime key: no two of its entries have one value.
+#[derive(Clone, Copy)]
+pub struct PrimeIndex {
+    /// The length of a value, in bytes.
+    pub width: u16,
+    pub tree: Tree,
+    ghost narrow: { width ≤ 250 },
+    ghost keys: { tree.shape.width ≡ width },
+    ghost entries: { tree.shape.entry ≡ width + 6 },
+}
+
+impl PrimeIndex {
+    ghost use Rattle.pages.specs.Answer.{IsAnswer};
+    ghost use Rattle.key_index.specs.Entries.{has_prime, from_prime, after_prime, past_prime, last_of};
+    ghost use Rattle.key_index.specs.Standing.{PrimeChanged, IsPrimeStored, CountsPrime, prime_height};
+    ghost use Rattle.key_index.specs.Calls.{PrimeFinds, PrimeAdds, PrimeRemoves};
+    ghost use Rattle.key_index.specs.Stored.{IsPrimeEntry, prime_bytes};
+    ghost use Rattle.key_index.specs.Cost.{Spends, PrimeGrows};
+
+    /// An index without entries for values of `width` bytes. One page is taken for its root, which may be answered Full.
+    pub fn empty<P: Pages>(pages: &mut P, width: u16) -> Result<PrimeIndex, Fault>
+        requires ready { P.IsReady pages.old }
+        requires open { P.CanChange pages.old }
+        requires some { 1 ≤ width }
+        requires narrow { width ≤ 250 }
+        ensures made { IsTrue (P.state pages.new).is_honest → IsTrue (P.state pages.old).is_sound
+            → IsAnswer result (λ index. PrimeChanged (P.state pages.old).live (P.state pages.new).live index [] []
+            × IsTrue (P.state pages.new).is_sound) }
+        ensures width { IfOk result (λ index. (index.width ≡ width) × (prime_height index ≡ 1)) }
+        ensures spends { Spends (P.state pages.old) (P.state pages.new) 1 2 }
+        ensures cause { IfErr result (IsCaused (P.HasFailed pages.old pages.new) ((P.state pages.old).available < 1)) }
+        ensures goes { P.Goes pages.old pages.new }
+    {
+        let shape = Shape {
+            key: 0,
+            width,
+            entry: width + 6,
+        };
+        let tree = Tree::empty(pages, shape)?;
+        Ok(PrimeIndex { width, tree })
+    }
+
+    /// The index that a header tells of: the page of its root, how many levels it has, and how many entries.
+    pub fn stored(width: u16, root: u32, height: u8, count: u64) -> PrimeIndex
+        requires some { 1 ≤ width }
+        requires narrow { width ≤ 250 }
+        requires levels { 1 ≤ height }
+        requires low { height ≤ 64 }
+        ensures { IsPrimeStored result width root height count }
+    {
+        let shape = Shape {
+            key: 0,
+            width,
+            entry: width + 6,
+        };
+        let tree = Tree {
+            shape,
+            root,
+            levels: height - 1,
+            count,
+            changes: 0,
+        };
+        PrimeIndex { width, tree }
+    }
+
+    /// How many levels its tree has.
+    pub fn height(&self) -> u8
+        ensures { result ≡ prime_height self.now }
+    {
+        self.tree.levels + 1
+    }
+
+    /// How many entries there are.
+    pub fn count(&self) -> u64
+        ensures { CountsPrime self.now result }
+    {
+        self.tree.count
+    }
+
+    /// The entry of a value of any length.
+    pub fn find<P: Pages>(&self, pages: &mut P, value: &[u8]) -> Result<Option<PrimeEntry>, Fault>
+        requires ready { P.IsReady pages.old }
+        ensures found { IsTrue (P.state pages.new).is_honest
+            → PrimeFinds self.now (P.state pages.old).live (find (has_prime value.now)) result }
+        ensures cause { IfErr result (IsCaused (P.HasFailed pages.old pages.new) ⊥) }
+        ensures asked { (P.state pages.new).asked ≤ (P.state pages.old).asked + prime_height self.now }
+        ensures reads { P.Reads pages.old pages.new }
+    {
+        let found = self.tree.find(pages, value)?;
+        self.told(found)
+    }
+
+    /// The first entry whose value is not less than this one, which may have any length.
+    pub fn first_from<P: Pages>(
+        &self,
+        pages: &mut P,
+        value: &[u8],
+    ) -> Result<Option<PrimeEntry>, Fault>
+        requires ready { P.IsReady pages.old }
+        ensures found { IsTrue (P.state pages.new).is_honest
+            → PrimeFinds self.now (P.state pages.old).live (find (from_prime value.now)) result }
+        ensures cause { IfErr result (IsCaused (P.HasFailed pages.old pages.new) ⊥) }
+        ensures asked { (P.state pages.new).asked ≤ (P.state pages.old).asked + 2 * prime_height self.now }
+        ensures reads { P.Reads pages.old pages.new }
+    {
+        let found = self.tree.at_or_after(pages, value)?;
+        self.told(found)
+    }
+
+    /// The first entry whose value comes after this one, which may have any length. A value that goes on where this one ends comes after it.
+    pub fn first_after<P: Pages>(
+        &self,
+        pages: &mut P,
+        value: &[u8],
+    ) -> Result<Option<PrimeEntry>, Fault>
+        requires ready { P.IsReady pages.old }
+        ensures found { IsTrue (P.state pages.new).is_honest
+            → PrimeFinds self.now (P.state pages.old).live (find (after_prime value.now)) result }
+        ensures cause { IfErr result (IsCaused (P.HasFailed pages.old pages.new) ⊥) }
+        ensures asked { (P.state pages.new).asked ≤ (P.state pages.old).asked + 2 * prime_height self.now }
+        ensures reads { P.Reads pages.old pages.new }
+    {
+        let found = self.tree.after(pages, value)?;
+        self.told(found)
+    }
+
+    /// The first entry past every value that begins with these bytes.
+    pub fn first_past<P: Pages>(
+        &self,
+        pages: &mut P,
+        value: &[u8],
+    ) -> Result<Option<PrimeEntry>, Fault>
+        requires ready { P.IsReady pages.old }
+        ensures found { IsTrue (P.state pages.new).is_honest
+            → PrimeFinds self.now (P.state pages.old).live (find (past_prime value.now)) result }
+        ensures cause { IfErr result (IsCaused (P.HasFailed pages.old pages.new) ⊥) }
+        ensures asked { (P.state pages.new).asked ≤ (P.state pages.old).asked + 2 * prime_height self.now }
+        ensures reads { P.Reads pages.old pages.new }
+    {
+        let width = usize::from(self.width);
+        let key = greatest_key(value, width, width);
+        let found = self.tree.after(pages, key.as_slice())?;
+        self.told(found)
+    }
+
+    /// The entry of the greatest value.
+    pub fn last<P: Pages>(&self, pages: &mut P) -> Result<Option<PrimeEntry>, Fault>
+        requires ready { P.IsReady pages.old }
+        ensures found { IsTrue (P.state pages.new).is_honest
+            → PrimeFinds self.now (P.state pages.old).live last_of result }
+        ensures cause { IfErr result (IsCaused (P.HasFailed pages.old pages.new) ⊥) }
+        ensures asked { (P.state pages.new).asked ≤ (P.state pages.old).asked + prime_height self.now }
+        ensures reads { P.Reads pages.old pages.new }
+    {
+        let found = self.tree.last(pages)?;
+        self.told(found)
+    }
+
+    /// Adds an entry, and answers true; where its value is there, answers false, and nothing is changed. Full only where fewer pages are left than the
+    /// height and one; Memory also where as many entries are there as a u64 can count. After a fault nothing is said of the index.
+    pub fn add<P: Pages>(
+        &mut self,
+        pages: &mut P,
+        value: &[u8],
+        place: Place,
+    ) -> Result<bool, Fault>
+        requires ready { P.IsReady pages.old }
+        requires open { P.CanChange pages.old }
+        requires value { length value.now ≡ self.old.width }
+        ensures added { IsTrue (P.state pages.new).is_honest → IsTrue (P.state pages.old).is_sound
+            → PrimeAdds (P.state pages.old).live (P.state pages.new).live (IsTrue (P.state pages.new).is_sound) self.old self.new
+            (record { value = record { items = value.now }; place = place }) result }
+        ensures grows { PrimeGrows self.old self.new 1 }
+        ensures spends { Spends (P.state pages.old) (P.state pages.new) (prime_height self.old + 1) (8 * (prime_height self.old + 1)) }
+        ensures cause { IfErr result (IsCaused (P.HasFailed pages.old pages.new) ((P.state pages.old).available < prime_height self.old + 1)) }
+        ensures goes { P.Goes pages.old pages.new }
+    {
+        let entry = PrimeEntry::bytes(value, place);
+        let mut tree = self.tree;
+        match tree.insert(pages, entry.as_slice())? {
+            Some(_) => Ok(false),
+            None => {
+                self.tree = tree;
+                Ok(true)
+            }
+        }
+    }
+
+    /// Takes out the entry of a value, and answers whether it was there; where it was not, nothing is changed. No page is taken.
+    /// After a fault nothing is said of the index.
+    pub fn remove<P: Pages>(&mut self, pages: &mut P, value: &[u8]) -> Result<bool, Fault>
+        requires ready { P.IsReady pages.old }
+        requires open { P.CanChange pages.old }
+        ensures removed { IsTrue (P.state pages.new).is_honest → IsTrue (P.state pages.old).is_sound
+            → PrimeRemoves (P.state pages.old).live (P.state pages.new).live (IsTrue (P.state pages.new).is_sound) self.old self.new value.now result }
+        ensures grows { PrimeGrows self.old self.new 0 }
+        ensures spends { Spends (P.state pages.old) (P.state pages.new) 0 (8 * (prime_height self.old + 1)) }
+        ensures cause { IfErr result (IsCaused (P.HasFailed pages.old pages.new) ⊥) }
+        ensures goes { P.Goes pages.old pages.new }
+    {
+        let mut tree = self.tree;
+        match tree.remove(pages, value)? {
+            Some(_) => {
+                self.tree = tree;
+                Ok(true)
+            }
+            None => Ok(false),
+        }
+    }
+
+    /// The entry whose bytes the tree gave. Damage where they are not as many as an entry has.
+    pub(crate) fn told(&self, found: Option<Entry>) -> Result<Option<PrimeEntry>, Fault>
+        ensures told { (e : Option PrimeEntry) → IfSome e (IsPrimeEntry self.now.width)
+            → option_map (λ bytes. bytes.items) found ≡ option_map prime_bytes e → result ≡ Ok e }
+        ensures damage { IfErr result (λ fault. fault ≡ Fault.Damage) }
+    {
+        let Some(bytes) = found else {
+            return Ok(None);
+        };
+        let width = usize::from(self.width);
+        if bytes.len() != width + 6 {
+            return Err(Fault::Damage);
+        }
+        Ok(Some(PrimeEntry::read(bytes.as_slice(), width)))
+    }
+}
