@@ -7,7 +7,7 @@
 use anyhow::Context;
 use folder_shelf::{EmptyDisk, FolderShelf};
 use io_state::{Fault, FileName};
-use page_alloc::{FilePages, OpenFile};
+use page_alloc::{FilePages, PagedFile};
 use page_store::{MemShelf, Shelf};
 use pages::Pages;
 use std::env;
@@ -127,7 +127,7 @@ fn write_rounds<P: Pages>(
 fn in_memory(rt: &HostRuntime) -> anyhow::Result<()> {
     let mut shelf = MemShelf::new(rt.alloc());
     shelf.attach(&[name()])?;
-    let mut file = OpenFile::create(
+    let mut file = PagedFile::create(
         rt.alloc(),
         &mut shelf,
         0,
@@ -157,7 +157,7 @@ fn main(rt: HostRuntime) -> anyhow::Result<()> {
     let frames = NonZeroUsize::new(frames).context("FRAMES")?;
     let mut shelf: FolderShelf<HostRuntime, EmptyDisk> = FolderShelf::new(rt, rt.alloc(), folder);
     shelf.attach(&[name()])?;
-    let mut file = OpenFile::create(rt.alloc(), &mut shelf, 0, frames, u32::MAX, &[0; 4096])?;
+    let mut file = PagedFile::create(rt.alloc(), &mut shelf, 0, frames, u32::MAX, &[0; 4096])?;
     let mut pages = FilePages {
         file: &mut file,
         shelf: &mut shelf,

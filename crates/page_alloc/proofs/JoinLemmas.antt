@@ -19,8 +19,8 @@ use Rattle.pages.specs.Cause.{IsCaused}
 use Rattle.page_store.specs.OpenLaws.{open_kept}
 use Rattle.page_store.specs.ShelfState.{unit_file}
 use Rattle.page_store.specs.Gate.{AllOpen}
-use Rattle.page_alloc.specs.declared.open_file.OpenFile.{OpenFile}
-use Rattle.page_alloc.specs.OpenFile.{IsOpenOver}
+use Rattle.page_alloc.specs.declared.paged_file.PagedFile.{PagedFile}
+use Rattle.page_alloc.specs.PagedFile.{IsOpenOver}
 use Rattle.page_alloc.specs.Steps.{Goes, Reads, state_of}
 use Rattle.page_alloc.proofs.ChainLemmas.{in_use, use_kept, same_chain}
 
@@ -90,7 +90,7 @@ pub over_after : (d e : Cache) (t : ShelfState) → SameFrames d e → IsOver d 
 over_after d e t same over = over_same d e t same.store same.frames over
 
 -- a page of the cache is lent, or could not be loaded
-pub reads_after : (a b : OpenFile) (s t : ShelfState) (i j : ℕ) → b.pager ≡ a.pager → b.changed ≡ a.changed → KeepsPages a.cache b.cache s t → Looks a.cache b.cache s t → i ≤ j → Reads a b s t i j
+pub reads_after : (a b : PagedFile) (s t : ShelfState) (i j : ℕ) → b.pager ≡ a.pager → b.changed ≡ a.changed → KeepsPages a.cache b.cache s t → Looks a.cache b.cache s t → i ≤ j → Reads a b s t i j
 reads_after a b s t i j pager gate kept looks faults = record {
   goes = record {
     parts = parts_after a.cache b.cache s t i j kept.keeps kept.goes faults;
@@ -110,7 +110,7 @@ reads_after a b s t i j pager gate kept looks faults = record {
         (open_kept (unit_file s a.cache.store.unit) (unit_file t a.cache.store.unit) (r.gate changed (kept.goes.others.honest honest)) kept.goes.quiet)
 
 -- pages were changed behind an open gate
-pub goes_after : (a b : OpenFile) (s t : ShelfState) (i j : ℕ) → a.changed ≡ true → b.changed ≡ a.changed → PartsGo a.cache b.cache s t i j → IsJoined b.cache b.pager t → Goes a b s t i j
+pub goes_after : (a b : PagedFile) (s t : ShelfState) (i j : ℕ) → a.changed ≡ true → b.changed ≡ a.changed → PartsGo a.cache b.cache s t i j → IsJoined b.cache b.pager t → Goes a b s t i j
 goes_after a b s t i j changed gate parts joined = record {
   parts = parts;
   gate = gate;

@@ -1,6 +1,7 @@
 -- The closing of a file that was changed.
-use Rattle.std.proofs.Common.{suc, ◌≡◌, ◌⊎◌, inl, inr, ℕ, ◌≤◌, ltb, List, [], ◌∷◌, ◌++◌, length, take, drop, Option, Some, None, refl, sym, ◌∙◌, ap, subst, arith, IsTrue}
+use Rattle.std.proofs.Common.{suc, ◌≡◌, ◌⊎◌, inl, inr, ℕ, ◌*◌, ◌≤◌, ltb, List, [], ◌∷◌, ◌++◌, length, take, drop, Option, Some, None, refl, sym, ◌∙◌, ap, subst, arith, IsTrue}
 use Rattle.std.proofs.lemmas.Bool.{and_parts, ltb-true}
+use Rattle.std.proofs.lemmas.List.{length-drop}
 use Rattle.page_store.specs.File.{File, content}
 use Rattle.page_store.specs.Images.{IsSettled}
 use Rattle.page_store.specs.Moments.{Throughout, Quiet}
@@ -14,7 +15,7 @@ use Rattle.page_cache.specs.declared.frame.Frame.{Frame}
 use Rattle.page_cache.specs.declared.cache.Cache.{Cache}
 use Rattle.page_cache.specs.Cached.{frame_of, pages_of, is_counted, IsOver, IsClean}
 use Rattle.page_cache.proofs.HeaderLemmas.{gate_page}
-use Rattle.page_alloc.specs.OpenFile.{IsClosedWith, ClosedWith, Closes}
+use Rattle.page_alloc.specs.PagedFile.{IsClosedWith, ClosedWith, Closes}
 
 abbrev Ends : List ℕ → Cache → ShelfState → Option (List ℕ) → Type 0
 Ends header cache shelf c = IsRefused c ⊎ ((bytes : List ℕ) × (c ≡ Some bytes) × IsClosedWith header cache shelf bytes)
@@ -38,10 +39,11 @@ clean_shows c s k over clean honest counted = go (frame_of c k) refl
     go (Some frame) is = rw is (over.clean honest k frame is (clean.clean k frame is))
 
 module _ (header : List ℕ) (c d : Cache) (s t : ShelfState) (f before g h : File) (whole : 1 ≤ length (content before)) (written : page_of (content g) 0 ≡ page_over 0 (content before) header)
-    (pages : (k : ℕ) → IsTrue (is_counted c k) → page_of (content g) k ≡ pages_of c s k) where
+    (pages : (k : ℕ) → IsTrue (is_counted c k) → page_of (content g) k ≡ pages_of c s k) (long : 4096 * c.store.pages ≤ length (content g)) where
   pub closed_with : IsClosedWith header c s (with_gate 67 (content g))
   closed_with = record {
     closed = refl;
+    long = omega (arith, long, length-drop 1 (content g));
     header = header_closed 4095 (content before) header (content g) whole written;
     pages = λ k counted. let low = and_parts (ltb 0 k) (ltb k c.store.pages) counted in gate_page 67 (content g) k (ltb-true 0 k low.0) ∙ pages k counted;
   }
@@ -80,6 +82,9 @@ module _ (header : List ℕ) (c d : Cache) (s t u v : ShelfState) (store : d.sto
   here : page_of (content (unit_file u c.store.unit)) 0 ≡ page_over 0 (content (unit_file t c.store.unit)) header
   here = subst (λ n. page_of (content (unit_file u n)) 0 ≡ page_over 0 (content (unit_file t n)) header) unit written
 
+  long : 4096 * c.store.pages ≤ length (content (unit_file u c.store.unit))
+  long = subst (λ x. 4096 * x.pages ≤ length (content (unit_file u x.unit))) store (let l = (over2.pages h2).long in omega arith)
+
   quiet : Quiet (unit_file s c.store.unit) (unit_file u c.store.unit)
   quiet = quiet_then (unit_file s c.store.unit) (unit_file t c.store.unit) (unit_file u c.store.unit) q1 (subst (λ n. Quiet (unit_file t n) (unit_file u n)) unit q2)
 
@@ -87,12 +92,12 @@ module _ (header : List ℕ) (c d : Cache) (s t u v : ShelfState) (store : d.sto
   all_closes images =
       let refused : AllRefused (unit_file u c.store.unit) = all_refused (unit_file u c.store.unit) (open_kept (unit_file s c.store.unit) (unit_file u c.store.unit) all quiet) in
       let images_here = subst (λ n. AllRefused (unit_file u n) → Throughout (ClosedOrRefused (unit_file u n)) (unit_file u n) (unit_file v n)) unit images in
-      closes header c d s t (unit_file s c.store.unit) (unit_file t c.store.unit) (unit_file u c.store.unit) (unit_file v c.store.unit) whole here pages all quiet (images_here refused)
+      closes header c d s t (unit_file s c.store.unit) (unit_file t c.store.unit) (unit_file u c.store.unit) (unit_file v c.store.unit) whole here pages long all quiet (images_here refused)
 
   pub all_closed : (content (unit_file v d.store.unit) ≡ with_gate 67 (content (unit_file u d.store.unit))) × IsSettled (unit_file v d.store.unit) → ClosedWith header c s (unit_file v c.store.unit)
   all_closed end =
       let there = subst (λ n. (content (unit_file v n) ≡ with_gate 67 (content (unit_file u n))) × IsSettled (unit_file v n)) unit end in
-      is_closed header c d s t (unit_file s c.store.unit) (unit_file t c.store.unit) (unit_file u c.store.unit) (unit_file v c.store.unit) whole here pages there.0 there.1
+      is_closed header c d s t (unit_file s c.store.unit) (unit_file t c.store.unit) (unit_file u c.store.unit) (unit_file v c.store.unit) whole here pages long there.0 there.1
 
 -- a quiet step behind a gate that was opened
 pub made_quietly : (f g h : File) → Throughout (WasOrRefused f) f g → AllOpen g → Quiet g h → Throughout (WasOrRefused f) f h

@@ -3,6 +3,6 @@ pub mod Chain
 pub mod Joining
 pub mod Taking
 pub mod HeaderNumbers
-pub mod OpenFile
+pub mod PagedFile
 pub mod Steps
 pub mod StepLaws

@@ -10,9 +10,9 @@ use Rattle.page_store.specs.ShelfState.{ShelfState, unit_name, unit_file, KeepsO
 use Rattle.page_cache.specs.declared.cache.Cache.{Cache}
 use Rattle.page_cache.specs.Quietly.{GoesQuietly}
 use Rattle.page_cache.specs.QuietLaws.{goes_nowhere, goes_then}
-use Rattle.page_alloc.specs.declared.open_file.OpenFile.{OpenFile}
+use Rattle.page_alloc.specs.declared.paged_file.PagedFile.{PagedFile}
 use Rattle.page_alloc.specs.Joining.{PartsGo, HasFailed}
-use Rattle.page_alloc.specs.OpenFile.{IsOpenOver, StandsOrRefused}
+use Rattle.page_alloc.specs.PagedFile.{IsOpenOver, StandsOrRefused}
 use Rattle.page_alloc.specs.Steps.{Goes, Reads, Moves}
 
 pub parts_stay : (c : Cache) (s : ShelfState) (n : ℕ) → PartsGo c c s s n n
@@ -33,10 +33,10 @@ failed_before i j k p q = omega arith
 pub failed_after : (i j k : ℕ) → i ≤ j → HasFailed j k → HasFailed i k
 failed_after i j k p q = omega arith
 
-pub goes_nothing : (a : OpenFile) (s : ShelfState) (n : ℕ) → Goes a a s s n n
+pub goes_nothing : (a : PagedFile) (s : ShelfState) (n : ℕ) → Goes a a s s n n
 goes_nothing a s n = record { parts = parts_stay a.cache s n; gate = refl; ready = λ r. r; still = λ r shut. refl }
 
-pub goes_on : (a b c : OpenFile) (x y z : ShelfState) (i j k : ℕ) → Goes a b x y i j → Goes b c y z j k → Goes a c x z i k
+pub goes_on : (a b c : PagedFile) (x y z : ShelfState) (i j k : ℕ) → Goes a b x y i j → Goes b c y z j k → Goes a c x z i k
 goes_on a b c x y z i j k ab bc = record {
   parts = parts_then a.cache b.cache c.cache x y z i j k ab.parts bc.parts;
   gate = bc.gate ∙ ab.gate;
@@ -44,10 +44,10 @@ goes_on a b c x y z i j k ab bc = record {
   still = λ r shut. bc.still (ab.ready r) (ab.gate ∙ shut) ∙ ab.still r shut;
 }
 
-pub reads_nothing : (a : OpenFile) (s : ShelfState) (n : ℕ) → Reads a a s s n n
+pub reads_nothing : (a : PagedFile) (s : ShelfState) (n : ℕ) → Reads a a s s n n
 reads_nothing a s n = record { goes = goes_nothing a s n; rests = record { live = λ h. refl; sound = λ h. refl; available = refl; honest = λ h. h } }
 
-pub reads_on : (a b c : OpenFile) (x y z : ShelfState) (i j k : ℕ) → Reads a b x y i j → Reads b c y z j k → Reads a c x z i k
+pub reads_on : (a b c : PagedFile) (x y z : ShelfState) (i j k : ℕ) → Reads a b x y i j → Reads b c y z j k → Reads a c x z i k
 reads_on a b c x y z i j k ab bc = record {
   goes = goes_on a b c x y z i j k ab.goes bc.goes;
   rests = record {
@@ -69,7 +69,7 @@ refused_after f g all images c may = either c (throughout_last (WasOrRefused f) 
     either c (inl was) = all c was
     either c (inr refused) = refused
 
-pub goes_moves : (a b : OpenFile) (x y : ShelfState) (i j : ℕ) → Goes a b x y i j → Moves a b x y i j
+pub goes_moves : (a b : PagedFile) (x y : ShelfState) (i j : ℕ) → Goes a b x y i j → Moves a b x y i j
 goes_moves a b x y i j goes = record {
   unit = goes.parts.unit;
   others = goes.parts.quietly.others;
@@ -119,7 +119,7 @@ stands_then f g h gh (inl was) (inl (inr refused)) = inl (inr refused)
 stands_then f g h gh (inl (inl same)) (inl (inl again)) = inl (inl (again ∙ same))
 stands_then f g h gh (inl (inr refused)) (inl (inl again)) = inl (inr (subst IsRefused (sym again) refused))
 
-pub moves_on : (a b c : OpenFile) (x y z : ShelfState) (i j k : ℕ) → Moves a b x y i j → Moves b c y z j k → Moves a c x z i k
+pub moves_on : (a b c : PagedFile) (x y z : ShelfState) (i j k : ℕ) → Moves a b x y i j → Moves b c y z j k → Moves a c x z i k
 moves_on a b c x y z i j k ab bc = record {
   unit = bc.unit ∙ ab.unit;
   others = others_then unit x y z ab.others others;

@@ -4,28 +4,28 @@ use Rattle.page_store.specs.Moments.{Throughout}
 use Rattle.page_store.specs.Gate.{WasOrRefused}
 use Rattle.page_store.specs.ShelfState.{ShelfState, unit_file, KeepsOthers}
 use Rattle.pages.specs.PagesState.{PagesState, Rests}
-use Rattle.page_alloc.specs.declared.open_file.OpenFile.{OpenFile}
+use Rattle.page_alloc.specs.declared.paged_file.PagedFile.{PagedFile}
 use Rattle.page_alloc.specs.Joining.{pages_state, PartsGo}
-use Rattle.page_alloc.specs.OpenFile.{IsOpenOver, StandsOrRefused}
+use Rattle.page_alloc.specs.PagedFile.{IsOpenOver, StandsOrRefused}
 
 -- what the pages of an open file show
-abbrev pub state_of : OpenFile → ShelfState → PagesState
+abbrev pub state_of : PagedFile → ShelfState → PagesState
 state_of held shelf = pages_state held.cache held.pager shelf
 
 -- a call that leaves the gate: behind a closed one nothing is written, behind an open one each crash image begins as some image before did
-pub record Goes (old new : OpenFile) (before after : ShelfState) (failed fails : ℕ) : Type 0 where
+pub record Goes (old new : PagedFile) (before after : ShelfState) (failed fails : ℕ) : Type 0 where
   pub parts : PartsGo old.cache new.cache before after failed fails
   pub gate : new.changed ≡ old.changed
   pub ready : IsOpenOver old before → IsOpenOver new after
   pub still : IsOpenOver old before → old.changed ≡ false → after.file ≡ before.file
 
 -- a call that only reads
-pub record Reads (old new : OpenFile) (before after : ShelfState) (failed fails : ℕ) : Type 0 where
+pub record Reads (old new : PagedFile) (before after : ShelfState) (failed fails : ℕ) : Type 0 where
   pub goes : Goes old new before after failed fails
   pub rests : Rests (state_of old before) (state_of new after)
 
 -- a call that may open the gate: at each moment a crash leaves what it could leave before, or a refused file
-pub record Moves (old new : OpenFile) (before after : ShelfState) (failed fails : ℕ) : Type 0 where
+pub record Moves (old new : PagedFile) (before after : ShelfState) (failed fails : ℕ) : Type 0 where
   pub unit : new.cache.store.unit ≡ old.cache.store.unit
   pub others : KeepsOthers old.cache.store.unit before after
   pub faults : failed ≤ fails

@@ -1,6 +1,6 @@
 //! The pages of an open file, for the layers above.
 
-use crate::open_file::OpenFile;
+use crate::paged_file::PagedFile;
 use io_state::Fault;
 use page_store::Shelf;
 use pages::Pages;
@@ -8,7 +8,7 @@ use pages::Pages;
 /// An open file and the shelf that it is on, for one call.
 #[derive(Drop)]
 pub struct FilePages<'a, S: Shelf> {
-    pub file: &'a mut OpenFile,
+    pub file: &'a mut PagedFile,
     pub shelf: &'a mut S,
 }
 
@@ -16,7 +16,7 @@ impl<'a, S: Shelf> Pages for FilePages<'a, S> {
     ghost use Rattle.std.specs.Prelude.{◌≡◌, true, refl};
     ghost use Rattle.std.proofs.Common.{◌∙◌};
     ghost use Rattle.page_alloc.specs.Joining.{HasFailed as Failed};
-    ghost use Rattle.page_alloc.specs.OpenFile.{IsOpenOver};
+    ghost use Rattle.page_alloc.specs.PagedFile.{IsOpenOver};
     ghost use Rattle.page_alloc.specs.Steps.{state_of, Reads as ReadsOnly, Goes as GoesOn, Moves as MovesOn};
     ghost use Rattle.page_alloc.specs.StepLaws.{goes_nothing, goes_on, goes_moves, reads_nothing, reads_on, moves_on, failed_before, failed_after};
 

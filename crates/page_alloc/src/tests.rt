@@ -2,9 +2,9 @@
 ghost use Rattle.std.specs.Prelude.{◌≡◌, IfOk, IfSome, true};
 ghost use Rattle.page_store.specs.ShelfState.{HasUnit};
 ghost use Rattle.page_store.specs.MemShelves.{state_of};
-ghost use Rattle.page_alloc.specs.OpenFile.{IsOpenOver};
+ghost use Rattle.page_alloc.specs.PagedFile.{IsOpenOver};
 
-use crate::{FilePages, OpenFile, Pager};
+use crate::{FilePages, PagedFile, Pager};
 use io_state::{Fault, FileName};
 use page_store::{FuseShelf, Kind, MemShelf, Shelf, Store};
 use pages::Pages;
@@ -97,7 +97,7 @@ fn make<S: Shelf>(
     ensures unit { HasUnit (S.state shelf.new) 0 }
 {
     let mut header = [0; 4096];
-    let mut file = OpenFile::create(alloc, shelf, 0, frames, 1000, &header)?;
+    let mut file = PagedFile::create(alloc, shelf, 0, frames, 1000, &header)?;
     let right = fill(
         &mut FilePages {
             file: &mut file,
@@ -115,7 +115,7 @@ fn reopen<S: Shelf>(
     alloc: Global,
     shelf: &mut S,
     frames: NonZeroUsize,
-) -> Result<Option<OpenFile>, Fault>
+) -> Result<Option<PagedFile>, Fault>
     requires unit { HasUnit (S.state shelf.old) 0 }
     ensures unit { HasUnit (S.state shelf.new) 0 }
     ensures ready { IfOk result (λ found. IfSome found (λ file. IsOpenOver file (S.state shelf.new))) }
@@ -133,7 +133,7 @@ fn reopen<S: Shelf>(
     if header[0] != b'C' || pager.count == 0 || pager.count > store.pages {
         return Ok(None);
     }
-    Ok(Some(OpenFile::open(alloc, store, frames, pager)?))
+    Ok(Some(PagedFile::open(alloc, store, frames, pager)?))
 }
 
 fn find<S: Shelf>(alloc: Global, shelf: &mut S, frames: NonZeroUsize) -> Result<Found, Fault>
@@ -227,7 +227,7 @@ fn take_all<P: Pages>(pages: &mut P) -> Result<u32, Fault>
 #[test]
 fn a_limit_of_sixteen_leaves_twelve_pages_behind_four(rt: HostRuntime) -> Result<(), Fail> {
     let mut shelf = new_shelf(rt.alloc())?;
-    let mut file = OpenFile::create(rt.alloc(), &mut shelf, 0, frames(2), 16, &[9; 4096])?;
+    let mut file = PagedFile::create(rt.alloc(), &mut shelf, 0, frames(2), 16, &[9; 4096])?;
     let mut pages = FilePages {
         file: &mut file,
         shelf: &mut shelf,

@@ -1,0 +1,86 @@
+use Rattle.std.proofs.Common.{◌≡◌, ◌≤◌, ◌∙◌, sym, ap, subst, arith, IsTrue, inr}
+use Rattle.page_store.specs.OpenLaws.{opened_open, open_kept, all_refused}
+use Rattle.page_store.specs.ShelfState.{HasUnit, unit_file, IsQuiet}
+use Rattle.page_store.specs.Gate.{AllOpen}
+use Rattle.page_alloc.proofs.OpenLemmas.{made_quietly}
+use Rattle.page_alloc.proofs.JoinLemmas.{at_err_where}
+use Rattle.page_alloc.proofs.paged_file.PagedFile.create.Goals as goal
+
+pub returns-in_err-write_page-clause-images : goal.returns-in_err-write_page-clause-images
+returns-in_err-write_page-clause-images g c honest =
+    let unit = c.args.unit in
+    let s = g.S.Shelf.state c.args.shelf.now in
+    let t = g.S.Shelf.state c.make.new.shelf in
+    let u = g.S.Shelf.state c.write_page.new.shelf in
+    let before : IsTrue t.is_honest = sym c.write_page.ensures.only.honest ∙ honest in
+    let all = opened_open (unit_file s unit) (unit_file t unit) (c.in_ok-store.ensures.opens before) in
+    made_quietly (unit_file s unit) (unit_file t unit) (unit_file u unit) (c.make.ensures.images before) all (subst (λ n. IsQuiet n t u) c.in_ok-store.ensures.store.named c.write_page.ensures.quiet)
+
+pub returns-in_err-cache-clause-images : goal.returns-in_err-cache-clause-images
+returns-in_err-cache-clause-images g c honest =
+    let unit = c.args.unit in
+    let s = g.S.Shelf.state c.args.shelf.now in
+    let t = g.S.Shelf.state c.make.new.shelf in
+    let u = g.S.Shelf.state c.write_page.new.shelf in
+    let before : IsTrue t.is_honest = sym c.write_page.ensures.only.honest ∙ honest in
+    let all = opened_open (unit_file s unit) (unit_file t unit) (c.in_ok-store.ensures.opens before) in
+    made_quietly (unit_file s unit) (unit_file t unit) (unit_file u unit) (c.make.ensures.images before) all (subst (λ n. IsQuiet n t u) c.in_ok-store.ensures.store.named c.write_page.ensures.quiet)
+
+pub returns-clause-images : goal.returns-clause-images
+returns-clause-images g c honest =
+    let unit = c.args.unit in
+    let s = g.S.Shelf.state c.args.shelf.now in
+    let t = g.S.Shelf.state c.make.new.shelf in
+    let u = g.S.Shelf.state c.write_page.new.shelf in
+    let before : IsTrue t.is_honest = sym c.write_page.ensures.only.honest ∙ honest in
+    let all = opened_open (unit_file s unit) (unit_file t unit) (c.in_ok-store.ensures.opens before) in
+    made_quietly (unit_file s unit) (unit_file t unit) (unit_file u unit) (c.make.ensures.images before) all (subst (λ n. IsQuiet n t u) c.in_ok-store.ensures.store.named c.write_page.ensures.quiet)
+
+pub returns-clause-ready : goal.returns-clause-ready
+returns-clause-ready g c =
+    let unit = c.args.unit in
+    let s = g.S.Shelf.state c.args.shelf.now in
+    let t = g.S.Shelf.state c.make.new.shelf in
+    let u = g.S.Shelf.state c.write_page.new.shelf in
+    let w = c.write_page.new.self in
+    let added = c.in_ok-write_page.ensures.added in
+    let named : w.unit ≡ unit = ap (λ x. x.unit) added ∙ c.in_ok-store.ensures.store.named in
+    let more = ap (λ x. x.pages) added in
+    let same = c.in_ok-cache.ensures.store in
+    let one : 1 ≤ w.pages = omega arith in
+    let has : HasUnit u w.unit = subst (λ n. HasUnit u n) (sym named) (record { attached = rw (c.write_page.ensures.only.names, c.make.ensures.only.names) c.requires.unit.attached }) in
+    record {
+      joined = record {
+        over = c.in_ok-cache.ensures.over u has c.write_page.ensures.pages;
+        counted = rw c.fresh.ensures (subst (λ x. 1 ≤ x.pages) (sym same) one);
+        header = rw c.fresh.ensures (omega arith);
+      };
+      clean = λ e. absurd (cc);
+      gate = λ _ honest.
+          let before : IsTrue t.is_honest = sym c.write_page.ensures.only.honest ∙ honest in
+          let all = opened_open (unit_file s unit) (unit_file t unit) (c.in_ok-store.ensures.opens before) in
+          let kept = open_kept (unit_file t unit) (unit_file u unit) all (subst (λ n. IsQuiet n t u) c.in_ok-store.ensures.store.named c.write_page.ensures.quiet) in
+          subst (λ n. AllOpen (unit_file u n)) (sym (ap (λ x. x.unit) same ∙ named)) kept;
+    }
+
+pub returns-in_err-write_page-clause-failed : goal.returns-in_err-write_page-clause-failed
+returns-in_err-write_page-clause-failed g c =
+    let unit = c.args.unit in
+    let s = g.S.Shelf.state c.args.shelf.now in
+    let t = g.S.Shelf.state c.make.new.shelf in
+    let u = g.S.Shelf.state c.write_page.new.shelf in
+    at_err_where _ _ _ (λ honest.
+    let before : IsTrue t.is_honest = sym c.write_page.ensures.only.honest ∙ honest in
+    let all = opened_open (unit_file s unit) (unit_file t unit) (c.in_ok-store.ensures.opens before) in
+    inr (all_refused (unit_file u unit) (open_kept (unit_file t unit) (unit_file u unit) all (subst (λ n. IsQuiet n t u) c.in_ok-store.ensures.store.named c.write_page.ensures.quiet))))
+
+pub returns-in_err-cache-clause-failed : goal.returns-in_err-cache-clause-failed
+returns-in_err-cache-clause-failed g c =
+    let unit = c.args.unit in
+    let s = g.S.Shelf.state c.args.shelf.now in
+    let t = g.S.Shelf.state c.make.new.shelf in
+    let u = g.S.Shelf.state c.write_page.new.shelf in
+    at_err_where _ _ _ (λ honest.
+    let before : IsTrue t.is_honest = sym c.write_page.ensures.only.honest ∙ honest in
+    let all = opened_open (unit_file s unit) (unit_file t unit) (c.in_ok-store.ensures.opens before) in
+    inr (all_refused (unit_file u unit) (open_kept (unit_file t unit) (unit_file u unit) all (subst (λ n. IsQuiet n t u) c.in_ok-store.ensures.store.named c.write_page.ensures.quiet))))

@@ -1,0 +1,45 @@
+-- A file that is open, and what its making and its closing leave.
+use Rattle.std.specs.Prelude.{◌≡◌, ◌⊎◌, ℕ, ◌*◌, ◌≤◌, List, ◌∷◌, length, drop, true, false, IsTrue, Some}
+use Rattle.page_store.specs.File.{File, content}
+use Rattle.page_store.specs.Images.{IsSettled}
+use Rattle.page_store.specs.Moments.{Throughout}
+use Rattle.page_store.specs.Gate.{IsClosed, IsRefused, AllOpen, AllRefused, SameOrRefused}
+use Rattle.page_store.specs.Pages.{page_of}
+use Rattle.page_store.specs.ShelfState.{ShelfState, unit_file}
+use Rattle.page_cache.specs.declared.cache.Cache.{Cache}
+use Rattle.page_cache.specs.Cached.{pages_of, is_counted, IsClean}
+use Rattle.page_alloc.specs.declared.paged_file.PagedFile.{PagedFile}
+use Rattle.page_alloc.specs.Joining.{IsJoined}
+
+-- calls may be made, and the gate is open on the disk where a change was begun; where none was, no page was changed
+pub record IsOpenOver (held : PagedFile) (shelf : ShelfState) : Type 0 where
+  pub joined : IsJoined held.cache held.pager shelf
+  pub clean : held.changed ≡ false → IsClean held.cache
+  pub gate : held.changed ≡ true → IsTrue shelf.is_honest → AllOpen (unit_file shelf held.cache.store.unit)
+
+-- the pages of this unit, of which none but the header is counted, behind an open gate
+pub record IsMade (held : PagedFile) (unit limit : ℕ) : Type 0 where
+  pub unit_is : held.cache.store.unit ≡ unit
+  pub pager : held.pager ≡ record { count = 1; first = 0; free = 0; limit = limit }
+  pub asked : held.cache.asked ≡ 0
+  pub changed : held.changed ≡ true
+
+-- what reads give is as it was, or is refused, or the file is refused after every crash
+abbrev pub StandsOrRefused : File → File → Type 0
+StandsOrRefused old new = SameOrRefused old new ⊎ AllRefused new
+
+-- these bytes have a closed gate, this header, and the pages that the cache showed, each of them whole
+pub record IsClosedWith (page : List ℕ) (cache : Cache) (shelf : ShelfState) (bytes : List ℕ) : Type 0 where
+  pub closed : IsClosed bytes
+  pub long : 4096 * cache.store.pages ≤ length bytes
+  pub header : page_of bytes 0 ≡ 67 ∷ drop 1 page
+  pub pages : (k : ℕ) → IsTrue (is_counted cache k) → page_of bytes k ≡ pages_of cache shelf k
+
+-- the file has them, and a crash leaves nothing else
+pub record ClosedWith (header : List ℕ) (cache : Cache) (shelf : ShelfState) (file : File) : Type 0 where
+  pub bytes : IsClosedWith header cache shelf (content file)
+  pub settled : IsSettled file
+
+-- at each moment a crash leaves a refused file, or such bytes
+abbrev pub Closes : List ℕ → Cache → ShelfState → File → File → Type 0
+Closes header cache shelf old new = Throughout (λ c. IsRefused c ⊎ ((bytes : List ℕ) × (c ≡ Some bytes) × IsClosedWith header cache shelf bytes)) old new

@@ -1,0 +1,134 @@
+//! A file that is open: its cache, its free pages, and its gate.
+ghost use Rattle.std.specs.Prelude.{◌≡◌, ℕ, ◌<◌, ◌≤◌, [], true, false, IsTrue, IfOk, OnOk, OnErr, if◌then◌else◌};
+ghost use Rattle.page_store.specs.File.{content};
+ghost use Rattle.page_store.specs.Moments.{Throughout};
+ghost use Rattle.page_store.specs.Gate.{WasOrRefused};
+ghost use Rattle.page_store.specs.Pages.{page_of, HasPages};
+ghost use Rattle.page_store.specs.ShelfState.{ShelfState, WhereHonest, FileGoes, HasUnit, unit_file, KeepsOthers, HasCause};
+ghost use Rattle.page_cache.specs.Cached.{pages_of, is_counted};
+ghost use Rattle.page_cache.specs.Calls.{ShowsSame};
+ghost use Rattle.page_alloc.specs.PagedFile.{IsOpenOver, IsMade, StandsOrRefused, Closes, ClosedWith};
+ghost use Rattle.page_alloc.specs.Steps.{Moves};
+
+use crate::pager::Pager;
+use io_state::Fault;
+use page_cache::Cache;
+use page_store::{Shelf, Store};
+use std::alloc::Global;
+use std::num::NonZeroUsize;
+
+/// The cache and the free pages of a file, and whether its gate was opened.
+#[derive(Drop)]
+pub struct PagedFile {
+    pub cache: Cache,
+    pub pager: Pager,
+    pub changed: bool,
+}
+
+impl PagedFile {
+    /// Makes the file, or makes it anew, with this header and no other page. Its gate is open. A fault leaves the
+    /// file as it was, or one that is refused.
+    pub fn create<S: Shelf>(
+        alloc: Global,
+        shelf: &mut S,
+        unit: usize,
+        frames: NonZeroUsize,
+        limit: u32,
+        header: &[u8; 4096],
+    ) -> Result<PagedFile, Fault>
+        requires unit { HasUnit (S.state shelf.old) unit }
+        ensures made { IfOk result (λ held. IsMade held unit limit) }
+        ensures ready { IfOk result (λ held. IsOpenOver held (S.state shelf.new)) }
+        // At each moment a crash leaves what it could leave before, or a refused file.
+        ensures images { let old = unit_file (S.state shelf.old) unit in
+            IsTrue (S.state shelf.new).is_honest →
+            Throughout (WasOrRefused old) old (unit_file (S.state shelf.new) unit) }
+        ensures failed { OnErr result (IsTrue (S.state shelf.new).is_honest →
+            FileGoes unit (S.state shelf.old) (S.state shelf.new) StandsOrRefused) }
+        ensures others { KeepsOthers unit (S.state shelf.old) (S.state shelf.new) }
+        ensures cause { HasCause (S.fault_count shelf.old) (S.fault_count shelf.new) result }
+    {
+        let mut store = Store::make(shelf, unit)?;
+        store.write_page(shelf, 0, header)?;
+        let cache = Cache::new(alloc, store, frames)?;
+        Ok(PagedFile {
+            cache,
+            pager: Pager::fresh(limit),
+            changed: true,
+        })
+    }
+
+    /// The pages of a file that is there, of which the pager was read from its header. Nothing is read, and its gate
+    /// stays as it is. Memory is the only fault.
+    pub fn open(
+        alloc: Global,
+        store: Store,
+        frames: NonZeroUsize,
+        pager: Pager,
+    ) -> Result<PagedFile, Fault>
+        requires counted { pager.count ≤ store.pages }
+        requires header { 0 < pager.count }
+        ensures pager { IfOk result (λ held. held.pager ≡ pager) }
+        ensures changed { IfOk result (λ held. held.changed ≡ false) }
+        ensures store { IfOk result (λ held. held.cache.store ≡ store) }
+        ensures asked { IfOk result (λ held. held.cache.asked ≡ 0) }
+        ensures ready { IfOk result (λ held. (shelf : ShelfState) → HasUnit shelf store.unit →
+            WhereHonest shelf store.unit (HasPages store.pages) → IsOpenOver held shelf) }
+        // It shows the pages of the file.
+        ensures pages { IfOk result (λ held. (shelf : ShelfState) (n : ℕ) → pages_of held.cache shelf n
+            ≡ (if is_counted held.cache n then page_of (content (unit_file shelf store.unit)) n else [])) }
+        ensures memory { OnErr result (result ≡ Err Fault.Memory) }
+    {
+        Ok(PagedFile {
+            cache: Cache::new(alloc, store, frames)?,
+            pager,
+            changed: false,
+        })
+    }
+
+    /// Opens the gate before the first change; later it does nothing. A fault leaves all pages as they were,
+    /// and the file as it was or refused; the call may be made again.
+    pub fn begin<S: Shelf>(&mut self, shelf: &mut S) -> Result<(), Fault>
+        requires ready { IsOpenOver self.old (S.state shelf.old) }
+        ensures begun { OnOk result (self.new ≡ record self.old { changed = true }) }
+        ensures kept { OnErr result (self.new ≡ self.old) }
+        ensures same { ShowsSame self.old.cache self.new.cache (S.state shelf.old) (S.state shelf.new) }
+        ensures nothing { self.old.changed ≡ true → (S.state shelf.new).file ≡ (S.state shelf.old).file }
+        ensures moves { Moves self.old self.new (S.state shelf.old) (S.state shelf.new)
+            (S.fault_count shelf.old) (S.fault_count shelf.new) }
+        ensures cause { HasCause (S.fault_count shelf.old) (S.fault_count shelf.new) result }
+    {
+        if self.changed {
+            return Ok(());
+        }
+        self.cache.begin_change(shelf)?;
+        self.changed = true;
+        Ok(())
+    }
+
+    /// Writes what was changed, and this header, and closes the gate. Where nothing was changed, it does nothing.
+    /// After a fault the file is refused, or it is closed.
+    pub fn close<S: Shelf>(&mut self, shelf: &mut S, header: &[u8; 4096]) -> Result<(), Fault>
+        requires ready { IsOpenOver self.old (S.state shelf.old) }
+        ensures nothing { self.old.changed ≡ false → (S.state shelf.new).file ≡ (S.state shelf.old).file }
+        ensures closed { OnOk result (IsTrue (S.state shelf.new).is_honest → self.old.changed ≡ true →
+            ClosedWith header.now self.old.cache (S.state shelf.old)
+            (unit_file (S.state shelf.new) self.old.cache.store.unit)) }
+        // At each moment a crash leaves a refused file, or that which is closed at the end.
+        ensures images { let old = unit_file (S.state shelf.old) self.old.cache.store.unit in
+            IsTrue (S.state shelf.new).is_honest → self.old.changed ≡ true →
+            Closes header.now self.old.cache (S.state shelf.old) old
+            (unit_file (S.state shelf.new) self.old.cache.store.unit) }
+        ensures others { KeepsOthers self.old.cache.store.unit (S.state shelf.old) (S.state shelf.new) }
+        ensures cause { HasCause (S.fault_count shelf.old) (S.fault_count shelf.new) result }
+    {
+        if !self.changed {
+            return Ok(());
+        }
+        self.cache.flush(shelf)?;
+        self.cache.write_header(shelf, header)?;
+        self.cache.finish(shelf)?;
+        self.changed = false;
+        Ok(())
+    }
+}
