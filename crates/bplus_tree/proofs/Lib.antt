@@ -20,4 +20,3 @@ pub mod GrowLemmas
 pub mod InsertLemmas
 pub mod RaiseLemmas
 pub mod RootLemmas
-pub mod HeightLemmas

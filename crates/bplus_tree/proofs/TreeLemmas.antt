@@ -22,7 +22,7 @@ pub removed_absent : (before after : PageMap) (old : Tree) (key : List ℕ) (ent
 removed_absent before after old key entries own stands h =
     (subst (λ (es : List (List ℕ)). entry_of old.shape.width key es ≡ None) stands.has h.0, h.1, refl)
 
-pub removed_some : (before mid late : PageMap) (is_sound : Type 0) (old : Tree) (key : List ℕ) (entries : List (List ℕ)) (own : List ℕ) (stands : Stands old before entries own) (entry : ArrayVec ℕ) (short : Bool) (base : Base) (n changes : ℕ) (low : base.levels < 64) → n ≡ old.count - 1
+pub removed_some : (before mid late : PageMap) (is_sound : Type 0) (old : Tree) (key : List ℕ) (entries : List (List ℕ)) (own : List ℕ) (stands : Stands old before entries own) (entry : ArrayVec ℕ) (short : Bool) (base : Base) (n changes : ℕ) (low : base.levels < 20) → n ≡ old.count - 1
     → HasRemovedBelow old.shape before mid old.levels old.root None None key stands.value (Taken entry short) → Settles old.shape mid late is_sound old.levels old.root (Ok base)
     → HasRemoved before late old (record { shape = old.shape; root = base.root; levels = base.levels; count = n; changes = changes; low = low }) key entries own (Some entry) × is_sound
 removed_some before mid late is_sound old key entries own stands entry short base n changes low is_n h settles =
@@ -50,7 +50,7 @@ removed_some before mid late is_sound old key entries own stands entry short bas
 not_free : (pages : PageMap) (m n : ℕ) → pages n ≡ None → IsSome (pages m) → m ≢ n
 not_free pages m n free some same = let there : IsSome (pages m) = some in let none : pages m ≡ None = ap pages same ∙ free in cc
 
-pub new_tree : (shape : Shape) (before mid after : PageMap) (n : ℕ) (bytes : List ℕ) (low : 0 < 64) → Takes before mid n bytes → HasStarted shape mid after n
+pub new_tree : (shape : Shape) (before mid after : PageMap) (n : ℕ) (bytes : List ℕ) (low : 0 < 20) → Takes before mid n bytes → HasStarted shape mid after n
     → IsNew shape before after (record { shape = shape; root = n; levels = 0; count = 0; changes = 0; low = low })
 new_tree shape before mid after n bytes low takes started = record {
   changed = record {

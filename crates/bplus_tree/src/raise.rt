@@ -22,7 +22,7 @@ pub fn raise<P: Pages>(
     levels: u8,
     up: Option<Separator>,
 ) -> Result<Base, Fault>
-    requires low { levels < 63 }
+    requires low { levels < 19 }
     requires width { HasWidth shape.width up }
     requires ready { P.IsReady pages.old }
     requires open { P.CanChange pages.old }

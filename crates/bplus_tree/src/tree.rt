@@ -1,6 +1,6 @@
 //! A tree, from its root.
 
-ghost use Rattle.std.specs.Prelude.{◌≡◌, ◌≢◌, ◌+◌, ◌*◌, ◌<◌, ◌≤◌, ℕ, IsTrue, IsSome, IfErr, IfOk, Ok, Err, None, length, take};
+ghost use Rattle.std.specs.Prelude.{◌≡◌, ◌≢◌, ◌+◌, ◌*◌, ◌<◌, ◌≤◌, ℕ, IsTrue, IsSome, IfErr, IfOk, OnOk, Ok, Err, None, length, take};
 ghost use Rattle.pages.specs.Cause.{IsCaused};
 
 use crate::crown::settle;
@@ -26,7 +26,7 @@ pub struct Tree {
     pub levels: u8,
     pub count: u64,
     pub changes: u64,
-    ghost low: { levels < 64 },
+    ghost low: { levels < 20 },
 }
 
 impl Tree {
@@ -41,6 +41,7 @@ impl Tree {
             → Makes shape (P.state pages.old).live (P.state pages.new).live (IsTrue (P.state pages.new).is_sound) result }
         ensures shape { IfOk result (λ tree. (tree.shape ≡ shape) × (tree.levels ≡ 0)) }
         ensures few { (P.state pages.old).available ≤ (P.state pages.new).available + 1 }
+        ensures one { OnOk result ((P.state pages.new).available + 1 ≡ (P.state pages.old).available) }
         ensures cause { IfErr result (IsCaused (P.HasFailed pages.old pages.new) ((P.state pages.old).available ≡ 0)) }
         ensures asked { (P.state pages.new).asked ≤ (P.state pages.old).asked + 2 }
         ensures goes { P.Goes pages.old pages.new }
@@ -132,8 +133,8 @@ impl Tree {
     /// Puts an entry in where its key is not there, and answers none. Where the key is there, its
     /// entry is answered, and nothing is changed.
     ///
-    /// Full where no page is available; Memory also where as many entries as a number of 64 bits
-    /// can count are there. After a fault nothing is known of the tree.
+    /// Full where no page is available; Memory also where the tree has 20 levels, which no file of 2^32 pages comes to, or as many entries
+    /// as a number of 64 bits can count. After a fault nothing is known of the tree.
     pub fn insert<P: Pages>(&mut self, pages: &mut P, entry: &[u8]) -> Result<Option<Entry>, Fault>
         requires size { length entry.now ≡ self.old.shape.entry }
         requires ready { P.IsReady pages.old }
@@ -149,10 +150,7 @@ impl Tree {
         ensures asked { (P.state pages.new).asked ≤ (P.state pages.old).asked + 8 * (self.old.levels + 2) }
         ensures goes { P.Goes pages.old pages.new }
     {
-        if self.levels >= 63 {
-            return Err(Fault::Damage);
-        }
-        if self.count == u64::MAX {
+        if self.levels >= 19 || self.count == u64::MAX {
             return Err(Fault::Memory);
         }
         match insert_below(pages, self.shape, self.root, self.levels, entry)? {

@@ -4,16 +4,8 @@ use Rattle.bplus_tree.specs.Insert.{HasInserted as HasInsertedBelow}
 use Rattle.bplus_tree.specs.Edits.{with_entry}
 use Rattle.bplus_tree.specs.Tree.{entries_of}
 use Rattle.bplus_tree.proofs.RemoveLemmas.{fails}
-use Rattle.bplus_tree.proofs.HeightLemmas.{not_high}
 use Rattle.bplus_tree.proofs.RootLemmas.{inserted_none, inserted_one}
 use Rattle.bplus_tree.proofs.tree.Tree.insert.Goals as goal
-
-pub returns-then-self-ge63-clause-inserted : goal.returns-then-self-ge63-clause-inserted
-returns-then-self-ge63-clause-inserted g c honest sound entries own stands =
-    let old = c.args.self.now in
-    let counted : old.count ≡ length (entries_of old.levels stands.value) = stands.count ∙ ap length (sym stands.has) in
-    let fits : old.count < 18446744073709551616 = omega (arith, c.fits-self) in
-    absurd (not_high old.shape (g.P.Pages.state c.args.pages.now).live old.levels old.root stands.value stands.whole (omega arith) c.if-self-ge63.true)
 
 pub returns-in_err-found-clause-inserted : goal.returns-in_err-found-clause-inserted
 returns-in_err-found-clause-inserted g c honest sound entries own stands =
