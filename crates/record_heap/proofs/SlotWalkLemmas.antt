@@ -14,7 +14,7 @@ use Rattle.record_heap.specs.Slot.{room, size, head, record_length, used_in, beh
 use Rattle.record_heap.specs.Slots.{slot_at}
 use Rattle.record_heap.specs.Chain.{IsOneOf, IsOf, IsFreeChain, Keeps}
 use Rattle.record_heap.specs.Calls.{slot_of, used_at, behind_at}
-use Rattle.record_heap.specs.PageList.{pages_in}
+use Rattle.page_marks.specs.PageList.{pages_in}
 use Rattle.record_heap.specs.Walk.{is_one_of, slots_of, marked_slot, IsUsedAt, IsFreeAt, SlotMarked, PageMarked, AreMarked, IsFreePath, SlotsWalked, TakesMark}
 use Rattle.record_heap.proofs.ChainLemmas.{each_weaker, at_place, place_made, some_none}
 use Rattle.record_heap.proofs.StandLemmas.{each_of, slot_there}

@@ -1,27 +1,18 @@
 -- A walk goes one step on, and what it finds at its end.
-use Rattle.std.proofs.Common.{◌≡◌, ◌≢◌, ℕ, ◌≤◌, Bool, true, false, List, [], ◌∷◌, ◌++◌, Option, Some, refl, ap, sym, subst, ◌∙◌, arith}
+use Rattle.std.proofs.Common.{◌≡◌, ◌≢◌, ℕ, ◌≤◌, Bool, true, false, List, [], ◌∷◌, ◌++◌, Option, Some, refl, sym, subst, arith}
 use Rattle.page_bytes.specs.Each.{Each}
 use Rattle.pages.specs.PageMap.{PageMap}
-use Rattle.pages.specs.Owners.{AreApart}
 use Rattle.record_heap.specs.declared.shape.Place.{Place}
 use Rattle.record_heap.specs.Chain.{AreOnce}
 use Rattle.record_heap.specs.Calls.{IsHeapAt}
-use Rattle.record_heap.specs.Marks.{Marks}
+use Rattle.page_marks.specs.Marks.{Marks}
+use Rattle.page_marks.proofs.MarksLemmas.{marks_on}
 use Rattle.record_heap.specs.Standing.{IsPageChain}
 use Rattle.record_heap.specs.Walk.{IsPagePath, PagesWalked, IsFreePath}
-use Rattle.record_heap.proofs.ChainLemmas.{each_weaker}
 
 pub each_more : {X : Type 0} (P : X → Type 0) (xs : List X) (x : X) → Each P xs → P x → Each P (xs ++ x ∷ [])
 each_more P [] x h p = (p, tt)
 each_more P (y ∷ ys) x h p = (h.0, each_more P ys x h.1 p)
-
-pub each_fewer : {X : Type 0} (P : X → Type 0) (xs : List X) (x : X) → Each P (xs ++ x ∷ []) → Each P xs × P x
-each_fewer P [] x h = (tt, h.0)
-each_fewer P (y ∷ ys) x h = let r = each_fewer P ys x h.1 in ((h.0, r.0), r.1)
-
-apart_more : (xs : List ℕ) (n : ℕ) → AreApart xs → Each (λ m. m ≢ n) xs → AreApart (xs ++ n ∷ [])
-apart_more [] n apart other = (tt, tt)
-apart_more (m ∷ ms) n apart other = (each_more (λ k. m ≢ k) ms n apart.0 other.0, apart_more ms n apart.1 other.1)
 
 pub once_more : (ps : List Place) (p : Place) → AreOnce ps → Each (λ q. q ≢ p) ps → AreOnce (ps ++ p ∷ [])
 once_more [] p once other = (tt, tt)
@@ -39,29 +30,13 @@ free_path_more behind first (q ∷ qs) p next path at = (path.0, (path.1.0, path
 pub clash : (b : Bool) → b ≡ true → b ≡ false → ⊥
 clash b on off = cc (on, off)
 
--- one more page was reached
-marks_more : (a b c : ℕ → Bool) (xs : List ℕ) (n : ℕ) → Marks a b xs → Marks b c (n ∷ []) → Marks a c (xs ++ n ∷ [])
-marks_more a b c xs n one two =
-    let off = each_weaker (λ m. b m ≡ true) (λ m. m ≢ n) (λ m on same. clash (b m) on (ap b same ∙ two.fresh.0)) xs one.set in
-    let out = each_weaker (λ m. m ≢ n) (λ m. n ≢ m) (λ m d same. d (sym same)) xs off in
-    record {
-      fresh = each_more (λ m. a m ≡ false) xs n one.fresh (sym (one.others n out) ∙ two.fresh.0);
-      apart = apart_more xs n one.apart off;
-      set = each_more (λ m. c m ≡ true) xs n (kept xs one.set off) two.set.0;
-      others = λ m away. let f = each_fewer (λ k. m ≢ k) xs n away in two.others m (f.1, tt) ∙ one.others m f.0;
-    }
-  where
-    kept : (ys : List ℕ) → Each (λ m. b m ≡ true) ys → Each (λ m. m ≢ n) ys → Each (λ m. c m ≡ true) ys
-    kept [] on off = tt
-    kept (y ∷ ys) on off = (two.others y (off.0, tt) ∙ on.0, kept ys on.1 off.1)
-
 pub pages_more : (pages : PageMap) (first at next : ℕ) (a b c : ℕ → Bool) (own own' : List ℕ) → PagesWalked pages first at a b own → IsHeapAt pages at next → Marks b c (at ∷ []) → at ≢ 0
     → own' ≡ own ++ at ∷ [] → PagesWalked pages first next a c own'
 pages_more pages first at next a b c own own' walked here marks some grown =
     subst (PagesWalked pages first next a c) (sym grown) (record {
       path = page_path_more pages first own at next walked.path here;
       some = each_more (λ n. 1 ≤ n) own at walked.some (omega (arith, some));
-      marks = marks_more a b c own at walked.marks marks;
+      marks = marks_on a b c own (at ∷ []) walked.marks marks;
     })
 
 -- a path that ends at page 0 is a chain

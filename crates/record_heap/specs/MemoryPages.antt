@@ -1,6 +1,6 @@
 -- Pages kept in a list, which the tests put under a heap.
 use Rattle.std.specs.Prelude.{ℕ, ◌-◌, true, List, length}
-use Rattle.record_heap.specs.PageList.{pages_in}
+use Rattle.page_marks.specs.PageList.{pages_in}
 use Rattle.pages.specs.PagesState.{PagesState}
 
 -- the list may grow to so many pages

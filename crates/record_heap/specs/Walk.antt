@@ -9,7 +9,7 @@ use Rattle.record_heap.specs.Slot.{room, used_in, behind_in}
 use Rattle.record_heap.specs.Slots.{slot_at}
 use Rattle.record_heap.specs.Chain.{Slots, IsOneOf, AreOnce, Keeps}
 use Rattle.record_heap.specs.Calls.{used_at, behind_at, IsHeapAt}
-use Rattle.record_heap.specs.Marks.{Marks}
+use Rattle.page_marks.specs.Marks.{Marks}
 
 -- these heap pages lead from the first one to this
 abbrev pub IsPagePath : PageMap → ℕ → List ℕ → ℕ → Type 0

@@ -5,6 +5,7 @@ mod memory_pages;
 use crate::{Heap, Place, Shape, heap_laws, walk_heap};
 use io_state::Fault;
 use memory_pages::MemoryPages;
+use page_marks::WalkFault;
 use std::alloc::Global;
 use std::process::Abort;
 use std::test::Fail;
@@ -245,20 +246,27 @@ fn a_walk_finds_the_pages_of_a_heap_and_what_is_lost(rt: HostRuntime) -> Result<
     let own = walk_heap(rt.alloc(), &pages.pages, &heap, &mut reached)?;
     assert_eq!(rt; own.as_slice(), [2, 1].as_slice());
     assert_eq!(rt; reached, [false, true, true]);
-    assert!(rt; walk_heap(rt.alloc(), &pages.pages, &heap, &mut reached).is_err());
-    let changes: [(usize, usize, u8, &str); 7] = [
-        (2, 0, b'L', "a page of another kind"),
-        (1, 1, 1, "a byte that should be zero"),
-        (2, 7, 2, "a page that leads to itself"),
-        (1, 7, 9, "a page that is not there"),
-        (1, 16, 2, "a mark that is none"),
-        (1, 16, 0, "a free slot that nothing leads to"),
-        (1, 141, 9, "a link to a slot in use"),
+    let again = walk_heap(rt.alloc(), &pages.pages, &heap, &mut reached);
+    assert_eq!(rt; again.err(), Some(WalkFault::Shared));
+    let changes: [(usize, usize, u8, WalkFault, &str); 7] = [
+        (2, 7, 2, WalkFault::Shared, "a page that leads to itself"),
+        (2, 0, b'L', WalkFault::Chain, "a page of another kind"),
+        (1, 1, 1, WalkFault::Chain, "a byte that should be zero"),
+        (1, 7, 9, WalkFault::Chain, "a page that is not there"),
+        (1, 16, 2, WalkFault::Chain, "a mark that is none"),
+        (
+            1,
+            16,
+            0,
+            WalkFault::Chain,
+            "a free slot that nothing leads to",
+        ),
+        (1, 141, 9, WalkFault::Chain, "a link to a slot in use"),
     ];
-    for (n, at, byte, what) in changes {
+    for (n, at, byte, fault, what) in changes {
         let was = put_byte(&rt, &mut pages, n, at, byte);
         let found = walk_heap(rt.alloc(), &pages.pages, &heap, &mut [false; 3]);
-        assert_eq!(rt; found.err(), Some(Fault::Damage), "{what}");
+        assert_eq!(rt; found.err(), Some(fault), "{what}");
         put_byte(&rt, &mut pages, n, at, was);
     }
     Ok(())

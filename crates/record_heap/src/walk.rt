@@ -4,8 +4,8 @@ ghost use Rattle.std.specs.Prelude.{◌≡◌, ℕ, List, false, ◌<◌, ◌≤
 ghost use Rattle.record_heap.specs.Slot.{room, size, is_used};
 ghost use Rattle.record_heap.specs.Calls.{IsHeapAt};
 ghost use Rattle.record_heap.specs.Standing.{HeapStands};
-ghost use Rattle.record_heap.specs.PageList.{pages_in};
-ghost use Rattle.record_heap.specs.Marks.{Marks, marked_in};
+ghost use Rattle.page_marks.specs.PageList.{pages_in};
+ghost use Rattle.page_marks.specs.Marks.{Marks, marked_in};
 ghost use Rattle.record_heap.specs.Walk.{PagesWalked, SlotsWalked, SlotsKept, AreMarked, PageMarked, SlotMarked, SetsMark, TakesMark, marked_slot, slots_of};
 
 use crate::heap::Heap;
@@ -13,35 +13,23 @@ use crate::shape::{Place, Shape};
 use crate::slot::{behind, is_used};
 use crate::slots::{FIRST_SLOT, NEXT, NEXT_END, PAGE_SIZE, slot, start_of};
 use byteorder::{BigEndian, ByteOrder};
-use io_state::Fault;
+use page_marks::{WalkFault, mark};
 use std::alloc::Global;
 
 /// The most slots that a page may have.
 const MOST_SLOTS: usize = 582;
 
-/// Marks a page, where it was not reached before.
-fn mark(reached: &mut [bool], n: u32) -> Result<(), Fault>
-    ensures { OnOk result (Marks (marked_in reached.old) (marked_in reached.new) (n ∷ [])) }
-{
-    let i = n as usize;
-    if i >= reached.len() || reached[i] {
-        return Err(Fault::Damage);
-    }
-    reached[i] = true;
-    Ok(())
-}
-
 /// The page behind a heap page.
-fn page_behind(pages: &[[u8; PAGE_SIZE]], n: u32) -> Result<u32, Fault>
+fn page_behind(pages: &[[u8; PAGE_SIZE]], n: u32) -> Result<u32, WalkFault>
     ensures { IfOk result (λ next. IsHeapAt (pages_in pages.now) n next) }
 {
     if n as usize >= pages.len() {
-        return Err(Fault::Damage);
+        return Err(WalkFault::Chain);
     }
     let page = &pages[n as usize];
     let next = BigEndian::read_u32(&page[NEXT..NEXT_END]);
     if &page[..FIRST_SLOT] != &start_of(next)[..] {
-        return Err(Fault::Damage);
+        return Err(WalkFault::Chain);
     }
     Ok(next)
 }
@@ -52,7 +40,7 @@ fn walk_pages(
     pages: &[[u8; PAGE_SIZE]],
     first: u32,
     reached: &mut [bool],
-) -> Result<Vec<u32>, Fault>
+) -> Result<Vec<u32>, WalkFault>
     ensures { IfOk result (λ own. PagesWalked (pages_in pages.now) first 0 (marked_in reached.old) (marked_in reached.new) own.items) }
 {
     let mut own = Vec::new(alloc);
@@ -64,12 +52,12 @@ fn walk_pages(
         let next = page_behind(pages, at)?;
         mark(reached, at)?;
         match own.push(at) {
-            Err(_) => return Err(Fault::Memory),
+            Err(_) => return Err(WalkFault::Memory),
             Ok(()) => at = next,
         }
     }
     if at != 0 {
-        return Err(Fault::Damage);
+        return Err(WalkFault::Chain);
     }
     Ok(own)
 }
@@ -92,18 +80,18 @@ fn set_mark(marks: &mut [bool], place: Place, to: bool)
 }
 
 /// No marks, for the slots of so many pages.
-fn no_marks(alloc: Global, pages: usize) -> Result<Vec<bool>, Fault>
+fn no_marks(alloc: Global, pages: usize) -> Result<Vec<bool>, WalkFault>
     ensures none { IfOk result (λ marks. (p : Place) → marked_slot marks.items p ≡ false) }
     ensures long { IfOk result (λ marks. length marks.items ≡ 582 * pages) }
 {
     if pages > u32::MAX as usize {
-        return Err(Fault::Damage);
+        return Err(WalkFault::Memory);
     }
-    vec![in alloc; false; MOST_SLOTS * pages].map_err(|_| Fault::Memory)
+    vec![in alloc; false; MOST_SLOTS * pages].map_err(|_| WalkFault::Memory)
 }
 
 /// Marks a slot where it is free; else it is in use.
-fn mark_slot(bytes: &[u8], shape: Shape, place: Place, marks: &mut [bool]) -> Result<(), Fault>
+fn mark_slot(bytes: &[u8], shape: Shape, place: Place, marks: &mut [bool]) -> Result<(), WalkFault>
     requires size { size shape ≤ length bytes.now }
     requires slot { place.slot < 582 }
     requires place { 582 * place.page + place.slot < length marks.old }
@@ -117,7 +105,7 @@ fn mark_slot(bytes: &[u8], shape: Shape, place: Place, marks: &mut [bool]) -> Re
         }
         None => {
             if !is_used(bytes, shape) {
-                return Err(Fault::Damage);
+                return Err(WalkFault::Chain);
             }
             Ok(())
         }
@@ -125,7 +113,12 @@ fn mark_slot(bytes: &[u8], shape: Shape, place: Place, marks: &mut [bool]) -> Re
 }
 
 /// Marks the free slots of a page; each other slot of it is in use.
-fn mark_page(page: &[u8; PAGE_SIZE], shape: Shape, n: u32, marks: &mut [bool]) -> Result<(), Fault>
+fn mark_page(
+    page: &[u8; PAGE_SIZE],
+    shape: Shape,
+    n: u32,
+    marks: &mut [bool],
+) -> Result<(), WalkFault>
     requires { 582 * n + 582 ≤ length marks.old }
     ensures marked { OnOk result (PageMarked shape page.now n (room shape) marks.old marks.new) }
     ensures long { length marks.new ≡ length marks.old }
@@ -147,7 +140,7 @@ fn mark_free(
     shape: Shape,
     own: &[u32],
     marks: &mut [bool],
-) -> Result<(), Fault>
+) -> Result<(), WalkFault>
     requires none { (p : Place) → marked_slot marks.old p ≡ false }
     requires long { length marks.old ≡ 582 * length pages.now }
     ensures marked { OnOk result (AreMarked shape (pages_in pages.now) own.now marks.new) }
@@ -155,7 +148,7 @@ fn mark_free(
 {
     for &n in own {
         if n as usize >= pages.len() {
-            return Err(Fault::Damage);
+            return Err(WalkFault::Chain);
         }
         mark_page(&pages[n as usize], shape, n, marks)?;
     }
@@ -168,19 +161,19 @@ fn take_mark(
     shape: Shape,
     at: Place,
     marks: &mut [bool],
-) -> Result<Place, Fault>
+) -> Result<Place, WalkFault>
     ensures taken { IfOk result (λ next. TakesMark shape (pages_in pages.now) at next marks.old marks.new) }
     ensures long { length marks.new ≡ length marks.old }
 {
     if at.slot as usize >= shape.room() || at.page as usize >= pages.len() {
-        return Err(Fault::Damage);
+        return Err(WalkFault::Chain);
     }
     let i = index(at);
     if i >= marks.len() || !marks[i] {
-        return Err(Fault::Damage);
+        return Err(WalkFault::Chain);
     }
     match behind(slot(&pages[at.page as usize], shape, at.slot as usize)) {
-        None => Err(Fault::Damage),
+        None => Err(WalkFault::Chain),
         Some(next) => {
             set_mark(marks, at, false);
             Ok(next)
@@ -194,7 +187,7 @@ fn walk_slots(
     shape: Shape,
     first: Place,
     marks: &mut [bool],
-) -> Result<(), Fault>
+) -> Result<(), WalkFault>
     ensures { OnOk result ((at : Place) × (at.page ≡ 0)
         × ((free : List Place) × SlotsWalked shape (pages_in pages.now) first at marks.old marks.new free)) }
 {
@@ -206,7 +199,7 @@ fn walk_slots(
         at = take_mark(pages, shape, at, marks)?;
     }
     if at.page != 0 {
-        return Err(Fault::Damage);
+        return Err(WalkFault::Chain);
     }
     Ok(())
 }
@@ -224,7 +217,7 @@ fn walk_own(
     heap: &Heap,
     own: &[u32],
     marks: &mut [bool],
-) -> Result<(), Fault>
+) -> Result<(), WalkFault>
     requires none { (p : Place) → marked_slot marks.old p ≡ false }
     requires long { length marks.old ≡ 582 * length pages.now }
     ensures { OnOk result (SlotsKept heap.now (pages_in pages.now) own.now) }
@@ -232,7 +225,7 @@ fn walk_own(
     mark_free(pages, heap.shape, own, marks)?;
     walk_slots(pages, heap.shape, heap.free, marks)?;
     if !none_is_left(marks) {
-        return Err(Fault::Damage);
+        return Err(WalkFault::Chain);
     }
     Ok(())
 }
@@ -240,13 +233,13 @@ fn walk_own(
 /// Walks the heap over the pages of a file, as they were read. Answers its own pages in the order of their chain, and marks them as reached; each slot of
 /// them is in use, or stands once in the chain of free slots.
 ///
-/// Memory; Damage where the pages are no such heap, or one of them was reached before. At a fault some of its pages may be marked.
+/// Memory; Shared where a heap page was reached before; Chain where the pages are no such heap. At a fault some of its pages may be marked.
 pub fn walk_heap(
     alloc: Global,
     pages: &[[u8; PAGE_SIZE]],
     heap: &Heap,
     reached: &mut [bool],
-) -> Result<Vec<u32>, Fault>
+) -> Result<Vec<u32>, WalkFault>
     ensures stands { IfOk result (λ own. HeapStands heap.now (pages_in pages.now)
         (slots_of heap.now.shape (pages_in pages.now) own.items) own.items) }
     ensures marks { IfOk result (λ own. Marks (marked_in reached.old) (marked_in reached.new) own.items) }

@@ -1,6 +1,6 @@
 use Rattle.std.proofs.Common.{◌≡◌, ◌∙◌, ◌<◌, ℕ, ◌+◌, suc, take, get_or, List, [], ◌++◌, ◌∷◌, sym, subst, arith, length}
 use Rattle.std.proofs.Math.Seq.{take-suc}
-use Rattle.record_heap.specs.PageList.{pages_in}
+use Rattle.page_marks.specs.PageList.{pages_in}
 use Rattle.record_heap.specs.Walk.{AreMarked}
 use Rattle.record_heap.proofs.SlotWalkLemmas.{marked_more, room_few, page_there}
 use Rattle.record_heap.proofs.walk.mark_free.Goals as goal

@@ -1,5 +1,5 @@
 use Rattle.std.proofs.Common.{subst}
-use Rattle.record_heap.specs.PageList.{pages_in}
+use Rattle.page_marks.specs.PageList.{pages_in}
 use Rattle.record_heap.specs.Walk.{SlotsKept}
 use Rattle.record_heap.proofs.WalkLemmas.{path_ends}
 use Rattle.record_heap.proofs.walk.walk_heap.Goals as goal

@@ -1,4 +1,4 @@
-use Rattle.record_heap.specs.PageList.{pages_in}
+use Rattle.page_marks.specs.PageList.{pages_in}
 use Rattle.record_heap.proofs.SlotWalkLemmas.{slots_kept}
 use Rattle.record_heap.proofs.walk.walk_own.Goals as goal
 

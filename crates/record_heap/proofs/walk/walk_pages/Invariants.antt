@@ -1,5 +1,5 @@
-use Rattle.record_heap.specs.PageList.{pages_in}
-use Rattle.record_heap.specs.Marks.{marked_in}
+use Rattle.page_marks.specs.PageList.{pages_in}
+use Rattle.page_marks.specs.Marks.{marked_in}
 use Rattle.record_heap.specs.Walk.{PagesWalked}
 use Rattle.record_heap.proofs.walk.walk_pages.Given as goal
 

@@ -1,5 +1,5 @@
 use Rattle.std.proofs.Common.{◌++◌, ◌∷◌, []}
-use Rattle.record_heap.specs.PageList.{pages_in}
+use Rattle.page_marks.specs.PageList.{pages_in}
 use Rattle.record_heap.proofs.SlotWalkLemmas.{slots_more, room_few}
 use Rattle.record_heap.proofs.walk.walk_slots.Goals as goal
 

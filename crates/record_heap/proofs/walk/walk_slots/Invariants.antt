@@ -1,6 +1,6 @@
 use Rattle.std.proofs.Common.{List}
 use Rattle.record_heap.specs.declared.shape.Place.{Place}
-use Rattle.record_heap.specs.PageList.{pages_in}
+use Rattle.page_marks.specs.PageList.{pages_in}
 use Rattle.record_heap.specs.Walk.{SlotsWalked}
 use Rattle.record_heap.proofs.walk.walk_slots.Given as goal
 

@@ -1,6 +1,6 @@
 use Rattle.std.proofs.Common.{◌≡◌, ◌≤◌, ℕ, List, subst, sym, ◌∙◌, arith, length, replicate}
 use Rattle.pages.specs.PageMap.{Takes}
-use Rattle.record_heap.specs.PageList.{pages_in}
+use Rattle.page_marks.specs.PageList.{pages_in}
 use Rattle.record_heap.proofs.MemoryPagesLemmas.{pushed}
 use Rattle.record_heap.proofs.tests.memory_pages.MemoryPagesPages.take.Goals as goal
 

@@ -1,0 +1,26 @@
+//! Which pages were reached.
+
+ghost use Rattle.std.specs.Prelude.{◌≡◌, ℕ, ◌<◌, ◌∷◌, [], true, IsTrue, OnOk, length};
+ghost use Rattle.page_marks.specs.Marks.{Marks, marked_in};
+
+use crate::walk_fault::WalkFault;
+
+/// Marks a page. Shared where it has its mark already, or none can be set.
+pub fn mark(reached: &mut [bool], n: u32) -> Result<(), WalkFault>
+    ensures marked { OnOk result (Marks (marked_in reached.old) (marked_in reached.new) (n ∷ [])) }
+    ensures long { length reached.new ≡ length reached.old }
+{
+    let i = n as usize;
+    if i >= reached.len() || reached[i] {
+        return Err(WalkFault::Shared);
+    }
+    reached[i] = true;
+    Ok(())
+}
+
+/// No page is without a mark.
+pub fn all_marked(reached: &[bool]) -> bool
+    ensures { IsTrue result → (n : ℕ) → n < length reached.now → marked_in reached.now n ≡ true }
+{
+    !reached.contains(&false)
+}

@@ -1,0 +1,20 @@
+//! Why a walk ends.
+
+use thiserror::Error;
+
+/// Why a walk over the pages of a file gave up.
+#[derive(Clone, Copy, Debug, PartialEq, Eq, Error)]
+pub enum WalkFault {
+    #[error("out of memory")]
+    Memory,
+    #[error("a page is reached twice")]
+    Shared,
+    #[error("a node is not what its place requires")]
+    Node,
+    #[error("tree keys are out of order")]
+    Order,
+    #[error("a chain of pages or slots is broken")]
+    Chain,
+    #[error("entries are not as many as they should be")]
+    Count,
+}
