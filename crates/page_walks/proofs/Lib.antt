@@ -1,0 +1,4 @@
+pub mod RisenLemmas
+pub mod WalkLemmas
+pub mod FreeLemmas
+pub mod FileLemmas

@@ -1,0 +1,14 @@
+use Rattle.std.proofs.Common.{◌≤◌, length}
+use Rattle.std.specs.Option.{option_copied}
+use Rattle.tree_node.specs.Inner.{separators}
+use Rattle.page_walks.specs.Order.{Risen}
+use Rattle.page_walks.proofs.order.separators_rise.Given as goal
+
+abbrev pub invariant-keys : goal.invariant-keys
+invariant-keys l = record {
+  within : l.i ≤ length (separators l.fn.shape l.page);
+  risen : Risen l.fn.shape.width (option_copied l.high) (separators l.fn.shape l.page) l.i (option_copied l.above);
+}
+
+abbrev pub decreases-keys : goal.decreases-keys
+decreases-keys l = l.i

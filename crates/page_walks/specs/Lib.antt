@@ -1,0 +1,5 @@
+pub mod Order
+pub mod Spots
+pub mod TreeWalk
+pub mod FreeWalk
+pub mod WholeFile

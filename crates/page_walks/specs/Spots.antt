@@ -1,0 +1,18 @@
+-- Where entries of trees stand in a list of pages.
+use Rattle.std.specs.Prelude.{◌<◌, List, [], length, map, ℕ, slice_index_or}
+use Rattle.tree_node.specs.declared.shape.Shape.{Shape}
+use Rattle.tree_node.specs.Leaf.{IsLeaf, leaf_entries}
+use Rattle.page_walks.specs.declared.spot.Spot.{Spot}
+
+-- the entry at a place of a leaf
+abbrev pub entry_at : Shape → List (List ℕ) → Spot → List ℕ
+entry_at shape list spot = slice_index_or (leaf_entries shape (slice_index_or list spot.page [])) spot.place []
+
+abbrev pub entries_at : Shape → List (List ℕ) → List Spot → List (List ℕ)
+entries_at shape list = map (entry_at shape list)
+
+-- the page is a leaf that has an entry there
+pub record IsThere (shape : Shape) (list : List (List ℕ)) (spot : Spot) : Type 0 where
+  pub page : spot.page < length list
+  pub leaf : IsLeaf shape (slice_index_or list spot.page [])
+  pub place : spot.place < length (leaf_entries shape (slice_index_or list spot.page []))

@@ -1,0 +1,80 @@
+-- What a walk finds of a tree.
+use Rattle.std.specs.Prelude.{◌≡◌, ℕ, zero, suc, ◌≤◌, Bool, List, [], ◌∷◌, ◌++◌, length, map, flat_map, take, Some, ⊤}
+use Rattle.page_bytes.specs.Each.{Each}
+use Rattle.pages.specs.PageMap.{PageMap}
+use Rattle.tree_node.specs.declared.shape.Shape.{Shape}
+use Rattle.tree_node.specs.Order.{Ascends}
+use Rattle.tree_node.specs.Leaf.{IsLeaf, leaf_entries}
+use Rattle.tree_node.specs.Inner.{IsInner, separators}
+use Rattle.node_balance.specs.Fill.{least}
+use Rattle.bplus_tree.specs.declared.tree.Tree.{Tree}
+use Rattle.bplus_tree.specs.Tree.{TreeOf, page_of, pages_of, entries_of, size_of, Bound, Below, NotBelow, IsFilled, IsOrdered}
+use Rattle.bplus_tree.specs.Stored.{Holds}
+use Rattle.bplus_tree.specs.Calls.{IsTree}
+use Rattle.bplus_tree.specs.Standing.{Stands}
+use Rattle.page_marks.specs.Marks.{Marks, marked_in}
+use Rattle.page_marks.specs.PageList.{pages_in}
+use Rattle.page_walks.specs.declared.spot.Spot.{Spot}
+use Rattle.page_walks.specs.Order.{AreBetween}
+use Rattle.page_walks.specs.Spots.{entries_at}
+
+-- The tree stands in the pages that were reached now, each of which was not reached before, and these are the places of its entries.
+pub record TreeWalked (tree : Tree) (list : List (List ℕ)) (before after : ℕ → Bool) (spots : List Spot) : Type 0 where
+  pub own : List ℕ
+  pub stands : Stands tree (pages_in list) (entries_at tree.shape list spots) own
+  pub marks : Marks before after own
+
+-- the page is a leaf with so many entries at least, whose keys rise within these bounds
+pub record LeafFits (shape : Shape) (page : List ℕ) (floor : ℕ) (low high : Bound) : Type 0 where
+  pub leaf : IsLeaf shape page
+  pub large : floor ≤ length (leaf_entries shape page)
+  pub rises : Ascends shape.width (leaf_entries shape page)
+  pub inside : Each (λ e. NotBelow low (take shape.width e) × Below high (take shape.width e)) (leaf_entries shape page)
+
+-- the page is an inner node with so many separators at least, which rise between these bounds
+pub record InnerFits (shape : Shape) (page : List ℕ) (floor : ℕ) (low high : Bound) : Type 0 where
+  pub inner : IsInner shape page
+  pub large : floor ≤ length (separators shape page)
+  pub rises : Ascends shape.width (separators shape page)
+  pub between : AreBetween low (separators shape page) high
+
+-- how far a walk has come: the pages with a mark, and the entries whose places are known
+pub record Reach : Type 0 where
+  pub marks : ℕ → Bool
+  pub entries : List (List ℕ)
+
+abbrev pub reach_of : Shape → List (List ℕ) → List Bool → List Spot → Reach
+reach_of shape list reached spots = record { marks = marked_in reached; entries = entries_at shape list spots }
+
+-- A tree with h levels above its leaves stands below the page, within these bounds, its root with so many entries or separators at
+-- least; its pages were reached now, and its entries come behind those that were known.
+pub record Walked (shape : Shape) (pages : PageMap) (h page floor : ℕ) (low high : Bound) (before after : Reach) : Type 0 where
+  pub tree : TreeOf h
+  pub stands : IsTree shape pages h page low high tree
+  pub filled : IsFilled shape h tree
+  pub large : floor ≤ size_of h tree
+  pub marks : Marks before.marks after.marks (pages_of h tree)
+  pub adds : after.entries ≡ before.entries ++ entries_of h tree
+
+-- the bound to the left of member i of a row
+abbrev pub bound_at : Bound → List (List ℕ) → ℕ → Bound
+bound_at low ss zero = low
+bound_at low [] (suc i) = low
+bound_at low (s ∷ ss) (suc i) = bound_at (Some s) ss i
+
+-- the first members of a row, each with a separator to its right
+abbrev pub IsFront : {X : Type 0} → (Bound → Bound → X → Type 0) → Bound → List (List ℕ) → List X → Type 0
+IsFront Between low ss [] = ⊤
+IsFront Between low [] (x ∷ xs) = ⊥
+IsFront Between low (s ∷ ss) (x ∷ xs) = Between low (Some s) x × IsFront Between (Some s) ss xs
+
+-- so many children of a node with these separators were walked, from the first one on
+pub record WalkedFront (shape : Shape) (pages : PageMap) (k : ℕ) (low : Bound) (ss : List (List ℕ)) (below : List ℕ) (i : ℕ) (before after : Reach) : Type 0 where
+  pub trees : List (TreeOf k)
+  pub as_many : length trees ≡ i
+  pub leads : map (page_of k) trees ≡ take i below
+  pub holds : Each (Holds shape pages k) trees
+  pub ordered : IsFront (IsOrdered shape.width k) low ss trees
+  pub filled : Each (λ c. (least shape k ≤ size_of k c) × IsFilled shape k c) trees
+  pub marks : Marks before.marks after.marks (flat_map (pages_of k) trees)
+  pub adds : after.entries ≡ before.entries ++ flat_map (entries_of k) trees

@@ -1,0 +1,60 @@
+//! The free pages, over the pages of a file that were read.
+//!
+//! | Bytes | Content |
+//! |---|---|
+//! | 0 to 3 | `F`, and zero |
+//! | 4 to 7 | next free page, 0 at the end of the chain |
+
+ghost use Rattle.std.specs.Prelude.{◌≡◌, IfOk, OnOk};
+ghost use Rattle.page_marks.specs.Marks.{marked_in};
+ghost use Rattle.page_walks.specs.FreeWalk.{IsFreeAt, FreeWalked};
+
+use byteorder::{BigEndian, ByteOrder};
+use page_marks::{WalkFault, mark};
+use tree_node::PAGE_SIZE;
+
+/// The first four bytes, as a number.
+const FREE: u32 = 0x4600_0000;
+
+/// The next free page.
+const NEXT: usize = 4;
+
+const NEXT_END: usize = 8;
+
+/// The page behind a free page.
+fn behind(pages: &[[u8; PAGE_SIZE]], n: u32) -> Result<u32, WalkFault>
+    ensures { IfOk result (λ next. IsFreeAt pages.now n next) }
+{
+    if n == 0 || n as usize >= pages.len() {
+        return Err(WalkFault::Chain);
+    }
+    let page = &pages[n as usize];
+    if BigEndian::read_u32(&page[..NEXT]) != FREE {
+        return Err(WalkFault::Chain);
+    }
+    Ok(BigEndian::read_u32(&page[NEXT..NEXT_END]))
+}
+
+/// Walks the chain of free pages, of which there are so many, over the pages of a file, as they were read, and marks them as reached.
+///
+/// Shared where one of them was reached before; Chain where the pages are no such chain. At a fault some of its pages may be marked.
+pub fn walk_free(
+    pages: &[[u8; PAGE_SIZE]],
+    first: u32,
+    count: u32,
+    reached: &mut [bool],
+) -> Result<(), WalkFault>
+    ensures { OnOk result (FreeWalked pages.now first count
+        (marked_in reached.old) (marked_in reached.new)) }
+{
+    let mut at = first;
+    for _ in 0..count {
+        let next = behind(pages, at)?;
+        mark(reached, at)?;
+        at = next;
+    }
+    if at != 0 {
+        return Err(WalkFault::Chain);
+    }
+    Ok(())
+}

@@ -1,0 +1,198 @@
+//! A tree over the pages of a file that were read.
+
+ghost use Rattle.std.specs.Prelude.{◌≡◌, ◌++◌, ◌<◌, ◌≤◌, IfOk, OnOk, length, slice_index_or, []};
+ghost use Rattle.std.specs.Option.{option_copied};
+ghost use Rattle.tree_node.specs.Leaf.{IsLeaf, leaf_entries, leaf_room};
+ghost use Rattle.node_balance.specs.Fill.{least};
+ghost use Rattle.page_marks.specs.Marks.{marked_in};
+ghost use Rattle.page_marks.specs.PageList.{pages_in};
+ghost use Rattle.page_walks.specs.Spots.{entries_at};
+ghost use Rattle.page_walks.specs.TreeWalk.{InnerFits, LeafFits, Walked, TreeWalked, reach_of};
+
+use crate::order::{leaf_rises, separators_rise};
+use crate::spot::Spot;
+use bplus_tree::Tree;
+use page_marks::{WalkFault, mark};
+use std::alloc::Global;
+use tree_node::{InnerView, LeafView, PAGE_SIZE, Shape, is_inner, is_leaf};
+
+/// What the place of a node requires: how many entries or separators it has at least, and between which keys its own lie.
+#[derive(Clone, Copy)]
+struct Limits<'a> {
+    least: usize,
+    low: Option<&'a [u8]>,
+    high: Option<&'a [u8]>,
+}
+
+/// The page is a leaf within the limits, whose keys rise.
+fn check_leaf(page: &[u8; PAGE_SIZE], shape: Shape, limits: Limits) -> Result<(), WalkFault>
+    ensures { OnOk result (LeafFits shape page.now limits.entry.least
+        (option_copied limits.entry.low) (option_copied limits.entry.high)) }
+{
+    if !is_leaf(page, shape) {
+        return Err(WalkFault::Node);
+    }
+    let entries = LeafView { page, shape }.count();
+    if entries < limits.least {
+        return Err(WalkFault::Node);
+    }
+    if !leaf_rises(page, shape, limits.low, limits.high) {
+        return Err(WalkFault::Order);
+    }
+    Ok(())
+}
+
+/// The page is an inner node within the limits, whose separators rise.
+fn check_inner(page: &[u8; PAGE_SIZE], shape: Shape, limits: Limits) -> Result<(), WalkFault>
+    ensures { OnOk result (InnerFits shape page.now limits.entry.least
+        (option_copied limits.entry.low) (option_copied limits.entry.high)) }
+{
+    if !is_inner(page, shape) {
+        return Err(WalkFault::Node);
+    }
+    let separators = InnerView { page, shape }.count();
+    if separators < limits.least {
+        return Err(WalkFault::Node);
+    }
+    if !separators_rise(page, shape, limits.low, limits.high) {
+        return Err(WalkFault::Order);
+    }
+    Ok(())
+}
+
+/// How many entries or separators a node must have that is not the root, with so many levels below it.
+fn least_in(shape: Shape, levels: u8) -> usize
+    ensures { result ≡ least shape levels }
+{
+    if levels == 0 {
+        shape.leaf_room() / 2
+    } else {
+        shape.inner_room() / 2
+    }
+}
+
+/// How many the root must have, with so many levels below it.
+fn least_in_root(levels: u8) -> usize
+    ensures { 1 ≤ levels → 1 ≤ result }
+{
+    levels.min(1) as usize
+}
+
+/// Adds the places of a leaf's entries.
+fn push_leaf(
+    pages: &[[u8; PAGE_SIZE]],
+    shape: Shape,
+    page: u32,
+    spots: &mut Vec<Spot>,
+) -> Result<(), WalkFault>
+    requires page { page < length pages.now }
+    requires leaf { IsLeaf shape (slice_index_or pages.now page []) }
+    ensures { OnOk result (entries_at shape pages.now spots.new.items
+        ≡ entries_at shape pages.now spots.old.items
+        ++ leaf_entries shape (slice_index_or pages.now page [])) }
+{
+    let bytes = &pages[page as usize];
+    let count = LeafView { page: bytes, shape }.count();
+    for i in 0..count {
+        let place = i as u16;
+        spots
+            .push(Spot { page, place })
+            .map_err(|_| WalkFault::Memory)?;
+    }
+    Ok(())
+}
+
+/// Walks what is below a page, with so many levels: marks its pages, and adds the places of its entries.
+fn walk_below(
+    pages: &[[u8; PAGE_SIZE]],
+    shape: Shape,
+    page: u32,
+    levels: u8,
+    limits: Limits,
+    reached: &mut [bool],
+    spots: &mut Vec<Spot>,
+) -> Result<(), WalkFault>
+    ensures { OnOk result (Walked shape (pages_in pages.now) levels page limits.entry.least
+        (option_copied limits.entry.low) (option_copied limits.entry.high)
+        (reach_of shape pages.now reached.old spots.old.items)
+        (reach_of shape pages.now reached.new spots.new.items)) }
+{
+    if page as usize >= pages.len() {
+        return Err(WalkFault::Node);
+    }
+    mark(reached, page)?;
+    let bytes = &pages[page as usize];
+    if levels == 0 {
+        check_leaf(bytes, shape, limits)?;
+        return push_leaf(pages, shape, page, spots);
+    }
+    check_inner(bytes, shape, limits)?;
+    let node = InnerView { page: bytes, shape };
+    let count = node.count();
+    let least = least_in(shape, levels - 1);
+    let mut low = limits.low;
+    let mut i = 0;
+    'children: while i < count {
+        let high = Some(node.separator(i));
+        let child = Limits { least, low, high };
+        walk_below(
+            pages,
+            shape,
+            node.child(i),
+            levels - 1,
+            child,
+            reached,
+            spots,
+        )?;
+        low = high;
+        i += 1;
+    }
+    let last = Limits {
+        least,
+        low,
+        high: limits.high,
+    };
+    walk_below(
+        pages,
+        shape,
+        node.child(count),
+        levels - 1,
+        last,
+        reached,
+        spots,
+    )
+}
+
+/// Walks a tree over the pages of a file, as they were read. Answers where its entries stand, in order, and marks its pages as reached.
+///
+/// Memory; Shared where a page of the tree was reached before; Node, Order or Count where the pages are no such tree. At a fault some of its pages may be
+/// marked.
+pub fn walk_tree(
+    alloc: Global,
+    pages: &[[u8; PAGE_SIZE]],
+    tree: &Tree,
+    reached: &mut [bool],
+) -> Result<Vec<Spot>, WalkFault>
+    ensures { IfOk result (λ spots. TreeWalked tree.now pages.now
+        (marked_in reached.old) (marked_in reached.new) spots.items) }
+{
+    let mut spots = Vec::new(alloc);
+    let limits = Limits {
+        least: least_in_root(tree.levels),
+        low: None,
+        high: None,
+    };
+    walk_below(
+        pages,
+        tree.shape,
+        tree.root,
+        tree.levels,
+        limits,
+        reached,
+        &mut spots,
+    )?;
+    if spots.len() as u64 != tree.count {
+        return Err(WalkFault::Count);
+    }
+    Ok(spots)
+}
