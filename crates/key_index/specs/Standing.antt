@@ -18,6 +18,10 @@ prime_height index = index.tree.levels + 1
 abbrev pub alt_height : AltIndex → ℕ
 alt_height index = index.tree.levels + 1
 
+-- the number of its key
+abbrev pub alt_key : AltIndex → ℕ
+alt_key index = index.tree.shape.key
+
 -- the index is one for values of this length, of this root, height and number of entries
 pub record IsPrimeStored (index : PrimeIndex) (width root height count : ℕ) : Type 0 where
   pub width_is : index.width ≡ width

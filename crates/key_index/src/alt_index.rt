@@ -1,6 +1,6 @@
 //! The index of an alternate key.
 
-ghost use Rattle.std.specs.Prelude.{◌≡◌, ◌+◌, ◌*◌, ◌<◌, ◌≤◌, [], find, length, Ok, Option, option_map, IfSome, IsTrue, IfOk, IfErr};
+ghost use Rattle.std.specs.Prelude.{◌≡◌, ◌+◌, ◌*◌, ◌<◌, ◌≤◌, [], find, length, Ok, Option, option_map, IfSome, IsTrue, IfOk, IfErr, OnOk};
 ghost use Rattle.pages.specs.Cause.{IsCaused};
 
 use crate::entry::AltEntry;
@@ -24,10 +24,17 @@ pub struct AltIndex {
     ghost entries: { tree.shape.entry ≡ width + 8 + prime },
 }
 
+/// A blank, for the places of an array that have no index yet. Its root is no page.
+impl Default for AltIndex {
+    fn default() -> AltIndex {
+        AltIndex::stored(1, 1, 1, 0, 1, 0)
+    }
+}
+
 impl AltIndex {
     ghost use Rattle.pages.specs.Answer.{IsAnswer};
     ghost use Rattle.key_index.specs.Entries.{from_value, after_rank, past_value, last_of};
-    ghost use Rattle.key_index.specs.Standing.{AltChanged, IsAltStored, CountsAlt, alt_height};
+    ghost use Rattle.key_index.specs.Standing.{AltChanged, IsAltStored, CountsAlt, alt_height, alt_key};
     ghost use Rattle.key_index.specs.Calls.{AltFinds, AltAdds, AltRemoves};
     ghost use Rattle.key_index.specs.Stored.{IsAltEntry, alt_bytes};
     ghost use Rattle.key_index.specs.Cost.{Spends, AltGrows};
@@ -47,8 +54,9 @@ impl AltIndex {
         ensures made { IsTrue (P.state pages.new).is_honest → IsTrue (P.state pages.old).is_sound
             → IsAnswer result (λ index. AltChanged (P.state pages.old).live (P.state pages.new).live index [] []
             × IsTrue (P.state pages.new).is_sound) }
-        ensures width { IfOk result (λ index. (index.width ≡ width) × (index.prime ≡ prime) × (alt_height index ≡ 1)) }
+        ensures width { IfOk result (λ index. (index.width ≡ width) × (index.prime ≡ prime) × (alt_height index ≡ 1) × (alt_key index ≡ key)) }
         ensures spends { Spends (P.state pages.old) (P.state pages.new) 1 2 }
+        ensures one { OnOk result ((P.state pages.new).available + 1 ≡ (P.state pages.old).available) }
         ensures cause { IfErr result (IsCaused (P.HasFailed pages.old pages.new) ((P.state pages.old).available < 1)) }
         ensures goes { P.Goes pages.old pages.new }
     {
@@ -67,8 +75,9 @@ impl AltIndex {
         requires narrow { width ≤ 250 }
         requires prime { prime ≤ 250 }
         requires levels { 1 ≤ height }
-        requires low { height ≤ 64 }
-        ensures { IsAltStored result width prime root height count }
+        requires low { height ≤ 20 }
+        ensures stored { IsAltStored result width prime root height count }
+        ensures key { alt_key result ≡ key }
     {
         let shape = Shape {
             key,
@@ -178,7 +187,7 @@ impl AltIndex {
     }
 
     /// Adds an entry, and answers true; where its value and stamp are there, answers false, and nothing is changed. Full only where fewer pages are left
-    /// than the height and one; Memory also where as many entries are there as a u64 can count. After a fault nothing is said of the index.
+    /// than the height and one; Memory also where the tree has 20 levels, or as many entries as a u64 can count. After a fault nothing is said of the index.
     pub fn add<P: Pages>(
         &mut self,
         pages: &mut P,

@@ -1,6 +1,6 @@
 //! The index of the prime key.
 
-ghost use Rattle.std.specs.Prelude.{◌≡◌, ◌+◌, ◌*◌, ◌<◌, ◌≤◌, [], find, length, Ok, Option, option_map, IfSome, IsTrue, IfOk, IfErr};
+ghost use Rattle.std.specs.Prelude.{◌≡◌, ◌+◌, ◌*◌, ◌<◌, ◌≤◌, [], find, length, Ok, Option, option_map, IfSome, IsTrue, IfOk, IfErr, OnOk};
 ghost use Rattle.pages.specs.Cause.{IsCaused};
 
 use crate::entry::PrimeEntry;
@@ -20,6 +20,7 @@ pub struct PrimeIndex {
     ghost narrow: { width ≤ 250 },
     ghost keys: { tree.shape.width ≡ width },
     ghost entries: { tree.shape.entry ≡ width + 6 },
+    ghost number: { tree.shape.key ≡ 0 },
 }
 
 impl PrimeIndex {
@@ -41,6 +42,7 @@ impl PrimeIndex {
             × IsTrue (P.state pages.new).is_sound) }
         ensures width { IfOk result (λ index. (index.width ≡ width) × (prime_height index ≡ 1)) }
         ensures spends { Spends (P.state pages.old) (P.state pages.new) 1 2 }
+        ensures one { OnOk result ((P.state pages.new).available + 1 ≡ (P.state pages.old).available) }
         ensures cause { IfErr result (IsCaused (P.HasFailed pages.old pages.new) ((P.state pages.old).available < 1)) }
         ensures goes { P.Goes pages.old pages.new }
     {
@@ -58,7 +60,7 @@ impl PrimeIndex {
         requires some { 1 ≤ width }
         requires narrow { width ≤ 250 }
         requires levels { 1 ≤ height }
-        requires low { height ≤ 64 }
+        requires low { height ≤ 20 }
         ensures { IsPrimeStored result width root height count }
     {
         let shape = Shape {
@@ -170,7 +172,7 @@ impl PrimeIndex {
     }
 
     /// Adds an entry, and answers true; where its value is there, answers false, and nothing is changed. Full only where fewer pages are left than the
-    /// height and one; Memory also where as many entries are there as a u64 can count. After a fault nothing is said of the index.
+    /// height and one; Memory also where the tree has 20 levels, or as many entries as a u64 can count. After a fault nothing is said of the index.
     pub fn add<P: Pages>(
         &mut self,
         pages: &mut P,
