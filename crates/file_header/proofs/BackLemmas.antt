@@ -1,0 +1,124 @@
+-- What is written of a header is read as it was.
+use Rattle.std.proofs.Common.{◌≡◌, ℕ, suc, ◌+◌, ◌-◌, ◌^◌, ◌<◌, ◌≤◌, ◌==◌, Bool, true, false, if◌then◌else◌, List, [], ◌∷◌, ◌++◌, length, map, min, All, refl, sym, ap, ◌∙◌, arith}
+use Rattle.std.proofs.lemmas.List.{append-nil, append_assoc}
+use Rattle.std.proofs.lemmas.Bool.Decides.{Decides-eqb}
+use Rattle.byteorder.specs.Endian.{big_number, big_bytes}
+use Rattle.byteorder.specs.Numbers.{big_number-reads_back}
+use Rattle.page_bytes.specs.Chunks.{chunks}
+use Rattle.page_bytes.proofs.ChunkLemmas.{one_chunk}
+use Rattle.record_layout.specs.declared.schema.KeyPart.{KeyPart}
+use Rattle.record_layout.specs.Schema.{IsKey, AreKeys}
+use Rattle.file_header.specs.declared.header.Header.{Header}
+use Rattle.file_header.specs.declared.header.TreeNumbers.{TreeNumbers}
+use Rattle.file_header.specs.Bounds.{IsTree, IsHeader}
+use Rattle.file_header.specs.FirstPage.{first_bytes, header_bytes, closed_page, row_of, rows_from, zeros}
+use Rattle.file_header.specs.Reading.{number_in, greatest_in, least_in, key_count_in, rows_in, part_in, tree_in, numbers_in}
+use Rattle.file_header.proofs.RowLemmas.{length-row}
+
+number_back : (n x : ℕ) → x < 256 ^ n → big_number n (big_bytes n x) ≡ x
+number_back n x h = ap (big_number n) (sym (append-nil (big_bytes n x))) ∙ big_number-reads_back n x [] h
+
+-- the least length, by the version
+told_back : (b : Bool) (least greatest : ℕ) → (b ≡ true → least ≡ greatest)
+    → (if (if b then 1 else 2) == 1 then greatest else (if b then 0 else least)) ≡ least
+told_back true least greatest same = sym (same refl)
+told_back false least greatest same = refl
+
+version_small : (b : Bool) → (if b then 1 else 2) < 256 ^ 2
+version_small true = omega arith
+version_small false = omega arith
+
+told_small : (b : Bool) (least : ℕ) → least < 256 ^ 2 → (if b then 0 else least) < 256 ^ 2
+told_small true least h = omega arith
+told_small false least h = h
+
+-- whether a key has duplicates, by its kind
+kind_back : (b d : Bool) → (b ≡ true → d ≡ false) → ((if b then 0 else if d then 2 else 1) == 2) ≡ d
+kind_back true d same = sym (same refl)
+kind_back false true same = refl
+kind_back false false same = refl
+
+abbrev StartsUnique : List KeyPart → Type 0
+StartsUnique [] = Unit {0}
+StartsUnique (part ∷ parts) = part.duplicates ≡ false
+
+part_back : (k : ℕ) (part : KeyPart) (tree : TreeNumbers) → part.offset < 256 ^ 2 → part.length < 256 ^ 2 → (k ≡ 0 → part.duplicates ≡ false)
+    → part_in (row_of k part tree) ≡ part
+unfolding row_of
+part_back k part tree offset size unique =
+    λ i. record {
+      offset = number_back 2 part.offset offset i;
+      length = number_back 2 part.length size i;
+      duplicates = kind_back (k == 0) part.duplicates (λ e. unique ((Decides-eqb k 0).0 e)) i;
+    }
+
+tree_back : (k : ℕ) (part : KeyPart) (tree : TreeNumbers) → tree.root < 256 ^ 4 → tree_in (row_of k part tree) ≡ tree
+unfolding row_of
+tree_back k part tree root = λ i. record { height = tree.height; root = number_back 4 tree.root root i }
+
+first_row : (n k : ℕ) (part : KeyPart) (tree : TreeNumbers) (rows rest : List ℕ)
+    → chunks 16 (suc n) ((row_of k part tree ++ rows) ++ rest) ≡ row_of k part tree ∷ chunks 16 n (rows ++ rest)
+first_row n k part tree rows rest =
+    ap (chunks 16 (suc n)) (append_assoc (row_of k part tree) rows rest) ∙ one_chunk 16 n (row_of k part tree) (rows ++ rest) (length-row k part tree)
+
+parts_back : (k least : ℕ) (keys : List KeyPart) (trees : List TreeNumbers) (rest : List ℕ) → length trees ≡ length keys → least ≤ 4000 → All (IsKey least) keys
+    → (k ≡ 0 → StartsUnique keys) → map part_in (chunks 16 (length keys) (rows_from k keys trees ++ rest)) ≡ keys
+unfolding rows_from chunks
+parts_back k least [] trees rest same limit whole unique = refl
+parts_back k least (key ∷ keys) [] rest same limit whole unique = absurd (omega arith)
+parts_back k least (key ∷ keys) (tree ∷ trees) rest same limit whole unique =
+    let first : IsKey least key = whole 0 key (omega arith) in
+    let later : All (IsKey least) keys = λ j d h. whole (suc j) d (omega arith) in
+    ap (map part_in) (first_row (length keys) k key tree (rows_from (k + 1) keys trees) rest)
+    ∙ λ i. (part_back k key tree (omega (arith, first.within)) (omega (arith, first.short)) unique i) ∷ (parts_back (k + 1) least keys trees rest (omega arith) limit later (λ e. absurd (omega arith)) i)
+
+trees_back : (k pages : ℕ) (keys : List KeyPart) (trees : List TreeNumbers) (rest : List ℕ) → length trees ≡ length keys → pages ≤ 256 ^ 4 → All (IsTree pages) trees
+    → map tree_in (chunks 16 (length keys) (rows_from k keys trees ++ rest)) ≡ trees
+unfolding rows_from chunks
+trees_back k pages [] [] rest same limit whole = refl
+trees_back k pages [] (tree ∷ trees) rest same limit whole = absurd (omega arith)
+trees_back k pages (key ∷ keys) [] rest same limit whole = absurd (omega arith)
+trees_back k pages (key ∷ keys) (tree ∷ trees) rest same limit whole =
+    let first : IsTree pages tree = whole 0 tree (omega arith) in
+    let later : All (IsTree pages) trees = λ j d h. whole (suc j) d (omega arith) in
+    ap (map tree_in) (first_row (length keys) k key tree (rows_from (k + 1) keys trees) rest)
+    ∙ λ i. (tree_back k key tree (omega (arith, first.within)) i) ∷ (trees_back (k + 1) pages keys trees rest (omega arith) limit later i)
+
+starts_unique : (keys : List KeyPart) → AreKeys keys → StartsUnique keys
+starts_unique [] none = tt
+starts_unique (part ∷ parts) are = are.0
+
+-- the page of a header has its numbers
+pub numbers_back : (header : Header) → IsHeader header → numbers_in (closed_page header) ≡ header
+unfolding numbers_in header_bytes first_bytes
+numbers_back header is =
+    let page = closed_page header in
+    let schema = header.schema in
+    let trees = header.trees.items in
+    let rest = zeros (4096 - length (first_bytes header ++ rows_from 0 schema.keys trees)) in
+    let same = schema.least == schema.greatest in
+    let under : schema.least < 256 ^ 2 = omega (arith, is.schema.limit, is.schema.ordered) in
+    let greatest : greatest_in page ≡ schema.greatest = number_back 2 schema.greatest (omega (arith, is.schema.limit)) in
+    let version : number_in page 8 2 ≡ (if same then 1 else 2) = number_back 2 _ (version_small same) in
+    let least : number_in page 36 2 ≡ (if same then 0 else schema.least) = number_back 2 _ (told_small same schema.least under) in
+    let told : least_in page ≡ schema.least =
+    (λ i. if version i == 1 then greatest i else least i) ∙ told_back same schema.least schema.greatest (λ e. (Decides-eqb schema.least schema.greatest).0 e) in
+    let count : key_count_in page ≡ length schema.keys = let h : min (length schema.keys) 9 ≡ length schema.keys = omega (arith, is.schema.few) in h in
+    let keys : map part_in (rows_in page (key_count_in page)) ≡ schema.keys =
+    ap (λ (n : ℕ). map part_in (rows_in page n)) count
+    ∙ parts_back 0 schema.least schema.keys trees rest is.trees (omega (arith, is.schema.limit, is.schema.ordered)) is.schema.whole (λ _. starts_unique schema.keys is.schema.keys) in
+    let roots : map tree_in (rows_in page (key_count_in page)) ≡ trees =
+    ap (λ (n : ℕ). map tree_in (rows_in page n)) count
+    ∙ trees_back 0 header.pages schema.keys trees rest is.trees (omega (arith, is.room.pages)) is.within.trees in
+    λ i. record {
+      schema = record { least = told i; greatest = greatest i; keys = keys i };
+      pages = number_back 4 header.pages is.room.pages i;
+      first_free = number_back 4 header.first_free (omega (arith, is.room.pages, is.within.first_free)) i;
+      free = number_back 4 header.free (omega (arith, is.room.pages, is.within.free)) i;
+      first_heap = number_back 4 header.first_heap (omega (arith, is.room.pages, is.within.first_heap)) i;
+      free_slot_page = number_back 4 header.free_slot_page (omega (arith, is.room.pages, is.within.free_slot)) i;
+      free_slot = number_back 2 header.free_slot is.room.slot i;
+      next_stamp = number_back 8 header.next_stamp (omega (arith, is.within.limit)) i;
+      records = number_back 8 header.records is.room.records i;
+      trees = record { items = roots i };
+    }

@@ -1,0 +1,5 @@
+pub mod RowLemmas
+pub mod PageLemmas
+pub mod BoundsLemmas
+pub mod BackLemmas
+pub mod ReadLemmas

@@ -1,0 +1,71 @@
+-- The header in a page.
+use Rattle.std.specs.Prelude.{◌≡◌, ℕ, ◌+◌, ◌==◌, ◌&&◌, List, map, min, drop, slice_index, slice_range, nat_eq, Option, Some, None, if◌then◌else◌}
+use Rattle.std.specs.Cmp.Lexicographic.{pointwise}
+use Rattle.byteorder.specs.Endian.{big_number}
+use Rattle.page_bytes.specs.Chunks.{chunks}
+use Rattle.record_layout.specs.declared.schema.KeyPart.{KeyPart}
+use Rattle.record_layout.specs.Schema.{Schema}
+use Rattle.file_header.specs.declared.header.Header.{Header}
+use Rattle.file_header.specs.declared.header.TreeNumbers.{TreeNumbers}
+use Rattle.file_header.specs.FirstPage.{closed_page}
+use Rattle.file_header.specs.Bounds.{IsHeader}
+use Rattle.file_header.specs.BoundTests.{is_header}
+
+-- the page is the first one of a file that was closed with this header
+pub record IsFirstPage (header : Header) (page : List ℕ) : Type 0 where
+  pub allowed : IsHeader header
+  pub bytes : page ≡ closed_page header
+
+-- the number in n bytes from a place on
+abbrev pub number_in : List ℕ → ℕ → ℕ → ℕ
+number_in page start n = big_number n (slice_range page start (start + n))
+
+-- the greatest length that a page tells
+abbrev pub greatest_in : List ℕ → ℕ
+greatest_in page = number_in page 10 2
+
+-- the least length that a page tells, which in version 1 is the greatest
+abbrev pub least_in : List ℕ → ℕ
+least_in page = if number_in page 8 2 == 1 then greatest_in page else number_in page 36 2
+
+-- the number of keys that are read: at most 9
+abbrev pub key_count_in : List ℕ → ℕ
+key_count_in page = min (slice_index page 34) 9
+
+-- the rows of the keys
+abbrev pub rows_in : List ℕ → ℕ → List (List ℕ)
+rows_in page count = chunks 16 count (drop 64 page)
+
+-- the part of a record that a row tells
+abbrev pub part_in : List ℕ → KeyPart
+part_in row = record { offset = number_in row 0 2; length = number_in row 2 2; duplicates = slice_index row 4 == 2 }
+
+-- the tree that a row tells
+abbrev pub tree_in : List ℕ → TreeNumbers
+tree_in row = record { height = slice_index row 5; root = number_in row 8 4 }
+
+-- the lengths and the keys that a page tells
+abbrev pub schema_in : List ℕ → Schema
+schema_in page =
+    record { least = least_in page; greatest = greatest_in page; keys = map part_in (rows_in page (key_count_in page)) }
+
+-- what stands at the places of the table, whether or not the page is a first page
+unfoldable pub numbers_in : List ℕ → Header
+numbers_in page = record {
+  schema = schema_in page;
+  pages = number_in page 12 4;
+  first_free = number_in page 16 4;
+  free = number_in page 20 4;
+  first_heap = number_in page 24 4;
+  free_slot_page = number_in page 28 4;
+  free_slot = number_in page 32 2;
+  next_stamp = number_in page 40 8;
+  records = number_in page 48 8;
+  trees = record { items = map tree_in (rows_in page (key_count_in page)) };
+}
+
+-- the header of a file, by its first page: where the page is the one that its numbers make
+unfoldable pub header_in : List ℕ → Option Header
+header_in page =
+    let header = numbers_in page in
+    if is_header header && pointwise nat_eq page (closed_page header) then Some header else None

@@ -1,0 +1,116 @@
+//! The keys of the header, from byte 64 on: 16 bytes a key, with its tree.
+//!
+//! | Bytes | Content |
+//! |---|---|
+//! | 0 to 1 | offset |
+//! | 2 to 3 | length |
+//! | 4 | kind: 0 prime, 1 unique, 2 duplicates |
+//! | 5 | height of its tree |
+//! | 6 to 7 | zero |
+//! | 8 to 11 | root page |
+//! | 12 to 15 | zero |
+ghost use Rattle.std.specs.Prelude.{◌≡◌, ◌≤◌, length, map};
+ghost use Rattle.file_header.specs.FirstPage.{kind_of, row_of, rows_from};
+ghost use Rattle.file_header.specs.Reading.{part_in, tree_in, rows_in};
+
+use crate::header::{PAGE_SIZE, TreeNumbers};
+use crate::numbers::END;
+use arrayvec::ArrayVec;
+use byteorder::{BigEndian, ByteOrder};
+use record_layout::KeyPart;
+
+const OFFSET: usize = 0;
+
+const LENGTH: usize = 2;
+
+const KIND: usize = 4;
+
+const HEIGHT: usize = 5;
+
+const ROOT: usize = 8;
+
+const ROOT_END: usize = 12;
+
+/// The bytes of a row.
+const ROW: usize = 16;
+
+/// The rows of the keys, with their trees.
+pub fn key_rows(keys: &[KeyPart], trees: &[TreeNumbers]) -> ArrayVec<u8, 144>
+    requires { length trees.now ≤ 9 }
+    ensures { result.items ≡ rows_from 0 keys.now trees.now }
+{
+    let mut rows = ArrayVec::new();
+    for k in 0..keys.len().min(trees.len()) {
+        let _ = rows.try_extend_from_slice(&row(k, keys[k], trees[k]));
+    }
+    rows
+}
+
+/// The kind of key k.
+fn kind(k: usize, duplicates: bool) -> u8
+    ensures { result ≡ kind_of k duplicates }
+{
+    match (k, duplicates) {
+        (0, _) => 0,
+        (_, false) => 1,
+        (_, true) => 2,
+    }
+}
+
+/// The row of key k.
+fn row(k: usize, part: KeyPart, tree: TreeNumbers) -> [u8; ROW]
+    ensures { result ≡ row_of k part tree }
+{
+    let mut bytes = [0; ROW];
+    bytes[OFFSET..LENGTH].copy_from_slice(&part.offset.to_be_bytes());
+    bytes[LENGTH..KIND].copy_from_slice(&part.length.to_be_bytes());
+    bytes[KIND] = kind(k, part.duplicates);
+    bytes[HEIGHT] = tree.height;
+    bytes[ROOT..ROOT_END].copy_from_slice(&tree.root.to_be_bytes());
+    bytes
+}
+
+/// The parts of the records that the first `count` keys are.
+pub fn parts_in(page: &[u8; PAGE_SIZE], count: usize) -> ArrayVec<KeyPart, 9>
+    requires { count ≤ 9 }
+    ensures { result.items ≡ map part_in (rows_in page.now count) }
+{
+    let mut parts = ArrayVec::new();
+    for k in 0..count {
+        parts.push(part_in(&page[END + ROW * k..END + ROW * k + ROW]));
+    }
+    parts
+}
+
+/// The trees of the first `count` keys.
+pub fn trees_in(page: &[u8; PAGE_SIZE], count: usize) -> ArrayVec<TreeNumbers, 9>
+    requires { count ≤ 9 }
+    ensures { result.items ≡ map tree_in (rows_in page.now count) }
+{
+    let mut trees = ArrayVec::new();
+    for k in 0..count {
+        trees.push(tree_in(&page[END + ROW * k..END + ROW * k + ROW]));
+    }
+    trees
+}
+
+fn part_in(row: &[u8]) -> KeyPart
+    requires { 16 ≤ length row.now }
+    ensures { result ≡ part_in row.now }
+{
+    KeyPart {
+        offset: BigEndian::read_u16(&row[OFFSET..LENGTH]),
+        length: BigEndian::read_u16(&row[LENGTH..KIND]),
+        duplicates: row[KIND] == 2,
+    }
+}
+
+fn tree_in(row: &[u8]) -> TreeNumbers
+    requires { 16 ≤ length row.now }
+    ensures { result ≡ tree_in row.now }
+{
+    TreeNumbers {
+        height: row[HEIGHT],
+        root: BigEndian::read_u32(&row[ROOT..ROOT_END]),
+    }
+}
