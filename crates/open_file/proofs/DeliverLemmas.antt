@@ -1,0 +1,42 @@
+-- What is told of the row of an entry.
+use Rattle.std.proofs.Common.{◌≡◌, ℕ, Bool, false, List, length, Some, None, refl, sym}
+use Rattle.std.specs.Prelude.{find, Ok, option_map, bytes_eq}
+use Rattle.record_layout.specs.Schema.{Schema}
+use Rattle.indexed_file.specs.File.{Row, File}
+use Rattle.indexed_file.specs.Rank.{is_repeated}
+use Rattle.indexed_file.specs.Change.{row_of}
+use Rattle.indexed_file.specs.Answers.{found_of}
+use Rattle.key_index.specs.declared.entry.AltEntry.{AltEntry}
+use Rattle.key_index.specs.Entries.{after_rank}
+use Rattle.open_file.specs.InOrder.{alt_entries}
+use Rattle.open_file.specs.Reading.{Reads, IsOf}
+use Rattle.open_file.proofs.RepeatLemmas.{next_tells}
+
+pub from_some : {X : Type 0} (x y : X) → Some x ≡ Some y → x ≡ y
+from_some x y e = cc
+
+pub told : (schema : Schema) (k : ℕ) (file : File) (entry : AltEntry) (row : Row) → IsOf schema k file entry row → (n : ℕ) (repeated : Bool) (old new : List ℕ) → repeated ≡ is_repeated schema k row file
+    → Reads (Ok (Some n)) (option_map (λ row. length row.bytes) (row_of schema entry.prime.items file)) old new (row_of schema entry.prime.items file)
+    → Reads (Ok (record { key = entry.value; length = n; stamp = entry.stamp; repeated = repeated })) (found_of schema k file row) old new (Some row)
+told schema k file entry row is n repeated old new same found =
+    let there = rw is.is_row at found in
+    let long = from_some _ _ there.answered.answer in
+    record {
+      answered = record {
+        answer = λ i. record { key = (is.is_entry i).value; length = long i; stamp = (is.is_entry i).stamp; repeated = same i };
+        no_damage = tt;
+      };
+      area = there.area;
+    }
+
+pub repeated_some : (schema : Schema) (k : ℕ) (file : File) (entry : AltEntry) (row : Row) → IsOf schema k file entry row → (next : AltEntry)
+    → Some next ≡ find (after_rank entry.value.items entry.stamp) (alt_entries schema k file.rows) → bytes_eq next.value.items entry.value.items ≡ is_repeated schema k row file
+repeated_some schema k file entry row is next found =
+    let same = rw is.is_entry at found in
+    rw (is.is_entry, next_tells schema k row file, sym same) refl
+
+pub repeated_none : (schema : Schema) (k : ℕ) (file : File) (entry : AltEntry) (row : Row) → IsOf schema k file entry row
+    → None ≡ find (after_rank entry.value.items entry.stamp) (alt_entries schema k file.rows) → false ≡ is_repeated schema k row file
+repeated_none schema k file entry row is found =
+    let same = rw is.is_entry at found in
+    rw (next_tells schema k row file, sym same) refl

@@ -1,0 +1,47 @@
+-- A call that failed, and what an answer says.
+use Rattle.std.proofs.Common.{◌≡◌, ◌≢◌, ℕ, List, Option}
+use Rattle.std.specs.Prelude.{Result, Ok, Err, IfOk, IfErr, IsErrAnd, OnOk, Bool}
+use Rattle.std.proofs.lemmas.Result.{err_from_is_err_and}
+use Rattle.io_state.specs.declared.fault.Fault.{Fault}
+use Rattle.io_state.specs.declared.fault.Fault.TheVariants.{Damage}
+use Rattle.pages.specs.Answer.{IsAnswer}
+use Rattle.pages.specs.Cause.{IsCaused}
+use Rattle.indexed_file.specs.File.{Row}
+use Rattle.open_file.specs.Faults.{IsCausedIn}
+use Rattle.open_file.specs.Reading.{Reads}
+
+-- a fault that is no damage is handed on
+pub fails : {X : Type 0} (r : Result X Fault) (fault : Fault) → IsErrAnd r (λ e. e ≡ fault) → fault ≢ Damage → (P : X → Type 0) → IsAnswer r P
+fails r fault was sound P =
+    let p = err_from_is_err_and r was in
+    rw (p.1, p.2) (record { answer = tt; no_damage = sound })
+
+pub fails_reading : {X : Type 0} (r : Result X Fault) (fault : Fault) → IsErrAnd r (λ e. e ≡ fault) → fault ≢ Damage
+    → (answer : X) (old new : List ℕ) (row : Option Row) → Reads r answer old new row
+fails_reading r fault was sound answer old new row =
+    let p = err_from_is_err_and r was in
+    rw (p.1, p.2) (record { answered = record { answer = tt; no_damage = sound }; area = tt })
+
+-- its cause is that of an earlier state too
+pub caused_since : (failed since lacks short : Type 0) → (failed → since) → (lacks → short) → (fault : Fault) → IsCaused failed lacks fault → IsCaused since short fault
+caused_since failed since lacks short f g fault is = record { device = λ e. f (is.device e); full = λ e. g (is.full e); not_broken = is.not_broken }
+
+pub fails_since : {X : Type 0} (r : Result X Fault) (fault : Fault) (failed since lacks short : Type 0) → IsErrAnd r (λ e. e ≡ fault) → (failed → since) → (lacks → short)
+    → IsCaused failed lacks fault → IfErr r (IsCaused since short)
+fails_since r fault failed since lacks short was f g is =
+    let p = err_from_is_err_and r was in
+    rw (p.1, p.2) (caused_since failed since lacks short f g fault is)
+
+-- and the cause of a fault of a file that was not broken
+pub caused_in : {X : Type 0} (r : Result X Fault) (broken : Bool) (failed lacks : Type 0) → IfErr r (IsCaused failed lacks) → IfErr r (IsCausedIn broken failed lacks)
+caused_in (Ok x) broken failed lacks is = tt
+caused_in (Err e) broken failed lacks is = record { device = is.device; full = is.full; broken = λ b. absurd (is.not_broken b) }
+
+-- what follows from an answer
+pub on_ok : {X : Type 0} (r : Result X Fault) (A B : Type 0) → (A → B) → OnOk r A → OnOk r B
+on_ok (Ok x) A B f h = f h
+on_ok (Err e) A B f h = h
+
+pub if_ok : {X : Type 0} (r : Result X Fault) (A B : X → Type 0) → ((x : X) → A x → B x) → IfOk r A → IfOk r B
+if_ok (Ok x) A B f h = f x h
+if_ok (Err e) A B f h = h

@@ -1,0 +1,56 @@
+-- What adding a record makes of an open file.
+use Rattle.std.specs.Prelude.{◌≡◌, ℕ, ◌+◌, ◌<◌, List, sum_by, None, Some, find, nat_lt, if◌then◌else◌}
+use Rattle.record_layout.specs.Schema.{Schema, key_at, value_of, prime_of}
+use Rattle.indexed_file.specs.File.{File}
+use Rattle.indexed_file.specs.Change.{clashes, added}
+use Rattle.indexed_file.specs.Answers.{added_answer}
+use Rattle.indexed_file.specs.declared.answer.Added.{Added}
+use Rattle.pages.specs.PageMap.{PageMap}
+use Rattle.key_index.specs.declared.entry.AltEntry.{AltEntry}
+use Rattle.key_index.specs.declared.entry.PrimeEntry.{PrimeEntry}
+use Rattle.key_index.specs.declared.alt_index.AltIndex.{AltIndex}
+use Rattle.key_index.specs.declared.prime_index.PrimeIndex.{PrimeIndex}
+use Rattle.key_index.specs.Entries.{with_alt, has_rank}
+use Rattle.key_index.specs.Standing.{alt_height}
+use Rattle.record_heap.specs.declared.heap.Heap.{Heap}
+use Rattle.record_heap.specs.declared.shape.Place.{Place}
+use Rattle.record_heap.specs.Chain.{Slots, put}
+use Rattle.open_file.specs.Parts.{Parts}
+use Rattle.open_file.specs.Stands.{Stands}
+use Rattle.open_file.specs.declared.open_file.OpenFile.{OpenFile}
+
+-- a clash changes nothing
+abbrev pub file_after_add : Schema → List ℕ → File → File
+file_after_add schema bytes file = if clashes schema bytes file.rows then file else added schema bytes file
+
+-- the answer is the one of the definitions, and the pages stand for the file that they leave
+pub record HasAdded (new : OpenFile) (pages : PageMap) (is_sound : Type 0) (schema : Schema) (bytes : List ℕ) (file : File) (answer : Added) : Type 0 where
+  pub answers : answer ≡ added_answer schema bytes file
+  pub stands : Stands new pages (file_after_add schema bytes file)
+  pub sound : is_sound
+
+-- the stamp of a new record in alternate key j
+abbrev pub stamp_in : Schema → ℕ → ℕ → ℕ
+stamp_in schema stamp j = if (key_at schema (j + 1)).duplicates then stamp else 0
+
+-- the entry of a new record in alternate index j
+abbrev pub entry_of : Schema → ℕ → List ℕ → ℕ → AltEntry
+entry_of schema stamp bytes j =
+    record { value = record { items = value_of schema (j + 1) bytes }; stamp = stamp_in schema stamp j; prime = record { items = prime_of schema bytes } }
+
+-- the alternate indexes below i have the entry of the new record, and the others do not have it yet
+abbrev pub added_below : Schema → ℕ → List ℕ → ℕ → (ℕ → List AltEntry) → ℕ → List AltEntry
+added_below schema stamp bytes i entries j = if nat_lt j i then with_alt (entry_of schema stamp bytes j) (entries j) else entries j
+
+-- no alternate index has an entry of its value and stamp
+abbrev pub AreFree : Schema → ℕ → List ℕ → ℕ → (ℕ → List AltEntry) → Type 0
+AreFree schema stamp bytes count entries = (j : ℕ) → j < count → find (has_rank (value_of schema (j + 1) bytes) (stamp_in schema stamp j)) (entries j) ≡ None
+
+-- the levels of these trees, with one more of each
+abbrev pub levels_in : List AltIndex → ℕ
+levels_in indexes = sum_by (λ index. alt_height index + 1) indexes
+
+-- the heap has these bytes at a place that was free, and all other parts are as they were
+pub record RowPut (heap : Heap) (prime : PrimeIndex) (alternates : List AltIndex) (pages : PageMap) (slots : Slots) (primes : List PrimeEntry) (entries : ℕ → List AltEntry) (place : Place) (bytes : List ℕ) : Type 0 where
+  pub free : slots place ≡ None
+  pub parts : Parts heap prime alternates pages (put slots place (Some bytes)) primes entries

@@ -1,0 +1,36 @@
+-- The parts of an open file: the heap, the prime index, and the alternate indexes, each in pages of its own.
+use Rattle.std.specs.Prelude.{◌≡◌, ◌≢◌, ℕ, ◌+◌, ◌<◌, ◌==◌, List, [], length, slice_index_or, None, if◌then◌else◌}
+use Rattle.page_bytes.specs.Each.{Each}
+use Rattle.pages.specs.PageMap.{PageMap}
+use Rattle.pages.specs.Owners.{IsOutside}
+use Rattle.key_index.specs.declared.entry.PrimeEntry.{PrimeEntry}
+use Rattle.key_index.specs.declared.entry.AltEntry.{AltEntry}
+use Rattle.key_index.specs.declared.prime_index.PrimeIndex.{PrimeIndex}
+use Rattle.key_index.specs.declared.alt_index.AltIndex.{AltIndex}
+use Rattle.key_index.specs.Standing.{AltStands, PrimeStands}
+use Rattle.record_heap.specs.declared.heap.Heap.{Heap}
+use Rattle.record_heap.specs.Chain.{Slots}
+use Rattle.record_heap.specs.Standing.{HeapStands}
+
+-- the pages of part i: of the heap (0), the prime index (1), alternate index j (j + 2)
+abbrev pub own_at : List (List ℕ) → ℕ → List ℕ
+own_at owns i = slice_index_or owns i []
+
+-- no page belongs to two parts, and each page in use to one
+pub record Parted (pages : PageMap) (owns : List (List ℕ)) : Type 0 where
+  pub apart : (i j : ℕ) → i ≢ j → Each (λ n. IsOutside (own_at owns i) n) (own_at owns j)
+  pub covers : (n : ℕ) → Each (λ own. IsOutside own n) owns → pages n ≡ None
+
+-- the heap has these records, and the indexes these entries
+pub record Parts (heap : Heap) (prime : PrimeIndex) (alternates : List AltIndex) (pages : PageMap) (slots : Slots) (primes : List PrimeEntry) (entries : ℕ → List AltEntry) : Type 0 where
+  pub owns : List (List ℕ)
+  pub owners : length owns ≡ length alternates + 2
+  pub heap_stands : HeapStands heap pages slots (own_at owns 0)
+  pub prime_stands : PrimeStands prime pages primes (own_at owns 1)
+  pub alternates_stand : (j : ℕ) (index : AltIndex) → j < length alternates → index ≡ slice_index_or alternates j index
+      → AltStands index pages (entries j) (own_at owns (j + 2))
+  pub parted : Parted pages owns
+
+-- these entries, but others at j
+abbrev pub but_at : ℕ → List AltEntry → (ℕ → List AltEntry) → ℕ → List AltEntry
+but_at j others entries i = if i == j then others else entries i

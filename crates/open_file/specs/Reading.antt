@@ -1,0 +1,53 @@
+-- What the calls answer that look for a row.
+use Rattle.std.specs.Prelude.{◌≡◌, ℕ, ◌≤◌, Bool, List, length, drop, Option, Some, Result, OnOk, option_map}
+use Rattle.record_layout.specs.Schema.{Schema}
+use Rattle.indexed_file.specs.File.{Row, File}
+use Rattle.indexed_file.specs.Change.{row_of}
+use Rattle.indexed_file.specs.Rank.{least, satisfies}
+use Rattle.indexed_file.specs.Answers.{found_of, key_of_row, area_after}
+use Rattle.indexed_file.specs.declared.answer.Found.{Found}
+use Rattle.io_state.specs.declared.fault.Fault.{Fault}
+use Rattle.io_state.specs.declared.modes.Relation.{Relation}
+use Rattle.arrayvec.specs.ArrayVec.{ArrayVec}
+use Rattle.pages.specs.PageMap.{PageMap}
+use Rattle.pages.specs.Answer.{IsAnswer}
+use Rattle.key_index.specs.declared.entry.AltEntry.{AltEntry}
+use Rattle.record_heap.specs.declared.shape.Place.{Place}
+use Rattle.record_heap.specs.declared.heap.Heap.{Heap}
+use Rattle.record_heap.specs.Chain.{Slots}
+use Rattle.record_heap.specs.Standing.{HeapStands}
+use Rattle.open_file.specs.Stored.{stored, stamp_bytes}
+use Rattle.open_file.specs.InOrder.{alt_entry}
+use Rattle.open_file.specs.Stands.{Stands}
+use Rattle.open_file.specs.declared.open_file.OpenFile.{OpenFile}
+
+-- the answer, and the area with the record in its front; or as it was, where there is none
+pub record Reads {X : Type 0} (result : Result X Fault) (answer : X) (old new : List ℕ) (row : Option Row) : Type 0 where
+  pub answered : IsAnswer result (λ x. x ≡ answer)
+  pub area : OnOk result (new ≡ area_after old row)
+
+-- the first row by key k that passes a test is told, and read into the area
+abbrev pub Delivers : OpenFile → PageMap → ℕ → (Row → Bool) → List ℕ → List ℕ → Result (Option Found) Fault → Type 0
+Delivers opened pages k test old new result =
+    (file : File) → Stands opened pages file
+    → Reads result (option_map (found_of opened.schema k file) (least opened.schema k test file)) old new (least opened.schema k test file)
+
+-- the full value of key k of the first row whose value begins so related to the operand
+abbrev pub Seeks : OpenFile → PageMap → ℕ → Relation → List ℕ → Result (Option (ArrayVec ℕ)) Fault → Type 0
+Seeks opened pages k relation operand result =
+    (file : File) → Stands opened pages file
+    → IsAnswer result (λ key. key ≡ option_map (key_of_row opened.schema k) (least opened.schema k (satisfies opened.schema k relation operand) file))
+
+-- the row stands at this place of the heap
+pub record IsAt (schema : Schema) (heap : Heap) (stamps : ℕ) (pages : PageMap) (place : Place) (row : Row) : Type 0 where
+  pub slots : Slots
+  pub own : List ℕ
+  pub stands : HeapStands heap pages slots own
+  pub here : slots place ≡ Some (stored schema row)
+  pub width : length (stamp_bytes (drop 1 schema.keys) row.stamps) ≡ stamps
+  pub short : length row.bytes ≤ schema.greatest
+
+-- the entry is that of the row in alternate index k, and the row is the one of its prime value
+pub record IsOf (schema : Schema) (k : ℕ) (file : File) (entry : AltEntry) (row : Row) : Type 0 where
+  pub is_entry : entry ≡ alt_entry schema k row
+  pub is_row : row_of schema entry.prime.items file ≡ Some row

@@ -1,0 +1,62 @@
+-- The entries that READ NEXT and START come to.
+use Rattle.std.specs.Prelude.{◌≡◌, ℕ, Bool, true, false, List, length, take, find, bytes_eq, Option, Result}
+use Rattle.io_state.specs.declared.fault.Fault.{Fault}
+use Rattle.io_state.specs.declared.position.Position.{Position}
+use Rattle.io_state.specs.declared.position.Position.TheVariants.{Invalid, Missing, From, After}
+use Rattle.io_state.specs.declared.modes.Relation.{Relation}
+use Rattle.io_state.specs.declared.modes.Relation.TheVariants.{Equal, Greater, NotLess}
+use Rattle.indexed_file.specs.File.{File}
+use Rattle.pages.specs.PageMap.{PageMap}
+use Rattle.pages.specs.Answer.{IsAnswer}
+use Rattle.key_index.specs.declared.entry.PrimeEntry.{PrimeEntry}
+use Rattle.key_index.specs.declared.entry.AltEntry.{AltEntry}
+use Rattle.key_index.specs.Entries.{from_prime, after_prime, past_prime, from_value, after_rank, past_value}
+use Rattle.open_file.specs.InOrder.{alt_entries, prime_entries}
+use Rattle.open_file.specs.Stands.{Stands}
+use Rattle.open_file.specs.declared.open_file.OpenFile.{OpenFile}
+
+-- the position admits the row of this entry of the prime index, whose stamp is 0
+abbrev pub admits_prime : Position → PrimeEntry → Bool
+admits_prime Invalid entry = false
+admits_prime Missing entry = false
+admits_prime (From value) entry = from_prime value.items entry
+admits_prime (After value stamp) entry = after_prime value.items entry
+
+-- the position admits the row of this entry of an alternate index
+abbrev pub admits_alt : Position → AltEntry → Bool
+admits_alt Invalid entry = false
+admits_alt Missing entry = false
+admits_alt (From value) entry = from_value value.items entry
+admits_alt (After value stamp) entry = after_rank value.items stamp entry
+
+-- no entry before the first of these satisfies START
+abbrev pub leads_prime : Relation → List ℕ → PrimeEntry → Bool
+leads_prime Equal operand entry = from_prime operand entry
+leads_prime Greater operand entry = past_prime operand entry
+leads_prime NotLess operand entry = from_prime operand entry
+
+abbrev pub leads_alt : Relation → List ℕ → AltEntry → Bool
+leads_alt Equal operand entry = from_value operand entry
+leads_alt Greater operand entry = past_value operand entry
+leads_alt NotLess operand entry = from_value operand entry
+
+-- the value is one that START wants: for EQUAL it begins with the operand
+abbrev pub is_wanted : Relation → List ℕ → List ℕ → Bool
+is_wanted Equal operand value = bytes_eq (take (length operand) value) operand
+is_wanted Greater operand value = true
+is_wanted NotLess operand value = true
+
+-- the first entry of the prime index that passes a test
+abbrev pub GivesPrime : OpenFile → PageMap → (PrimeEntry → Bool) → Result (Option PrimeEntry) Fault → Type 0
+GivesPrime opened pages test result =
+    (file : File) (stands : Stands opened pages file)
+    → IsAnswer result (λ found. found ≡ find test (prime_entries opened.schema stands.places file.rows))
+
+-- the first entry of the index of alternate key k that passes a test
+abbrev pub GivesAlt : OpenFile → PageMap → ℕ → (AltEntry → Bool) → Result (Option AltEntry) Fault → Type 0
+GivesAlt opened pages k test result =
+    (file : File) → Stands opened pages file → IsAnswer result (λ found. found ≡ find test (alt_entries opened.schema k file.rows))
+
+-- what the pages stood for they stand for still
+abbrev pub StandsStill : OpenFile → OpenFile → PageMap → Type 0
+StandsStill old new pages = (file : File) → Stands old pages file → Stands new pages file

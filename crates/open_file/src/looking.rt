@@ -1,0 +1,76 @@
+//! Whether a value of a key is there.
+
+ghost use Rattle.std.specs.Prelude.{◌≡◌, ◌+◌, ◌*◌, ◌≤◌, ◌<◌, List, ℕ, length, IsTrue, IfErr, slice_index};
+ghost use Rattle.record_layout.specs.Schema.{key_at, value_of};
+ghost use Rattle.indexed_file.specs.File.{File};
+ghost use Rattle.indexed_file.specs.Change.{is_there};
+ghost use Rattle.pages.specs.Answer.{IsAnswer};
+ghost use Rattle.pages.specs.Cause.{IsCaused};
+ghost use Rattle.key_index.specs.Standing.{prime_height};
+ghost use Rattle.open_file.specs.Stands.{Stands, IsShaped, heights_of};
+
+use crate::open_file::OpenFile;
+use io_state::Fault;
+use pages::Pages;
+
+impl OpenFile {
+    /// Whether some record has this value of the prime key.
+    fn has_prime<P: Pages>(&self, pages: &mut P, value: &[u8]) -> Result<bool, Fault>
+        requires ready { P.IsReady pages.old }
+        ensures found { IsTrue (P.state pages.new).is_honest → (file : File) (bytes : List ℕ) → Stands self.now (P.state pages.old).live file
+            → value.now ≡ value_of self.now.schema 0 bytes
+            → IsAnswer result (λ found. found ≡ is_there (key_at self.now.schema 0) bytes file.rows) }
+        ensures cause { IfErr result (IsCaused (P.HasFailed pages.old pages.new) ⊥) }
+        ensures asked { (P.state pages.new).asked ≤ (P.state pages.old).asked + prime_height self.now.prime }
+        ensures reads { P.Reads pages.old pages.new }
+    {
+        match self.prime.find(pages, value)? {
+            Some(_) => Ok(true),
+            None => Ok(false),
+        }
+    }
+
+    /// Whether some record has this value of an alternate key.
+    fn has_alternate<P: Pages>(&self, pages: &mut P, k: usize, value: &[u8]) -> Result<bool, Fault>
+        requires ready { P.IsReady pages.old }
+        requires some { 1 ≤ k }
+        requires within { k ≤ length self.now.alternates.items }
+        ensures found { IsTrue (P.state pages.new).is_honest → (file : File) (bytes : List ℕ) → Stands self.now (P.state pages.old).live file
+            → value.now ≡ value_of self.now.schema k bytes
+            → IsAnswer result (λ found. found ≡ is_there (key_at self.now.schema k) bytes file.rows) }
+        ensures cause { IfErr result (IsCaused (P.HasFailed pages.old pages.new) ⊥) }
+        ensures asked { (P.state pages.new).asked ≤ (P.state pages.old).asked + 2 * slice_index (heights_of self.now) k }
+        ensures reads { P.Reads pages.old pages.new }
+    {
+        let index = self.alternate(k);
+        match index.first_from(pages, value)? {
+            Some(entry) => Ok(entry.value.as_slice() == value),
+            None => Ok(false),
+        }
+    }
+
+    /// Whether some record has the value of a key that this one has.
+    pub(crate) fn is_there<P: Pages>(
+        &self,
+        pages: &mut P,
+        k: u8,
+        bytes: &[u8],
+    ) -> Result<bool, Fault>
+        requires ready { P.IsReady pages.old }
+        requires shaped { IsShaped self.now }
+        requires key { k < length self.now.schema.keys }
+        requires least { self.now.schema.least ≤ length bytes.now }
+        ensures found { IsTrue (P.state pages.new).is_honest → (file : File) → Stands self.now (P.state pages.old).live file
+            → IsAnswer result (λ found. found ≡ is_there (key_at self.now.schema k) bytes.now file.rows) }
+        ensures cause { IfErr result (IsCaused (P.HasFailed pages.old pages.new) ⊥) }
+        ensures asked { (P.state pages.new).asked ≤ (P.state pages.old).asked + 2 * slice_index (heights_of self.now) k }
+        ensures reads { P.Reads pages.old pages.new }
+    {
+        let value = self.schema.value(bytes, k);
+        if k == 0 {
+            self.has_prime(pages, value)
+        } else {
+            self.has_alternate(pages, usize::from(k), value)
+        }
+    }
+}

@@ -1,0 +1,117 @@
+//! The record that comes next.
+
+ghost use Rattle.std.specs.Prelude.{◌≡◌, ◌+◌, ◌*◌, ◌≤◌, ◌<◌, length, None, Ok, Err, IsTrue, IfErr, OnErr};
+ghost use Rattle.indexed_file.specs.File.{File};
+ghost use Rattle.indexed_file.specs.Rank.{admits};
+ghost use Rattle.indexed_file.specs.Room.{most_to_read};
+ghost use Rattle.pages.specs.Cause.{IsCaused};
+ghost use Rattle.open_file.specs.Stands.{Stands, IsShaped, room_of};
+ghost use Rattle.open_file.specs.Faults.{IsCausedIn};
+ghost use Rattle.open_file.specs.Reading.{Delivers};
+ghost use Rattle.open_file.specs.Steps.{StandsStill};
+
+use crate::open_file::OpenFile;
+use indexed_file::Found;
+use io_state::{Fault, Position};
+use key_index::PrimeEntry;
+use pages::Pages;
+
+impl OpenFile {
+    /// The first record that the position admits, by key k. It is read into the front of the area, which is as long as the greatest record. The
+    /// path to it is kept for the next call.
+    ///
+    /// Device, Memory, Damage, Broken. A fault leaves the area as it was.
+    pub fn next<P: Pages>(
+        &mut self,
+        pages: &mut P,
+        k: u8,
+        position: &Position,
+        area: &mut [u8],
+    ) -> Result<Option<Found>, Fault>
+        requires ready { P.IsReady pages.old }
+        requires shaped { IsShaped self.old }
+        requires key { k < length self.old.schema.keys }
+        requires area { length area.old ≡ self.old.schema.greatest }
+        ensures found { IsTrue (P.state pages.new).is_honest
+            → Delivers self.old (P.state pages.old).live k (admits self.old.schema k position.now) area.old area.new result }
+        ensures stands { IsTrue (P.state pages.new).is_honest → (file : File) → Stands self.old (P.state pages.old).live file
+            → Stands self.new (P.state pages.old).live file }
+        ensures rest { self.new ≡ record self.old { path = self.new.path } }
+        ensures none { result ≡ Ok None → area.new ≡ area.old }
+        ensures kept { OnErr result (area.new ≡ area.old) }
+        ensures broken { IsTrue self.old.broken → result ≡ Err Fault.Broken }
+        ensures cause { IfErr result (IsCausedIn self.old.broken (P.HasFailed pages.old pages.new) ⊥) }
+        ensures asked { (P.state pages.new).asked ≤ (P.state pages.old).asked + most_to_read (room_of self.old (P.state pages.old).available) k }
+        ensures reads { P.Reads pages.old pages.new }
+    {
+        if self.broken {
+            return Err(Fault::Broken);
+        }
+        if k == 0 {
+            return self.next_by_prime(pages, position, area);
+        }
+        self.next_by_alternate(pages, usize::from(k), position, area)
+    }
+
+    /// The first record that the position admits, by the prime key.
+    fn next_by_prime<P: Pages>(
+        &mut self,
+        pages: &mut P,
+        position: &Position,
+        area: &mut [u8],
+    ) -> Result<Option<Found>, Fault>
+        requires ready { P.IsReady pages.old }
+        requires shaped { IsShaped self.old }
+        requires area { length area.old ≡ self.old.schema.greatest }
+        ensures found { IsTrue (P.state pages.new).is_honest
+            → Delivers self.old (P.state pages.old).live 0 (admits self.old.schema 0 position.now) area.old area.new result }
+        ensures stands { IsTrue (P.state pages.new).is_honest → StandsStill self.old self.new (P.state pages.old).live }
+        ensures rest { self.new ≡ record self.old { path = self.new.path } }
+        ensures none { result ≡ Ok None → area.new ≡ area.old }
+        ensures kept { OnErr result (area.new ≡ area.old) }
+        ensures cause { IfErr result (IsCaused (P.HasFailed pages.old pages.new) ⊥) }
+        ensures asked { (P.state pages.new).asked ≤ (P.state pages.old).asked + most_to_read (room_of self.old (P.state pages.old).available) 0 }
+        ensures reads { P.Reads pages.old pages.new }
+    {
+        let Some(PrimeEntry { value, place }) = self.step_in_prime(pages, position)? else {
+            return Ok(None);
+        };
+        let length = self.read(pages, place, area)?;
+        Ok(Some(Found {
+            key: value,
+            stamp: 0,
+            repeated: false,
+            length,
+        }))
+    }
+
+    /// The first record that the position admits, by an alternate key.
+    fn next_by_alternate<P: Pages>(
+        &mut self,
+        pages: &mut P,
+        k: usize,
+        position: &Position,
+        area: &mut [u8],
+    ) -> Result<Option<Found>, Fault>
+        requires ready { P.IsReady pages.old }
+        requires shaped { IsShaped self.old }
+        requires some { 1 ≤ k }
+        requires within { k ≤ length self.old.alternates.items }
+        requires area { length area.old ≡ self.old.schema.greatest }
+        ensures found { IsTrue (P.state pages.new).is_honest
+            → Delivers self.old (P.state pages.old).live k (admits self.old.schema k position.now) area.old area.new result }
+        ensures stands { IsTrue (P.state pages.new).is_honest → StandsStill self.old self.new (P.state pages.old).live }
+        ensures rest { self.new ≡ record self.old { path = self.new.path } }
+        ensures none { result ≡ Ok None → area.new ≡ area.old }
+        ensures kept { OnErr result (area.new ≡ area.old) }
+        ensures cause { IfErr result (IsCaused (P.HasFailed pages.old pages.new) ⊥) }
+        ensures asked { (P.state pages.new).asked ≤ (P.state pages.old).asked + most_to_read (room_of self.old (P.state pages.old).available) k }
+        ensures reads { P.Reads pages.old pages.new }
+    {
+        let index = self.alternate(k);
+        let Some(entry) = self.step_in_alternate(pages, k, index, position)? else {
+            return Ok(None);
+        };
+        Ok(Some(self.deliver(pages, index, entry, area)?))
+    }
+}

@@ -1,0 +1,238 @@
+//! The path of READ NEXT through an index.
+
+ghost use Rattle.std.specs.Prelude.{◌≡◌, ◌+◌, ◌-◌, ◌*◌, ◌≤◌, ◌++◌, ℕ, List, length, None, IsTrue, IfErr, slice_index_or};
+ghost use Rattle.byteorder.specs.Endian.{big_bytes};
+ghost use Rattle.pages.specs.PageMap.{PageMap};
+ghost use Rattle.pages.specs.Cause.{IsCaused};
+ghost use Rattle.key_index.specs.Entries.{from_prime, after_prime, from_value, after_rank};
+ghost use Rattle.key_index.specs.Standing.{prime_height, alt_height};
+ghost use Rattle.key_index.specs.Cursors.{PrimeBelongs, AltBelongs};
+ghost use Rattle.open_file.specs.Parts.{own_at};
+ghost use Rattle.open_file.specs.Paths.{IsOnPath};
+ghost use Rattle.open_file.specs.Steps.{admits_prime, admits_alt, GivesPrime, GivesAlt, StandsStill};
+
+use crate::open_file::OpenFile;
+use io_state::{Fault, Position};
+use key_index::{AltCursor, AltEntry, AltIndex, PrimeCursor, PrimeEntry};
+use pages::Pages;
+
+/// A place behind the entry that was read last, in the prime index or in that of an alternate key (from 0).
+#[derive(Drop)]
+pub enum Path {
+    Prime(PrimeCursor),
+    Alternate(usize, AltCursor),
+}
+
+impl OpenFile {
+    /// The first entry of the prime index that the position admits, behind which the path is then.
+    pub(crate) fn step_in_prime<P: Pages>(
+        &mut self,
+        pages: &mut P,
+        position: &Position,
+    ) -> Result<Option<PrimeEntry>, Fault>
+        requires ready { P.IsReady pages.old }
+        ensures found { IsTrue (P.state pages.new).is_honest → GivesPrime self.old (P.state pages.old).live (admits_prime position.now) result }
+        ensures stands { IsTrue (P.state pages.new).is_honest → StandsStill self.old self.new (P.state pages.old).live }
+        ensures rest { self.new ≡ record self.old { path = self.new.path } }
+        ensures cause { IfErr result (IsCaused (P.HasFailed pages.old pages.new) ⊥) }
+        ensures asked { (P.state pages.new).asked ≤ (P.state pages.old).asked + 2 * prime_height self.old.prime }
+        ensures reads { P.Reads pages.old pages.new }
+    {
+        match position {
+            Position::Invalid | Position::Missing => Ok(None),
+            Position::From(value) => self.prime_from(pages, value.as_slice()),
+            Position::After(value, _) => self.prime_after(pages, value.as_slice()),
+        }
+    }
+
+    /// The same of the index of an alternate key.
+    pub(crate) fn step_in_alternate<P: Pages>(
+        &mut self,
+        pages: &mut P,
+        k: usize,
+        index: AltIndex,
+        position: &Position,
+    ) -> Result<Option<AltEntry>, Fault>
+        requires ready { P.IsReady pages.old }
+        requires some { 1 ≤ k }
+        requires within { k ≤ length self.old.alternates.items }
+        requires index { index ≡ slice_index_or self.old.alternates.items (k - 1) index }
+        ensures found { IsTrue (P.state pages.new).is_honest → GivesAlt self.old (P.state pages.old).live k (admits_alt position.now) result }
+        ensures stands { IsTrue (P.state pages.new).is_honest → StandsStill self.old self.new (P.state pages.old).live }
+        ensures rest { self.new ≡ record self.old { path = self.new.path } }
+        ensures cause { IfErr result (IsCaused (P.HasFailed pages.old pages.new) ⊥) }
+        ensures asked { (P.state pages.new).asked ≤ (P.state pages.old).asked + 2 * alt_height index }
+        ensures reads { P.Reads pages.old pages.new }
+    {
+        match position {
+            Position::Invalid | Position::Missing => Ok(None),
+            Position::From(value) => self.alternate_from(pages, k, index, value.as_slice()),
+            Position::After(value, stamp) => self.alternate_after(
+                pages,
+                k,
+                index,
+                value.as_slice(),
+                *stamp,
+            ),
+        }
+    }
+
+    /// The first entry of the prime index whose value is not less than this one.
+    fn prime_from<P: Pages>(
+        &mut self,
+        pages: &mut P,
+        value: &[u8],
+    ) -> Result<Option<PrimeEntry>, Fault>
+        requires ready { P.IsReady pages.old }
+        ensures found { IsTrue (P.state pages.new).is_honest → GivesPrime self.old (P.state pages.old).live (from_prime value.now) result }
+        ensures stands { IsTrue (P.state pages.new).is_honest → StandsStill self.old self.new (P.state pages.old).live }
+        ensures rest { self.new ≡ record self.old { path = self.new.path } }
+        ensures cause { IfErr result (IsCaused (P.HasFailed pages.old pages.new) ⊥) }
+        ensures asked { (P.state pages.new).asked ≤ (P.state pages.old).asked + 2 * prime_height self.old.prime }
+        ensures reads { P.Reads pages.old pages.new }
+    {
+        let found = self.prime.first_from(pages, value)?;
+        if let Some(entry) = &found {
+            self.go_on_in_prime(entry.value.as_slice());
+        }
+        Ok(found)
+    }
+
+    /// The first entry of the prime index whose value comes after this one.
+    fn prime_after<P: Pages>(
+        &mut self,
+        pages: &mut P,
+        value: &[u8],
+    ) -> Result<Option<PrimeEntry>, Fault>
+        requires ready { P.IsReady pages.old }
+        ensures found { IsTrue (P.state pages.new).is_honest → GivesPrime self.old (P.state pages.old).live (after_prime value.now) result }
+        ensures stands { IsTrue (P.state pages.new).is_honest → StandsStill self.old self.new (P.state pages.old).live }
+        ensures rest { self.new ≡ record self.old { path = self.new.path } }
+        ensures cause { IfErr result (IsCaused (P.HasFailed pages.old pages.new) ⊥) }
+        ensures asked { (P.state pages.new).asked ≤ (P.state pages.old).asked + 2 * prime_height self.old.prime }
+        ensures reads { P.Reads pages.old pages.new }
+    {
+        if value.len() != usize::from(self.prime.width) {
+            return self.prime.first_after(pages, value);
+        }
+        let mut cursor = self.prime_cursor(value);
+        let found = cursor.next(&self.prime, pages)?;
+        self.path = Some(Path::Prime(cursor));
+        Ok(found)
+    }
+
+    /// The first entry of the index of an alternate key whose value is not less than this one.
+    fn alternate_from<P: Pages>(
+        &mut self,
+        pages: &mut P,
+        k: usize,
+        index: AltIndex,
+        value: &[u8],
+    ) -> Result<Option<AltEntry>, Fault>
+        requires ready { P.IsReady pages.old }
+        requires some { 1 ≤ k }
+        requires within { k ≤ length self.old.alternates.items }
+        requires index { index ≡ slice_index_or self.old.alternates.items (k - 1) index }
+        ensures found { IsTrue (P.state pages.new).is_honest → GivesAlt self.old (P.state pages.old).live k (from_value value.now) result }
+        ensures stands { IsTrue (P.state pages.new).is_honest → StandsStill self.old self.new (P.state pages.old).live }
+        ensures rest { self.new ≡ record self.old { path = self.new.path } }
+        ensures cause { IfErr result (IsCaused (P.HasFailed pages.old pages.new) ⊥) }
+        ensures asked { (P.state pages.new).asked ≤ (P.state pages.old).asked + 2 * alt_height index }
+        ensures reads { P.Reads pages.old pages.new }
+    {
+        let found = index.first_from(pages, value)?;
+        if let Some(entry) = &found {
+            self.go_on_in_alternate(k, index, entry.value.as_slice(), entry.stamp);
+        }
+        Ok(found)
+    }
+
+    /// The first entry of the index of an alternate key whose value and stamp come after these.
+    fn alternate_after<P: Pages>(
+        &mut self,
+        pages: &mut P,
+        k: usize,
+        index: AltIndex,
+        value: &[u8],
+        stamp: u64,
+    ) -> Result<Option<AltEntry>, Fault>
+        requires ready { P.IsReady pages.old }
+        requires some { 1 ≤ k }
+        requires within { k ≤ length self.old.alternates.items }
+        requires index { index ≡ slice_index_or self.old.alternates.items (k - 1) index }
+        ensures found { IsTrue (P.state pages.new).is_honest → GivesAlt self.old (P.state pages.old).live k (after_rank value.now stamp) result }
+        ensures stands { IsTrue (P.state pages.new).is_honest → StandsStill self.old self.new (P.state pages.old).live }
+        ensures rest { self.new ≡ record self.old { path = self.new.path } }
+        ensures cause { IfErr result (IsCaused (P.HasFailed pages.old pages.new) ⊥) }
+        ensures asked { (P.state pages.new).asked ≤ (P.state pages.old).asked + 2 * alt_height index }
+        ensures reads { P.Reads pages.old pages.new }
+    {
+        if value.len() != usize::from(index.width) {
+            return index.first_after(pages, value, stamp);
+        }
+        let mut cursor = self.alternate_cursor(k, index, value, stamp);
+        let found = cursor.next(&index, pages)?;
+        self.path = Some(Path::Alternate(k - 1, cursor));
+        Ok(found)
+    }
+
+    /// A cursor of the prime index behind a value: that of the path, where it is there. The path is gone then.
+    fn prime_cursor(&mut self, value: &[u8]) -> PrimeCursor
+        requires whole { length value.now ≡ self.old.prime.width }
+        ensures after { result.cursor.key.items ≡ value.now }
+        ensures belongs { (pages : PageMap) (primes : List PrimeEntry) (entries : ℕ → List AltEntry) (owns : List (List ℕ))
+            → IsOnPath self.old.path self.old.prime self.old.alternates.items pages primes entries owns
+            → PrimeBelongs result self.old.prime pages primes (own_at owns 1) }
+        ensures gone { self.new ≡ record self.old { path = None } }
+    {
+        if let Some(Path::Prime(cursor)) = self.path.take() {
+            if cursor.is_after(value) {
+                return cursor;
+            }
+        }
+        self.prime.cursor(value)
+    }
+
+    /// A cursor of the index of an alternate key behind a value and stamp: that of the path, where it is there. The path is gone then.
+    fn alternate_cursor(&mut self, k: usize, index: AltIndex, value: &[u8], stamp: u64) -> AltCursor
+        requires some { 1 ≤ k }
+        requires within { k ≤ length self.old.alternates.items }
+        requires index { index ≡ slice_index_or self.old.alternates.items (k - 1) index }
+        requires whole { length value.now ≡ index.width }
+        ensures after { result.cursor.key.items ≡ value.now ++ big_bytes 8 stamp }
+        ensures belongs { (pages : PageMap) (primes : List PrimeEntry) (entries : ℕ → List AltEntry) (owns : List (List ℕ))
+            → IsOnPath self.old.path self.old.prime self.old.alternates.items pages primes entries owns
+            → AltBelongs result index pages (entries (k - 1)) (own_at owns (k - 1 + 2)) }
+        ensures gone { self.new ≡ record self.old { path = None } }
+    {
+        if let Some(Path::Alternate(j, cursor)) = self.path.take() {
+            if j == k - 1 && cursor.is_after(value, stamp) {
+                return cursor;
+            }
+        }
+        index.cursor(value, stamp)
+    }
+
+    /// Has the path behind a value of the prime key.
+    fn go_on_in_prime(&mut self, value: &[u8])
+        ensures path { (pages : PageMap) → StandsStill self.old self.new pages }
+        ensures rest { self.new ≡ record self.old { path = self.new.path } }
+    {
+        if value.len() == usize::from(self.prime.width) {
+            self.path = Some(Path::Prime(self.prime.cursor(value)));
+        }
+    }
+
+    /// Has the path behind a value and stamp of an alternate key.
+    fn go_on_in_alternate(&mut self, k: usize, index: AltIndex, value: &[u8], stamp: u64)
+        requires some { 1 ≤ k }
+        requires within { k ≤ length self.old.alternates.items }
+        requires index { index ≡ slice_index_or self.old.alternates.items (k - 1) index }
+        ensures path { (pages : PageMap) → StandsStill self.old self.new pages }
+        ensures rest { self.new ≡ record self.old { path = self.new.path } }
+    {
+        if value.len() == usize::from(index.width) {
+            self.path = Some(Path::Alternate(k - 1, index.cursor(value, stamp)));
+        }
+    }
+}

@@ -1,0 +1,235 @@
+//! The record that a key leads to.
+
+ghost use Rattle.std.specs.Prelude.{◌≡◌, ◌+◌, ◌*◌, ◌≤◌, ◌<◌, ℕ, length, None, Some, Ok, Err, Option, option_map, IsTrue, IfOk, IfErr, OnErr, slice_index_or};
+ghost use Rattle.indexed_file.specs.File.{Row, File};
+ghost use Rattle.indexed_file.specs.Change.{row_of};
+ghost use Rattle.indexed_file.specs.Rank.{has_value, highest_of};
+ghost use Rattle.indexed_file.specs.Answers.{found_of};
+ghost use Rattle.indexed_file.specs.Room.{most_to_read, most_to_seek};
+ghost use Rattle.pages.specs.Answer.{IsAnswer};
+ghost use Rattle.pages.specs.Cause.{IsCaused};
+ghost use Rattle.key_index.specs.Standing.{prime_height, alt_height};
+ghost use Rattle.open_file.specs.Stands.{Stands, IsShaped, room_of};
+ghost use Rattle.open_file.specs.Faults.{IsCausedIn};
+ghost use Rattle.open_file.specs.Reading.{Reads, Delivers, IsAt, IsOf};
+
+use crate::open_file::OpenFile;
+use indexed_file::Found;
+use io_state::{Fault, Key};
+use key_index::{AltEntry, AltIndex};
+use pages::Pages;
+use record_heap::Place;
+
+impl OpenFile {
+    /// The first record whose key k has this value. It is read into the front of the area, which is as long as the greatest record.
+    ///
+    /// Device, Memory, Damage, Broken. A fault leaves the area as it was.
+    pub fn by_key<P: Pages>(
+        &self,
+        pages: &mut P,
+        k: u8,
+        key: &Key,
+        area: &mut [u8],
+    ) -> Result<Option<Found>, Fault>
+        requires ready { P.IsReady pages.old }
+        requires shaped { IsShaped self.now }
+        requires key { k < length self.now.schema.keys }
+        requires area { length area.old ≡ self.now.schema.greatest }
+        ensures found { IsTrue (P.state pages.new).is_honest
+            → Delivers self.now (P.state pages.old).live k (has_value self.now.schema k key.now.items) area.old area.new result }
+        ensures none { result ≡ Ok None → area.new ≡ area.old }
+        ensures kept { OnErr result (area.new ≡ area.old) }
+        ensures broken { IsTrue self.now.broken → result ≡ Err Fault.Broken }
+        ensures cause { IfErr result (IsCausedIn self.now.broken (P.HasFailed pages.old pages.new) ⊥) }
+        ensures asked { (P.state pages.new).asked ≤ (P.state pages.old).asked + most_to_read (room_of self.now (P.state pages.old).available) k }
+        ensures reads { P.Reads pages.old pages.new }
+    {
+        if self.broken {
+            return Err(Fault::Broken);
+        }
+        if k == 0 {
+            return self.by_prime(pages, key, area);
+        }
+        self.by_alternate(pages, usize::from(k), key, area)
+    }
+
+    /// The greatest prime value.
+    ///
+    /// Device, Memory, Damage, Broken.
+    pub fn highest<P: Pages>(&self, pages: &mut P) -> Result<Option<Key>, Fault>
+        requires ready { P.IsReady pages.old }
+        ensures found { IsTrue (P.state pages.new).is_honest → (file : File) → Stands self.now (P.state pages.old).live file
+            → IsAnswer result (λ key. option_map (λ key. key.items) key ≡ highest_of self.now.schema file.rows) }
+        ensures broken { IsTrue self.now.broken → result ≡ Err Fault.Broken }
+        ensures cause { IfErr result (IsCausedIn self.now.broken (P.HasFailed pages.old pages.new) ⊥) }
+        ensures asked { (P.state pages.new).asked ≤ (P.state pages.old).asked + most_to_seek (room_of self.now (P.state pages.old).available) 0 }
+        ensures reads { P.Reads pages.old pages.new }
+    {
+        if self.broken {
+            return Err(Fault::Broken);
+        }
+        match self.prime.last(pages)? {
+            Some(entry) => Ok(Some(entry.value)),
+            None => Ok(None),
+        }
+    }
+
+    /// The record of a prime value, which no other record has.
+    fn by_prime<P: Pages>(
+        &self,
+        pages: &mut P,
+        key: &Key,
+        area: &mut [u8],
+    ) -> Result<Option<Found>, Fault>
+        requires ready { P.IsReady pages.old }
+        requires shaped { IsShaped self.now }
+        requires area { length area.old ≡ self.now.schema.greatest }
+        ensures found { IsTrue (P.state pages.new).is_honest
+            → Delivers self.now (P.state pages.old).live 0 (has_value self.now.schema 0 key.now.items) area.old area.new result }
+        ensures none { result ≡ Ok None → area.new ≡ area.old }
+        ensures kept { OnErr result (area.new ≡ area.old) }
+        ensures cause { IfErr result (IsCaused (P.HasFailed pages.old pages.new) ⊥) }
+        ensures asked { (P.state pages.new).asked ≤ (P.state pages.old).asked + prime_height self.now.prime + 1 }
+        ensures reads { P.Reads pages.old pages.new }
+    {
+        match self.fetch(pages, key.as_slice(), area)? {
+            Some(length) => Ok(Some(Found {
+                key: copy_of(key),
+                stamp: 0,
+                repeated: false,
+                length,
+            })),
+            None => Ok(None),
+        }
+    }
+
+    /// The record of an alternate value that was written first.
+    fn by_alternate<P: Pages>(
+        &self,
+        pages: &mut P,
+        k: usize,
+        key: &Key,
+        area: &mut [u8],
+    ) -> Result<Option<Found>, Fault>
+        requires ready { P.IsReady pages.old }
+        requires shaped { IsShaped self.now }
+        requires some { 1 ≤ k }
+        requires within { k ≤ length self.now.alternates.items }
+        requires area { length area.old ≡ self.now.schema.greatest }
+        ensures found { IsTrue (P.state pages.new).is_honest
+            → Delivers self.now (P.state pages.old).live k (has_value self.now.schema k key.now.items) area.old area.new result }
+        ensures none { result ≡ Ok None → area.new ≡ area.old }
+        ensures kept { OnErr result (area.new ≡ area.old) }
+        ensures cause { IfErr result (IsCaused (P.HasFailed pages.old pages.new) ⊥) }
+        ensures asked { (P.state pages.new).asked ≤ (P.state pages.old).asked + most_to_read (room_of self.now (P.state pages.old).available) k }
+        ensures reads { P.Reads pages.old pages.new }
+    {
+        let index = self.alternate(k);
+        let Some(entry) = index.first_from(pages, key.as_slice())? else {
+            return Ok(None);
+        };
+        if entry.value.as_slice() != key.as_slice() {
+            return Ok(None);
+        }
+        Ok(Some(self.deliver(pages, index, entry, area)?))
+    }
+
+    /// What is told of the record of an entry of an alternate index, and the record.
+    pub(crate) fn deliver<P: Pages>(
+        &self,
+        pages: &mut P,
+        index: AltIndex,
+        entry: AltEntry,
+        area: &mut [u8],
+    ) -> Result<Found, Fault>
+        requires ready { P.IsReady pages.old }
+        requires shaped { IsShaped self.now }
+        requires area { length area.old ≡ self.now.schema.greatest }
+        ensures found { IsTrue (P.state pages.new).is_honest → (file : File) → Stands self.now (P.state pages.old).live file
+            → (k : ℕ) (row : Row) → k < length self.now.alternates.items → index ≡ slice_index_or self.now.alternates.items k index
+            → IsOf self.now.schema (k + 1) file entry row
+            → Reads result (found_of self.now.schema (k + 1) file row) area.old area.new (Some row) }
+        ensures kept { OnErr result (area.new ≡ area.old) }
+        ensures cause { IfErr result (IsCaused (P.HasFailed pages.old pages.new) ⊥) }
+        ensures asked { (P.state pages.new).asked ≤ (P.state pages.old).asked + 2 * alt_height index + prime_height self.now.prime + 1 }
+        ensures reads { P.Reads pages.old pages.new }
+    {
+        let AltEntry {
+            value,
+            stamp,
+            prime,
+        } = entry;
+        let repeated = match index.first_after(pages, value.as_slice(), stamp)? {
+            Some(next) => next.value.as_slice() == value.as_slice(),
+            None => false,
+        };
+        match self.fetch(pages, prime.as_slice(), area)? {
+            Some(length) => Ok(Found {
+                key: value,
+                stamp,
+                repeated,
+                length,
+            }),
+            None => Err(Fault::Damage),
+        }
+    }
+
+    /// The record of a prime value: its length, and its bytes in the front of the area.
+    pub(crate) fn fetch<P: Pages>(
+        &self,
+        pages: &mut P,
+        prime: &[u8],
+        area: &mut [u8],
+    ) -> Result<Option<u16>, Fault>
+        requires ready { P.IsReady pages.old }
+        requires shaped { IsShaped self.now }
+        requires area { length area.old ≡ self.now.schema.greatest }
+        ensures fetched { IsTrue (P.state pages.new).is_honest → (file : File) → Stands self.now (P.state pages.old).live file
+            → Reads result (option_map (λ row. length row.bytes) (row_of self.now.schema prime.now file)) area.old area.new (row_of self.now.schema prime.now file) }
+        ensures none { result ≡ Ok None → area.new ≡ area.old }
+        ensures kept { OnErr result (area.new ≡ area.old) }
+        ensures cause { IfErr result (IsCaused (P.HasFailed pages.old pages.new) ⊥) }
+        ensures asked { (P.state pages.new).asked ≤ (P.state pages.old).asked + prime_height self.now.prime + 1 }
+        ensures reads { P.Reads pages.old pages.new }
+    {
+        match self.prime.find(pages, prime)? {
+            None => Ok(None),
+            Some(entry) => Ok(Some(self.read(pages, entry.place, area)?)),
+        }
+    }
+
+    /// Puts the record at a place in the front of the area, and tells its length.
+    pub(crate) fn read<P: Pages>(
+        &self,
+        pages: &mut P,
+        place: Place,
+        area: &mut [u8],
+    ) -> Result<u16, Fault>
+        requires ready { P.IsReady pages.old }
+        requires shaped { IsShaped self.now }
+        requires area { length area.old ≡ self.now.schema.greatest }
+        ensures found { IsTrue (P.state pages.new).is_honest → (row : Row)
+            → IsAt self.now.schema self.now.heap self.now.heap.shape.stamps (P.state pages.old).live place row
+            → Reads result (length row.bytes) area.old area.new (Some row) }
+        ensures kept { OnErr result (area.new ≡ area.old) }
+        ensures cause { IfErr result (IsCaused (P.HasFailed pages.old pages.new) ⊥) }
+        ensures asked { (P.state pages.new).asked ≤ (P.state pages.old).asked + 1 }
+        ensures reads { P.Reads pages.old pages.new }
+    {
+        let mut buffer = [0; 4064];
+        let end = self.heap.get(pages, place, &mut buffer)?;
+        let start = self.heap.shape.stamps as usize;
+        let length = end - start;
+        area[..length].copy_from_slice(&buffer[start..end]);
+        Ok(length as u16)
+    }
+}
+
+/// A copy, which takes no memory.
+pub(crate) fn copy_of(key: &Key) -> Key
+    ensures { result.items ≡ key.now.items }
+{
+    let mut copy = Key::new();
+    let _ = copy.try_extend_from_slice(key.as_slice());
+    copy
+}

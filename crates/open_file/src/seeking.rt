@@ -1,0 +1,138 @@
+//! The first value that is so related to an operand.
+
+ghost use Rattle.std.specs.Prelude.{◌≡◌, ◌+◌, ◌*◌, ◌≤◌, ◌<◌, length, find, Some, None, Err, IsTrue, IfErr, slice_index_or, if◌then◌else◌};
+ghost use Rattle.indexed_file.specs.Room.{most_to_seek};
+ghost use Rattle.pages.specs.Cause.{IsCaused};
+ghost use Rattle.key_index.specs.Standing.{prime_height, alt_height};
+ghost use Rattle.key_index.specs.Calls.{PrimeFinds, AltFinds};
+ghost use Rattle.open_file.specs.Stands.{IsShaped, room_of};
+ghost use Rattle.open_file.specs.Faults.{IsCausedIn};
+ghost use Rattle.open_file.specs.Reading.{Seeks};
+ghost use Rattle.open_file.specs.Steps.{leads_prime, leads_alt, is_wanted};
+
+use crate::open_file::OpenFile;
+use io_state::{Fault, Key, Relation};
+use key_index::{AltEntry, AltIndex, PrimeEntry};
+use pages::Pages;
+
+impl OpenFile {
+    /// The full value of key k of the first record whose value begins so related to the operand.
+    ///
+    /// Device, Memory, Damage, Broken.
+    pub fn seek<P: Pages>(
+        &self,
+        pages: &mut P,
+        k: u8,
+        operand: &[u8],
+        relation: Relation,
+    ) -> Result<Option<Key>, Fault>
+        requires ready { P.IsReady pages.old }
+        requires shaped { IsShaped self.now }
+        requires key { k < length self.now.schema.keys }
+        ensures found { IsTrue (P.state pages.new).is_honest → Seeks self.now (P.state pages.old).live k relation operand.now result }
+        ensures broken { IsTrue self.now.broken → result ≡ Err Fault.Broken }
+        ensures cause { IfErr result (IsCausedIn self.now.broken (P.HasFailed pages.old pages.new) ⊥) }
+        ensures asked { (P.state pages.new).asked ≤ (P.state pages.old).asked + most_to_seek (room_of self.now (P.state pages.old).available) k }
+        ensures reads { P.Reads pages.old pages.new }
+    {
+        if self.broken {
+            return Err(Fault::Broken);
+        }
+        if k == 0 {
+            return self.seek_prime(pages, operand, relation);
+        }
+        self.seek_alternate(pages, usize::from(k), operand, relation)
+    }
+
+    /// The first prime value that begins so related to the operand.
+    fn seek_prime<P: Pages>(
+        &self,
+        pages: &mut P,
+        operand: &[u8],
+        relation: Relation,
+    ) -> Result<Option<Key>, Fault>
+        requires ready { P.IsReady pages.old }
+        ensures found { IsTrue (P.state pages.new).is_honest → Seeks self.now (P.state pages.old).live 0 relation operand.now result }
+        ensures cause { IfErr result (IsCaused (P.HasFailed pages.old pages.new) ⊥) }
+        ensures asked { (P.state pages.new).asked ≤ (P.state pages.old).asked + most_to_seek (room_of self.now (P.state pages.old).available) 0 }
+        ensures reads { P.Reads pages.old pages.new }
+    {
+        match self.first_in_prime(pages, operand, relation)? {
+            Some(entry) => Ok(wanted(entry.value, operand, relation)),
+            None => Ok(None),
+        }
+    }
+
+    /// The first value of an alternate key that begins so related to the operand.
+    fn seek_alternate<P: Pages>(
+        &self,
+        pages: &mut P,
+        k: usize,
+        operand: &[u8],
+        relation: Relation,
+    ) -> Result<Option<Key>, Fault>
+        requires ready { P.IsReady pages.old }
+        requires some { 1 ≤ k }
+        requires within { k ≤ length self.now.alternates.items }
+        ensures found { IsTrue (P.state pages.new).is_honest → Seeks self.now (P.state pages.old).live k relation operand.now result }
+        ensures cause { IfErr result (IsCaused (P.HasFailed pages.old pages.new) ⊥) }
+        ensures asked { (P.state pages.new).asked ≤ (P.state pages.old).asked + most_to_seek (room_of self.now (P.state pages.old).available) k }
+        ensures reads { P.Reads pages.old pages.new }
+    {
+        let index = self.alternate(k);
+        match first_in_alternate(&index, pages, operand, relation)? {
+            Some(entry) => Ok(wanted(entry.value, operand, relation)),
+            None => Ok(None),
+        }
+    }
+
+    /// The entry of the prime index to begin with.
+    fn first_in_prime<P: Pages>(
+        &self,
+        pages: &mut P,
+        operand: &[u8],
+        relation: Relation,
+    ) -> Result<Option<PrimeEntry>, Fault>
+        requires ready { P.IsReady pages.old }
+        ensures found { IsTrue (P.state pages.new).is_honest
+            → PrimeFinds self.now.prime (P.state pages.old).live (find (leads_prime relation operand.now)) result }
+        ensures cause { IfErr result (IsCaused (P.HasFailed pages.old pages.new) ⊥) }
+        ensures asked { (P.state pages.new).asked ≤ (P.state pages.old).asked + 2 * prime_height self.now.prime }
+        ensures reads { P.Reads pages.old pages.new }
+    {
+        match relation {
+            Relation::Greater => self.prime.first_past(pages, operand),
+            Relation::Equal | Relation::NotLess => self.prime.first_from(pages, operand),
+        }
+    }
+}
+
+/// The entry of the index of an alternate key to begin with.
+fn first_in_alternate<P: Pages>(
+    index: &AltIndex,
+    pages: &mut P,
+    operand: &[u8],
+    relation: Relation,
+) -> Result<Option<AltEntry>, Fault>
+    requires ready { P.IsReady pages.old }
+    ensures found { IsTrue (P.state pages.new).is_honest
+        → AltFinds index.now (P.state pages.old).live (find (leads_alt relation operand.now)) result }
+    ensures cause { IfErr result (IsCaused (P.HasFailed pages.old pages.new) ⊥) }
+    ensures asked { (P.state pages.new).asked ≤ (P.state pages.old).asked + 2 * alt_height index.now }
+    ensures reads { P.Reads pages.old pages.new }
+{
+    match relation {
+        Relation::Greater => index.first_past(pages, operand),
+        Relation::Equal | Relation::NotLess => index.first_from(pages, operand),
+    }
+}
+
+/// The value that was found, where it is wanted: by EQUAL where it begins with the operand.
+fn wanted(value: Key, operand: &[u8], relation: Relation) -> Option<Key>
+    ensures { result ≡ (if is_wanted relation operand.now value.items then Some value else None) }
+{
+    match relation {
+        Relation::Equal if !value.as_slice().starts_with(operand) => None,
+        _ => Some(value),
+    }
+}
