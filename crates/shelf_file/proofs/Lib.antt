@@ -1,0 +1,9 @@
+pub mod StepLemmas
+pub mod LookLemmas
+pub mod PagesLemmas
+pub mod ReadOffLemmas
+pub mod OpeningLemmas
+pub mod RootLemmas
+pub mod ClosingLemmas
+pub mod ClosedLemmas
+pub mod MadeLemmas

@@ -1,0 +1,52 @@
+//! What a look at the first page finds.
+
+ghost use Rattle.std.specs.Prelude.{◌≡◌, ℕ, List, length, IsTrue, IfSome, IfOk};
+ghost use Rattle.page_store.specs.ShelfState.{HasUnit, unit_file, OnlyReads, HasCause};
+ghost use Rattle.file_header.specs.Bounds.{IsHeader};
+ghost use Rattle.shelf_file.specs.Named.{look_of, look_by};
+ghost use Rattle.shelf_file.specs.Shelves.{HasHeader};
+
+use file_header::Header;
+use io_state::Fault;
+use page_store::{PAGE, Shelf};
+
+/// What a look at a file finds: no file; one whose first page is refused, or that is shorter than it counts; or one that can be opened.
+#[derive(Drop)]
+pub enum Look {
+    NoFile,
+    Refused,
+    Accepted(Header),
+}
+
+/// Looks at the first page of a unit's file. Nothing is written.
+///
+/// Device, Memory.
+pub fn look_at<S: Shelf>(shelf: &mut S, unit: usize) -> Result<Look, Fault>
+    requires unit { HasUnit (S.state shelf.old) unit }
+    ensures found { IsTrue (S.state shelf.new).is_honest → IfOk result (λ look. look ≡ look_of (unit_file (S.state shelf.old) unit).seen) }
+    ensures header { IfOk result HasHeader }
+    ensures only { OnlyReads (S.state shelf.old) (S.state shelf.new) }
+    ensures cause { HasCause (S.fault_count shelf.old) (S.fault_count shelf.new) result }
+{
+    if !shelf.exists(unit)? {
+        return Ok(Look::NoFile);
+    }
+    let size = shelf.size(unit)?;
+    if size < PAGE {
+        return Ok(Look::Refused);
+    }
+    let mut page = [0; 4096];
+    shelf.read_at(unit, 0, &mut page)?;
+    Ok(judged(size, Header::read(&page)))
+}
+
+/// What is found in a file of so many bytes, by its header.
+fn judged(size: u64, header: Option<Header>) -> Look
+    ensures found { (bytes : List ℕ) → size ≡ length bytes → result ≡ look_by bytes header }
+    ensures header { IfSome header IsHeader → HasHeader result }
+{
+    match header {
+        Some(header) if size >= PAGE * u64::from(header.pages) => Look::Accepted(header),
+        _ => Look::Refused,
+    }
+}

@@ -1,0 +1,116 @@
+//! The calls that read records.
+
+ghost use Rattle.std.specs.Prelude.{◌≡◌, ◌+◌, ◌≤◌, ◌<◌, length, None, Ok, Err, option_map, IsTrue, IfErr, OnErr};
+ghost use Rattle.indexed_file.specs.File.{File};
+ghost use Rattle.indexed_file.specs.Rank.{has_value, admits, highest_of};
+ghost use Rattle.indexed_file.specs.Room.{most_to_read, most_to_seek};
+ghost use Rattle.pages.specs.Answer.{IsAnswer};
+ghost use Rattle.page_alloc.specs.Joining.{HasFailed};
+ghost use Rattle.open_file.specs.Stands.{Stands};
+ghost use Rattle.open_file.specs.Faults.{IsCausedIn};
+ghost use Rattle.open_file.specs.Reading.{Delivers, Seeks};
+ghost use Rattle.shelf_file.specs.Standing.{IsReady, live_of, room_in};
+ghost use Rattle.shelf_file.specs.Calls.{OnlyReads};
+
+use crate::shelf_file::ShelfFile;
+use indexed_file::Found;
+use io_state::{Fault, Key, Position, Relation};
+use page_alloc::FilePages;
+use page_store::Shelf;
+
+impl ShelfFile {
+    /// The first record whose key k has this value. It is read into the front of the area.
+    pub fn by_key<S: Shelf>(
+        &mut self,
+        shelf: &mut S,
+        k: u8,
+        key: &Key,
+        area: &mut [u8],
+    ) -> Result<Option<Found>, Fault>
+        requires ready { IsReady self.old (S.state shelf.old) }
+        requires key { k < length self.old.file.schema.keys }
+        requires area { length area.old ≡ self.old.file.schema.greatest }
+        ensures found { IsTrue (S.state shelf.new).is_honest
+            → Delivers self.old.file (live_of self.old (S.state shelf.old)) k (has_value self.old.file.schema k key.now.items) area.old area.new result }
+        ensures none { result ≡ Ok None → area.new ≡ area.old }
+        ensures kept { OnErr result (area.new ≡ area.old) }
+        ensures broken { IsTrue self.old.file.broken → result ≡ Err Fault.Broken }
+        ensures cause { IfErr result (IsCausedIn self.old.file.broken (HasFailed (S.fault_count shelf.old) (S.fault_count shelf.new)) ⊥) }
+        ensures asked { self.new.pages.cache.asked ≤ self.old.pages.cache.asked + most_to_read (room_in self.old) k }
+        ensures reads { OnlyReads self.old self.new (S.state shelf.old) (S.state shelf.new) (S.fault_count shelf.old) (S.fault_count shelf.new) }
+    {
+        let mut pages = FilePages {
+            file: &mut self.pages,
+            shelf,
+        };
+        self.file.by_key(&mut pages, k, key, area)
+    }
+
+    /// The first record that the position admits, by key k. It is read into the front of the area.
+    pub fn next<S: Shelf>(
+        &mut self,
+        shelf: &mut S,
+        k: u8,
+        position: &Position,
+        area: &mut [u8],
+    ) -> Result<Option<Found>, Fault>
+        requires ready { IsReady self.old (S.state shelf.old) }
+        requires key { k < length self.old.file.schema.keys }
+        requires area { length area.old ≡ self.old.file.schema.greatest }
+        ensures found { IsTrue (S.state shelf.new).is_honest
+            → Delivers self.old.file (live_of self.old (S.state shelf.old)) k (admits self.old.file.schema k position.now) area.old area.new result }
+        ensures none { result ≡ Ok None → area.new ≡ area.old }
+        ensures kept { OnErr result (area.new ≡ area.old) }
+        ensures broken { IsTrue self.old.file.broken → result ≡ Err Fault.Broken }
+        ensures cause { IfErr result (IsCausedIn self.old.file.broken (HasFailed (S.fault_count shelf.old) (S.fault_count shelf.new)) ⊥) }
+        ensures asked { self.new.pages.cache.asked ≤ self.old.pages.cache.asked + most_to_read (room_in self.old) k }
+        ensures reads { OnlyReads self.old self.new (S.state shelf.old) (S.state shelf.new) (S.fault_count shelf.old) (S.fault_count shelf.new) }
+    {
+        let mut pages = FilePages {
+            file: &mut self.pages,
+            shelf,
+        };
+        self.file.next(&mut pages, k, position, area)
+    }
+
+    /// The full value of key k of the first record whose value begins so related to the operand.
+    pub fn seek<S: Shelf>(
+        &mut self,
+        shelf: &mut S,
+        k: u8,
+        operand: &[u8],
+        relation: Relation,
+    ) -> Result<Option<Key>, Fault>
+        requires ready { IsReady self.old (S.state shelf.old) }
+        requires key { k < length self.old.file.schema.keys }
+        ensures found { IsTrue (S.state shelf.new).is_honest
+            → Seeks self.old.file (live_of self.old (S.state shelf.old)) k relation operand.now result }
+        ensures broken { IsTrue self.old.file.broken → result ≡ Err Fault.Broken }
+        ensures cause { IfErr result (IsCausedIn self.old.file.broken (HasFailed (S.fault_count shelf.old) (S.fault_count shelf.new)) ⊥) }
+        ensures asked { self.new.pages.cache.asked ≤ self.old.pages.cache.asked + most_to_seek (room_in self.old) k }
+        ensures reads { OnlyReads self.old self.new (S.state shelf.old) (S.state shelf.new) (S.fault_count shelf.old) (S.fault_count shelf.new) }
+    {
+        let mut pages = FilePages {
+            file: &mut self.pages,
+            shelf,
+        };
+        self.file.seek(&mut pages, k, operand, relation)
+    }
+
+    /// The greatest prime value.
+    pub fn highest<S: Shelf>(&mut self, shelf: &mut S) -> Result<Option<Key>, Fault>
+        requires ready { IsReady self.old (S.state shelf.old) }
+        ensures found { IsTrue (S.state shelf.new).is_honest → (file : File) → Stands self.old.file (live_of self.old (S.state shelf.old)) file
+            → IsAnswer result (λ key. option_map (λ key. key.items) key ≡ highest_of self.old.file.schema file.rows) }
+        ensures broken { IsTrue self.old.file.broken → result ≡ Err Fault.Broken }
+        ensures cause { IfErr result (IsCausedIn self.old.file.broken (HasFailed (S.fault_count shelf.old) (S.fault_count shelf.new)) ⊥) }
+        ensures asked { self.new.pages.cache.asked ≤ self.old.pages.cache.asked + most_to_seek (room_in self.old) 0 }
+        ensures reads { OnlyReads self.old self.new (S.state shelf.old) (S.state shelf.new) (S.fault_count shelf.old) (S.fault_count shelf.new) }
+    {
+        let mut pages = FilePages {
+            file: &mut self.pages,
+            shelf,
+        };
+        self.file.highest(&mut pages)
+    }
+}
