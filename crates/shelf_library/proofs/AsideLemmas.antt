@@ -1,0 +1,278 @@
+-- What a call on one unit leaves of the others, and of the names that it has not.
+use Rattle.std.proofs.Common.{◌≡◌, ◌≢◌, ℕ, zero, suc, ◌<◌, ◌==◌, Bool, true, false, List, [], ◌∷◌, length, refl, ap, sym, subst, ◌∙◌, arith, bytes_eq, get_or}
+use Rattle.std.specs.Prelude.{slice_set, IsTrue, IsFalse, Option, is_some, if◌then◌else◌}
+use Rattle.std.specs.List.{IsDistinct, AllByRecursion}
+use Rattle.std.proofs.lemmas.List.{set-get_or}
+use Rattle.std.proofs.lemmas.Bool.{eqb-true, eqb-false}
+use Rattle.std.proofs.lemmas.Slice.Eq.{bytes_eq-Decides}
+use Rattle.indexed_file.proofs.TestLemmas.{either}
+use Rattle.indexed_file.specs.File.{File}
+use Rattle.indexed_file.specs.World.{World, FileUnit, Named, Absent, Holding, Shut, Broken, Opened as HasOpened, holding_at, named_at, name_at, with_unit, OnlyAt}
+use Rattle.indexed_file.specs.Images.{Stays}
+use Rattle.page_store.specs.File.{File as Bytes, content}
+use Rattle.page_store.specs.ShelfState.{ShelfState, KeepsOthers, HasUnit, unit_name, unit_file}
+use Rattle.page_store.specs.Gate.{AllOpen}
+use Rattle.page_store.specs.Moments.{Throughout}
+use Rattle.page_store.specs.Pages.{page_of, HasPages}
+use Rattle.page_cache.specs.Cached.{pages_in, IsOver}
+use Rattle.page_alloc.specs.declared.paged_file.PagedFile.{PagedFile}
+use Rattle.page_alloc.specs.Chain.{chain, used}
+use Rattle.page_alloc.specs.Joining.{IsJoined}
+use Rattle.page_alloc.specs.PagedFile.{IsOpenOver}
+use Rattle.page_alloc.specs.Steps.{state_of}
+use Rattle.open_file.specs.ReadOff.{file_off}
+use Rattle.open_file.specs.Stands.{Stands}
+use Rattle.file_header.specs.declared.header.Header.{Header}
+use Rattle.shelf_file.specs.declared.look.Look.TheVariants.{Accepted}
+use Rattle.shelf_file.specs.declared.shelf_file.ShelfFile.{ShelfFile}
+use Rattle.shelf_file.specs.Named.{look_of, named_of}
+use Rattle.shelf_file.specs.Standing.{IsReady, StandsFor, live_of, file_in}
+use Rattle.shelf_file.specs.Shelves.{AreClosed}
+use Rattle.shelf_library.specs.declared.held.Held.{Held}
+use Rattle.shelf_library.specs.declared.held.Held.TheVariants.{Nothing, Looked, Opened}
+use Rattle.shelf_library.specs.State.{LibraryState, held_at, IsLooked, AreLooked, IsReadyAt, AreReady}
+use Rattle.shelf_library.specs.Units.{unit_of, holding_of, world_of}
+use Rattle.shelf_library.specs.Truth.{IsTrulyClosed, IsTrulyOpen, IsShownTruly}
+use Rattle.shelf_library.specs.OneUnit.{AreUnits, ChangesAt, Fits, IsTrulyHeld}
+use Rattle.shelf_library.specs.Crashes.{Passes, AllPass}
+use Rattle.shelf_library.specs.Library.{shown_by}
+use Rattle.shelf_library.proofs.WorldLemmas.{ShowsSame, only_at, set_here, set_aside, set_long, name_now, holding_now, named_now}
+
+-- ---- two units have two names
+
+unlike : (names : List (List ℕ)) (name : List ℕ) (v : ℕ) → AllByRecursion (λ other. bytes_eq name other ≡ false) names → v < length names → bytes_eq name (get_or names v []) ≡ false
+unlike [] name v all within = absurd (omega (arith, within))
+unlike (first ∷ names) name zero all within = all.0
+unlike (first ∷ names) name (suc v) all within = unlike names name v all.1 (omega (arith, within))
+
+differs : (a b : List ℕ) → bytes_eq a b ≡ false → a ≢ b
+differs a b miss same = let hit = (bytes_eq-Decides a b).1 same in let clash : true ≡ false = sym hit ∙ miss in cc
+
+pub names_differ : (names : List (List ℕ)) (u v : ℕ) → IsDistinct bytes_eq names → u < length names → v < length names → v ≢ u → get_or names v [] ≢ get_or names u []
+unfolding IsDistinct
+names_differ [] u v distinct lu lv other = absurd (omega (arith, lu))
+names_differ (name ∷ names) zero zero distinct lu lv other = absurd (other refl)
+names_differ (name ∷ names) zero (suc v) distinct lu lv other = λ same. differs name (get_or names v []) (unlike names name v distinct.0 (omega (arith, lv))) (sym same)
+names_differ (name ∷ names) (suc u) zero distinct lu lv other = differs name (get_or names u []) (unlike names name u distinct.0 (omega (arith, lu)))
+names_differ (name ∷ names) (suc u) (suc v) distinct lu lv other = names_differ names u v distinct.1 (omega (arith, lu)) (omega (arith, lv)) (λ same. other (ap suc same))
+
+-- ---- an open file whose bytes are as they were
+
+module _ (file : ShelfFile) (old new : ShelfState) (same : unit_file new file.pages.cache.store.unit ≡ unit_file old file.pages.cache.store.unit) where
+  abbrev free_over : Bytes → Option (List ℕ)
+  free_over bytes = chain (pages_in file.pages.cache bytes) file.pages.pager.count file.pages.pager.first file.pages.pager.free
+
+  pub same_live : live_of file new ≡ live_of file old
+  same_live = ap (λ (bytes : Bytes). used (pages_in file.pages.cache bytes) file.pages.pager.count (free_over bytes)) same
+
+  pub same_sound : (state_of file.pages new).is_sound ≡ (state_of file.pages old).is_sound
+  same_sound = ap (λ (bytes : Bytes). is_some (free_over bytes)) same
+
+  pub same_file_in : file_in file new ≡ file_in file old
+  same_file_in = ap (λ live. file_off file.file live) same_live
+
+  pub stands_same : (rows : File) → StandsFor file old rows → StandsFor file new rows
+  stands_same rows s = record {
+    stands = subst (λ live. Stands file.file live rows) (sym same_live) s.stands;
+    sound = subst (λ (sound : Bool). IsTrue sound) (sym same_sound) s.sound;
+  }
+
+  pub ready_same : new.names ≡ old.names → (IsTrue new.is_honest → IsTrue old.is_honest) → IsReady file old → IsReady file new
+  ready_same names honest ready =
+      let unit = file.pages.cache.store.unit in
+      let joined = ready.over.joined in
+      record {
+        over = record {
+          joined = record {
+            over = record {
+              attached = record { attached = subst (λ (ns : List (List ℕ)). unit < length ns) (sym names) joined.over.attached.attached };
+              counted = joined.over.counted;
+              pages = λ h. subst (λ (bytes : Bytes). HasPages file.pages.cache.store.pages bytes) (sym same) (joined.over.pages (honest h));
+              clean = λ h n frame is unchanged. joined.over.clean (honest h) n frame is unchanged ∙ ap (λ (bytes : Bytes). page_of (content bytes) n) (sym same);
+            };
+            counted = joined.counted;
+            header = joined.header;
+          };
+          clean = ready.over.clean;
+          gate = λ changed h. subst (λ (bytes : Bytes). AllOpen bytes) (sym same) (ready.over.gate changed (honest h));
+        };
+        shaped = ready.shaped;
+      }
+
+-- ---- a call on unit u
+
+with_same : (world : World) (u : ℕ) → with_unit world u (named_at world u) (holding_at world u) ≡ world
+with_same world u = ap (λ (units : List FileUnit). record world { units = units }) (set-get_or world.units u (record { name = []; named = Absent; holding = Shut }))
+
+within_held : (held : List Held) (v : ℕ) (header : Header) → held_at held v ≡ Looked header → v < length held
+within_held [] v header is = absurd (cc)
+within_held (first ∷ held) zero header is = omega arith
+within_held (first ∷ held) (suc v) header is = let below = within_held held v header is in omega (arith, below)
+
+module _ (u : ℕ) (one : Held) (old new : ShelfState) (held now : List Held) (are : AreUnits old held) (call : ChangesAt u one old new held now) where
+  pub lies : u < length old.names
+  lies = let at = call.attached in let many = are.many in omega (arith, at, many)
+
+  -- another unit's name is another name, and its file is as it was
+  pub name_aside : (v : ℕ) → v < length old.names → v ≢ u → unit_name old v ≢ unit_name old u
+  name_aside v within other = names_differ old.names u v are.distinct lies within other
+
+  pub file_aside : (v : ℕ) → v < length old.names → v ≢ u → unit_file new v ≡ unit_file old v
+  file_aside v within other =
+      ap (λ (names : List (List ℕ)). new.file (get_or names v [])) call.others.names ∙ call.others.others (unit_name old v) (name_aside v within other)
+
+  open_aside : (v : ℕ) (file : ShelfFile) → v < length old.names → v ≢ u → held_at held v ≡ Opened file → unit_file new file.pages.cache.store.unit ≡ unit_file old file.pages.cache.store.unit
+  open_aside v file within other is =
+      let unit = (are.ready v file is).unit_is in
+      subst (λ (w : ℕ). unit_file new w ≡ unit_file old w) (sym unit) (file_aside v within other)
+
+  shows_aside : (v : ℕ) → v < length old.names → v ≢ u → (is : Held) → held_at held v ≡ is → holding_of new is ≡ holding_of old is
+  shows_aside v within other Nothing is = refl
+  shows_aside v within other (Looked header) is = refl
+  shows_aside v within other (Opened file) is =
+      ap (λ rows. if file.file.broken then Broken file.file.schema else HasOpened file.file.schema rows) (same_file_in file old new (open_aside v file within other is))
+
+  pub long_after : length now ≡ length new.names
+  long_after = ap (λ (l : List Held). length l) call.holds ∙ set_long held u one ∙ are.many ∙ sym (ap (λ (ns : List (List ℕ)). length ns) call.others.names)
+
+  pub held_here : held_at now u ≡ one
+  held_here = ap (λ (l : List Held). held_at l u) call.holds ∙ set_here held u one call.attached
+
+  pub held_aside : (v : ℕ) → v ≢ u → held_at now v ≡ held_at held v
+  held_aside v other = ap (λ (l : List Held). held_at l v) call.holds ∙ set_aside held u v one other
+
+  pub attached_after : u < length now
+  attached_after = let long = long_after in let names = ap (λ (ns : List (List ℕ)). length ns) call.others.names in omega (arith, long, names, lies)
+
+  -- ---- the world
+
+  pub only_here : OnlyAt u (world_of old held) (world_of new now)
+  only_here = subst (λ (l : List Held). OnlyAt u (world_of old held) (world_of new l)) (sym call.holds)
+      (only_at old new held u one call.attached are.many call.others.names call.others.others (λ v within other.
+      let named : named_of (new.file (get_or old.names v [])).seen ≡ named_of (old.file (get_or old.names v [])).seen =
+      ap (λ (bytes : Bytes). named_of bytes.seen) (call.others.others (unit_name old v) (name_aside v within other)) in
+      let holding : holding_of new (held_at held v) ≡ holding_of old (held_at held v) = shows_aside v within other (held_at held v) refl in
+      λ i. record { name = get_or old.names v []; named = named i; holding = holding i }))
+
+  pub name_before : name_at (world_of old held) u ≡ unit_name old u
+  name_before = name_now old held u call.attached are.many
+
+  pub holding_before : holding_at (world_of old held) u ≡ holding_of old (held_at held u)
+  holding_before = holding_now old held u call.attached are.many
+
+  pub named_before : named_at (world_of old held) u ≡ named_of (unit_file old u).seen
+  named_before = named_now old held u call.attached are.many
+
+  pub name_same : unit_name new u ≡ unit_name old u
+  name_same = ap (λ (ns : List (List ℕ)). get_or ns u []) call.others.names
+
+  pub holding_after : holding_at (world_of new now) u ≡ holding_of new one
+  holding_after = holding_now new now u attached_after long_after ∙ ap (holding_of new) held_here
+
+  pub named_after : named_at (world_of new now) u ≡ named_of (unit_file new u).seen
+  named_after = named_now new now u attached_after long_after
+
+  -- what the unit shows, and its name, are as they were
+  pub world_same : holding_of new one ≡ holding_of old (held_at held u) → named_of (unit_file new u).seen ≡ named_of (unit_file old u).seen → world_of new now ≡ world_of old held
+  world_same holding named =
+      let h : holding_at (world_of new now) u ≡ holding_at (world_of old held) u = holding_after ∙ holding ∙ sym holding_before in
+      let n : named_at (world_of new now) u ≡ named_at (world_of old held) u = named_after ∙ named ∙ sym named_before in
+      only_here
+      ∙ ap (λ (x : Named). with_unit (world_of old held) u x (holding_at (world_of new now) u)) n
+      ∙ ap (λ (x : Holding). with_unit (world_of old held) u (named_at (world_of old held) u) x) h
+      ∙ with_same (world_of old held) u
+
+  -- ---- what every library keeps
+
+  looked_at_other : (v : ℕ) (header : Header) → v ≢ u → held_at held v ≡ Looked header → IsLooked new v header
+  looked_at_other v header other is =
+      let was = are.looked v header is in
+      let below = within_held held v header is in
+      let lt : v < length old.names = let many = are.many in omega (arith, below, many) in
+      record {
+        allowed = was.allowed;
+        accepted = λ honest. ap (λ (bytes : Bytes). look_of bytes.seen) (file_aside v lt other) ∙ was.accepted (call.others.honest honest);
+      }
+
+  pub looked_after : Fits u one new → AreLooked new now
+  looked_after fits v header is =
+      either (v == u) (IsLooked new v header)
+      (λ hit. let at : v ≡ u = eqb-true v u hit in
+      subst (λ (w : ℕ). IsLooked new w header) (sym at) (fits.looked header (sym held_here ∙ ap (λ (w : ℕ). held_at now w) (sym at) ∙ is)))
+      (λ miss. let other : v ≢ u = eqb-false v u miss in looked_at_other v header other (sym (held_aside v other) ∙ is))
+
+  pub ready_after : Fits u one new → AreReady new now
+  ready_after fits v file is =
+      either (v == u) (IsReadyAt new v file)
+      (λ hit. let at : v ≡ u = eqb-true v u hit in
+      subst (λ (w : ℕ). IsReadyAt new w file) (sym at) (fits.ready file (sym held_here ∙ ap (λ (w : ℕ). held_at now w) (sym at) ∙ is)))
+      (λ miss.
+      let other : v ≢ u = eqb-false v u miss in
+      let held_was = sym (held_aside v other) ∙ is in
+      let was = are.ready v file held_was in
+      let lt : v < length old.names = subst (λ (w : ℕ). w < length old.names) was.unit_is was.ready.over.joined.over.attached.attached in
+      record {
+        unit_is = was.unit_is;
+        ready = ready_same file old new (open_aside v file lt other held_was) call.others.names call.others.honest was.ready;
+      })
+
+  pub are_after : Fits u one new → AreUnits new now
+  are_after fits = record {
+    many = long_after;
+    distinct = subst (λ (ns : List (List ℕ)). IsDistinct bytes_eq ns) (sym call.others.names) are.distinct;
+    looked = looked_after fits;
+    ready = ready_after fits;
+  }
+
+  -- ---- what is shown truly
+
+  truth_aside : (name : List ℕ) → ¬ (name ≡ unit_name old u) → IsShownTruly old held name → IsShownTruly new now name
+  truth_aside name other truly =
+      let same : new.file name ≡ old.file name = call.others.others name other in
+      record {
+        closed = λ header is. subst (λ (bytes : Bytes). IsTrulyClosed bytes header) (sym same) (truly.closed header (ap (λ (bytes : Bytes). look_of bytes.seen) (sym same) ∙ is));
+        opened = λ v file within named is unbroken.
+            let lt : v < length old.names = subst (λ (ns : List (List ℕ)). v < length ns) call.others.names within in
+            let named_was : unit_name old v ≡ name = ap (λ (ns : List (List ℕ)). get_or ns v []) (sym call.others.names) ∙ named in
+            let apart : v ≢ u = λ at. other (sym named_was ∙ ap (unit_name old) at) in
+            let held_was = sym (held_aside v apart) ∙ is in
+            let was = truly.opened v file lt named_was held_was unbroken in
+            record {
+              rows = was.rows;
+              stands = stands_same file old new (open_aside v file lt apart held_was) was.rows was.stands;
+              closed = λ unchanged. subst (λ (bytes : Bytes). AreClosed file.file.schema was.rows (content bytes)) (sym same) (was.closed unchanged);
+            };
+      }
+
+  pub truth_here : IsTrulyHeld u one new → IsShownTruly new now (unit_name old u)
+  truth_here truly = record {
+    closed = λ header is. subst (λ (name : List ℕ). IsTrulyClosed (new.file name) header) name_same (truly.closed header (ap (λ (name : List ℕ). look_of (new.file name).seen) name_same ∙ is));
+    opened = λ v file within named is unbroken.
+        let lt : v < length old.names = subst (λ (ns : List (List ℕ)). v < length ns) call.others.names within in
+        let named_was : unit_name old v ≡ unit_name old u = ap (λ (ns : List (List ℕ)). get_or ns v []) (sym call.others.names) ∙ named in
+        either (v == u) (IsTrulyOpen new file (new.file (unit_name old u)))
+        (λ hit. let at : v ≡ u = eqb-true v u hit in
+        subst (λ (name : List ℕ). IsTrulyOpen new file (new.file name)) name_same (truly.opened file (sym held_here ∙ ap (λ (w : ℕ). held_at now w) (sym at) ∙ is) unbroken))
+        (λ miss. absurd (name_aside v lt (eqb-false v u miss) named_was));
+  }
+
+  -- each name is shown truly that was, where this is so of the unit's name
+  pub truth_after : (IsShownTruly old held (unit_name old u) → IsTrulyHeld u one new) → (name : List ℕ) → IsShownTruly old held name → IsShownTruly new now name
+  truth_after here name truly =
+      either (bytes_eq name (unit_name old u)) (IsShownTruly new now name)
+      (λ hit. let same : name ≡ unit_name old u = (bytes_eq-Decides name (unit_name old u)).0 hit in
+      subst (λ (n : List ℕ). IsShownTruly new now n) (sym same) (truth_here (here (subst (λ (n : List ℕ). IsShownTruly old held n) same truly))))
+      (λ miss. truth_aside name (differs name (unit_name old u) miss) truly)
+
+  -- what is shown truly of the unit's name, taken apart
+  pub held_truly : IsShownTruly old held (unit_name old u) → IsTrulyHeld u (held_at held u) old
+  held_truly truly = record { closed = truly.closed; opened = λ file is unbroken. truly.opened u file lies refl is unbroken }
+
+-- ---- images
+
+-- of a name whose file is as it was a crash leaves what it could leave before
+pub images_aside : {S : Type 0} (state : S → LibraryState) (old new : S) (name : List ℕ) → (state new).shelf.file name ≡ (state old).shelf.file name → Stays (shown_by state).Throughout old new name
+images_aside {S} state old new name same = record {
+  within = λ test all. subst (λ (bytes : Bytes). Throughout (Passes test) ((state old).shelf.file name) bytes) (sym same) all;
+  back = λ test all. subst (λ (bytes : Bytes). Throughout (Passes test) bytes bytes) same all;
+}

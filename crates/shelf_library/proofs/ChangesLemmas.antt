@@ -1,0 +1,86 @@
+-- What a call that changes the open file of a unit promises of the library.
+use Rattle.std.proofs.Common.{ℕ, ◌+◌, ◌≤◌, Bool, Some, Result, Ok, Err, IsTrue, IsFalse, OnOk, refl, sym, ap, subst, ◌∙◌}
+use Rattle.record_layout.specs.Schema.{Schema}
+use Rattle.indexed_file.proofs.TestLemmas.{either}
+use Rattle.indexed_file.specs.File.{File}
+use Rattle.indexed_file.specs.Room.{most_to_change}
+use Rattle.indexed_file.specs.World.{holding_at, name_at, is_broken}
+use Rattle.indexed_file.specs.Images.{Trace, ImagesGo, unfinished, trace_if, trace_of_change}
+use Rattle.indexed_file.specs.Calls.{Keeps}
+use Rattle.indexed_file.specs.UnitCalls.{ChangesUnit}
+use Rattle.io_state.specs.declared.fault.Fault.{Fault}
+use Rattle.io_state.specs.declared.fault.Fault.TheVariants.{Device, Memory, Full, Damage, Broken as BrokenFile}
+use Rattle.shelf_file.specs.declared.shelf_file.ShelfFile.{ShelfFile}
+use Rattle.shelf_library.specs.State.{LibraryState, held_at}
+use Rattle.shelf_library.specs.Units.{world_of, room_of_held, asked_of}
+use Rattle.shelf_library.specs.Library.{shown_by}
+use Rattle.shelf_library.specs.OneUnit.{IsTrulyHeld}
+use Rattle.shelf_library.specs.Changing.{MovesAt, ChangesFile}
+use Rattle.shelf_library.specs.declared.held.Held.{Held}
+use Rattle.shelf_library.specs.declared.held.Held.TheVariants.{Opened}
+use Rattle.shelf_library.proofs.AsideLemmas.{only_here, held_truly, truth_after}
+use Rattle.shelf_library.proofs.ReadsLemmas.{reads_images}
+use Rattle.shelf_library.proofs.MovingLemmas.{others, changes_at, reads_at, goes_unfinished}
+use Rattle.shelf_library.proofs.ChangingLemmas.{broken_now, schema_before, schema_now, open_now, held_now, broken_told, truly_after, fault_after}
+
+module _
+    {S X : Type 0} (state : S → LibraryState) (a b : S) (u : ℕ) (file after : ShelfFile) (call : MovesAt u file after (state a) (state b))
+    (is_made : X → Bool) (answer : Schema → File → X) (made : Schema → File → File) (LacksRoom : Type 0) where
+  abbrev old : LibraryState
+  old = state a
+
+  abbrev new : LibraryState
+  new = state b
+
+  abbrev Change : Result X Fault → Type 0
+  Change result = ChangesFile is_made answer made LacksRoom file after old new result
+
+  abbrev Images : Trace → Type 0
+  Images trace = ImagesGo (shown_by state).Throughout (name_at (world_of old.shelf old.held) u) trace a b
+
+  begun : IsTrue new.shelf.is_honest → Images unfinished
+  begun = goes_unfinished state u file after a b call
+
+  -- a change that was asked for has begun, and else nothing was written
+  pub images_after : (result : Result X Fault) → Change result → IsTrue new.shelf.is_honest → Images (trace_of_change is_made result)
+  images_after (Ok x) change honest =
+      either (is_made x) (Images (trace_if (is_made x)))
+      (λ is. rw is (begun honest))
+      (λ none. rw none (reads_images state a b u file after (reads_at u file after old new call (change.rests none)) honest))
+  images_after (Err Device) change honest = begun honest
+  images_after (Err Memory) change honest = begun honest
+  images_after (Err Full) change honest = reads_images state a b u file after (reads_at u file after old new call (change.full refl)) honest
+  images_after (Err Damage) change honest = begun honest
+  images_after (Err BrokenFile) change honest =
+      reads_images state a b u file after (reads_at u file after old new call (change.broken (change.cause.broken refl)).1) honest
+
+  unbroken_after : (result : Result X Fault) → Change result → OnOk result (IsFalse (is_broken (holding_at (world_of new.shelf new.held) u)))
+  unbroken_after (Ok x) change = broken_now u file after old new call ∙ change.unbroken
+  unbroken_after (Err fault) change = tt
+
+  keeps_after : (result : Result X Fault) → Change result → Keeps (shown_by state) a b
+  keeps_after result change =
+      let at = changes_at u file after old new call in
+      record {
+        honest = (others u file after old new call).honest;
+        truth = λ honest. truth_after u (Opened after) old.shelf new.shelf old.held new.held call.units at (λ truly.
+            truly_after u file after old new call is_made answer made LacksRoom result change honest
+            (subst (λ (one : Held). IsTrulyHeld u one old.shelf) call.opened (held_truly u (Opened after) old.shelf new.shelf old.held new.held call.units at truly)));
+        count = call.moves.faults;
+        limit = ap Some call.limit;
+      }
+
+  pub changes_unit : (result : Result X Fault) → Change result → ChangesUnit (shown_by state) u is_made a b result
+  changes_unit result change = record {
+    asked = λ honest shown answered.
+        subst (λ (one : Held). asked_of (held_at new.held u) ≤ asked_of one + most_to_change (room_of_held one)) (sym call.opened)
+        (subst (λ (one : Held). asked_of one ≤ asked_of (Opened file) + most_to_change (room_of_held (Opened file))) (sym (held_now u file after old new call)) change.asked);
+    broken = broken_told u file after old new call is_made answer made LacksRoom result change;
+    fault = fault_after u file after old new call is_made answer made LacksRoom result change;
+    unbroken = unbroken_after result change;
+    only = only_here u (Opened after) old.shelf new.shelf old.held new.held call.units (changes_at u file after old new call);
+    opened = open_now u file after old new call;
+    schema = schema_now u file after old new call ∙ change.schema ∙ sym (schema_before u file after old new call);
+    images = λ honest shown. images_after result change honest;
+    keeps = keeps_after result change;
+  }

@@ -1,0 +1,211 @@
+-- What a call that changes the open file of a unit leaves of it.
+use Rattle.std.proofs.Common.{◌≡◌, ◌≢◌, ◌⊎◌, inl, inr, ℕ, Bool, true, false, Result, Ok, Err, IsTrue, IsFalse, IfErr, IfOk, OnOk, ◌<◌, length, refl, sym, ap, subst, ◌∙◌}
+use Rattle.std.specs.Prelude.{if◌then◌else◌}
+use Rattle.record_layout.specs.Schema.{Schema}
+use Rattle.indexed_file.proofs.TestLemmas.{either}
+use Rattle.indexed_file.specs.File.{File}
+use Rattle.indexed_file.specs.Room.{Room}
+use Rattle.indexed_file.specs.World.{World, Named, Holding, Unsound, Opened as HasOpened, Broken, with_unit, holding_at, name_at, named_at, schema_at, file_at, is_open, is_broken}
+use Rattle.indexed_file.specs.Calls.{OnlyReads as ReadsWorld, MayFail, LeavesBroken}
+use Rattle.io_state.specs.declared.fault.Fault.{Fault}
+use Rattle.io_state.specs.declared.fault.Fault.TheVariants.{Device, Memory, Full, Damage, Broken as BrokenFile}
+use Rattle.page_store.specs.ShelfState.{unit_file}
+use Rattle.shelf_file.specs.declared.shelf_file.ShelfFile.{ShelfFile}
+use Rattle.shelf_file.specs.Named.{named_of}
+use Rattle.shelf_file.specs.Standing.{StandsFor, live_of, file_in, room_in}
+use Rattle.shelf_library.specs.State.{LibraryState, held_at}
+use Rattle.shelf_library.specs.Truth.{IsTrulyOpen, IsShownTruly}
+use Rattle.shelf_library.specs.Units.{world_of, room_of_held}
+use Rattle.shelf_library.specs.OneUnit.{AreUnits, ChangesAt, IsTrulyHeld}
+use Rattle.shelf_library.specs.Changing.{MovesAt, ChangesFile}
+use Rattle.shelf_library.specs.declared.held.Held.TheVariants.{Opened}
+use Rattle.shelf_library.specs.BelowLaws.{reads_as}
+use Rattle.shelf_library.proofs.AsideLemmas.{only_here, named_before, named_after, attached_after, held_here, are_after}
+use Rattle.shelf_library.proofs.ReadingLemmas.{truly_held}
+use Rattle.shelf_library.proofs.ReadsLemmas.{reads_world}
+use Rattle.shelf_library.proofs.FaultLemmas.{may_fail}
+use Rattle.shelf_library.proofs.MovingLemmas.{changes_at, fits, reads_at, same_or_unsound, unsound_after, closed_truly}
+use Rattle.shelf_library.proofs.KnownLemmas.{known}
+use Rattle.shelf_library.proofs.ShownLemmas.{holding_shown, schema_shown, open_shown, broken_shown, told}
+
+opened_is : (a b : ShelfFile) → Opened a ≡ Opened b → a ≡ b
+opened_is a b e = cc
+
+module _ (u : ℕ) (file after : ShelfFile) (old new : LibraryState) (call : MovesAt u file after old new) where
+  abbrev pub before : World
+  before = world_of old.shelf old.held
+
+  abbrev pub now : World
+  now = world_of new.shelf new.held
+
+  at : ChangesAt u (Opened after) old.shelf new.shelf old.held new.held
+  at = changes_at u file after old new call
+
+  -- the library after the call
+  pub units_after : AreUnits new.shelf new.held
+  units_after = are_after u (Opened after) old.shelf new.shelf old.held new.held call.units at (fits u file after old new call)
+
+  within_after : u < length new.held
+  within_after = attached_after u (Opened after) old.shelf new.shelf old.held new.held call.units at
+
+  pub held_now : held_at new.held u ≡ Opened after
+  held_now = held_here u (Opened after) old.shelf new.shelf old.held new.held call.units at
+
+  pub broken_before : is_broken (holding_at before u) ≡ file.file.broken
+  broken_before = broken_shown u file old call.units call.attached call.opened
+
+  pub schema_before : schema_at before u ≡ file.file.schema
+  schema_before = schema_shown u file old call.units call.attached call.opened
+
+  pub broken_now : is_broken (holding_at now u) ≡ after.file.broken
+  broken_now = broken_shown u after new units_after within_after held_now
+
+  pub schema_now : schema_at now u ≡ after.file.schema
+  schema_now = schema_shown u after new units_after within_after held_now
+
+  pub open_now : is_open (holding_at now u) ≡ true
+  open_now = open_shown u after new units_after within_after held_now
+
+  -- a change that failed
+  leaves_broken : IsTrue after.file.broken → after.file.schema ≡ file.file.schema → LeavesBroken u new.shelf.is_honest before now
+  leaves_broken broken schema = record {
+    holding = holding_shown u after new units_after within_after held_now
+        ∙ ap (λ (b : Bool). if b then Broken after.file.schema else HasOpened after.file.schema (file_in after new.shelf)) broken
+        ∙ ap Broken (schema ∙ sym schema_before);
+    named = λ honest. kept (same_or_unsound u file after old new call honest);
+  }
+    where
+      named_was : named_at before u ≡ named_of (unit_file old.shelf u).seen
+      named_was = named_before u (Opened after) old.shelf new.shelf old.held new.held call.units at
+
+      named_is : named_at now u ≡ named_of (unit_file new.shelf u).seen
+      named_is = named_after u (Opened after) old.shelf new.shelf old.held new.held call.units at
+
+      kept : (named_of (unit_file new.shelf u).seen ≡ named_of (unit_file old.shelf u).seen) ⊎ (named_of (unit_file new.shelf u).seen ≡ Unsound)
+          → (named_at now u ≡ named_at before u) ⊎ (named_at now u ≡ Unsound)
+      kept (inl same) = inl (named_is ∙ same ∙ sym named_was)
+      kept (inr unsound) = inr (named_is ∙ unsound)
+
+  -- a change that was made
+  pub world_made : IsTrue new.shelf.is_honest → after.pages.changed ≡ true → IsFalse after.file.broken → after.file.schema ≡ file.file.schema → (rows : File)
+      → StandsFor after new.shelf rows → now ≡ with_unit before u Unsound (HasOpened (schema_at before u) rows)
+  world_made honest begun works schema rows stands =
+      let named : named_at now u ≡ Unsound = named_after u (Opened after) old.shelf new.shelf old.held new.held call.units at ∙ unsound_after u file after old new call honest begun in
+      let holding : holding_at now u ≡ HasOpened (schema_at before u) rows =
+      holding_shown u after new units_after within_after held_now
+      ∙ ap (λ (b : Bool). if b then Broken after.file.schema else HasOpened after.file.schema (file_in after new.shelf)) works
+      ∙ ap (λ (s : Schema). HasOpened s (file_in after new.shelf)) (schema ∙ sym schema_before)
+      ∙ ap (λ (f : File). HasOpened (schema_at before u) f) (reads_as after.file (live_of after new.shelf) rows stands.stands) in
+      only_here u (Opened after) old.shelf new.shelf old.held new.held call.units at
+      ∙ ap (λ (n : Named). with_unit before u n (holding_at now u)) named
+      ∙ ap (λ (h : Holding). with_unit before u Unsound h) holding
+
+  module _ {X : Type 0} (is_made : X → Bool) (answer : Schema → File → X) (made : Schema → File → File) (LacksRoom : Type 0) where
+    abbrev pub Change : Result X Fault → Type 0
+    Change result = ChangesFile is_made answer made LacksRoom file after old new result
+
+    -- a file that was broken answers so
+    pub broken_told : (result : Result X Fault) → Change result → IsTrue (is_broken (holding_at before u)) → result ≡ Err BrokenFile
+    broken_told result change broken = (change.broken (sym broken_before ∙ broken)).0
+
+    unbroken_at_ok : (x : X) → Change (Ok x) → IsFalse file.file.broken
+    unbroken_at_ok x change =
+        either file.file.broken (IsFalse file.file.broken) (λ is. let told = (change.broken is).0 in absurd (cc)) (λ works. works)
+
+    -- what is shown of the unit is true where it was
+    made_truly : (x : X) → Change (Ok x) → is_made x ≡ true → IsTrue new.shelf.is_honest → IsTrulyHeld u (Opened file) old.shelf → IsTrulyHeld u (Opened after) new.shelf
+    made_truly x change is honest truly = record {
+      closed = closed_truly u file after old new call honest truly.closed;
+      opened = λ held same unbroken.
+          let was = truly.opened file refl (unbroken_at_ok x change) in
+          let has = (change.changes honest was.rows was.stands).answer in
+          subst (λ (h : ShelfFile). IsTrulyOpen new.shelf h (unit_file new.shelf u)) (opened_is after held same) (record {
+            rows = made file.file.schema was.rows;
+            stands = has.stands;
+            closed = λ unchanged. let begun = change.gate is in absurd (cc);
+          });
+    }
+
+    broken_truly : IsTrue after.file.broken → IsTrue new.shelf.is_honest → IsTrulyHeld u (Opened file) old.shelf → IsTrulyHeld u (Opened after) new.shelf
+    broken_truly broken honest truly = record {
+      closed = closed_truly u file after old new call honest truly.closed;
+      opened = λ held same unbroken. let is : after ≡ held = opened_is after held same in absurd (cc);
+    }
+
+    pub truly_after : (result : Result X Fault) → Change result → IsTrue new.shelf.is_honest → IsTrulyHeld u (Opened file) old.shelf → IsTrulyHeld u (Opened after) new.shelf
+    truly_after (Ok x) change honest truly =
+        either (is_made x) (IsTrulyHeld u (Opened after) new.shelf)
+        (λ is. made_truly x change is honest truly)
+        (λ none. truly_held u file after old new (reads_at u file after old new call (change.rests none)) honest truly)
+    truly_after (Err Device) change honest truly = broken_truly (change.breaks (λ e. cc)) honest truly
+    truly_after (Err Memory) change honest truly = broken_truly (change.breaks (λ e. cc)) honest truly
+    truly_after (Err Full) change honest truly = truly_held u file after old new (reads_at u file after old new call (change.full refl)) honest truly
+    truly_after (Err Damage) change honest truly = broken_truly (change.breaks (λ e. cc)) honest truly
+    truly_after (Err BrokenFile) change honest truly = broken_truly (change.breaks (λ e. cc)) honest truly
+
+    -- a fault other than Full
+    pub fault_after : (result : Result X Fault) → Change result
+        → IfErr result (λ fault. fault ≢ Full → LeavesBroken u new.shelf.is_honest before now
+        × MayFail (is_broken (holding_at before u)) new.shelf.is_honest (IsShownTruly old.shelf old.held (name_at before u)) old.faults new.faults fault)
+    fault_after (Ok x) change = tt
+    fault_after (Err fault) change = λ other. (
+      leaves_broken (change.breaks other) change.schema,
+      subst (λ (b : Bool). MayFail b new.shelf.is_honest (IsShownTruly old.shelf old.held (name_at before u)) old.faults new.faults fault) (sym broken_before)
+          (may_fail file.file.broken new.shelf.is_honest (IsShownTruly old.shelf old.held (name_at before u)) LacksRoom old.faults new.faults fault change.cause
+          (λ broken. (change.broken broken).0) (no_damage fault change) other),
+    )
+      where
+        no_damage : (fault : Fault) → Change (Err fault) → IsTrue new.shelf.is_honest → IsShownTruly old.shelf old.held (name_at before u) → fault ≢ Damage
+        no_damage fault change honest shown =
+            either file.file.broken (fault ≢ Damage)
+            (λ broken. let told : ◌≡◌ {A = Result X Fault} (Err fault) (Err BrokenFile) = (change.broken broken).0 in λ damage. cc)
+            (λ works. let is = known u file old call.units call.attached call.opened shown works in (change.changes honest is.rows is.stands).no_damage)
+
+    -- the answer is that of the file that is shown
+    pub answers : (result : Result X Fault) → Change result → IsTrue new.shelf.is_honest → IsShownTruly old.shelf old.held (name_at before u)
+        → IfOk result (λ x. x ≡ answer (schema_at before u) (file_at before u))
+    answers (Ok x) change honest shown =
+        told u file old call.units call.attached call.opened (λ schema room rows. x ≡ answer schema rows) shown (unbroken_at_ok x change)
+        (λ rows stands. (change.changes honest rows stands).answer.answers)
+    answers (Err fault) change honest shown = tt
+
+    -- the world after a change that was made
+    pub done_made : (x : X) → Change (Ok x) → is_made x ≡ true → IsTrue new.shelf.is_honest → IsShownTruly old.shelf old.held (name_at before u)
+        → now ≡ with_unit before u Unsound (HasOpened (schema_at before u) (made (schema_at before u) (file_at before u)))
+    done_made x change is honest shown =
+        told u file old call.units call.attached call.opened (λ schema room rows. now ≡ with_unit before u Unsound (HasOpened (schema_at before u) (made schema rows))) shown
+        (unbroken_at_ok x change)
+        (λ rows stands. world_made honest (change.gate is) change.unbroken change.schema (made file.file.schema rows) (change.changes honest rows stands).answer.stands)
+
+    -- the world after an answer
+    pub world_after : (x : X) → Change (Ok x) → IsTrue new.shelf.is_honest → IsShownTruly old.shelf old.held (name_at before u) → (b : Bool) → is_made x ≡ b
+        → now ≡ (if b then with_unit before u Unsound (HasOpened (schema_at before u) (made (schema_at before u) (file_at before u))) else before)
+    world_after x change honest shown true is = done_made x change is honest shown
+    world_after x change honest shown false none = (reads_world (λ library. library) old new u file after (reads_at u file after old new call (change.rests none))).same honest
+
+    pub done_at_ok : (world : Schema → File → World)
+        → ((schema : Schema) (rows : File) (x : X) → x ≡ answer schema rows
+        → (if is_made x then with_unit before u Unsound (HasOpened schema (made schema rows)) else before) ≡ world schema rows)
+        → (result : Result X Fault) → Change result → IsTrue new.shelf.is_honest → IsShownTruly old.shelf old.held (name_at before u)
+        → OnOk result (now ≡ world (schema_at before u) (file_at before u))
+    done_at_ok world is (Ok x) change honest shown =
+        world_after x change honest shown (is_made x) refl ∙ is (schema_at before u) (file_at before u) x (answers (Ok x) change honest shown)
+    done_at_ok world is (Err fault) change honest shown = tt
+
+    -- what is so at an answer, and at Full, of each file that the open one stands for
+    pub told_at_ok : (P : Schema → Room → File → Type 0) (result : Result X Fault) → Change result → IsShownTruly old.shelf old.held (name_at before u)
+        → ((rows : File) → StandsFor file old.shelf rows → OnOk result (P file.file.schema (room_in file) rows))
+        → OnOk result (P (schema_at before u) (room_of_held (held_at old.held u)) (file_at before u))
+    told_at_ok P (Ok x) change shown is = told u file old call.units call.attached call.opened P shown (unbroken_at_ok x change) is
+    told_at_ok P (Err fault) change shown is = tt
+
+    pub told_at_full : (P : Schema → Room → File → Type 0) (result : Result X Fault) → Change result → result ≡ Err Full → IsShownTruly old.shelf old.held (name_at before u)
+        → ((rows : File) → StandsFor file old.shelf rows → P file.file.schema (room_in file) rows)
+        → P (schema_at before u) (room_of_held (held_at old.held u)) (file_at before u)
+    told_at_full P result change full shown is =
+        told u file old call.units call.attached call.opened P shown
+        (either file.file.broken (IsFalse file.file.broken) (λ broken. let answer = (change.broken broken).0 in absurd (cc)) (λ works. works))
+        is
+
+    pub rests_at_full : (result : Result X Fault) → Change result → result ≡ Err Full → ReadsWorld u new.shelf.is_honest before now
+    rests_at_full result change full = reads_world (λ library. library) old new u file after (reads_at u file after old new call (change.full full))

@@ -1,0 +1,151 @@
+-- What the closing of a unit's file leaves of its name.
+use Rattle.std.proofs.Common.{◌≡◌, ◌⊎◌, inl, inr, ℕ, true, false, List, Option, Some, IsTrue, IsFalse, OnOk, Result, Ok, Err, refl, sym, ap, subst, ◌∙◌}
+use Rattle.std.proofs.lemmas.Bool.{cases_Bool}
+use Rattle.indexed_file.proofs.TestLemmas.{either}
+use Rattle.io_state.specs.declared.fault.Fault.{Fault}
+use Rattle.record_layout.specs.Schema.{Schema}
+use Rattle.indexed_file.specs.File.{File}
+use Rattle.indexed_file.specs.Moments.{Test}
+use Rattle.indexed_file.specs.World.{Closed, Unsound}
+use Rattle.page_store.specs.File.{File as Bytes, content, bytes_or_none}
+use Rattle.page_store.specs.Gate.{AllOpen}
+use Rattle.page_store.specs.Images.{IsSettled}
+use Rattle.page_store.specs.Moments.{Throughout}
+use Rattle.page_store.specs.MomentLaws.{throughout_none, throughout_last}
+use Rattle.page_store.specs.OpenLaws.{refused_open}
+use Rattle.page_store.specs.ShelfState.{KeepsOthers, unit_file}
+use Rattle.page_alloc.specs.StepLaws.{same_place}
+use Rattle.file_header.specs.declared.header.Header.{Header}
+use Rattle.shelf_file.specs.declared.look.Look.TheVariants.{Accepted, Refused}
+use Rattle.shelf_file.specs.declared.shelf_file.ShelfFile.{ShelfFile}
+use Rattle.shelf_file.specs.Named.{look_of, named_of, StandsIn}
+use Rattle.shelf_file.specs.Shelves.{AreClosed, ClosedOrRefused, Closes}
+use Rattle.shelf_library.specs.declared.held.Held.TheVariants.{Nothing}
+use Rattle.shelf_library.specs.Crashes.{Passes, PassesBy}
+use Rattle.shelf_library.specs.State.{LibraryState, IsReadyAt, held_at}
+use Rattle.shelf_library.specs.Truth.{IsTrulyClosed, IsTrulyOpen}
+use Rattle.shelf_library.specs.OneUnit.{ChangesAt, IsTrulyHeld}
+use Rattle.shelf_library.specs.Closing.{ClosesAt}
+use Rattle.shelf_library.proofs.RefusedLemmas.{refused_look, refused_named, refused_passes}
+use Rattle.shelf_library.proofs.AcceptedLemmas.{closed_named, closed_there}
+
+-- ---- bytes that are closed
+
+-- they pass each test that their rows pass
+pub closed_passes : (test : Test) (bytes : List ℕ) (schema : Schema) (rows : File) → AreClosed schema rows bytes → IsTrue (test (Closed schema rows)) → Passes test (Some bytes)
+closed_passes test bytes schema rows closed passes =
+    subst (PassesBy test bytes) (sym closed.accepted)
+    (record { rows = rows; stands = closed.stands; passes = subst (λ (s : Schema). IsTrue (test (Closed s rows))) (sym closed.schema_is) passes })
+
+pub closing_passes : (test : Test) (c : Option (List ℕ)) (schema : Schema) (rows : File) → ClosedOrRefused schema rows c → IsTrue (test Unsound) → IsTrue (test (Closed schema rows)) → Passes test c
+closing_passes test c schema rows (inl refused) unsound passes = refused_passes test c refused unsound
+closing_passes test c schema rows (inr closed) unsound passes = subst (Passes test) (sym closed.1) (closed_passes test closed.0 schema rows closed.2 passes)
+
+-- a crash leaves nothing else
+pub settled_passes : (test : Test) (file : Bytes) (schema : Schema) (rows : File) → IsSettled file → AreClosed schema rows (content file) → IsTrue (test (Closed schema rows)) → Throughout (Passes test) file file
+settled_passes test file schema rows settled closed passes =
+    throughout_none (Passes test) file file refl (λ c may. subst (Passes test) (sym (settled c may)) (closed_passes test (content file) schema rows closed passes))
+
+pub closing_named : (c : Option (List ℕ)) (schema : Schema) (rows : File) → ClosedOrRefused schema rows c → (named_of c ≡ Closed schema rows) ⊎ (named_of c ≡ Unsound)
+closing_named c schema rows (inl refused) = inr (refused_named c refused)
+closing_named c schema rows (inr closed) = inl (ap named_of closed.1 ∙ closed_named closed.0 schema rows closed.2)
+
+-- where a look accepts the file, it stands for the rows
+closing_truly : (file : Bytes) (header : Header) (schema : Schema) (rows : File) → ClosedOrRefused schema rows file.seen → look_of file.seen ≡ Accepted header → IsTrulyClosed file header
+closing_truly file header schema rows (inl refused) is = let clash : Refused ≡ Accepted header = sym (refused_look file.seen refused) ∙ is in absurd (cc)
+closing_truly file header schema rows (inr closed) is =
+    let accepted : Accepted closed.2.header ≡ Accepted header = sym closed.2.accepted ∙ ap look_of (sym closed.1) ∙ is in
+    let same : closed.2.header ≡ header = cc in
+    let bytes : closed.0 ≡ content file = ap bytes_or_none (sym closed.1) in
+    record { rows = rows; stands = subst (λ b. StandsIn header b rows) bytes (subst (λ (h : Header). StandsIn h closed.0 rows) same closed.2.stands) }
+
+-- ---- results
+
+pub on_any : {X : Type 0} (result : Result X Fault) (P : Type 0) → P → OnOk result P
+on_any (Ok x) P p = p
+on_any (Err fault) P p = tt
+
+pub on_more : {X : Type 0} (result : Result X Fault) (P Q : Type 0) → (P → Q) → OnOk result P → OnOk result Q
+on_more (Ok x) P Q f p = f p
+on_more (Err fault) P Q f p = tt
+
+-- ---- the file of the unit
+
+module _ (u : ℕ) (file : ShelfFile) (result : Result (Unit {0}) Fault) (old new : LibraryState) (call : ClosesAt u file result old new) where
+  pub before : Bytes
+  before = unit_file old.shelf u
+
+  pub after : Bytes
+  after = unit_file new.shelf u
+
+  is_ready : IsReadyAt old.shelf u file
+  is_ready = call.units.ready u file call.opened
+
+  pub others_stay : KeepsOthers u old.shelf new.shelf
+  others_stay = subst (λ unit. KeepsOthers unit old.shelf new.shelf) is_ready.unit_is call.others
+
+  pub changes : ChangesAt u Nothing old.shelf new.shelf old.held new.held
+  changes = record { attached = call.attached; others = others_stay; holds = call.holds }
+
+  pub still : new.shelf.file ≡ old.shelf.file → unit_file new.shelf u ≡ unit_file old.shelf u
+  still same = same_place old.shelf new.shelf u same others_stay.names
+
+  -- behind an open gate the name is unsound
+  pub was_unsound : file.pages.changed ≡ true → IsTrue new.shelf.is_honest → named_of (unit_file old.shelf u).seen ≡ Unsound
+  was_unsound changed honest =
+      let was_honest = others_stay.honest honest in
+      let all = subst (λ unit. AllOpen (unit_file old.shelf unit)) is_ready.unit_is (is_ready.ready.over.gate changed was_honest) in
+      let seen = (unit_file old.shelf u).seen in
+      refused_named seen (refused_open seen (all seen (call.image_before was_honest)))
+
+  module _ (honest : IsTrue new.shelf.is_honest) (works : IsFalse file.file.broken) (known : IsTrulyOpen old.shelf file (unit_file old.shelf u)) where
+    pub closes_here : file.pages.changed ≡ true → Closes file.file.schema known.rows (unit_file old.shelf u) (unit_file new.shelf u) result
+    closes_here changed =
+        subst (λ unit. Closes file.file.schema known.rows (unit_file old.shelf unit) (unit_file new.shelf unit) result) is_ready.unit_is
+        (call.closes honest works changed known.rows known.stands)
+
+    was_closed : file.pages.changed ≡ false → AreClosed file.file.schema known.rows (content (unit_file new.shelf u))
+    was_closed unchanged =
+        subst (λ (bytes : Bytes). AreClosed file.file.schema known.rows (content bytes)) (sym (still (call.unchanged unchanged))) (known.closed unchanged)
+
+    -- after a success it is closed
+    pub closed_after : OnOk result (AreClosed file.file.schema known.rows (content (unit_file new.shelf u)))
+    closed_after = elim (cases_Bool file.pages.changed) [
+      | inl changed ↦ (closes_here changed).closed
+      | inr unchanged ↦ on_any result _ (was_closed unchanged)
+    ]
+
+    -- after a fault too it is closed or refused
+    pub ends_closed : ClosedOrRefused file.file.schema known.rows (unit_file new.shelf u).seen
+    ends_closed = elim (cases_Bool file.pages.changed) [
+      | inl changed ↦
+          throughout_last (ClosedOrRefused file.file.schema known.rows) (unit_file old.shelf u) (unit_file new.shelf u) (closes_here changed).images (unit_file new.shelf u).seen (call.image_after honest)
+      | inr unchanged ↦
+          let closed = was_closed unchanged in
+          inr (content (unit_file new.shelf u), closed_there (unit_file new.shelf u) file.file.schema known.rows closed, closed)
+    ]
+
+    pub named_closed : OnOk result (named_of (unit_file new.shelf u).seen ≡ Closed file.file.schema known.rows)
+    named_closed =
+        on_more result _ _
+        (λ closed. ap named_of (closed_there (unit_file new.shelf u) file.file.schema known.rows closed) ∙ closed_named (content (unit_file new.shelf u)) file.file.schema known.rows closed)
+        closed_after
+
+    pub named_before : file.pages.changed ≡ false → named_of (unit_file old.shelf u).seen ≡ Closed file.file.schema known.rows
+    named_before unchanged =
+        let closed = known.closed unchanged in
+        ap named_of (closed_there (unit_file old.shelf u) file.file.schema known.rows closed) ∙ closed_named (content (unit_file old.shelf u)) file.file.schema known.rows closed
+
+  -- what is shown of the name stays true
+  pub closes_truly : IsTrue new.shelf.is_honest → IsTrulyHeld u (held_at old.held u) old.shelf → IsTrulyHeld u Nothing new.shelf
+  closes_truly honest truly = record {
+    closed = λ header is.
+        either file.file.broken (IsTrulyClosed (unit_file new.shelf u) header)
+        (λ broken.
+        let same = still (call.nothing broken) in
+        subst (λ (bytes : Bytes). IsTrulyClosed bytes header) (sym same) (truly.closed header (ap (λ (bytes : Bytes). look_of bytes.seen) (sym same) ∙ is)))
+        (λ works.
+        let known = truly.opened file call.opened works in
+        closing_truly (unit_file new.shelf u) header file.file.schema known.rows (ends_closed honest works known) is);
+    opened = λ other is. absurd (cc);
+  }

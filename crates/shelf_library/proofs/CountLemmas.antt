@@ -1,0 +1,141 @@
+-- A unit whose count of pages begins again.
+use Rattle.std.proofs.Common.{◌≡◌, ◌≢◌, ℕ, ◌<◌, List, length, IsTrue, IsFalse, refl, ap, sym, subst, ◌∙◌}
+use Rattle.std.specs.Prelude.{slice_set, slice_index_or, Some}
+use Rattle.std.proofs.lemmas.List.{get_or_default}
+use Rattle.indexed_file.specs.Room.{Room}
+use Rattle.indexed_file.specs.UnitCalls.{RestartsCount}
+use Rattle.page_store.specs.File.{File as Bytes}
+use Rattle.page_store.specs.ShelfState.{ShelfState, KeepsOthers, unit_file}
+use Rattle.file_header.specs.declared.header.Header.{Header}
+use Rattle.page_cache.specs.declared.cache.Cache.{Cache}
+use Rattle.shelf_file.specs.declared.shelf_file.ShelfFile.{ShelfFile}
+use Rattle.shelf_file.specs.Named.{named_of}
+use Rattle.shelf_library.specs.declared.held.Held.{Held}
+use Rattle.shelf_library.specs.declared.held.Held.TheVariants.{Nothing, Looked, Opened}
+use Rattle.shelf_library.specs.State.{LibraryState, held_at, IsLooked, IsReadyAt}
+use Rattle.shelf_library.specs.Units.{holding_of, room_of_held, asked_of}
+use Rattle.shelf_library.specs.Truth.{IsTrulyOpen}
+use Rattle.shelf_library.specs.OneUnit.{AreUnits, ChangesAt, Fits, IsTrulyHeld}
+use Rattle.shelf_library.specs.Library.{shown_by}
+use Rattle.shelf_library.proofs.AsideLemmas.{held_here, held_aside, world_same, truth_after, held_truly, images_aside}
+use Rattle.std.proofs.Common.{◌==◌}
+use Rattle.std.proofs.lemmas.Bool.{eqb-true, eqb-false}
+use Rattle.indexed_file.proofs.TestLemmas.{either}
+
+-- a call that leaves the shelf
+pub rests : (shelf : ShelfState) (u : ℕ) → KeepsOthers u shelf shelf
+rests shelf u = record { names = refl; others = λ name other. refl; honest = λ honest. honest }
+
+-- an element that is read is the one that is there
+pub read_held : (held : List Held) (u : ℕ) (one : Held) → u < length held → one ≡ slice_index_or held u one → held_at held u ≡ one
+read_held held u one within is = get_or_default held u Nothing one within ∙ sym is
+
+-- the file, its count being 0
+abbrev pub recounted : ShelfFile → ShelfFile
+recounted file = record { file = file.file; pages = record { cache = record file.pages.cache { asked = 0 }; pager = file.pages.pager; changed = file.pages.changed } }
+
+abbrev pub recount : Held → Held
+recount Nothing = Nothing
+recount (Looked header) = Looked header
+recount (Opened file) = Opened (recounted file)
+
+same_open : (a b : ShelfFile) → Opened a ≡ Opened b → a ≡ b
+same_open a b e = cc
+
+same_looked : (a b : Header) → Looked a ≡ Looked b → a ≡ b
+same_looked a b e = cc
+
+recounted_ready : (shelf : ShelfState) (u : ℕ) (file : ShelfFile) → IsReadyAt shelf u file → IsReadyAt shelf u (recounted file)
+recounted_ready shelf u file at =
+    let over = at.ready.over in
+    let joined = over.joined in
+    record {
+      unit_is = at.unit_is;
+      ready = record {
+        over = record {
+          joined = record {
+            over = record { attached = joined.over.attached; counted = joined.over.counted; pages = joined.over.pages; clean = joined.over.clean };
+            counted = joined.counted;
+            header = joined.header;
+          };
+          clean = λ unchanged. record { clean = (over.clean unchanged).clean };
+          gate = over.gate;
+        };
+        shaped = at.ready.shaped;
+      };
+    }
+
+pub recount_fits : (shelf : ShelfState) (held : List Held) (u : ℕ) (one : Held) → AreUnits shelf held → held_at held u ≡ one → Fits u (recount one) shelf
+recount_fits shelf held u Nothing are is = record { looked = λ header e. absurd (cc); ready = λ file e. absurd (cc) }
+recount_fits shelf held u (Looked header) are is = record { looked = λ other e. are.looked u other (is ∙ e); ready = λ file e. absurd (cc) }
+recount_fits shelf held u (Opened file) are is = record {
+  looked = λ header e. absurd (cc);
+  ready = λ other e. subst (λ f. IsReadyAt shelf u f) (same_open (recounted file) other e) (recounted_ready shelf u file (are.ready u file is));
+}
+
+recounted_truly : (shelf : ShelfState) (file : ShelfFile) (bytes : Bytes) → IsTrulyOpen shelf file bytes → IsTrulyOpen shelf (recounted file) bytes
+recounted_truly shelf file bytes truly = record {
+  rows = truly.rows;
+  stands = record { stands = truly.stands.stands; sound = truly.stands.sound };
+  closed = truly.closed;
+}
+
+recount_truly : (shelf : ShelfState) (u : ℕ) (one : Held) → IsTrulyHeld u one shelf → IsTrulyHeld u (recount one) shelf
+recount_truly shelf u Nothing truly = record { closed = truly.closed; opened = λ file e. absurd (cc) }
+recount_truly shelf u (Looked header) truly = record { closed = truly.closed; opened = λ file e. absurd (cc) }
+recount_truly shelf u (Opened file) truly = record {
+  closed = truly.closed;
+  opened = λ other e unbroken.
+      let same = same_open (recounted file) other e in
+      subst (λ f. IsTrulyOpen shelf f (unit_file shelf u)) same (recounted_truly shelf file (unit_file shelf u) (truly.opened file refl (subst (λ f. IsFalse f.file.broken) (sym same) unbroken)));
+}
+
+recount_asked : (one : Held) → asked_of (recount one) ≡ 0
+recount_asked Nothing = refl
+recount_asked (Looked header) = refl
+recount_asked (Opened file) = refl
+
+recount_room : (one : Held) → room_of_held (recount one) ≡ room_of_held one
+recount_room Nothing = refl
+recount_room (Looked header) = refl
+recount_room (Opened file) = refl
+
+recount_holding : (shelf : ShelfState) (one : Held) → holding_of shelf (recount one) ≡ holding_of shelf one
+recount_holding shelf Nothing = refl
+recount_holding shelf (Looked header) = refl
+recount_holding shelf (Opened file) = refl
+
+-- a unit that holds no open file is as it was
+pub recount_none : (one : Held) → ((file : ShelfFile) → one ≡ Opened file → ⊥) → recount one ≡ one
+recount_none Nothing none = refl
+recount_none (Looked header) none = refl
+recount_none (Opened file) none = absurd (none file refl)
+
+pub recounts : {S : Type 0} (state : S → LibraryState) (u : ℕ) (old new : S)
+    → AreUnits (state old).shelf (state old).held → ChangesAt u (recount (held_at (state old).held u)) (state old).shelf (state new).shelf (state old).held (state new).held
+    → (state new).shelf ≡ (state old).shelf → (state new).faults ≡ (state old).faults → (state new).limit ≡ (state old).limit
+    → RestartsCount (shown_by state) u old new
+recounts {S} state u old new are call shelf faults limit =
+    let held = (state old).held in
+    let now = (state new).held in
+    let one = recount (held_at held u) in
+    let here = held_here u one (state old).shelf (state new).shelf held now are call in
+    let aside = held_aside u one (state old).shelf (state new).shelf held now are call in
+    record {
+      asked = ap asked_of here ∙ recount_asked (held_at held u);
+      others = λ v other. ap asked_of (aside v other);
+      world = world_same u one (state old).shelf (state new).shelf held now are call
+          (ap (λ s. holding_of s one) shelf ∙ recount_holding (state old).shelf (held_at held u))
+          (ap (λ s. named_of (unit_file s u).seen) shelf);
+      room = λ v. either (v == u) (room_of_held (held_at now v) ≡ room_of_held (held_at held v))
+          (λ hit. let at = eqb-true v u hit in
+          ap (λ w. room_of_held (held_at now w)) at ∙ ap room_of_held here ∙ recount_room (held_at held u) ∙ ap (λ w. room_of_held (held_at held w)) (sym at))
+          (λ miss. ap room_of_held (aside v (eqb-false v u miss)));
+      honest = ap (λ s. s.is_honest) shelf;
+      truth = truth_after u one (state old).shelf (state new).shelf held now are call
+          (λ truly. subst (λ s. IsTrulyHeld u one s) (sym shelf)
+          (recount_truly (state old).shelf u (held_at held u) (held_truly u one (state old).shelf (state new).shelf held now are call truly)));
+      count = faults;
+      limit = ap Some limit;
+      images = λ name. images_aside state old new name (ap (λ s. s.file name) shelf);
+    }

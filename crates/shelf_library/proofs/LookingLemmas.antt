@@ -1,0 +1,153 @@
+-- A unit that was looked at.
+use Rattle.std.proofs.Common.{◌≡◌, ◌⊎◌, inl, inr, ℕ, ◌≤◌, Bool, true, false, List, length, Option, Some, None, IsTrue, IsFalse, IfOk, IfErr, OnOk, OnErr, Result, Ok, Err, refl, sym, ap, subst, ◌∙◌}
+use Rattle.std.specs.Prelude.{IsErrOf}
+use Rattle.io_state.specs.declared.fault.Fault.{Fault}
+use Rattle.io_state.specs.declared.fault.Fault.TheVariants.{Device, Memory}
+use Rattle.indexed_file.specs.declared.answer.Seen.{Seen}
+use Rattle.indexed_file.specs.Answers.{seen_of, looked_at}
+use Rattle.indexed_file.specs.Calls.{Keeps, MayFail, MayAnswerShut}
+use Rattle.indexed_file.specs.Images.{untouched}
+use Rattle.indexed_file.specs.UnitCalls.{OpensUnit}
+use Rattle.indexed_file.specs.World.{Holding, Shut, Looked as HasLooked, holding_at, named_at, name_at, is_broken}
+use Rattle.page_store.specs.File.{File as Bytes}
+use Rattle.page_store.specs.ShelfState.{ShelfState, KeepsOthers, HasCause, unit_name, unit_file}
+use Rattle.file_header.specs.declared.header.Header.{Header}
+use Rattle.shelf_file.specs.declared.look.Look.{Look}
+use Rattle.shelf_file.specs.declared.look.Look.TheVariants.{NoFile, Refused, Accepted}
+use Rattle.shelf_file.specs.declared.shelf_file.ShelfFile.{ShelfFile}
+use Rattle.shelf_file.specs.Shelves.{HasHeader}
+use Rattle.shelf_file.specs.Named.{look_of, named_of, named_by}
+use Rattle.shelf_library.specs.declared.held.Held.{Held}
+use Rattle.shelf_library.specs.declared.held.Held.TheVariants.{Nothing, Looked, Opened}
+use Rattle.shelf_library.specs.State.{LibraryState, held_at, IsLooked}
+use Rattle.shelf_library.specs.Told.{held_by, held_after, seen_by, seen_after}
+use Rattle.shelf_library.specs.Truth.{IsTrulyClosed}
+use Rattle.shelf_library.specs.Units.{world_of, holding_of}
+use Rattle.shelf_library.specs.Library.{shown_by}
+use Rattle.shelf_library.specs.Looking.{LooksAt}
+use Rattle.shelf_library.specs.OneUnit.{AreUnits, ChangesAt, Fits, IsTrulyHeld}
+use Rattle.shelf_library.proofs.AsideLemmas.{only_here, holding_after, named_before, named_after, are_after, images_aside}
+use Rattle.shelf_library.proofs.FaultLemmas.{has_risen}
+use Rattle.shelf_library.proofs.UnitLemmas.{keeps_at, images_at}
+
+-- what is told of a look is what the name stands for
+seen_named : (c : Option (List ℕ)) → seen_by (look_of c) ≡ seen_of (named_of c)
+seen_named None = refl
+seen_named (Some bytes) = by_look (look_of (Some bytes))
+  where
+    by_look : (look : Look) → seen_by look ≡ seen_of (named_by bytes look)
+    by_look NoFile = refl
+    by_look Refused = refl
+    by_look (Accepted header) = refl
+
+-- what is held then is what was told
+held_told : (shelf : ShelfState) (look : Look) → holding_of shelf (held_by look) ≡ looked_at (seen_by look)
+held_told shelf NoFile = refl
+held_told shelf Refused = refl
+held_told shelf (Accepted header) = refl
+
+no_file : (look : Result Look Fault) (file : ShelfFile) → held_after look ≡ Opened file → ⊥
+no_file (Ok NoFile) file is = cc
+no_file (Ok Refused) file is = cc
+no_file (Ok (Accepted header)) file is = cc
+no_file (Err fault) file is = cc
+
+-- the look of a unit that holds a header
+looked_by : (look : Result Look Fault) (header : Header) → held_after look ≡ Looked header → look ≡ Ok (Accepted header)
+looked_by (Ok NoFile) header is = absurd (cc)
+looked_by (Ok Refused) header is = absurd (cc)
+looked_by (Ok (Accepted other)) header is = let same : other ≡ header = cc in ap (λ h. Ok (Accepted h)) same
+looked_by (Err fault) header is = absurd (cc)
+
+-- a fault that the shelf may answer
+look_fault : (is_honest : Bool) (truly : Type 0) (old new : ℕ) (look : Result Look Fault) → HasCause old new look → IfErr (seen_after look) (MayFail false is_honest truly old new)
+look_fault is_honest truly old new (Ok found) cause = tt
+look_fault is_honest truly old new (Err fault) cause = elim cause.kinds [
+  | inl is ↦ let same : fault ≡ Device = cc in subst (MayFail false is_honest truly old new) (sym same) (has_risen old new (cause.device is))
+  | inr is ↦ let same : fault ≡ Memory = cc in subst (MayFail false is_honest truly old new) (sym same) refl
+]
+
+module _ (u : ℕ) (look : Result Look Fault) (old new : LibraryState) (call : LooksAt u look old new) where
+  look_changes : ChangesAt u (held_after look) old.shelf new.shelf old.held new.held
+  look_changes = record {
+    attached = call.attached;
+    others = record { names = call.only.names; others = λ name other. ap (λ file. file name) call.only.file; honest = call.only.honest };
+    holds = call.holds;
+  }
+
+  same_file : unit_file new.shelf u ≡ unit_file old.shelf u
+  same_file = λ i. (call.only.file i) (unit_name (record { names = call.only.names i; file = call.only.file i; is_honest = false }) u)
+
+  fits : Fits u (held_after look) new.shelf
+  fits = record {
+    looked = λ header is.
+        let found = looked_by look header is in
+        record {
+          allowed = subst (λ l. IfOk l HasHeader) found call.header;
+          accepted = λ honest. ap (λ (file : Bytes). look_of file.seen) same_file ∙ sym (subst (λ l. IfOk l (λ look. look ≡ look_of (unit_file old.shelf u).seen)) found (call.found honest));
+        };
+    ready = λ file is. absurd (no_file look file is);
+  }
+
+  pub units_looked : AreUnits new.shelf new.held
+  units_looked = are_after u (held_after look) old.shelf new.shelf old.held new.held call.units look_changes fits
+
+  still_true : IsTrulyHeld u (held_at old.held u) old.shelf → IsTrulyHeld u (held_after look) new.shelf
+  still_true truly = record {
+    closed = λ header is. subst (λ (file : Bytes). IsTrulyClosed file header) (sym same_file) (truly.closed header (ap (λ (file : Bytes). look_of file.seen) (sym same_file) ∙ is));
+    opened = λ file is unbroken. absurd (no_file look file is);
+  }
+
+  holds_now : holding_at (world_of new.shelf new.held) u ≡ holding_of new.shelf (held_after look)
+  holds_now = holding_after u (held_after look) old.shelf new.shelf old.held new.held call.units look_changes
+
+  pub look_named : named_at (world_of new.shelf new.held) u ≡ named_at (world_of old.shelf old.held) u
+  look_named =
+      named_after u (held_after look) old.shelf new.shelf old.held new.held call.units look_changes
+      ∙ ap (λ (file : Bytes). named_of file.seen) same_file
+      ∙ sym (named_before u (held_after look) old.shelf new.shelf old.held new.held call.units look_changes)
+
+  pub look_seen : IsTrue new.shelf.is_honest → IfOk (seen_after look) (λ seen. seen ≡ seen_of (named_at (world_of old.shelf old.held) u))
+  look_seen honest = by_found look (call.found honest)
+    where
+      by_found : (l : Result Look Fault) → IfOk l (λ look. look ≡ look_of (unit_file old.shelf u).seen) → IfOk (seen_after l) (λ seen. seen ≡ seen_of (named_at (world_of old.shelf old.held) u))
+      by_found (Ok found) is =
+          ap seen_by is ∙ seen_named (unit_file old.shelf u).seen
+          ∙ ap seen_of (sym (named_before u (held_after look) old.shelf new.shelf old.held new.held call.units look_changes))
+      by_found (Err fault) is = tt
+
+  pub look_holding : IfOk (seen_after look) (λ seen. holding_at (world_of new.shelf new.held) u ≡ looked_at seen)
+  look_holding = by_told look holds_now
+    where
+      by_told : (l : Result Look Fault) → holding_at (world_of new.shelf new.held) u ≡ holding_of new.shelf (held_after l) → IfOk (seen_after l) (λ seen. holding_at (world_of new.shelf new.held) u ≡ looked_at seen)
+      by_told (Ok found) is = is ∙ held_told new.shelf found
+      by_told (Err fault) is = tt
+
+-- what a look promises
+pub look_opens : {S : Type 0} (state : S → LibraryState) (u : ℕ) (look : Result Look Fault) (old new : S) → LooksAt u look (state old) (state new)
+    → (told : Result Seen Fault) → told ≡ seen_after look → OpensUnit (shown_by state) u untouched old new told
+look_opens {S} state u look old new call told is =
+    let changes = look_changes u look (state old) (state new) call in
+    let one = held_after look in
+    let name = unit_name (state old).shelf u in
+    subst (λ (r : Result Seen Fault). OpensUnit (shown_by state) u untouched old new r) (sym is) (record {
+      err = shut look (holds_now u look (state old) (state new) call);
+      unbroken = unbroken look (holds_now u look (state old) (state new) call);
+      only = only_here u one (state old).shelf (state new).shelf (state old).held (state new).held call.units changes;
+      fault = look_fault (state new).shelf.is_honest _ (state old).faults (state new).faults look call.cause;
+      images = λ honest truly.
+          images_at state u one old new call.units changes untouched (images_aside state old new name (ap (λ file. file name) call.only.file)) tt;
+      keeps = keeps_at state u one old new call.units changes call.limit call.cause.no_fewer (λ honest truly. still_true u look (state old) (state new) call truly);
+    })
+  where
+    shut : (l : Result Look Fault) → holding_at (world_of (state new).shelf (state new).held) u ≡ holding_of (state new).shelf (held_after l)
+        → OnErr (seen_after l) (holding_at (world_of (state new).shelf (state new).held) u ≡ Shut)
+    shut (Ok found) is = tt
+    shut (Err fault) is = is
+
+    unbroken : (l : Result Look Fault) → holding_at (world_of (state new).shelf (state new).held) u ≡ holding_of (state new).shelf (held_after l)
+        → OnOk (seen_after l) (IsFalse (is_broken (holding_at (world_of (state new).shelf (state new).held) u)))
+    unbroken (Ok NoFile) is = ap is_broken is
+    unbroken (Ok Refused) is = ap is_broken is
+    unbroken (Ok (Accepted header)) is = ap is_broken is
+    unbroken (Err fault) is = tt

@@ -1,0 +1,173 @@
+-- What a call that may open the gate leaves of its unit.
+use Rattle.std.proofs.Common.{◌≡◌, ◌⊎◌, inl, inr, ℕ, ◌<◌, true, false, List, Option, length, IsTrue, refl, sym, ap, subst, ◌∙◌, bytes_eq}
+use Rattle.std.proofs.lemmas.Slice.Eq.{bytes_eq-Decides}
+use Rattle.indexed_file.specs.Images.{Trace, MayLeave, LeavesOnly, ImagesGo, unfinished}
+use Rattle.indexed_file.specs.Moments.{Test}
+use Rattle.indexed_file.specs.World.{Unsound, name_at}
+use Rattle.std.specs.Prelude.{slice_set, slice_index_or}
+use Rattle.std.proofs.lemmas.Bool.{and_parts}
+use Rattle.page_store.specs.File.{File as Bytes, bytes_or_none}
+use Rattle.page_store.specs.Images.{Leaves}
+use Rattle.page_store.specs.Moments.{Throughout}
+use Rattle.page_store.specs.MomentLaws.{throughout_weaker, throughout_first}
+use Rattle.page_store.specs.OpenLaws.{refused_open}
+use Rattle.page_store.specs.Gate.{AllOpen, SameOrRefused, WasOrRefused}
+use Rattle.page_store.specs.ShelfState.{ShelfState, KeepsOthers, unit_name, unit_file}
+use Rattle.page_alloc.specs.PagedFile.{StandsOrRefused}
+use Rattle.page_alloc.specs.Steps.{Moves}
+use Rattle.file_header.specs.declared.header.Header.{Header}
+use Rattle.shelf_file.specs.declared.look.Look.TheVariants.{Accepted}
+use Rattle.shelf_file.specs.declared.shelf_file.ShelfFile.{ShelfFile}
+use Rattle.shelf_file.specs.Calls.{OnlyReads}
+use Rattle.shelf_file.specs.Standing.{IsReady}
+use Rattle.shelf_file.specs.Named.{look_of, named_of, StandsIn}
+use Rattle.shelf_library.specs.State.{LibraryState, IsReadyAt}
+use Rattle.shelf_library.specs.Truth.{IsTrulyClosed}
+use Rattle.shelf_library.specs.Crashes.{Passes}
+use Rattle.shelf_library.specs.Library.{shown_by}
+use Rattle.shelf_library.specs.Units.{world_of}
+use Rattle.shelf_library.specs.OneUnit.{AreUnits, ChangesAt, Fits}
+use Rattle.shelf_library.specs.Reading.{ReadsAt}
+use Rattle.shelf_library.specs.Changing.{MovesAt}
+use Rattle.shelf_library.specs.declared.held.Held.{Held}
+use Rattle.shelf_library.specs.declared.held.Held.TheVariants.{Opened}
+use Rattle.shelf_library.proofs.WorldLemmas.{is_held}
+use Rattle.shelf_library.proofs.OpenedLemmas.{opened_at}
+use Rattle.shelf_library.proofs.AsideLemmas.{name_before, name_same, images_aside}
+use Rattle.shelf_library.proofs.RefusedLemmas.{refused_look, refused_named, refused_passes}
+
+opened_is : (a b : ShelfFile) → Opened a ≡ Opened b → a ≡ b
+opened_is a b e = cc
+
+-- a call on the file that a unit holds
+pub moves_at :
+    (shelf : ShelfState) (held : List Held) (u : ℕ) (one : Held) (units : AreUnits shelf held) (attached : u < length (world_of shelf held).units) (read : one ≡ slice_index_or held u one)
+    (file : ShelfFile) (is : one ≡ Opened file) (after : ShelfFile) (later : ShelfState) (failed fails limit : ℕ) → Moves file.pages after.pages shelf later failed fails → IsReady after later
+    → ((name : List ℕ) → IsTrue shelf.is_honest → Leaves (shelf.file name) (shelf.file name).seen) → ((name : List ℕ) → IsTrue later.is_honest → Leaves (later.file name) (later.file name).seen)
+    → MovesAt u file after (record { shelf = shelf; held = held; faults = failed; limit = limit }) (record { shelf = later; held = slice_set held u (Opened after); faults = fails; limit = limit })
+moves_at shelf held u one units attached read file is after later failed fails limit moves ready before after_it = record {
+  units = units;
+  attached = is_held shelf held u units.many attached;
+  opened = opened_at shelf held u one units.many attached read file is;
+  holds = refl;
+  limit = refl;
+  moves = moves;
+  ready = ready;
+  image_before = before (unit_name shelf u);
+  image_after = after_it (unit_name later u);
+}
+
+-- images that a crash could leave before, and refused ones
+pub was_or_refused : (test : Test) (old new : Bytes) → Throughout (WasOrRefused old) old new → Throughout (Passes test) old old → IsTrue (test Unsound) → Throughout (Passes test) old new
+was_or_refused test old new images passed unsound = throughout_weaker (WasOrRefused old) (Passes test) old new one images
+  where
+    one : (c : Option (List ℕ)) → WasOrRefused old c → Passes test c
+    one c (inl was) = throughout_first (Passes test) old old passed c was
+    one c (inr refused) = refused_passes test c refused unsound
+
+-- bytes that a look accepts are those that it accepted before
+pub closed_kept : (old new : Bytes) → SameOrRefused old new → ((header : Header) → look_of old.seen ≡ Accepted header → IsTrulyClosed old header)
+    → (header : Header) → look_of new.seen ≡ Accepted header → IsTrulyClosed new header
+closed_kept old new (inl same) truly header accepted =
+    let was = truly header (ap look_of (sym same) ∙ accepted) in
+    record { rows = was.rows; stands = subst (λ seen. StandsIn header (bytes_or_none seen) was.rows) (sym same) was.stands }
+closed_kept old new (inr refused) truly header accepted = let found = refused_look new.seen refused in absurd (cc)
+
+pub named_kept : (old new : Bytes) → SameOrRefused old new → (named_of new.seen ≡ named_of old.seen) ⊎ (named_of new.seen ≡ Unsound)
+named_kept old new (inl same) = inl (ap named_of same)
+named_kept old new (inr refused) = inr (refused_named new.seen refused)
+
+module _ (u : ℕ) (file after : ShelfFile) (old new : LibraryState) (call : MovesAt u file after old new) where
+  before : IsReadyAt old.shelf u file
+  before = call.units.ready u file call.opened
+
+  unit_after : after.pages.cache.store.unit ≡ u
+  unit_after = call.moves.unit ∙ before.unit_is
+
+  pub others : KeepsOthers u old.shelf new.shelf
+  others = subst (λ unit. KeepsOthers unit old.shelf new.shelf) before.unit_is call.moves.others
+
+  pub changes_at : ChangesAt u (Opened after) old.shelf new.shelf old.held new.held
+  changes_at = record { attached = call.attached; others = others; holds = call.holds }
+
+  pub fits : Fits u (Opened after) new.shelf
+  fits = record {
+    looked = λ header is. absurd (cc);
+    ready = λ held is. subst (λ held. IsReadyAt new.shelf u held) (opened_is after held is) (record { unit_is = unit_after; ready = call.ready });
+  }
+
+  -- where it only read
+  pub reads_at : OnlyReads file after old.shelf new.shelf old.faults new.faults → ReadsAt u file after old new
+  reads_at reads = record {
+    units = call.units;
+    attached = call.attached;
+    opened = call.opened;
+    holds = call.holds;
+    limit = call.limit;
+    reads = reads;
+    image_before = call.image_before;
+    image_after = call.image_after;
+  }
+
+  images : IsTrue new.shelf.is_honest → Throughout (WasOrRefused (unit_file old.shelf u)) (unit_file old.shelf u) (unit_file new.shelf u)
+  images honest =
+      subst (λ unit. Throughout (WasOrRefused (unit_file old.shelf unit)) (unit_file old.shelf unit) (unit_file new.shelf unit)) before.unit_is
+      (call.moves.images before.ready.over honest)
+
+  -- what reads give is as it was, or refused
+  same_or_refused : IsTrue new.shelf.is_honest → SameOrRefused (unit_file old.shelf u) (unit_file new.shelf u)
+  same_or_refused honest =
+      one (subst (λ unit. StandsOrRefused (unit_file old.shelf unit) (unit_file new.shelf unit)) before.unit_is (call.moves.stands before.ready.over honest))
+    where
+      one : StandsOrRefused (unit_file old.shelf u) (unit_file new.shelf u) → SameOrRefused (unit_file old.shelf u) (unit_file new.shelf u)
+      one (inl stands) = stands
+      one (inr all) = inr (all (unit_file new.shelf u).seen (call.image_after honest))
+
+  pub same_or_unsound : IsTrue new.shelf.is_honest
+      → (named_of (unit_file new.shelf u).seen ≡ named_of (unit_file old.shelf u).seen) ⊎ (named_of (unit_file new.shelf u).seen ≡ Unsound)
+  same_or_unsound honest = named_kept (unit_file old.shelf u) (unit_file new.shelf u) (same_or_refused honest)
+
+  -- behind an open gate the name is unsound
+  pub unsound_after : IsTrue new.shelf.is_honest → after.pages.changed ≡ true → named_of (unit_file new.shelf u).seen ≡ Unsound
+  unsound_after honest begun =
+      let all = subst (λ unit. AllOpen (unit_file new.shelf unit)) unit_after (call.ready.over.gate begun honest) in
+      let seen = (unit_file new.shelf u).seen in
+      refused_named seen (refused_open seen (all seen (call.image_after honest)))
+
+  pub closed_truly : IsTrue new.shelf.is_honest → ((header : Header) → look_of (unit_file old.shelf u).seen ≡ Accepted header → IsTrulyClosed (unit_file old.shelf u) header)
+      → (header : Header) → look_of (unit_file new.shelf u).seen ≡ Accepted header → IsTrulyClosed (unit_file new.shelf u) header
+  closed_truly honest = closed_kept (unit_file old.shelf u) (unit_file new.shelf u) (same_or_refused honest)
+
+  -- at each moment a crash leaves what it could leave before, or a refused file
+  pub passes_unfinished : (test : Test) → IsTrue new.shelf.is_honest → IsTrue (test Unsound)
+      → Throughout (Passes test) (old.shelf.file (unit_name old.shelf u)) (old.shelf.file (unit_name old.shelf u))
+      → Throughout (Passes test) (old.shelf.file (unit_name old.shelf u)) (new.shelf.file (unit_name old.shelf u))
+  passes_unfinished test honest unsound passed =
+      subst (λ (name : List ℕ). Throughout (Passes test) (unit_file old.shelf u) (new.shelf.file name))
+      (name_same u (Opened after) old.shelf new.shelf old.held new.held call.units changes_at)
+      (was_or_refused test (unit_file old.shelf u) (unit_file new.shelf u) (images honest) passed unsound)
+
+differs : (a b : List ℕ) → bytes_eq a b ≡ false → ¬ (b ≡ a)
+differs a b miss same = let hit = (bytes_eq-Decides a b).1 (sym same) in let clash : true ≡ false = sym hit ∙ miss in cc
+
+-- what the images of a name do in a call on the unit that has it
+pub images_of_unit : {S : Type 0} (state : S → LibraryState) (u : ℕ) (file after : ShelfFile) (old new : S) (trace : Trace) → MovesAt u file after (state old) (state new)
+    → MayLeave (shown_by state).Throughout trace.may old new (unit_name (state old).shelf u) → LeavesOnly (shown_by state).Throughout trace.only new (unit_name (state old).shelf u)
+    → ImagesGo (shown_by state).Throughout (name_at (world_of (state old).shelf (state old).held) u) trace old new
+images_of_unit {S} state u file after old new trace call may only =
+    subst (λ (name : List ℕ). ImagesGo (shown_by state).Throughout name trace old new)
+    (sym (name_before u (Opened after) (state old).shelf (state new).shelf (state old).held (state new).held call.units (changes_at u file after (state old) (state new) call)))
+    (record {
+      may = may;
+      only = only;
+      others = λ other apart.
+          images_aside state old new other ((others u file after (state old) (state new) call).others other (differs (unit_name (state old).shelf u) other apart));
+    })
+
+pub goes_unfinished : {S : Type 0} (state : S → LibraryState) (u : ℕ) (file after : ShelfFile) (old new : S) → MovesAt u file after (state old) (state new)
+    → IsTrue (state new).shelf.is_honest
+    → ImagesGo (shown_by state).Throughout (name_at (world_of (state old).shelf (state old).held) u) unfinished old new
+goes_unfinished {S} state u file after old new call honest =
+    images_of_unit state u file after old new unfinished call
+    (λ test passed all. passes_unfinished u file after (state old) (state new) call test honest (and_parts _ _ all).0 passed)
+    tt

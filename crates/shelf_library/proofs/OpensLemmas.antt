@@ -1,0 +1,90 @@
+-- What a call that opens a unit promises, from what it leaves of the unit.
+use Rattle.std.proofs.Common.{◌≡◌, ℕ, true, false, Bool, IsTrue, IsFalse, IfOk, IfErr, OnOk, OnErr, Result, Ok, Err, refl, sym, ap, subst, ◌∙◌, if◌then◌else◌}
+use Rattle.io_state.specs.declared.fault.Fault.{Fault}
+use Rattle.record_layout.specs.Schema.{Schema}
+use Rattle.indexed_file.specs.Images.{Trace, CallGoes}
+use Rattle.indexed_file.specs.Calls.{Keeps, MayAnswerShut}
+use Rattle.indexed_file.specs.UnitCalls.{OpensUnit}
+use Rattle.indexed_file.specs.World.{World, Shut, Opened as HasOpened, Broken, holding_at, schema_at, schema_in, is_open, is_looked, is_broken}
+use Rattle.page_store.specs.ShelfState.{ShelfState}
+use Rattle.file_header.specs.declared.header.Header.{Header}
+use Rattle.shelf_file.specs.declared.shelf_file.ShelfFile.{ShelfFile}
+use Rattle.shelf_file.specs.Standing.{file_in}
+use Rattle.shelf_library.specs.declared.held.Held.{Held}
+use Rattle.shelf_library.specs.declared.held.Held.TheVariants.{Nothing, Looked, Opened}
+use Rattle.shelf_library.specs.State.{LibraryState, IsReadyAt}
+use Rattle.shelf_library.specs.Told.{held_open, answer_open}
+use Rattle.shelf_library.specs.Units.{world_of, holding_of}
+use Rattle.shelf_library.specs.Library.{shown_by}
+use Rattle.shelf_library.specs.OneUnit.{AreUnits, ChangesAt, Fits}
+use Rattle.shelf_library.proofs.AsideLemmas.{only_here, holding_after}
+
+-- ---- what a unit holds
+
+pub same_open : (a b : ShelfFile) → Opened a ≡ Opened b → a ≡ b
+same_open a b e = cc
+
+pub nothing_fits : (u : ℕ) (shelf : ShelfState) → Fits u Nothing shelf
+nothing_fits u shelf = record { looked = λ header is. absurd (cc); ready = λ file is. absurd (cc) }
+
+pub open_fits : (u : ℕ) (file : ShelfFile) (shelf : ShelfState) → IsReadyAt shelf u file → Fits u (Opened file) shelf
+open_fits u file shelf ready = record { looked = λ header is. absurd (cc); ready = λ other is. subst (IsReadyAt shelf u) (same_open file other is) ready }
+
+-- a file that is not broken is open
+pub open_holding : (shelf : ShelfState) (file : ShelfFile) → IsFalse file.file.broken → holding_of shelf (Opened file) ≡ HasOpened file.file.schema (file_in file shelf)
+open_holding shelf file unbroken = rw unbroken refl
+
+-- the unit held no open file, and held the header that a look had accepted
+pub was_looked : (shelf : ShelfState) (one : Held) → IsTrue (is_looked (holding_of shelf one)) → (header : Header) × (one ≡ Looked header)
+was_looked shelf Nothing is = absurd (cc)
+was_looked shelf (Looked header) is = (header, refl)
+was_looked shelf (Opened file) is = absurd (never file.file.broken is)
+  where
+    never : (broken : Bool) → IsTrue (is_looked (if broken then Broken file.file.schema else HasOpened file.file.schema (file_in file shelf))) → ⊥
+    never true is = let e : false ≡ true = is in cc
+    never false is = let e : false ≡ true = is in cc
+
+-- ---- a unit that was opened
+
+module _ {S : Type 0} (state : S → LibraryState) (u : ℕ) (old new : S) (r : Result ShelfFile Fault)
+    (are : AreUnits (state old).shelf (state old).held) (call : ChangesAt u (held_open r) (state old).shelf (state new).shelf (state old).held (state new).held) where
+  abbrev before : World
+  before = world_of (state old).shelf (state old).held
+
+  abbrev after : World
+  after = world_of (state new).shelf (state new).held
+
+  pub holding_now : holding_at after u ≡ holding_of (state new).shelf (held_open r)
+  holding_now = holding_after u (held_open r) (state old).shelf (state new).shelf (state old).held (state new).held are call
+
+  shut : (x : Result ShelfFile Fault) → holding_at after u ≡ holding_of (state new).shelf (held_open x) → OnErr (answer_open x) (holding_at after u ≡ Shut)
+  shut (Ok file) is = tt
+  shut (Err fault) is = is
+
+  -- it is open, with this schema
+  pub is_opened : (schema : Schema) (x : Result ShelfFile Fault) → x ≡ r → IfOk x (λ file. IsFalse file.file.broken × (file.file.schema ≡ schema))
+      → OnOk (answer_open x) (IsTrue (is_open (holding_at after u)) × (schema_at after u ≡ schema))
+  is_opened schema (Err fault) is fine = tt
+  is_opened schema (Ok file) is fine =
+      let holds : holding_at after u ≡ HasOpened file.file.schema (file_in file (state new).shelf) =
+      holding_now ∙ ap (λ x. holding_of (state new).shelf (held_open x)) (sym is) ∙ open_holding (state new).shelf file fine.0 in
+      (ap is_open holds, ap schema_in holds ∙ fine.1)
+
+  unbroken : (x : Result ShelfFile Fault) → x ≡ r → IfOk x (λ file. IsFalse file.file.broken) → OnOk (answer_open x) (IsFalse (is_broken (holding_at after u)))
+  unbroken (Err fault) is fine = tt
+  unbroken (Ok file) is fine = ap is_broken (holding_now ∙ ap (λ x. holding_of (state new).shelf (held_open x)) (sym is) ∙ open_holding (state new).shelf file fine)
+
+  faulted : (x : Result ShelfFile Fault) → IfErr x (MayAnswerShut (shown_by state) u old new) → IfErr (answer_open x) (MayAnswerShut (shown_by state) u old new)
+  faulted (Ok file) may = tt
+  faulted (Err fault) may = may
+
+  pub opens_unit : (trace : Trace) → IfOk r (λ file. IsFalse file.file.broken) → IfErr r (MayAnswerShut (shown_by state) u old new)
+      → CallGoes (shown_by state) u trace old new → Keeps (shown_by state) old new → OpensUnit (shown_by state) u trace old new (answer_open r)
+  opens_unit trace fine may images keeps = record {
+    err = shut r holding_now;
+    unbroken = unbroken r refl fine;
+    only = only_here u (held_open r) (state old).shelf (state new).shelf (state old).held (state new).held are call;
+    fault = faulted r may;
+    images = images;
+    keeps = keeps;
+  }

@@ -1,0 +1,125 @@
+-- What a call that only reads leaves of its unit.
+use Rattle.std.proofs.Common.{◌≡◌, ◌⊎◌, inl, inr, ℕ, true, false, IsTrue, IsFalse, refl, sym, ap, subst, ◌∙◌, if◌then◌else◌}
+use Rattle.std.proofs.lemmas.Bool.{cases_Bool}
+use Rattle.indexed_file.specs.World.{Opened as HasOpened, Broken}
+use Rattle.record_layout.specs.Schema.{Schema}
+use Rattle.page_store.specs.File.{File as Bytes, content}
+use Rattle.page_store.specs.OpenLaws.{open_kept, refused_open}
+use Rattle.page_store.specs.Gate.{AllOpen}
+use Rattle.page_store.specs.ShelfState.{unit_file}
+use Rattle.page_cache.specs.Quietly.{GoesQuietly}
+use Rattle.page_alloc.specs.StepLaws.{same_place}
+use Rattle.open_file.specs.declared.open_file.OpenFile.{OpenFile}
+use Rattle.open_file.specs.ReadOff.{file_off}
+use Rattle.file_header.specs.declared.header.Header.{Header}
+use Rattle.shelf_file.specs.declared.look.Look.TheVariants.{Accepted}
+use Rattle.shelf_file.specs.declared.shelf_file.ShelfFile.{ShelfFile}
+use Rattle.shelf_file.specs.Named.{look_of, named_of}
+use Rattle.shelf_file.specs.Shelves.{AreClosed}
+use Rattle.shelf_file.specs.Standing.{live_of, file_in}
+use Rattle.shelf_library.specs.State.{LibraryState, IsReadyAt}
+use Rattle.shelf_library.specs.Units.{holding_of}
+use Rattle.shelf_library.specs.Truth.{IsTrulyClosed, IsTrulyOpen}
+use Rattle.shelf_library.specs.OneUnit.{AreUnits, ChangesAt, Fits, IsTrulyHeld}
+use Rattle.shelf_library.specs.Reading.{ReadsAt, GoesOpen}
+use Rattle.shelf_library.specs.declared.held.Held.TheVariants.{Opened}
+use Rattle.shelf_library.proofs.AsideLemmas.{are_after}
+use Rattle.shelf_library.proofs.RefusedLemmas.{refused_look, refused_named}
+
+opened_is : (a b : ShelfFile) → Opened a ≡ Opened b → a ≡ b
+opened_is a b e = cc
+
+module _ (u : ℕ) (file after : ShelfFile) (old new : LibraryState) (call : ReadsAt u file after old new) where
+  pub is_ready : IsReadyAt old.shelf u file
+  is_ready = call.units.ready u file call.opened
+
+  quietly : GoesQuietly u old.shelf new.shelf
+  quietly = subst (λ unit. GoesQuietly unit old.shelf new.shelf) is_ready.unit_is call.reads.pages.goes.parts.quietly
+
+  pub was_honest : IsTrue new.shelf.is_honest → IsTrue old.shelf.is_honest
+  was_honest = quietly.others.honest
+
+  pub changes_at : ChangesAt u (Opened after) old.shelf new.shelf old.held new.held
+  changes_at = record { attached = call.attached; others = quietly.others; holds = call.holds }
+
+  pub fits : Fits u (Opened after) new.shelf
+  fits = record {
+    looked = λ header is. absurd (cc);
+    ready = λ held is.
+        let same : after ≡ held = opened_is after held is in
+        subst (λ held. IsReadyAt new.shelf u held) same (record {
+          unit_is = call.reads.pages.goes.parts.unit ∙ is_ready.unit_is;
+          ready = call.reads.ready is_ready.ready;
+        });
+  }
+
+  -- and what every library keeps is kept
+  pub reads_units : AreUnits new.shelf new.held
+  reads_units = are_after u (Opened after) old.shelf new.shelf old.held new.held call.units changes_at fits
+
+  -- behind a closed gate nothing was written
+  pub still_or_open : IsTrue new.shelf.is_honest → (new.shelf.file ≡ old.shelf.file) ⊎ GoesOpen (unit_file old.shelf u) (unit_file new.shelf u)
+  still_or_open honest = elim (cases_Bool file.pages.changed) [
+    | inl begun ↦
+        let before = subst (λ unit. AllOpen (unit_file old.shelf unit)) is_ready.unit_is (is_ready.ready.over.gate begun (was_honest honest)) in
+        inr (record { before = before; after = open_kept (unit_file old.shelf u) (unit_file new.shelf u) before quietly.quiet; quiet = quietly.quiet })
+    | inr shut ↦ inl (call.reads.pages.goes.still is_ready.ready.over shut)
+  ]
+
+  pub same_file : new.shelf.file ≡ old.shelf.file → unit_file new.shelf u ≡ unit_file old.shelf u
+  same_file still = same_place old.shelf new.shelf u still quietly.others.names
+
+  -- the name stands for what it stood for
+  pub same_named : IsTrue new.shelf.is_honest → named_of (unit_file new.shelf u).seen ≡ named_of (unit_file old.shelf u).seen
+  same_named honest = elim (still_or_open honest) [
+    | inl still ↦ ap (λ (bytes : Bytes). named_of bytes.seen) (same_file still)
+    | inr goes ↦
+        let seen = (unit_file old.shelf u).seen in
+        let later = (unit_file new.shelf u).seen in
+        refused_named later (refused_open later (goes.after later (call.image_after honest)))
+        ∙ sym (refused_named seen (refused_open seen (goes.before seen (call.image_before (was_honest honest)))))
+  ]
+
+  pub same_schema : after.file.schema ≡ file.file.schema
+  same_schema = ap (λ (parts : OpenFile). parts.schema) call.reads.file
+
+  pub same_broken : after.file.broken ≡ file.file.broken
+  same_broken = ap (λ (parts : OpenFile). parts.broken) call.reads.file
+
+  same_rows : IsTrue new.shelf.is_honest → file_in after new.shelf ≡ file_in file old.shelf
+  same_rows honest =
+      ap (λ (parts : OpenFile). file_off parts (live_of after new.shelf)) call.reads.file
+      ∙ ap (λ live. file_off file.file live) (call.reads.pages.rests.live honest)
+
+  -- the unit holds what it held
+  pub same_holding : IsTrue new.shelf.is_honest → holding_of new.shelf (Opened after) ≡ holding_of old.shelf (Opened file)
+  same_holding honest = λ i. if same_broken i then Broken (same_schema i) else HasOpened (same_schema i) (same_rows honest i)
+
+  -- what is shown of it is true where it was
+  pub truly_held : IsTrue new.shelf.is_honest → IsTrulyHeld u (Opened file) old.shelf → IsTrulyHeld u (Opened after) new.shelf
+  truly_held honest truly = record { closed = closed; opened = opened }
+    where
+      closed : (header : Header) → look_of (unit_file new.shelf u).seen ≡ Accepted header → IsTrulyClosed (unit_file new.shelf u) header
+      closed header accepted = elim (still_or_open honest) [
+        | inl still ↦ subst (λ (bytes : Bytes). IsTrulyClosed bytes header) (sym (same_file still))
+            (truly.closed header (ap (λ (bytes : Bytes). look_of bytes.seen) (sym (same_file still)) ∙ accepted))
+        | inr goes ↦
+            let later = (unit_file new.shelf u).seen in
+            let refused = refused_look later (refused_open later (goes.after later (call.image_after honest))) in
+            absurd (cc)
+      ]
+
+      opened : (held : ShelfFile) → Opened after ≡ Opened held → IsFalse held.file.broken → IsTrulyOpen new.shelf held (unit_file new.shelf u)
+      opened held is unbroken =
+          let same : after ≡ held = opened_is after held is in
+          let works : IsFalse file.file.broken = sym same_broken ∙ ap (λ (h : ShelfFile). h.file.broken) same ∙ unbroken in
+          let was = truly.opened file refl works in
+          subst (λ held. IsTrulyOpen new.shelf held (unit_file new.shelf u)) same (record {
+            rows = was.rows;
+            stands = call.reads.stands honest was.rows was.stands;
+            closed = λ unchanged.
+                let shut : file.pages.changed ≡ false = sym call.reads.pages.goes.gate ∙ unchanged in
+                let still = call.reads.pages.goes.still is_ready.ready.over shut in
+                subst (λ (bytes : Bytes). AreClosed after.file.schema was.rows (content bytes)) (sym (same_file still))
+                (subst (λ (schema : Schema). AreClosed schema was.rows (content (unit_file old.shelf u))) (sym same_schema) (was.closed shut));
+          })

@@ -1,0 +1,213 @@
+use Rattle.std.proofs.Common.{◌≡◌, refl, sym, ap, ◌∙◌, arith, slice_set}
+use Rattle.page_store.specs.ShelfState.{unit_name}
+use Rattle.shelf_library.specs.declared.library.ShelfLibrary.{ShelfLibrary}
+use Rattle.shelf_library.specs.declared.held.Held.TheVariants.{Opened}
+use Rattle.shelf_library.specs.State.{LibraryState, held_at}
+use Rattle.shelf_library.specs.Closing.{ClosesAt}
+use Rattle.shelf_library.proofs.WorldLemmas.{is_held}
+use Rattle.shelf_library.proofs.OpenedLemmas.{is_one, must_be_open}
+use Rattle.shelf_library.proofs.ShutLemmas.{units_after, shut_ok, shut_err, shut_broken, shut_unchanged, shuts_unit}
+use Rattle.shelf_library.proofs.library.ShelfLibraryLibrary.shut.Goals as goal
+
+pub index_mut-requires : goal.index_mut-requires
+index_mut-requires g c =
+    let s = c.args.self.now in
+    let within = is_held (g.S.Shelf.state s.shelf) s.units.items c.args.u s.many c.requires.attached in
+    omega (arith, within, s.units.ok.0)
+
+pub unreachable-requires : goal.unreachable-requires
+unreachable-requires g c =
+    let s = c.args.self.now in
+    must_be_open (g.S.Shelf.state s.shelf) s.units.items c.args.u c.index_mut.result.now s.many c.requires.attached c.index_mut.ensures.value
+    c.requires.opened (λ file is. c.in_default.not-Opened file (c.replace.ensures.value ∙ is))
+
+pub close-requires : goal.close-requires
+close-requires g c =
+    let s = c.args.self.now in
+    let shelf = g.S.Shelf.state s.shelf in
+    let held = s.units.items in
+    let at : held_at held c.args.u ≡ Opened c.in-Opened.file =
+    is_one shelf held c.args.u c.index_mut.result.now s.many c.requires.attached c.index_mut.ensures.value ∙ sym c.replace.ensures.value ∙ c.in-Opened.is in
+    record { ready = (s.ready c.args.u c.in-Opened.file at).ready }
+
+pub invariant_of-self : goal.invariant_of-self
+invariant_of-self g c =
+    let s = c.args.self.now in
+    let old : LibraryState = record { shelf = g.S.Shelf.state s.shelf; held = s.units.items; faults = g.S.Shelf.fault_count s.shelf; limit = s.limit } in
+    let new : LibraryState = record {
+      shelf = g.S.Shelf.state c.close.new.shelf;
+      held = slice_set s.units.items c.args.u c.replace.new.dest;
+      faults = g.S.Shelf.fault_count c.close.new.shelf;
+      limit = s.limit;
+    } in
+    let within = is_held old.shelf old.held c.args.u s.many c.requires.attached in
+    let call : ClosesAt c.args.u c.in-Opened.file c.close.result old new = record {
+      units = record { many = s.many; distinct = s.distinct; looked = s.looked; ready = s.ready };
+      attached = within;
+      opened = is_one old.shelf old.held c.args.u c.index_mut.result.now s.many c.requires.attached c.index_mut.ensures.value ∙ sym c.replace.ensures.value ∙ c.in-Opened.is;
+      holds = ap (slice_set old.held c.args.u) c.replace.ensures.after;
+      limit = refl;
+      broken = c.close.ensures.broken;
+      nothing = c.close.ensures.nothing;
+      unchanged = c.close.ensures.unchanged;
+      closes = c.close.ensures.closes;
+      others = c.close.ensures.others;
+      count = c.close.ensures.count;
+      cause = c.close.ensures.cause;
+      damage = c.close.ensures.damage;
+      image_before = g.met.S.Shelf.reads_an_image s.shelf (unit_name old.shelf c.args.u);
+      image_after = g.met.S.Shelf.reads_an_image c.close.new.shelf (unit_name new.shelf c.args.u);
+    } in
+    let after = units_after c.args.u c.in-Opened.file c.close.result old new call in
+    record { room = s.room; many = after.many; distinct = after.distinct; looked = after.looked; ready = after.ready }
+
+pub returns-clause-ok : goal.returns-clause-ok
+returns-clause-ok g c honest truly =
+    let s = c.args.self.now in
+    let old : LibraryState = record { shelf = g.S.Shelf.state s.shelf; held = s.units.items; faults = g.S.Shelf.fault_count s.shelf; limit = s.limit } in
+    let new : LibraryState = record {
+      shelf = g.S.Shelf.state c.close.new.shelf;
+      held = slice_set s.units.items c.args.u c.replace.new.dest;
+      faults = g.S.Shelf.fault_count c.close.new.shelf;
+      limit = s.limit;
+    } in
+    let within = is_held old.shelf old.held c.args.u s.many c.requires.attached in
+    let call : ClosesAt c.args.u c.in-Opened.file c.close.result old new = record {
+      units = record { many = s.many; distinct = s.distinct; looked = s.looked; ready = s.ready };
+      attached = within;
+      opened = is_one old.shelf old.held c.args.u c.index_mut.result.now s.many c.requires.attached c.index_mut.ensures.value ∙ sym c.replace.ensures.value ∙ c.in-Opened.is;
+      holds = ap (slice_set old.held c.args.u) c.replace.ensures.after;
+      limit = refl;
+      broken = c.close.ensures.broken;
+      nothing = c.close.ensures.nothing;
+      unchanged = c.close.ensures.unchanged;
+      closes = c.close.ensures.closes;
+      others = c.close.ensures.others;
+      count = c.close.ensures.count;
+      cause = c.close.ensures.cause;
+      damage = c.close.ensures.damage;
+      image_before = g.met.S.Shelf.reads_an_image s.shelf (unit_name old.shelf c.args.u);
+      image_after = g.met.S.Shelf.reads_an_image c.close.new.shelf (unit_name new.shelf c.args.u);
+    } in
+    shut_ok c.args.u c.in-Opened.file c.close.result old new call honest truly
+
+pub returns-clause-err : goal.returns-clause-err
+returns-clause-err g c honest truly =
+    let s = c.args.self.now in
+    let old : LibraryState = record { shelf = g.S.Shelf.state s.shelf; held = s.units.items; faults = g.S.Shelf.fault_count s.shelf; limit = s.limit } in
+    let new : LibraryState = record {
+      shelf = g.S.Shelf.state c.close.new.shelf;
+      held = slice_set s.units.items c.args.u c.replace.new.dest;
+      faults = g.S.Shelf.fault_count c.close.new.shelf;
+      limit = s.limit;
+    } in
+    let within = is_held old.shelf old.held c.args.u s.many c.requires.attached in
+    let call : ClosesAt c.args.u c.in-Opened.file c.close.result old new = record {
+      units = record { many = s.many; distinct = s.distinct; looked = s.looked; ready = s.ready };
+      attached = within;
+      opened = is_one old.shelf old.held c.args.u c.index_mut.result.now s.many c.requires.attached c.index_mut.ensures.value ∙ sym c.replace.ensures.value ∙ c.in-Opened.is;
+      holds = ap (slice_set old.held c.args.u) c.replace.ensures.after;
+      limit = refl;
+      broken = c.close.ensures.broken;
+      nothing = c.close.ensures.nothing;
+      unchanged = c.close.ensures.unchanged;
+      closes = c.close.ensures.closes;
+      others = c.close.ensures.others;
+      count = c.close.ensures.count;
+      cause = c.close.ensures.cause;
+      damage = c.close.ensures.damage;
+      image_before = g.met.S.Shelf.reads_an_image s.shelf (unit_name old.shelf c.args.u);
+      image_after = g.met.S.Shelf.reads_an_image c.close.new.shelf (unit_name new.shelf c.args.u);
+    } in
+    shut_err c.args.u c.in-Opened.file c.close.result old new call honest truly
+
+pub returns-clause-broken : goal.returns-clause-broken
+returns-clause-broken g c =
+    let s = c.args.self.now in
+    let old : LibraryState = record { shelf = g.S.Shelf.state s.shelf; held = s.units.items; faults = g.S.Shelf.fault_count s.shelf; limit = s.limit } in
+    let new : LibraryState = record {
+      shelf = g.S.Shelf.state c.close.new.shelf;
+      held = slice_set s.units.items c.args.u c.replace.new.dest;
+      faults = g.S.Shelf.fault_count c.close.new.shelf;
+      limit = s.limit;
+    } in
+    let within = is_held old.shelf old.held c.args.u s.many c.requires.attached in
+    let call : ClosesAt c.args.u c.in-Opened.file c.close.result old new = record {
+      units = record { many = s.many; distinct = s.distinct; looked = s.looked; ready = s.ready };
+      attached = within;
+      opened = is_one old.shelf old.held c.args.u c.index_mut.result.now s.many c.requires.attached c.index_mut.ensures.value ∙ sym c.replace.ensures.value ∙ c.in-Opened.is;
+      holds = ap (slice_set old.held c.args.u) c.replace.ensures.after;
+      limit = refl;
+      broken = c.close.ensures.broken;
+      nothing = c.close.ensures.nothing;
+      unchanged = c.close.ensures.unchanged;
+      closes = c.close.ensures.closes;
+      others = c.close.ensures.others;
+      count = c.close.ensures.count;
+      cause = c.close.ensures.cause;
+      damage = c.close.ensures.damage;
+      image_before = g.met.S.Shelf.reads_an_image s.shelf (unit_name old.shelf c.args.u);
+      image_after = g.met.S.Shelf.reads_an_image c.close.new.shelf (unit_name new.shelf c.args.u);
+    } in
+    shut_broken c.args.u c.in-Opened.file c.close.result old new call
+
+pub returns-clause-unchanged : goal.returns-clause-unchanged
+returns-clause-unchanged g c honest truly =
+    let s = c.args.self.now in
+    let old : LibraryState = record { shelf = g.S.Shelf.state s.shelf; held = s.units.items; faults = g.S.Shelf.fault_count s.shelf; limit = s.limit } in
+    let new : LibraryState = record {
+      shelf = g.S.Shelf.state c.close.new.shelf;
+      held = slice_set s.units.items c.args.u c.replace.new.dest;
+      faults = g.S.Shelf.fault_count c.close.new.shelf;
+      limit = s.limit;
+    } in
+    let within = is_held old.shelf old.held c.args.u s.many c.requires.attached in
+    let call : ClosesAt c.args.u c.in-Opened.file c.close.result old new = record {
+      units = record { many = s.many; distinct = s.distinct; looked = s.looked; ready = s.ready };
+      attached = within;
+      opened = is_one old.shelf old.held c.args.u c.index_mut.result.now s.many c.requires.attached c.index_mut.ensures.value ∙ sym c.replace.ensures.value ∙ c.in-Opened.is;
+      holds = ap (slice_set old.held c.args.u) c.replace.ensures.after;
+      limit = refl;
+      broken = c.close.ensures.broken;
+      nothing = c.close.ensures.nothing;
+      unchanged = c.close.ensures.unchanged;
+      closes = c.close.ensures.closes;
+      others = c.close.ensures.others;
+      count = c.close.ensures.count;
+      cause = c.close.ensures.cause;
+      damage = c.close.ensures.damage;
+      image_before = g.met.S.Shelf.reads_an_image s.shelf (unit_name old.shelf c.args.u);
+      image_after = g.met.S.Shelf.reads_an_image c.close.new.shelf (unit_name new.shelf c.args.u);
+    } in
+    shut_unchanged c.args.u c.in-Opened.file c.close.result old new call honest
+
+pub returns-clause-shuts : goal.returns-clause-shuts
+returns-clause-shuts g c =
+    let s = c.args.self.now in
+    let old : LibraryState = record { shelf = g.S.Shelf.state s.shelf; held = s.units.items; faults = g.S.Shelf.fault_count s.shelf; limit = s.limit } in
+    let new : LibraryState = record {
+      shelf = g.S.Shelf.state c.close.new.shelf;
+      held = slice_set s.units.items c.args.u c.replace.new.dest;
+      faults = g.S.Shelf.fault_count c.close.new.shelf;
+      limit = s.limit;
+    } in
+    let within = is_held old.shelf old.held c.args.u s.many c.requires.attached in
+    let call : ClosesAt c.args.u c.in-Opened.file c.close.result old new = record {
+      units = record { many = s.many; distinct = s.distinct; looked = s.looked; ready = s.ready };
+      attached = within;
+      opened = is_one old.shelf old.held c.args.u c.index_mut.result.now s.many c.requires.attached c.index_mut.ensures.value ∙ sym c.replace.ensures.value ∙ c.in-Opened.is;
+      holds = ap (slice_set old.held c.args.u) c.replace.ensures.after;
+      limit = refl;
+      broken = c.close.ensures.broken;
+      nothing = c.close.ensures.nothing;
+      unchanged = c.close.ensures.unchanged;
+      closes = c.close.ensures.closes;
+      others = c.close.ensures.others;
+      count = c.close.ensures.count;
+      cause = c.close.ensures.cause;
+      damage = c.close.ensures.damage;
+      image_before = g.met.S.Shelf.reads_an_image s.shelf (unit_name old.shelf c.args.u);
+      image_after = g.met.S.Shelf.reads_an_image c.close.new.shelf (unit_name new.shelf c.args.u);
+    } in
+    let state : ShelfLibrary g.row.S.Denot g.S.Shelf → LibraryState = λ library. record { shelf = g.S.Shelf.state library.shelf; held = library.units.items; faults = g.S.Shelf.fault_count library.shelf; limit = library.limit } in
+    shuts_unit state c.args.u c.in-Opened.file c.close.result s _ call

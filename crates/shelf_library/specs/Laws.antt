@@ -1,0 +1,147 @@
+-- The laws of a library over a shelf.
+use Rattle.std.proofs.Common.{◌≡◌, ◌≢◌, ℕ, zero, suc, ◌<◌, ◌≤◌, Bool, true, false, List, [], ◌∷◌, length, Option, Some, None, IsTrue, IsFalse, refl, sym, ap, ◌∙◌, subst, arith, inl, inr, get_or}
+use Rattle.std.specs.Prelude.{nat_lt, slice_index_or, if◌then◌else◌}
+use Rattle.std.proofs.lemmas.Bool.{cases_Bool, ltb-true, ltb-false}
+use Rattle.std.proofs.lemmas.List.{get_or_past}
+use Rattle.indexed_file.specs.File.{File}
+use Rattle.indexed_file.specs.Moments.{Test}
+use Rattle.indexed_file.specs.Room.{IsFilled}
+use Rattle.indexed_file.specs.Sound.{is_file}
+use Rattle.indexed_file.specs.SoundWorld.{ShowsFiles, ShowsFilesAt, is_sound_named, is_sound_holding}
+use Rattle.indexed_file.specs.World.{World, FileUnit, Named, Absent, Closed, Unsound, Holding, Shut, Broken, Opened as HasOpened, named_in, named_at, unit_at, holding_at, name_at}
+use Rattle.record_layout.specs.Schema.{Schema}
+use Rattle.page_store.specs.File.{File as Bytes, content}
+use Rattle.page_store.specs.MomentLaws.{throughout_then, throughout_last, throughout_none, throughout_weaker}
+use Rattle.page_store.specs.ShelfState.{ShelfState, unit_name, unit_file}
+use Rattle.page_alloc.specs.Joining.{available_of}
+use Rattle.file_header.specs.declared.header.Header.{Header}
+use Rattle.open_file.specs.Headers.{IsOpenedBy}
+use Rattle.open_file.specs.declared.open_file.OpenFile.{OpenFile}
+use Rattle.shelf_file.specs.declared.look.Look.{Look}
+use Rattle.shelf_file.specs.declared.look.Look.TheVariants.{NoFile, Refused, Accepted}
+use Rattle.shelf_file.specs.declared.shelf_file.ShelfFile.{ShelfFile}
+use Rattle.shelf_file.specs.Named.{look_of, named_of, named_by, live_in}
+use Rattle.shelf_file.specs.Standing.{file_in, live_of, room_in}
+use Rattle.shelf_library.specs.State.{held_at, AreReady}
+use Rattle.shelf_library.specs.Units.{world_of, units_of, holding_of, room_of_held}
+use Rattle.shelf_library.specs.Truth.{IsShownTruly, IsTrulyClosed}
+use Rattle.shelf_library.specs.Crashes.{Passes, PassesBy, PassesClosed, AllPass}
+use Rattle.shelf_library.specs.WorldLaws.{named_anywhere, name_now, holding_now, named_now, units_long}
+use Rattle.shelf_library.specs.BelowLaws.{reads_as, filled}
+use Rattle.shelf_library.specs.LookLaws.{reads_back, accepted_there, accepted_named}
+use Rattle.shelf_library.specs.declared.held.Held.{Held}
+use Rattle.shelf_library.specs.declared.held.Held.TheVariants.{Nothing, Looked, Opened}
+
+-- ---- images
+
+pub joins : (test : Test) (first middle last : ShelfState) (name : List ℕ) → AllPass test first middle name → AllPass test middle last name → AllPass test first last name
+joins test first middle last name = throughout_then (Passes test) (first.file name) (middle.file name) (last.file name)
+
+pub ends : (test : Test) (old new : ShelfState) (name : List ℕ) → AllPass test old new name → AllPass test new new name
+ends test old new name all = throughout_none (Passes test) (new.file name) (new.file name) refl (throughout_last (Passes test) (old.file name) (new.file name) all)
+
+wider_by : (test wider : Test) (bytes : List ℕ) (look : Look) → ((named : Named) → IsTrue (test named) → IsTrue (wider named)) → PassesBy test bytes look → PassesBy wider bytes look
+wider_by test wider bytes NoFile weaker passes = weaker Absent passes
+wider_by test wider bytes Refused weaker passes = weaker Unsound passes
+wider_by test wider bytes (Accepted header) weaker passes = record { rows = passes.rows; stands = passes.stands; passes = weaker (Closed header.schema passes.rows) passes.passes }
+
+wider_image : (test wider : Test) → ((named : Named) → IsTrue (test named) → IsTrue (wider named)) → (c : Option (List ℕ)) → Passes test c → Passes wider c
+wider_image test wider weaker None passes = weaker Absent passes
+wider_image test wider weaker (Some bytes) passes = wider_by test wider bytes (look_of (Some bytes)) weaker passes
+
+pub widens : (test wider : Test) (old new : ShelfState) (name : List ℕ) → ((named : Named) → IsTrue (test named) → IsTrue (wider named)) → AllPass test old new name → AllPass wider old new name
+widens test wider old new name weaker = throughout_weaker (Passes test) (Passes wider) (old.file name) (new.file name) (wider_image test wider weaker)
+
+-- ---- what is shown truly is a file
+
+closed_file : (bytes : Bytes) (header : Header) → look_of bytes.seen ≡ Accepted header → IsTrulyClosed bytes header → IsTrue (is_sound_named (named_of bytes.seen))
+closed_file bytes header is truly =
+    let there = accepted_there bytes header is in
+    let back = reads_back header (content bytes) truly.rows (ap look_of (sym there) ∙ is) truly.stands in
+    let schema = truly.stands.by_header.header_is.schema_is in
+    let sound : IsTrue (is_file header.schema truly.rows) = subst (λ (s : Schema). IsTrue (is_file s truly.rows)) schema truly.stands.stands.sound in
+    subst (λ (named : Named). IsTrue (is_sound_named named)) (sym (accepted_named bytes header is ∙ ap (Closed header.schema) back)) sound
+
+named_files : (bytes : Bytes) → ((header : Header) → look_of bytes.seen ≡ Accepted header → IsTrulyClosed bytes header) → IsTrue (is_sound_named (named_of bytes.seen))
+named_files bytes truly = go bytes.seen refl
+  where
+    by_look : (seen : List ℕ) (look : Look) → look_of (Some seen) ≡ look → bytes.seen ≡ Some seen → IsTrue (is_sound_named (named_by seen look))
+    by_look seen NoFile is there = refl
+    by_look seen Refused is there = refl
+    by_look seen (Accepted header) is there =
+        let accepted : look_of bytes.seen ≡ Accepted header = ap look_of there ∙ is in
+        subst (λ (named : Named). IsTrue (is_sound_named named)) (ap named_of there ∙ ap (named_by seen) is) (closed_file bytes header accepted (truly header accepted))
+
+    go : (seen : Option (List ℕ)) → bytes.seen ≡ seen → IsTrue (is_sound_named (named_of bytes.seen))
+    go None is = subst (λ (s : Option (List ℕ)). IsTrue (is_sound_named (named_of s))) (sym is) refl
+    go (Some seen) is = subst (λ (s : Option (List ℕ)). IsTrue (is_sound_named (named_of s))) (sym is) (by_look seen (look_of (Some seen)) refl is)
+
+module _ (shelf : ShelfState) (held : List Held) (many : length held ≡ length shelf.names) where
+  no_such : (u : ℕ) → length held ≤ u → unit_at (world_of shelf held) u ≡ record { name = []; named = Absent; holding = Shut }
+  no_such u past = let long = units_long shelf shelf.names held many in get_or_past (units_of shelf shelf.names held) u (record { name = []; named = Absent; holding = Shut }) (omega (arith, past, long))
+
+  held_files : (u : ℕ) (one : Held) → u < length held → held_at held u ≡ one → IsShownTruly shelf held (unit_name shelf u) → IsTrue (is_sound_holding (holding_of shelf one))
+  held_files u Nothing within is truly = refl
+  held_files u (Looked header) within is truly = refl
+  held_files u (Opened file) within is truly = elim (cases_Bool file.file.broken) [
+    | inl broken ↦ rw broken refl
+    | inr unbroken ↦
+        let lies : u < length shelf.names = omega (arith, within, many) in
+        let open_truly = truly.opened u file lies refl is unbroken in
+        let back : file_in file shelf ≡ open_truly.rows = reads_as file.file (live_of file shelf) open_truly.rows open_truly.stands.stands in
+        rw unbroken (subst (λ (rows : File). IsTrue (is_file file.file.schema rows)) (sym back) open_truly.stands.stands.sound)
+  ]
+
+  shows_unit : (u : ℕ) → IsShownTruly shelf held (name_at (world_of shelf held) u) → ShowsFilesAt (world_of shelf held) u
+  shows_unit u truly = elim (cases_Bool (nat_lt u (length held))) [
+    | inl hit ↦
+        let within = ltb-true u (length held) hit in
+        let here : IsShownTruly shelf held (unit_name shelf u) = subst (λ (name : List ℕ). IsShownTruly shelf held name) (name_now shelf held u within many) truly in
+        record {
+          named = subst (λ (named : Named). IsTrue (is_sound_named named)) (sym (named_now shelf held u within many)) (named_files (unit_file shelf u) here.closed);
+          holding = subst (λ (holding : Holding). IsTrue (is_sound_holding holding)) (sym (holding_now shelf held u within many)) (held_files u (held_at held u) within refl here);
+        }
+    | inr miss ↦
+        let none = no_such u (ltb-false u (length held) miss) in
+        record {
+          named = subst (λ (unit : FileUnit). IsTrue (is_sound_named unit.named)) (sym none) refl;
+          holding = subst (λ (unit : FileUnit). IsTrue (is_sound_holding unit.holding)) (sym none) refl;
+        }
+  ]
+
+  -- an open unit has a file of this schema, that reads so
+  opened_by : (u : ℕ) (one : Held) (schema : Schema) (rows : File) → holding_of shelf one ≡ HasOpened schema rows
+      → (file : ShelfFile) × (one ≡ Opened file) × IsFalse file.file.broken × (file.file.schema ≡ schema) × (file_in file shelf ≡ rows)
+  opened_by u Nothing schema rows is = absurd (cc)
+  opened_by u (Looked header) schema rows is = absurd (cc)
+  opened_by u (Opened file) schema rows is = elim (cases_Bool file.file.broken) [
+    | inl broken ↦ let e : Broken file.file.schema ≡ HasOpened schema rows = rw broken at is in absurd (cc)
+    | inr unbroken ↦ let e : HasOpened file.file.schema (file_in file shelf) ≡ HasOpened schema rows = rw unbroken at is in (file, refl, unbroken, cc, cc)
+  ]
+
+pub shows_files : (shelf : ShelfState) (held : List Held) (name : List ℕ) → length held ≡ length shelf.names → IsShownTruly shelf held name → ShowsFiles (world_of shelf held) name
+shows_files shelf held name many truly = record {
+  named = subst (λ (named : Named). IsTrue (is_sound_named named)) (sym (named_anywhere shelf held name many)) (named_files (shelf.file name) truly.closed);
+  units = λ u is. shows_unit shelf held many u (subst (λ (n : List ℕ). IsShownTruly shelf held n) (sym is) truly);
+}
+
+-- ---- the trees of an open file are filled
+
+pub fills : (shelf : ShelfState) (held : List Held) (u : ℕ) (schema : Schema) (file : File) → length held ≡ length shelf.names → AreReady shelf held
+    → IsShownTruly shelf held (name_at (world_of shelf held) u) → holding_at (world_of shelf held) u ≡ HasOpened schema file → IsFilled (room_of_held (held_at held u)) schema file
+fills shelf held u schema file many ready truly is = elim (cases_Bool (nat_lt u (length held))) [
+  | inl hit ↦
+      let within = ltb-true u (length held) hit in
+      let lies : u < length shelf.names = omega (arith, within, many) in
+      let of = opened_by shelf held many u (held_at held u) schema file (sym (holding_now shelf held u within many) ∙ is) in
+      let here = subst (λ (name : List ℕ). IsShownTruly shelf held name) (name_now shelf held u within many) truly in
+      let open_truly = here.opened u of.0 lies refl of.1 of.2 in
+      let back : open_truly.rows ≡ file = sym (reads_as of.0.file (live_of of.0 shelf) open_truly.rows open_truly.stands.stands) ∙ of.4 in
+      let full = filled of.0.file (live_of of.0 shelf) open_truly.rows (available_of of.0.pages.pager) (ready u of.0 of.1).ready.shaped open_truly.stands.stands in
+      subst (λ (one : Held). IsFilled (room_of_held one) schema file) (sym of.1)
+      (subst (λ (s : Schema). IsFilled (room_in of.0) s file) of.3 (subst (λ (rows : File). IsFilled (room_in of.0) of.0.file.schema rows) back full))
+  | inr miss ↦
+      let none = ap (λ (unit : FileUnit). unit.holding) (no_such shelf held many u (ltb-false u (length held) miss)) in
+      let e : Shut ≡ HasOpened schema file = sym none ∙ is in
+      absurd (cc)
+]

@@ -1,0 +1,19 @@
+-- What a library over a shelf shows.
+use Rattle.std.specs.Prelude.{ℕ, Some}
+use Rattle.indexed_file.specs.Shown.{Shown}
+use Rattle.shelf_library.specs.State.{LibraryState, held_at}
+use Rattle.shelf_library.specs.Units.{world_of, room_of_held, asked_of}
+use Rattle.shelf_library.specs.Truth.{IsShownTruly}
+use Rattle.shelf_library.specs.Crashes.{AllPass}
+
+abbrev pub shown_by : {S : Type 0} → (S → LibraryState) → Shown S
+shown_by state = record {
+  world = λ library. world_of (state library).shelf (state library).held;
+  is_honest = λ library. (state library).shelf.is_honest;
+  IsShownTruly = λ library name. IsShownTruly (state library).shelf (state library).held name;
+  fault_count = λ library. (state library).faults;
+  page_limit = λ library. Some (state library).limit;
+  room = λ library u. room_of_held (held_at (state library).held u);
+  pages_asked = λ library u. asked_of (held_at (state library).held u);
+  Throughout = λ test old new name. AllPass test (state old).shelf (state new).shelf name;
+}

@@ -1,0 +1,22 @@
+-- What a look leaves of a library.
+use Rattle.std.specs.Prelude.{◌≡◌, ℕ, ◌<◌, List, length, slice_set, Result, IfOk, IsTrue}
+use Rattle.io_state.specs.declared.fault.Fault.{Fault}
+use Rattle.page_store.specs.ShelfState.{OnlyReads, HasCause, unit_file}
+use Rattle.shelf_file.specs.declared.look.Look.{Look}
+use Rattle.shelf_file.specs.Named.{look_of}
+use Rattle.shelf_file.specs.Shelves.{HasHeader}
+use Rattle.shelf_library.specs.State.{LibraryState}
+use Rattle.shelf_library.specs.Told.{held_after}
+use Rattle.shelf_library.specs.OneUnit.{AreUnits}
+
+-- unit u was looked at, and the look found this
+pub record LooksAt (u : ℕ) (look : Result Look Fault) (old new : LibraryState) : Type 0 where
+  pub units : AreUnits old.shelf old.held
+  pub attached : u < length old.held
+  pub holds : new.held ≡ slice_set old.held u (held_after look)
+  pub limit : new.limit ≡ old.limit
+  -- what the shelf answered
+  pub found : IsTrue new.shelf.is_honest → IfOk look (λ look. look ≡ look_of (unit_file old.shelf u).seen)
+  pub header : IfOk look HasHeader
+  pub only : OnlyReads old.shelf new.shelf
+  pub cause : HasCause old.faults new.faults look

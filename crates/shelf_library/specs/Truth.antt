@@ -1,0 +1,31 @@
+-- When what a library over a shelf shows is what its files are.
+use Rattle.std.specs.Prelude.{◌≡◌, ℕ, ◌<◌, List, length, false, IsFalse}
+use Rattle.indexed_file.specs.File.{File}
+use Rattle.page_store.specs.File.{File as Bytes, content}
+use Rattle.page_store.specs.ShelfState.{ShelfState, unit_name}
+use Rattle.file_header.specs.declared.header.Header.{Header}
+use Rattle.shelf_file.specs.declared.look.Look.TheVariants.{Accepted}
+use Rattle.shelf_file.specs.declared.shelf_file.ShelfFile.{ShelfFile}
+use Rattle.shelf_file.specs.Named.{look_of, StandsIn}
+use Rattle.shelf_file.specs.Standing.{StandsFor}
+use Rattle.shelf_file.specs.Shelves.{AreClosed}
+use Rattle.shelf_library.specs.State.{held_at}
+use Rattle.shelf_library.specs.declared.held.Held.{Held}
+use Rattle.shelf_library.specs.declared.held.Held.TheVariants.{Opened}
+
+-- a file whose first page is accepted stands for some rows
+pub record IsTrulyClosed (bytes : Bytes) (header : Header) : Type 0 where
+  pub rows : File
+  pub stands : StandsIn header (content bytes) rows
+
+-- an open file stands for some rows, and where it was not changed so does the closed one
+pub record IsTrulyOpen (shelf : ShelfState) (file : ShelfFile) (bytes : Bytes) : Type 0 where
+  pub rows : File
+  pub stands : StandsFor file shelf rows
+  pub closed : file.pages.changed ≡ false → AreClosed file.file.schema rows (content bytes)
+
+-- what is shown of a name is what its file is, closed or open
+pub record IsShownTruly (shelf : ShelfState) (held : List Held) (name : List ℕ) : Type 0 where
+  pub closed : (header : Header) → look_of (shelf.file name).seen ≡ Accepted header → IsTrulyClosed (shelf.file name) header
+  pub opened : (u : ℕ) (file : ShelfFile) → u < length shelf.names → unit_name shelf u ≡ name → held_at held u ≡ Opened file → IsFalse file.file.broken
+      → IsTrulyOpen shelf file (shelf.file name)

@@ -1,0 +1,42 @@
+-- What the names of a library stand for, and what its units hold: all of it is read off the files, and off the pages of the open ones.
+use Rattle.std.specs.Prelude.{ℕ, Bool, List, [], ◌∷◌, bytes_eq, if◌then◌else◌}
+use Rattle.std.specs.List.{list_any}
+use Rattle.indexed_file.specs.Room.{Room, Endless}
+use Rattle.indexed_file.specs.World.{World, FileUnit, Named, Absent, Holding, Shut, Looked as HasLooked, Opened as HasOpened, Broken}
+use Rattle.page_store.specs.ShelfState.{ShelfState}
+use Rattle.shelf_file.specs.declared.shelf_file.ShelfFile.{ShelfFile}
+use Rattle.shelf_file.specs.Named.{named_of}
+use Rattle.shelf_file.specs.Standing.{file_in, room_in}
+use Rattle.shelf_library.specs.declared.held.Held.{Held}
+use Rattle.shelf_library.specs.declared.held.Held.TheVariants.{Nothing, Looked, Opened}
+
+abbrev pub holding_of : ShelfState → Held → Holding
+holding_of shelf Nothing = Shut
+holding_of shelf (Looked header) = HasLooked header.schema
+holding_of shelf (Opened file) = if file.file.broken then Broken file.file.schema else HasOpened file.file.schema (file_in file shelf)
+
+abbrev pub unit_of : ShelfState → List ℕ → Held → FileUnit
+unit_of shelf name one = record { name = name; named = named_of (shelf.file name).seen; holding = holding_of shelf one }
+
+abbrev pub units_of : ShelfState → List (List ℕ) → List Held → List FileUnit
+units_of shelf [] held = []
+units_of shelf (name ∷ names) [] = []
+units_of shelf (name ∷ names) (one ∷ held) = unit_of shelf name one ∷ units_of shelf names held
+
+-- what the other names stand for. A name that a unit has is none of them
+abbrev pub elsewhere_of : ShelfState → List ℕ → Named
+elsewhere_of shelf name = if list_any (λ other. bytes_eq other name) shelf.names then Absent else named_of (shelf.file name).seen
+
+abbrev pub world_of : ShelfState → List Held → World
+world_of shelf held = record { units = units_of shelf shelf.names held; elsewhere = elsewhere_of shelf }
+
+-- the pages that an open file needs and has, and those that it asked for
+abbrev pub room_of_held : Held → Room
+room_of_held Nothing = Endless
+room_of_held (Looked header) = Endless
+room_of_held (Opened file) = room_in file
+
+abbrev pub asked_of : Held → ℕ
+asked_of Nothing = 0
+asked_of (Looked header) = 0
+asked_of (Opened file) = file.pages.cache.asked

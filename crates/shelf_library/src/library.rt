@@ -1,0 +1,250 @@
+//! The library.
+
+ghost use Rattle.std.specs.Prelude.{◌≡◌, ◌≤◌, ℕ, List, [], length, map, replicate, bytes_eq, Ok, Err, IsTrue, IfOk, IsOkUnless};
+ghost use Rattle.std.specs.List.{IsDistinct};
+ghost use Rattle.shelf_library.specs.Props.{library_props};
+ghost use Rattle.shelf_library.specs.State.{AreLooked, AreReady};
+ghost use Rattle.shelf_library.specs.Told.{held_after, seen_after, held_open, answer_open};
+
+use crate::held::Held;
+use indexed_file::{Added, Found, Library, Replaced, Seen};
+use io_state::{Fault, FileName, Key, Position, Relation};
+use page_store::Shelf;
+use record_layout::Schema;
+use shelf_file::{Look, ShelfFile, look_at};
+use std::alloc::Global;
+use std::mem;
+use std::num::NonZeroUsize;
+
+/// A library that keeps its files in pages on a shelf: at most `limit` pages a file, of which at most `frames` are held in memory while it is open.
+#[derive(Drop)]
+pub struct ShelfLibrary<S: Shelf> {
+    alloc: Global,
+    shelf: S,
+    frames: NonZeroUsize,
+    limit: u32,
+    units: Vec<Held>,
+    ghost room: { 16 ≤ limit },
+    ghost many: { length units.items ≡ length (S.state shelf).names },
+    ghost distinct: { IsDistinct bytes_eq (S.state shelf).names } by { Prim.hlevel library_props },
+    ghost looked: { AreLooked (S.state shelf) units.items } by { Prim.hlevel library_props },
+    ghost ready: { AreReady (S.state shelf) units.items } by { Prim.hlevel library_props },
+}
+
+/// What a unit holds after a look, and what is answered.
+fn told(look: Result<Look, Fault>) -> (Held, Result<Seen, Fault>)
+    ensures held { result.0 ≡ held_after look }
+    ensures seen { result.1 ≡ seen_after look }
+{
+    match look {
+        Err(fault) => (Held::Nothing, Err(fault)),
+        Ok(Look::NoFile) => (Held::Nothing, Ok(Seen::Absent)),
+        Ok(Look::Refused) => (Held::Nothing, Ok(Seen::Unsound)),
+        Ok(Look::Accepted(header)) => {
+            let schema = header.schema.copy();
+            (Held::Looked(header), Ok(Seen::Sound(schema)))
+        }
+    }
+}
+
+/// What a unit holds after its file was opened or made, and what is answered.
+fn opened(file: Result<ShelfFile, Fault>) -> (Held, Result<(), Fault>)
+    ensures held { result.0 ≡ held_open file }
+    ensures answer { result.1 ≡ answer_open file }
+{
+    match file {
+        Ok(file) => (Held::Opened(file), Ok(())),
+        Err(fault) => (Held::Nothing, Err(fault)),
+    }
+}
+
+/// Units that hold nothing.
+fn nothing_held(alloc: Global, count: usize) -> Result<Vec<Held>, Fault>
+    ensures count { IfOk result (λ units. units.items ≡ replicate count Held.Nothing) }
+    ensures only_memory { IsOkUnless result Fault.Memory }
+{
+    let mut units = Vec::new(alloc);
+    for _ in 0..count {
+        if units.push(Held::Nothing).is_err() {
+            return Err(Fault::Memory);
+        }
+    }
+    Ok(units)
+}
+
+impl<S: Shelf> ShelfLibrary<S> {
+    /// A library over a shelf to which no name is attached. A file has at most `limit` pages of 4,096 bytes, of which at most `frames` are held in
+    /// memory while it is open.
+    pub fn new(alloc: Global, shelf: S, limit: u32, frames: NonZeroUsize) -> Self
+        requires names { (S.state shelf).names ≡ [] }
+        requires limit { 16 ≤ limit }
+        ensures shelf { S.state result.shelf ≡ S.state shelf }
+        ensures units { result.units.items ≡ [] }
+        ensures limit { result.limit ≡ limit }
+    {
+        ShelfLibrary {
+            alloc,
+            shelf,
+            frames,
+            limit,
+            units: Vec::new(alloc),
+        }
+    }
+
+    /// Its shelf. Units that are open are forgotten.
+    pub fn into_shelf(self) -> S
+        ensures { result ≡ self.shelf }
+    {
+        self.shelf
+    }
+}
+
+impl<S: Shelf> Library for ShelfLibrary<S> {
+    ghost use Rattle.shelf_library.specs.Library.{shown_by};
+    ghost use Rattle.shelf_library.specs.Laws.{joins, ends, widens, shows_files, fills};
+
+    ghost shown = { shown_by (λ library. record {
+      shelf = S.state library.shelf;
+      held = library.units.items;
+      faults = S.fault_count library.shelf;
+      limit = library.limit;
+    }) };
+
+    ghost joins = { λ test first then last name. joins test (S.state first.shelf) (S.state then.shelf) (S.state last.shelf) name };
+
+    ghost ends = { λ test old new name. ends test (S.state old.shelf) (S.state new.shelf) name };
+
+    ghost widens = { λ test wider old new name. widens test wider (S.state old.shelf) (S.state new.shelf) name };
+
+    ghost shows_files = { λ library name. shows_files (S.state library.shelf) library.units.items name library.many };
+
+    ghost fills = { λ library u schema file honest. fills (S.state library.shelf) library.units.items u schema file library.many library.ready };
+
+    fn attach(&mut self, names: &[FileName]) -> Result<(), Fault> {
+        let units = nothing_held(self.alloc, names.len())?;
+        self.shelf.attach(names)?;
+        self.units = units;
+        Ok(())
+    }
+
+    fn faults(&self) -> u64 {
+        self.shelf.faults()
+    }
+
+    fn asked(&self, u: usize) -> u64 {
+        match &self.units[u] {
+            Held::Opened(file) => file.pages.cache.asked(),
+            _ => 0,
+        }
+    }
+
+    fn restart_count(&mut self, u: usize) {
+        if let Held::Opened(file) = &mut self.units[u] {
+            file.pages.cache.restart_count();
+        }
+    }
+
+    fn look(&mut self, u: usize) -> Result<Seen, Fault> {
+        let (held, seen) = told(look_at(&mut self.shelf, u));
+        self.units[u] = held;
+        seen
+    }
+
+    fn create(&mut self, u: usize, schema: &Schema) -> Result<(), Fault> {
+        let file = ShelfFile::create(
+            self.alloc,
+            &mut self.shelf,
+            u,
+            self.frames,
+            self.limit,
+            schema,
+        );
+        let (held, made) = opened(file);
+        self.units[u] = held;
+        made
+    }
+
+    fn open(&mut self, u: usize) -> Result<(), Fault> {
+        let Held::Looked(header) = mem::replace(&mut self.units[u], Held::Nothing) else {
+            unreachable!()
+        };
+        let file = ShelfFile::open(self.alloc, u, self.frames, self.limit, &header);
+        let (held, made) = opened(file);
+        self.units[u] = held;
+        made
+    }
+
+    fn by_key(
+        &mut self,
+        u: usize,
+        k: u8,
+        key: &Key,
+        area: &mut [u8],
+    ) -> Result<Option<Found>, Fault> {
+        match &mut self.units[u] {
+            Held::Opened(file) => file.by_key(&mut self.shelf, k, key, area),
+            _ => unreachable!(),
+        }
+    }
+
+    fn next(
+        &mut self,
+        u: usize,
+        k: u8,
+        position: &Position,
+        area: &mut [u8],
+    ) -> Result<Option<Found>, Fault> {
+        match &mut self.units[u] {
+            Held::Opened(file) => file.next(&mut self.shelf, k, position, area),
+            _ => unreachable!(),
+        }
+    }
+
+    fn seek(
+        &mut self,
+        u: usize,
+        k: u8,
+        operand: &[u8],
+        relation: Relation,
+    ) -> Result<Option<Key>, Fault> {
+        match &mut self.units[u] {
+            Held::Opened(file) => file.seek(&mut self.shelf, k, operand, relation),
+            _ => unreachable!(),
+        }
+    }
+
+    fn highest(&mut self, u: usize) -> Result<Option<Key>, Fault> {
+        match &mut self.units[u] {
+            Held::Opened(file) => file.highest(&mut self.shelf),
+            _ => unreachable!(),
+        }
+    }
+
+    fn add(&mut self, u: usize, bytes: &[u8]) -> Result<Added, Fault> {
+        match &mut self.units[u] {
+            Held::Opened(file) => file.add(&mut self.shelf, bytes),
+            _ => unreachable!(),
+        }
+    }
+
+    fn replace(&mut self, u: usize, bytes: &[u8]) -> Result<Replaced, Fault> {
+        match &mut self.units[u] {
+            Held::Opened(file) => file.replace(&mut self.shelf, bytes),
+            _ => unreachable!(),
+        }
+    }
+
+    fn remove(&mut self, u: usize, key: &Key) -> Result<bool, Fault> {
+        match &mut self.units[u] {
+            Held::Opened(file) => file.remove(&mut self.shelf, key),
+            _ => unreachable!(),
+        }
+    }
+
+    fn shut(&mut self, u: usize) -> Result<(), Fault> {
+        let Held::Opened(mut file) = mem::replace(&mut self.units[u], Held::Nothing) else {
+            unreachable!()
+        };
+        file.close(&mut self.shelf)
+    }
+}
