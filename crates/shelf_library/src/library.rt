@@ -1,14 +1,18 @@
 //! The library.
 
-ghost use Rattle.std.specs.Prelude.{◌≡◌, ◌≤◌, ℕ, List, [], length, map, replicate, bytes_eq, Ok, Err, IsTrue, IfOk, IsOkUnless};
+ghost use Rattle.std.specs.Prelude.{◌≡◌, ◌≤◌, ℕ, List, [], length, map, slice_index, replicate, bytes_eq, Ok, Err, IsTrue, IfOk, IsOkUnless};
 ghost use Rattle.std.specs.List.{IsDistinct};
+ghost use Rattle.indexed_file.specs.Room.{height_at};
+ghost use Rattle.open_file.specs.Stands.{heights_of};
 ghost use Rattle.shelf_library.specs.Props.{library_props};
-ghost use Rattle.shelf_library.specs.State.{AreLooked, AreReady};
+ghost use Rattle.shelf_library.specs.State.{AreLooked, AreReady, held_at};
+ghost use Rattle.shelf_library.specs.Units.{room_of_held};
 ghost use Rattle.shelf_library.specs.Told.{held_after, seen_after, held_open, answer_open};
 
 use crate::held::Held;
 use indexed_file::{Added, Found, Library, Replaced, Seen};
 use io_state::{Fault, FileName, Key, Position, Relation};
+use open_file::OpenFile;
 use page_store::Shelf;
 use record_layout::Schema;
 use shelf_file::{Look, ShelfFile, look_at};
@@ -72,6 +76,19 @@ fn nothing_held(alloc: Global, count: usize) -> Result<Vec<Held>, Fault>
     Ok(units)
 }
 
+/// The height of the tree of key k; 0 where there is no such key.
+fn tree_height(file: &OpenFile, k: usize) -> u8
+    ensures { result ≡ slice_index (heights_of file.now) k }
+{
+    if k == 0 {
+        return file.prime.height();
+    }
+    match file.alternates.get(k - 1) {
+        Some(index) => index.height(),
+        None => 0,
+    }
+}
+
 impl<S: Shelf> ShelfLibrary<S> {
     /// A library over a shelf to which no name is attached. A file has at most `limit` pages of 4,096 bytes, of which at most `frames` are held in
     /// memory while it is open.
@@ -88,6 +105,16 @@ impl<S: Shelf> ShelfLibrary<S> {
             frames,
             limit,
             units: Vec::new(alloc),
+        }
+    }
+
+    /// The height of the tree of key k, where the unit has a file open; 0 where it has none, or its file no such key.
+    pub fn height(&self, u: usize, k: u8) -> u8
+        ensures { result ≡ height_at (room_of_held (held_at self.now.units.items u)) k }
+    {
+        match self.units.get(u) {
+            Some(Held::Opened(file)) => tree_height(&file.file, k as usize),
+            _ => 0,
         }
     }
 
