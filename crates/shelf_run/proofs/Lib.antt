@@ -1,0 +1,4 @@
+pub mod FilesLemmas
+pub mod StatesLemmas
+pub mod MomentsLemmas
+pub mod RunLemmas

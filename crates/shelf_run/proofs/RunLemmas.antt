@@ -1,0 +1,123 @@
+-- What the run over a library over a shelf says of the files of the shelf.
+use Rattle.std.proofs.Common.{◌≡◌, ◌≢◌, ℕ, ◌<◌, true, List, [], ◌∷◌, length, map, All, Option, None, Some, IsTrue, refl, sym, ap, ap2, subst, ◌∙◌, ◌++◌}
+use Rattle.std.proofs.lemmas.List.Elements.{All-weaker}
+use Rattle.std.specs.Io.KnownBytes.{Appends}
+use Rattle.indexed_file.specs.Calls.{Keeps}
+use Rattle.indexed_file.specs.World.{World, Named, named_in}
+use Rattle.page_store.specs.File.{File as Bytes}
+use Rattle.page_store.specs.Images.{Leaves}
+use Rattle.page_store.specs.Moments.{Throughout}
+use Rattle.page_store.specs.MomentLaws.{throughout_none, throughout_weaker}
+use Rattle.page_store.specs.ShelfState.{ShelfState}
+use Rattle.file_control.specs.Described.{file_names}
+use Rattle.deck_reader.specs.declared.deck.Deck.{Deck}
+use Rattle.deck_runner.specs.declared.run_end.RunEnd.{RunEnd}
+use Rattle.deck_runner.specs.Beginning.{SameElsewhere, WhereFilesAreTrue, IsUntouched, run_before}
+use Rattle.deck_runner.specs.DeckRun.{OfDeck, RunsExactly}
+use Rattle.deck_runner.specs.Line.{Line}
+use Rattle.deck_runner.specs.NoFalseFile.{Judged, DeckRuns, RunsWhole, RunsInPart, IsSafeRun, IsSafeBrokenOff}
+use Rattle.deck_runner.specs.RunEnd.{Told, ToldInPart}
+use Rattle.shelf_library.specs.Library.{shown_by}
+use Rattle.shelf_library.specs.Laws.{joins}
+use Rattle.shelf_library.specs.State.{LibraryState}
+use Rattle.shelf_library.specs.Truth.{IsShownTruly}
+use Rattle.shelf_library.specs.Units.{world_of}
+use Rattle.shelf_library.specs.WorldLaws.{named_anywhere}
+use Rattle.shelf_library.specs.declared.held.Held.{Held}
+use Rattle.shelf_run.specs.Files.{files_of, IsSound, AreSound, AreImagesSound, AreSoundThroughout}
+use Rattle.shelf_run.specs.ShelfRun.{OnShelf, IsExactRun, RunsBy, Runs, BreaksOff, LeavesFiles, StaysSound, shown_in, over}
+use Rattle.shelf_run.proofs.FilesLemmas.{world_at_first, named_same, sound_if_closed, shown_truly, any, image_passes, image_sound}
+use Rattle.shelf_run.proofs.StatesLemmas.{runs_whole, runs_in_part}
+use Rattle.shelf_run.proofs.MomentsLemmas.{AreReal, over_run, over_broken_off}
+
+-- a library over a shelf before a run, which holds nothing, and after it
+module _ (old new : LibraryState) (none : old.shelf.names ≡ []) (empty : old.held ≡ []) (many : length new.held ≡ length new.shelf.names)
+    (keeps : Keeps shown_in old new) (an_image : (name : List ℕ) → IsTrue old.shelf.is_honest → Leaves (old.shelf.file name) (old.shelf.file name).seen) where
+  first_world : world_of old.shelf old.held ≡ files_of old.shelf
+  first_world = rw empty (world_at_first old.shelf none)
+
+  truly : (name : List ℕ) → IsSound (old.shelf.file name).seen → IsShownTruly old.shelf old.held name
+  truly name sound = rw empty (shown_truly old.shelf name none sound)
+
+  elsewhere : (deck : Deck) → SameElsewhere deck (world_of old.shelf old.held) (world_of new.shelf new.held) → SameElsewhere deck (files_of old.shelf) (files_of new.shelf)
+  elsewhere deck same = λ name is.
+      sym (named_anywhere new.shelf new.held name many) ∙ same name is ∙ ap (λ (world : World). named_in world name) first_world
+
+  pub stays_sound : StaysSound old.shelf new.shelf
+  stays_sound = λ honest name sound. sound_if_closed (new.shelf.file name) (keeps.truth honest name (truly name sound)).closed
+
+  pub leaves_files : IsUntouched shown_in old new → LeavesFiles old.shelf new.shelf
+  leaves_files is = record {
+    named = λ name. sym (named_anywhere new.shelf new.held name many) ∙ is.named name ∙ ap (λ (world : World). named_in world name) first_world;
+    images = λ honest name. record { within = (is.images honest name).within; back = (is.images honest name).back };
+  }
+
+  -- ---- where the files were sound
+
+  all_truly : (deck : Deck) → AreSound old.shelf deck → All (shown_in.IsShownTruly old) (file_names deck.files)
+  all_truly deck = All-weaker (λ name. IsSound (old.shelf.file name).seen) (shown_in.IsShownTruly old) truly (file_names deck.files)
+
+  pub exact_run : (bytes : List ℕ) (written written_after : Option (List ℕ)) (end : RunEnd)
+      → OfDeck shown_in bytes old new (λ deck. WhereFilesAreTrue shown_in old new deck
+        (RunsExactly written written_after (world_of old.shelf old.held) (world_of new.shelf new.held) end deck))
+      → IsExactRun bytes old.shelf new.shelf written written_after end
+  exact_run bytes written written_after end of =
+      let deck : Deck = of.0 in
+      (deck, of.1, elsewhere deck of.2, λ honest sound.
+        let runs = subst (λ (world : World). RunsExactly written written_after world (world_of new.shelf new.held) end deck) first_world (of.3 honest (all_truly deck sound)) in
+        record { transcript_is = runs.transcript_is; end_is = runs.end_is; leaves = named_same new.shelf new.held (file_names deck.files) many ∙ runs.leaves })
+
+  -- ---- what a crash may leave
+
+  real_at_first : (name : List ℕ) → ((c : Option (List ℕ)) → Leaves (old.shelf.file name) c → IsSound c) → AreReal old old name
+  real_at_first name sound = throughout_none _ (old.shelf.file name) (old.shelf.file name) refl (λ c leaves. image_passes c (sound c leaves))
+
+  sound_throughout : (name : List ℕ) → AreReal old new name → Throughout IsSound (old.shelf.file name) (new.shelf.file name)
+  sound_throughout name = throughout_weaker _ IsSound (old.shelf.file name) (new.shelf.file name) image_sound
+
+  no_false_file : (deck : Deck) (AreSuch : Judged LibraryState → List Line → Judged LibraryState → Type 0) (lines : List Line)
+      → ((name : List ℕ) (before after : Judged LibraryState) → AreReal old old name → AreSuch before lines after → AreReal old before.point.library name → AreReal old after.point.library name)
+      → DeckRuns shown_in old new deck AreSuch lines → IsTrue new.shelf.is_honest → AreImagesSound old.shelf deck → AreSoundThroughout old.shelf new.shelf deck
+  no_false_file deck AreSuch lines goes runs honest sound =
+      let was = keeps.honest honest in
+      let now = All-weaker (λ name. (c : Option (List ℕ)) → Leaves (old.shelf.file name) c → IsSound c) (λ name. IsSound (old.shelf.file name).seen)
+          (λ name all. all (old.shelf.file name).seen (an_image name was)) (file_names deck.files) sound in
+      let is = runs.stretches honest (all_truly deck now) in
+      All-weaker (λ name. (c : Option (List ℕ)) → Leaves (old.shelf.file name) c → IsSound c) (λ name. Throughout IsSound (old.shelf.file name) (new.shelf.file name))
+      (λ name all.
+        let real = real_at_first name all in
+        let begun : AreReal old is.0 name = (is.2.images name).within any real in
+        let ended : AreReal old is.1.point.library name = goes name (record { point = record { run = run_before (shown_in.world old) deck; library = is.0 }; ledger = _ }) is.1 real is.3 begun in
+        sound_throughout name (subst (λ (state : LibraryState). AreReal old state name) is.4 ended))
+      (file_names deck.files) sound
+
+  -- ---- a run, by the states of the library
+
+  by_states : (IsSuch : LibraryState → LibraryState → Deck → List Line → Type 0) (limit : ℕ) (deck : Deck) (lines : List Line) → old.limit ≡ limit → new.limit ≡ limit
+      → IsSuch old new deck lines → (IsTrue new.shelf.is_honest → AreImagesSound old.shelf deck → AreSoundThroughout old.shelf new.shelf deck)
+      → RunsBy IsSuch limit old.shelf new.shelf old.faults new.faults deck lines
+  by_states IsSuch limit deck lines first last run safe = record {
+    held = new.held;
+    run =
+        subst (λ (state : LibraryState). IsSuch state (over new.shelf new.held new.faults limit) deck lines) (ap2 (λ (held : List Held) (most : ℕ). over old.shelf held old.faults most) empty first)
+        (subst (λ (state : LibraryState). IsSuch old state deck lines) (ap (over new.shelf new.held new.faults) last) run);
+    no_false_file = safe;
+  }
+
+  module _ (limit : ℕ) (first : old.limit ≡ limit) (last : new.limit ≡ limit) (bytes : List ℕ) (written written_after : Option (List ℕ)) where
+    pub runs_on : (end : RunEnd) → OfDeck shown_in bytes old new (λ deck. Told written written_after end (RunsWhole shown_in old new deck))
+        → OnShelf bytes old.shelf new.shelf (λ deck. Told written written_after end (Runs limit old.shelf new.shelf old.faults new.faults deck))
+    runs_on end of =
+        let deck : Deck = of.0 in
+        let safe = no_false_file deck (IsSafeRun shown_in old deck.statements) of.3
+            (λ name before after real run begun. over_run old name real deck.statements before of.3 after run begun) of.6 in
+        (deck, of.1, elsewhere deck of.2, (of.3, of.4, of.5, by_states (RunsWhole shown_in) limit deck of.3 first last of.6 safe))
+
+    pub breaks_off : OfDeck shown_in bytes old new (λ deck. ToldInPart written written_after (RunsInPart shown_in old new deck))
+        → OnShelf bytes old.shelf new.shelf (λ deck. ToldInPart written written_after (BreaksOff limit old.shelf new.shelf old.faults new.faults deck))
+    breaks_off of =
+        let deck : Deck = of.0 in
+        let lines = of.3 ++ of.4 ∷ [] in
+        let safe = no_false_file deck (IsSafeBrokenOff shown_in old deck.statements) lines
+            (λ name before after real run begun. over_broken_off old name real deck.statements before lines after run begun) of.10 in
+        (deck, of.1, elsewhere deck of.2, (of.3, of.4, of.5, of.6, of.7, of.8, of.9, by_states (RunsInPart shown_in) limit deck lines first last of.10 safe))

@@ -1,0 +1,61 @@
+-- What a run of a deck leaves of a shelf. All of this is ours.
+use Rattle.std.specs.Prelude.{ℕ, List, [], Option, IsTrue}
+use Rattle.indexed_file.specs.Images.{Stays}
+use Rattle.indexed_file.specs.Shown.{Shown}
+use Rattle.page_store.specs.ShelfState.{ShelfState}
+use Rattle.deck_reader.specs.declared.deck.Deck.{Deck}
+use Rattle.deck_reader.specs.Deck.{IsDeck}
+use Rattle.deck_runner.specs.Beginning.{SameElsewhere, SameNames}
+use Rattle.deck_runner.specs.declared.run_end.RunEnd.{RunEnd}
+use Rattle.deck_runner.specs.DeckRun.{RunsExactly}
+use Rattle.deck_runner.specs.Line.{Line}
+use Rattle.deck_runner.specs.NoFalseFile.{RunsWhole, RunsInPart}
+use Rattle.shelf_library.specs.Crashes.{AllPass}
+use Rattle.shelf_library.specs.Library.{shown_by}
+use Rattle.shelf_library.specs.State.{LibraryState}
+use Rattle.shelf_library.specs.declared.held.Held.{Held}
+use Rattle.shelf_run.specs.Files.{files_of, IsSound, AreSound, AreImagesSound, AreSoundThroughout}
+
+-- the bytes are a deck, this is so of it, and no name but those of its files is touched
+abbrev pub OnShelf : List ℕ → (old new : ShelfState) → (Deck → Type 0) → Type 0
+OnShelf bytes old new P = (deck : Deck) × IsDeck bytes deck × SameElsewhere deck (files_of old) (files_of new) × P deck
+
+-- where the shelf has not lied by then, and the deck's files were sound at the start
+abbrev pub WhereSound : (old new : ShelfState) → Deck → Type 0 → Type 0
+WhereSound old new deck claim = IsTrue new.is_honest → AreSound old deck → claim
+
+-- what a library over a shelf shows, by its state
+abbrev pub shown_in : Shown LibraryState
+shown_in = shown_by (λ state. state)
+
+-- a library over this shelf, with a limit of pages, that holds these
+abbrev pub over : ShelfState → List Held → (faults limit : ℕ) → LibraryState
+over shelf held faults limit = record { shelf = shelf; held = held; faults = faults; limit = limit }
+
+-- a run, by the states of the library over the shelf, which holds nothing at the start; in so many words, where what a crash may leave of the deck's
+-- files was sound at the start, it was so at each moment
+pub record RunsBy (IsSuch : LibraryState → LibraryState → Deck → List Line → Type 0) (limit : ℕ) (old new : ShelfState) (faults faults_after : ℕ) (deck : Deck) (lines : List Line) : Type 0 where
+  pub held : List Held
+  pub run : IsSuch (over old [] faults limit) (over new held faults_after limit) deck lines
+  pub no_false_file : IsTrue new.is_honest → AreImagesSound old deck → AreSoundThroughout old new deck
+
+-- a whole run, and one that was broken off
+abbrev pub Runs : ℕ → (old new : ShelfState) → (faults faults_after : ℕ) → Deck → List Line → Type 0
+Runs = RunsBy (RunsWhole shown_in)
+
+abbrev pub BreaksOff : ℕ → (old new : ShelfState) → (faults faults_after : ℕ) → Deck → List Line → Type 0
+BreaksOff = RunsBy (RunsInPart shown_in)
+
+-- the deck that the bytes are was run as the definitions say, where its files were sound: the transcript, what is told of it, and what the names stand for
+abbrev pub IsExactRun : List ℕ → (old new : ShelfState) → (written written_after : Option (List ℕ)) → RunEnd → Type 0
+IsExactRun bytes old new written written_after end =
+    OnShelf bytes old new (λ deck. WhereSound old new deck (RunsExactly written written_after (files_of old) (files_of new) end deck))
+
+-- nothing has come of a call: every name stands for what it stood for, and what a crash may leave is as it was
+pub record LeavesFiles (old new : ShelfState) : Type 0 where
+  pub named : SameNames (files_of old) (files_of new)
+  pub images : IsTrue new.is_honest → (name : List ℕ) → Stays AllPass old new name
+
+-- what is sound stays so: the promise at the end of a run is the premise of the next
+abbrev pub StaysSound : (old new : ShelfState) → Type 0
+StaysSound old new = IsTrue new.is_honest → (name : List ℕ) → IsSound (old.file name).seen → IsSound (new.file name).seen
