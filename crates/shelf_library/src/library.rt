@@ -95,7 +95,7 @@ impl<S: Shelf> ShelfLibrary<S> {
     pub fn new(alloc: Global, shelf: S, limit: u32, frames: NonZeroUsize) -> Self
         requires names { (S.state shelf).names ≡ [] }
         requires limit { 16 ≤ limit }
-        ensures shelf { S.state result.shelf ≡ S.state shelf }
+        ensures shelf { result.shelf ≡ shelf }
         ensures units { result.units.items ≡ [] }
         ensures limit { result.limit ≡ limit }
     {

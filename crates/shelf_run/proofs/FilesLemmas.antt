@@ -1,5 +1,5 @@
 -- What a library over a shelf shows of its files, and what they stand for.
-use Rattle.std.proofs.Common.{◌≡◌, ℕ, ◌<◌, Bool, true, false, List, [], ◌∷◌, length, map, All, Option, None, Some, IsTrue, refl, sym, ap, ap2, subst, ◌∙◌, arith}
+use Rattle.std.proofs.Common.{◌≡◌, ℕ, ◌<◌, Bool, true, false, List, [], ◌∷◌, length, map, All, Option, None, Some, IsTrue, refl, sym, ap, subst, ◌∙◌, arith}
 use Rattle.std.specs.List.{list_all}
 use Rattle.indexed_file.specs.Moments.{Test}
 use Rattle.indexed_file.specs.World.{World, Named, named_in}
@@ -29,7 +29,9 @@ world_at_first shelf none = rw none refl
 pub named_same : (shelf : ShelfState) (held : List Held) (names : List (List ℕ)) → length held ≡ length shelf.names
     → map (named_in (files_of shelf)) names ≡ map (named_in (world_of shelf held)) names
 named_same shelf held [] many = refl
-named_same shelf held (name ∷ names) many = ap2 (λ (n : Named) (ns : List Named). n ∷ ns) (sym (named_anywhere shelf held name many)) (named_same shelf held names many)
+named_same shelf held (name ∷ names) many =
+    ap (λ (n : Named). n ∷ map (named_in (files_of shelf)) names) (sym (named_anywhere shelf held name many))
+    ∙ ap (λ (ns : List Named). named_in (world_of shelf held) name ∷ ns) (named_same shelf held names many)
 
 -- ---- what is sound
 

@@ -1,5 +1,5 @@
 -- What the run over a library over a shelf says of the files of the shelf.
-use Rattle.std.proofs.Common.{◌≡◌, ◌≢◌, ℕ, ◌<◌, true, List, [], ◌∷◌, length, map, All, Option, None, Some, IsTrue, refl, sym, ap, ap2, subst, ◌∙◌, ◌++◌}
+use Rattle.std.proofs.Common.{◌≡◌, ◌≢◌, ℕ, ◌<◌, true, List, [], ◌∷◌, length, map, All, Option, None, Some, IsTrue, refl, sym, ap, subst, ◌∙◌, ◌++◌}
 use Rattle.std.proofs.lemmas.List.Elements.{All-weaker}
 use Rattle.std.specs.Io.KnownBytes.{Appends}
 use Rattle.indexed_file.specs.Calls.{Keeps}
@@ -27,7 +27,7 @@ use Rattle.shelf_library.specs.declared.held.Held.{Held}
 use Rattle.shelf_run.specs.Files.{files_of, IsSound, AreSound, AreImagesSound, AreSoundThroughout}
 use Rattle.shelf_run.specs.ShelfRun.{OnShelf, IsExactRun, RunsBy, Runs, BreaksOff, LeavesFiles, StaysSound, shown_in, over}
 use Rattle.shelf_run.proofs.FilesLemmas.{world_at_first, named_same, sound_if_closed, shown_truly, any, image_passes, image_sound}
-use Rattle.shelf_run.proofs.StatesLemmas.{runs_whole, runs_in_part}
+use Rattle.shelf_run.proofs.StatesLemmas.{stays, runs_whole, runs_in_part}
 use Rattle.shelf_run.proofs.MomentsLemmas.{AreReal, over_run, over_broken_off}
 
 -- a library over a shelf before a run, which holds nothing, and after it
@@ -99,7 +99,7 @@ module _ (old new : LibraryState) (none : old.shelf.names ≡ []) (empty : old.h
   by_states IsSuch limit deck lines first last run safe = record {
     held = new.held;
     run =
-        subst (λ (state : LibraryState). IsSuch state (over new.shelf new.held new.faults limit) deck lines) (ap2 (λ (held : List Held) (most : ℕ). over old.shelf held old.faults most) empty first)
+        subst (λ (state : LibraryState). IsSuch state (over new.shelf new.held new.faults limit) deck lines) (ap (λ (held : List Held). over old.shelf held old.faults old.limit) empty ∙ ap (over old.shelf [] old.faults) first)
         (subst (λ (state : LibraryState). IsSuch old state deck lines) (ap (over new.shelf new.held new.faults) last) run);
     no_false_file = safe;
   }
@@ -109,15 +109,43 @@ module _ (old new : LibraryState) (none : old.shelf.names ≡ []) (empty : old.h
         → OnShelf bytes old.shelf new.shelf (λ deck. Told written written_after end (Runs limit old.shelf new.shelf old.faults new.faults deck))
     runs_on end of =
         let deck : Deck = of.0 in
-        let safe = no_false_file deck (IsSafeRun shown_in old deck.statements) of.3
-            (λ name before after real run begun. over_run old name real deck.statements before of.3 after run begun) of.6 in
-        (deck, of.1, elsewhere deck of.2, (of.3, of.4, of.5, by_states (RunsWhole shown_in) limit deck of.3 first last of.6 safe))
+        let told = of.3 in
+        let safe = no_false_file deck (IsSafeRun shown_in old deck.statements) told.0
+            (λ name before after real run begun. over_run old name real deck.statements before told.0 after run begun) told.3 in
+        (deck, of.1, elsewhere deck of.2, (told.0, told.1, told.2, by_states (RunsWhole shown_in) limit deck told.0 first last told.3 safe))
 
     pub breaks_off : OfDeck shown_in bytes old new (λ deck. ToldInPart written written_after (RunsInPart shown_in old new deck))
         → OnShelf bytes old.shelf new.shelf (λ deck. ToldInPart written written_after (BreaksOff limit old.shelf new.shelf old.faults new.faults deck))
     breaks_off of =
         let deck : Deck = of.0 in
-        let lines = of.3 ++ of.4 ∷ [] in
+        let told = of.3 in
+        let lines = told.0 ++ told.1 ∷ [] in
         let safe = no_false_file deck (IsSafeBrokenOff shown_in old deck.statements) lines
-            (λ name before after real run begun. over_broken_off old name real deck.statements before lines after run begun) of.10 in
-        (deck, of.1, elsewhere deck of.2, (of.3, of.4, of.5, of.6, of.7, of.8, of.9, by_states (RunsInPart shown_in) limit deck lines first last of.10 safe))
+            (λ name before after real run begun. over_broken_off old name real deck.statements before lines after run begun) told.7 in
+        (deck, of.1, elsewhere deck of.2, (told.0, told.1, told.2, told.3, told.4, told.5, told.6, by_states (RunsInPart shown_in) limit deck lines first last told.7 safe))
+
+-- ---- over any library whose states these are
+
+module _ {S : Type 0} (state : S → LibraryState) where
+  pub keeps_in : (old new : S) → Keeps (shown_by state) old new → Keeps shown_in (state old) (state new)
+  keeps_in old new keeps = record { honest = keeps.honest; truth = keeps.truth; count = keeps.count; limit = keeps.limit }
+
+  pub untouched_in : (old new : S) → IsUntouched (shown_by state) old new → IsUntouched shown_in (state old) (state new)
+  untouched_in old new is = record {
+    named = is.named;
+    images = λ honest name. stays state old new name (is.images honest name);
+  }
+
+  pub whole_in : (bytes : List ℕ) (old new : S) (written written_after : Option (List ℕ)) (end : RunEnd)
+      → OfDeck (shown_by state) bytes old new (λ deck. Told written written_after end (RunsWhole (shown_by state) old new deck))
+      → OfDeck shown_in bytes (state old) (state new) (λ deck. Told written written_after end (RunsWhole shown_in (state old) (state new) deck))
+  whole_in bytes old new written written_after end of =
+      let told = of.3 in
+      (of.0, of.1, of.2, (told.0, told.1, told.2, runs_whole state old new of.0 told.0 told.3))
+
+  pub part_in : (bytes : List ℕ) (old new : S) (written written_after : Option (List ℕ))
+      → OfDeck (shown_by state) bytes old new (λ deck. ToldInPart written written_after (RunsInPart (shown_by state) old new deck))
+      → OfDeck shown_in bytes (state old) (state new) (λ deck. ToldInPart written written_after (RunsInPart shown_in (state old) (state new) deck))
+  part_in bytes old new written written_after of =
+      let told = of.3 in
+      (of.0, of.1, of.2, (told.0, told.1, told.2, told.3, told.4, told.5, told.6, runs_in_part state old new of.0 (told.0 ++ told.1 ∷ []) told.7))

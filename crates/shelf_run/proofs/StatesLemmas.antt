@@ -1,24 +1,45 @@
 -- A run over a library, by the states of the library.
 use Rattle.std.proofs.Common.{◌≡◌, ◌⊎◌, ℕ, true, List, [], ◌∷◌, ◌++◌, slice_get, Option, Some, None, IsTrue, inl, inr, refl, ap}
+use Rattle.indexed_file.specs.Images.{Trace, Stays, MayLeave, LeavesOnly, ImagesGo}
+use Rattle.indexed_file.specs.World.{Named}
 use Rattle.io_state.specs.declared.statement.FileStatement.{FileStatement}
 use Rattle.procedure_division.specs.declared.statement.Statement.{Statement}
 use Rattle.procedure_division.specs.declared.statement.Statement.TheVariants.{Perform, Move, MoveLength, StopRun}
 use Rattle.deck_reader.specs.declared.deck.Deck.{Deck}
+use Rattle.deck_runner.specs.Beginning.{run_before}
 use Rattle.deck_runner.specs.Line.{Line}
-use Rattle.deck_runner.specs.NoFalseFile.{Judged, IsSafeStretch, IsSafeRun, AreSafeInPart, IsSafeBrokenOff, DeckRuns, RunsWhole, RunsInPart}
+use Rattle.deck_runner.specs.NoFalseFile.{Judged, first_ledger, IsSafeStretch, IsSafeRun, AreSafeInPart, IsSafeBrokenOff, DeckRuns, RunsWhole, RunsInPart}
 use Rattle.deck_runner.specs.Run.{RunFile, Run}
 use Rattle.deck_runner.specs.Steps.{AreStepsOf, until_stop, closes_from}
-use Rattle.deck_runner.specs.Stretches.{Point, IsStretch, HasCauses, IsCausedOn}
+use Rattle.deck_runner.specs.Stretches.{Point, IsStretch, HasCauses, IsCausedOn, name_by, trace_by}
 use Rattle.shelf_library.specs.Library.{shown_by}
 use Rattle.shelf_library.specs.State.{LibraryState}
 use Rattle.shelf_run.specs.ShelfRun.{shown_in}
 
 module _ {S : Type 0} (state : S → LibraryState) where
-  point : Point S → Point LibraryState
+  abbrev point : Point S → Point LibraryState
   point at = record { run = at.run; library = state at.library }
 
-  judged : Judged S → Judged LibraryState
+  abbrev judged : Judged S → Judged LibraryState
   judged at = record { point = point at.point; ledger = at.ledger }
+
+  pub stays : (old new : S) (name : List ℕ) → Stays (shown_by state).Throughout old new name → Stays shown_in.Throughout (state old) (state new) name
+  stays old new name is = record { within = is.within; back = is.back }
+
+  may_leave : (these : List Named) (old new : S) (name : List ℕ) → MayLeave (shown_by state).Throughout these old new name → MayLeave shown_in.Throughout these (state old) (state new) name
+  may_leave [] old new name may = stays old new name may
+  may_leave (one ∷ these) old new name may = may
+
+  leaves_only : (only : Option Named) (new : S) (name : List ℕ) → LeavesOnly (shown_by state).Throughout only new name → LeavesOnly shown_in.Throughout only (state new) name
+  leaves_only None new name leaves = tt
+  leaves_only (Some only) new name leaves = leaves
+
+  images_go : (name : List ℕ) (trace : Trace) (old new : S) → ImagesGo (shown_by state).Throughout name trace old new → ImagesGo shown_in.Throughout name trace (state old) (state new)
+  images_go name trace old new go = record {
+    may = may_leave trace.may old new name go.may;
+    only = leaves_only trace.only new name go.only;
+    others = λ other apart. stays old new other (go.others other apart);
+  }
 
   caused_on : (u : ℕ) (statement : FileStatement) (file : Option RunFile) (run : Run) (lines : List Line) (before after : S)
       → IsCausedOn (shown_by state) u statement file run lines before after → IsCausedOn shown_in u statement file run lines (state before) (state after)
@@ -39,7 +60,7 @@ module _ {S : Type 0} (state : S → LibraryState) where
     step = is.step;
     causes = causes statement before.run lines before.library after.library is.causes;
     names = is.names;
-    images = record { may = is.images.may; only = is.images.only; others = is.images.others };
+    images = images_go (name_by ((shown_by state).world before.library) statement) (trace_by statement before.run lines) before.library after.library is.images;
   }
 
   safe_stretch : (start : S) (statement : Statement) (before : Judged S) (lines : List Line) (after : Judged S)
@@ -95,7 +116,8 @@ module _ {S : Type 0} (state : S → LibraryState) where
   deck_runs old new deck AreSuch AreThese lines these runs = record {
     stretches = λ honest truly.
         let is = runs.stretches honest truly in
-        (state is.0, judged is.1, record { names = is.2.names; images = λ name. record { within = (is.2.images name).within; back = (is.2.images name).back } }, these _ is.1 is.3, ap state is.4, is.5, is.6);
+        let first : Judged S = record { point = record { run = run_before ((shown_by state).world old) deck; library = is.0 }; ledger = λ name. first_ledger } in
+        (state is.0, judged is.1, record { names = is.2.names; images = λ name. stays old is.0 name (is.2.images name) }, these first is.1 is.3, ap state is.4, is.5, is.6);
     lines_are = runs.lines_are;
   }
 

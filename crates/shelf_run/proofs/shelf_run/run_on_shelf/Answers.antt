@@ -1,0 +1,131 @@
+use Rattle.std.proofs.Common.{◌≡◌, ◌≢◌, ℕ, true, List, [], length, ap, sym, subst, ◌∙◌, IsTrue}
+use Rattle.std.proofs.lemmas.Result.{IfOk-weaker, IfErr-weaker}
+use Rattle.deck_runner.specs.declared.fault.RunFault.TheVariants.{Output}
+use Rattle.deck_runner.specs.Beginning.{WhereFilesAreTrue, IsUntouched}
+use Rattle.deck_runner.specs.DeckRun.{OfDeck, RunsExactly}
+use Rattle.deck_runner.specs.NoFalseFile.{RunsWhole, RunsInPart}
+use Rattle.deck_runner.specs.RunEnd.{Told, ToldInPart}
+use Rattle.indexed_file.specs.Calls.{Keeps}
+use Rattle.page_store.specs.Images.{Leaves}
+use Rattle.shelf_library.specs.Library.{shown_by}
+use Rattle.shelf_library.specs.State.{LibraryState}
+use Rattle.shelf_library.specs.Units.{world_of}
+use Rattle.shelf_library.specs.declared.library.ShelfLibrary.{ShelfLibrary}
+use Rattle.shelf_run.specs.ShelfRun.{OnShelf, IsExactRun, Runs, BreaksOff, LeavesFiles, StaysSound, shown_in}
+use Rattle.shelf_run.proofs.RunLemmas as run
+use Rattle.shelf_run.proofs.shelf_run.run_on_shelf.Goals as goal
+use Rattle.shelf_run.proofs.shelf_run.run_on_shelf.Given as given
+
+-- the library before the run and after it, and what is so of them
+module _ (g : given.Over) (c : goal.After-into_shelf g) where
+  state : ShelfLibrary g.row.S.Denot g.S.Shelf → LibraryState
+  state library = record { shelf = g.S.Shelf.state library.shelf; held = library.units.items; faults = g.S.Shelf.fault_count library.shelf; limit = library.limit }
+
+  old : LibraryState
+  old = state c.new-library.result
+
+  new : LibraryState
+  new = state c.run_deck-end.new.library
+
+  -- what is so of the shelves of the libraries is so of those that were handed in and given back
+  carried : (P : g.row.S.Denot → g.row.S.Denot → Type 0) → P c.new-library.result.shelf c.run_deck-end.new.library.shelf → P c.args.shelf c.into_shelf.result
+  carried P is =
+      subst (λ (last : g.row.S.Denot). P c.args.shelf last) (sym c.into_shelf.ensures)
+      (subst (λ (first : g.row.S.Denot). P first c.run_deck-end.new.library.shelf) c.new-library.ensures.shelf is)
+
+  none : old.shelf.names ≡ []
+  unfolding state old
+  none = ap (λ (shelf : g.row.S.Denot). (g.S.Shelf.state shelf).names) c.new-library.ensures.shelf ∙ c.requires.names
+
+  empty : old.held ≡ []
+  unfolding state old
+  empty = c.new-library.ensures.units
+
+  many : length new.held ≡ length new.shelf.names
+  unfolding state new
+  many = c.run_deck-end.new.library.many
+
+  keeps : Keeps shown_in old new
+  unfolding state old new
+  keeps = run.keeps_in state c.new-library.result c.run_deck-end.new.library c.run_deck-end.ensures.keeps
+
+  an_image : (name : List ℕ) → IsTrue old.shelf.is_honest → Leaves (old.shelf.file name) (old.shelf.file name).seen
+  unfolding state old
+  an_image = g.met.S.Shelf.reads_an_image c.new-library.result.shelf
+
+  first_limit : old.limit ≡ c.args.limit
+  unfolding state old
+  first_limit = c.new-library.ensures.limit
+
+  last_limit : new.limit ≡ c.args.limit
+  unfolding state old new
+  last_limit = let same = keeps.limit in let is : new.limit ≡ old.limit = cc in is ∙ first_limit
+
+pub returns-clause-sound : goal.returns-clause-sound
+unfolding state old new
+returns-clause-sound g c =
+    carried g c (λ first last. StaysSound (g.S.Shelf.state first) (g.S.Shelf.state last))
+    (run.stays_sound (old g c) (new g c) (none g c) (empty g c) (many g c) (keeps g c) (an_image g c))
+
+pub returns-clause-exact : goal.returns-clause-exact
+unfolding state old new
+returns-clause-exact g c =
+    let bytes = c.args.bytes.now in
+    let written = g.W.Write.contents c.args.out.now in
+    let written_after = g.W.Write.contents c.run_deck-end.new.out in
+    IfOk-weaker c.run_deck-end.result
+    (λ end. end.clean ≡ true → OfDeck (shown_by (state g c)) bytes c.new-library.result c.run_deck-end.new.library (λ deck.
+      WhereFilesAreTrue (shown_by (state g c)) c.new-library.result c.run_deck-end.new.library deck
+      (RunsExactly written written_after (world_of (old g c).shelf (old g c).held) (world_of (new g c).shelf (new g c).held) end deck)))
+    (λ end. end.clean ≡ true → IsExactRun bytes (g.S.Shelf.state c.args.shelf) (g.S.Shelf.state c.into_shelf.result) written written_after end)
+    (λ end exact clean. carried g c (λ first last. IsExactRun bytes (g.S.Shelf.state first) (g.S.Shelf.state last) written written_after end)
+      (run.exact_run (old g c) (new g c) (none g c) (empty g c) (many g c) (keeps g c) (an_image g c) bytes written written_after end (exact clean)))
+    c.run_deck-end.ensures.exact
+
+pub returns-clause-run : goal.returns-clause-run
+unfolding state old new
+returns-clause-run g c =
+    let bytes = c.args.bytes.now in
+    let written = g.W.Write.contents c.args.out.now in
+    let written_after = g.W.Write.contents c.run_deck-end.new.out in
+    IfOk-weaker c.run_deck-end.result
+    (λ end. OfDeck (shown_by (state g c)) bytes c.new-library.result c.run_deck-end.new.library (λ deck.
+      Told written written_after end (RunsWhole (shown_by (state g c)) c.new-library.result c.run_deck-end.new.library deck)))
+    (λ end. OnShelf bytes (g.S.Shelf.state c.args.shelf) (g.S.Shelf.state c.into_shelf.result) (λ deck. Told written written_after end
+      (Runs c.args.limit (g.S.Shelf.state c.args.shelf) (g.S.Shelf.state c.into_shelf.result) (g.S.Shelf.fault_count c.args.shelf) (g.S.Shelf.fault_count c.into_shelf.result) deck)))
+    (λ end runs. carried g c
+      (λ first last. OnShelf bytes (g.S.Shelf.state first) (g.S.Shelf.state last) (λ deck. Told written written_after end
+        (Runs c.args.limit (g.S.Shelf.state first) (g.S.Shelf.state last) (g.S.Shelf.fault_count first) (g.S.Shelf.fault_count last) deck)))
+      (run.runs_on (old g c) (new g c) (none g c) (empty g c) (many g c) (keeps g c) (an_image g c) c.args.limit (first_limit g c) (last_limit g c) bytes written written_after end
+        (run.whole_in (state g c) bytes c.new-library.result c.run_deck-end.new.library written written_after end runs)))
+    c.run_deck-end.ensures.run
+
+pub returns-clause-output : goal.returns-clause-output
+unfolding state old new
+returns-clause-output g c =
+    let bytes = c.args.bytes.now in
+    let written = g.W.Write.contents c.args.out.now in
+    let written_after = g.W.Write.contents c.run_deck-end.new.out in
+    IfErr-weaker c.run_deck-end.result
+    (λ fault. fault ≡ Output → OfDeck (shown_by (state g c)) bytes c.new-library.result c.run_deck-end.new.library (λ deck.
+      ToldInPart written written_after (RunsInPart (shown_by (state g c)) c.new-library.result c.run_deck-end.new.library deck)))
+    (λ fault. fault ≡ Output → OnShelf bytes (g.S.Shelf.state c.args.shelf) (g.S.Shelf.state c.into_shelf.result) (λ deck. ToldInPart written written_after
+      (BreaksOff c.args.limit (g.S.Shelf.state c.args.shelf) (g.S.Shelf.state c.into_shelf.result) (g.S.Shelf.fault_count c.args.shelf) (g.S.Shelf.fault_count c.into_shelf.result) deck)))
+    (λ fault runs is. carried g c
+      (λ first last. OnShelf bytes (g.S.Shelf.state first) (g.S.Shelf.state last) (λ deck. ToldInPart written written_after
+        (BreaksOff c.args.limit (g.S.Shelf.state first) (g.S.Shelf.state last) (g.S.Shelf.fault_count first) (g.S.Shelf.fault_count last) deck)))
+      (run.breaks_off (old g c) (new g c) (none g c) (empty g c) (many g c) (keeps g c) (an_image g c) c.args.limit (first_limit g c) (last_limit g c) bytes written written_after
+        (run.part_in (state g c) bytes c.new-library.result c.run_deck-end.new.library written written_after (runs is))))
+    c.run_deck-end.ensures.output
+
+pub returns-clause-nothing : goal.returns-clause-nothing
+unfolding state old new
+returns-clause-nothing g c =
+    IfErr-weaker c.run_deck-end.result
+    (λ fault. fault ≢ Output → (c.run_deck-end.new.out ≡ c.args.out.now) × IsUntouched (shown_by (state g c)) c.new-library.result c.run_deck-end.new.library)
+    (λ fault. fault ≢ Output → (c.run_deck-end.new.out ≡ c.args.out.now) × LeavesFiles (g.S.Shelf.state c.args.shelf) (g.S.Shelf.state c.into_shelf.result))
+    (λ fault nothing is. let of = nothing is in
+      (of.0, carried g c (λ first last. LeavesFiles (g.S.Shelf.state first) (g.S.Shelf.state last))
+        (run.leaves_files (old g c) (new g c) (none g c) (empty g c) (many g c) (keeps g c) (an_image g c)
+          (run.untouched_in (state g c) c.new-library.result c.run_deck-end.new.library of.1))))
+    c.run_deck-end.ensures.nothing
