@@ -1,18 +1,21 @@
-# cobix: `make try` runs a deck in half a minute, without the proofs; `make run` proves and builds the program, and runs a deck; `make test` proves and tests
+# cobix: `make try` runs a deck over the files of DIR in half a minute, without the proofs; `make run` proves and builds the program, and runs a deck; `make test` proves and tests
 # everything, and runs the examples and the cases; `make install` puts the program that one of the last two built into PREFIX/bin.
 .PHONY: try run test install
 
 SHELL = /bin/bash -o pipefail
 DECK = examples/payroll.deck
-DIR = .
+DIR = files
 PREFIX = /usr/local
 PROGRAM = crates/cobix/out/cobix
 
-try:
+try: | $(DIR)
 	@cd crates/cobix && rt try --data deck=$(abspath $(DECK)) -- run deck --folder $(abspath $(DIR))
 
-run:
+run: | $(DIR)
 	@cd crates/cobix && rt run -- run $(abspath $(DECK)) --folder $(abspath $(DIR))
+
+$(DIR):
+	mkdir -p $@
 
 # A gate that passes leaves the program that it built in crates/cobix/out.
 test:

@@ -8,7 +8,7 @@ pub const ANSWERS: &str = "Exit status:
   0   the run ended, whatever statuses its verbs answered
   2   the deck is refused: 'cobix: line L: fault C'
   3   the command line is not understood
-  4   the deck could not be read ('cobix: input'), the transcript could not be written ('cobix: output'), or memory ran out before the first verb ('cobix: memory')
+  4   the deck could not be read or DIR is no folder ('cobix: input'), the transcript could not be written ('cobix: output'), or memory ran out before the first verb ('cobix: memory')
 
 Statuses of verbs, in the transcript:
   00  done
