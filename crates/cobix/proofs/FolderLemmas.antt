@@ -4,7 +4,7 @@ use Rattle.arrayvec.specs.ArrayString.{ArrayString}
 use Rattle.folder_shelf.specs.Events.{Event}
 use Rattle.folder_shelf.specs.Replay.{Unseen}
 use Rattle.page_store.specs.ShelfState.{ShelfState}
-use Rattle.shelf_run.specs.ShelfRun.{StaysSound}
+use Rattle.shelf_run.specs.ShelfRun.{LeavesFiles, StaysSound}
 use Rattle.cobix.specs.Folder.{folder_at_first, folder_after}
 
 pub untouched : (disk : Unseen) (names : List ArrayString) (calls : List Event) → names ≡ [] → calls ≡ [] → folder_after disk names calls ≡ folder_at_first disk
@@ -14,3 +14,8 @@ untouched disk names calls no_names no_calls = rw no_names (rw no_calls refl)
 pub sound_from_first : (disk : Unseen) (names : List ArrayString) (calls : List Event) → names ≡ [] → calls ≡ [] → (last : ShelfState)
     → StaysSound (folder_after disk names calls) last → StaysSound (folder_at_first disk) last
 sound_from_first disk names calls no_names no_calls last = subst (λ (first : ShelfState). StaysSound first last) (untouched disk names calls no_names no_calls)
+
+-- what is left as it was is so as before the first call
+pub left_from_first : (disk : Unseen) (names : List ArrayString) (calls : List Event) → names ≡ [] → calls ≡ [] → (last : ShelfState)
+    → LeavesFiles (folder_after disk names calls) last → LeavesFiles (folder_at_first disk) last
+left_from_first disk names calls no_names no_calls last = subst (λ (first : ShelfState). LeavesFiles first last) (untouched disk names calls no_names no_calls)

@@ -1,5 +1,5 @@
 -- The folder of a run. All of this is ours.
-use Rattle.std.specs.Prelude.{ℕ, List, [], map}
+use Rattle.std.specs.Prelude.{List, [], map}
 use Rattle.arrayvec.specs.ArrayString.{ArrayString}
 use Rattle.page_store.specs.ShelfState.{ShelfState}
 use Rattle.folder_shelf.specs.Events.{Event}

@@ -1,10 +1,12 @@
-use Rattle.std.proofs.Common.{◌≡◌, ℕ, true, subst}
-use Rattle.std.proofs.lemmas.Result.{IfOk-at_ok}
-use Rattle.deck_runner.specs.RunEnd.{Told}
+use Rattle.std.proofs.Common.{◌≡◌, ℕ, true, subst, sym, ap, ◌∙◌}
+use Rattle.std.proofs.lemmas.Result.{IfOk-at_ok, IfErr-at_err}
+use Rattle.deck_runner.specs.RunEnd.{Told, ToldInPart}
 use Rattle.page_store.specs.ShelfState.{ShelfState}
-use Rattle.shelf_run.specs.ShelfRun.{OnShelf, IsExactRun, Runs}
+use Rattle.shelf_run.specs.ShelfRun.{OnShelf, IsExactRun, Runs, BreaksOff}
 use Rattle.cobix.specs.Folder.{folder_at_first, folder_after}
-use Rattle.cobix.proofs.FolderLemmas.{untouched, sound_from_first}
+use Rattle.cobix.specs.Told.{told_as}
+use Rattle.cobix.proofs.ToldLemmas.{line_refused, no_deck}
+use Rattle.cobix.proofs.FolderLemmas.{untouched, left_from_first, sound_from_first}
 use Rattle.cobix.proofs.transcript.write_transcript.Goals as goal
 
 pub returns-in-Ok-clause-exact : goal.returns-in-Ok-clause-exact
@@ -33,20 +35,35 @@ returns-in-Ok-clause-sound g c =
     sound_from_first g.D.Disk.unseen c.new-shelf.result.units.items c.new-shelf.result.folder.calls.events c.new-shelf.ensures.units c.new-shelf.ensures.calls
     (folder_after g.D.Disk.unseen shelf.units.items shelf.folder.calls.events) c.run_on_shelf-shelf.ensures.sound
 
-pub returns-in-Err-Deck-clause-sound : goal.returns-in-Err-Deck-clause-sound
-returns-in-Err-Deck-clause-sound g c =
+pub returns-in-Err-clause-output : goal.returns-in-Err-clause-output
+returns-in-Err-clause-output g c =
     let shelf = c.run_on_shelf-shelf.result.0 in
-    sound_from_first g.D.Disk.unseen c.new-shelf.result.units.items c.new-shelf.result.folder.calls.events c.new-shelf.ensures.units c.new-shelf.ensures.calls
-    (folder_after g.D.Disk.unseen shelf.units.items shelf.folder.calls.events) c.run_on_shelf-shelf.ensures.sound
+    let at_first = folder_at_first g.D.Disk.unseen in
+    let last = folder_after g.D.Disk.unseen shelf.units.items shelf.folder.calls.events in
+    let written = g.W.Write.contents c.args.out.now in
+    let written_after = g.W.Write.contents c.run_on_shelf-shelf.new.out in
+    λ is.
+    let runs = IfErr-at_err _ c.in-Err.is c.run_on_shelf-shelf.ensures.output (line_refused c.in-Err.fault (sym c.told.ensures ∙ is)) in
+    subst (λ (faults : ℕ). OnShelf c.args.bytes.now at_first last (λ deck. ToldInPart written written_after (BreaksOff c.args.limits.pages at_first last faults shelf.faults deck))) c.new-shelf.ensures.faults
+    (subst (λ (first : ShelfState). OnShelf c.args.bytes.now first last (λ deck. ToldInPart written written_after (BreaksOff c.args.limits.pages first last c.new-shelf.result.faults shelf.faults deck)))
+    (untouched g.D.Disk.unseen c.new-shelf.result.units.items c.new-shelf.result.folder.calls.events c.new-shelf.ensures.units c.new-shelf.ensures.calls) runs)
 
-pub returns-in-Err-Output-clause-sound : goal.returns-in-Err-Output-clause-sound
-returns-in-Err-Output-clause-sound g c =
+pub returns-in-Err-clause-nothing : goal.returns-in-Err-clause-nothing
+returns-in-Err-clause-nothing g c =
     let shelf = c.run_on_shelf-shelf.result.0 in
-    sound_from_first g.D.Disk.unseen c.new-shelf.result.units.items c.new-shelf.result.folder.calls.events c.new-shelf.ensures.units c.new-shelf.ensures.calls
-    (folder_after g.D.Disk.unseen shelf.units.items shelf.folder.calls.events) c.run_on_shelf-shelf.ensures.sound
+    λ other.
+    let nothing = IfErr-at_err _ c.in-Err.is c.run_on_shelf-shelf.ensures.nothing (λ is. other (c.told.ensures ∙ ap told_as is)) in (
+      nothing.0,
+      left_from_first g.D.Disk.unseen c.new-shelf.result.units.items c.new-shelf.result.folder.calls.events c.new-shelf.ensures.units c.new-shelf.ensures.calls
+          (folder_after g.D.Disk.unseen shelf.units.items shelf.folder.calls.events) nothing.1,
+    )
 
-pub returns-in-Err-Memory-clause-sound : goal.returns-in-Err-Memory-clause-sound
-returns-in-Err-Memory-clause-sound g c =
+pub returns-in-Err-clause-refused : goal.returns-in-Err-clause-refused
+returns-in-Err-clause-refused g c =
+    λ fault is. no_deck c.args.bytes.now c.in-Err.fault (IfErr-at_err _ c.in-Err.is c.run_on_shelf-shelf.ensures.refused) fault (sym c.told.ensures ∙ is)
+
+pub returns-in-Err-clause-sound : goal.returns-in-Err-clause-sound
+returns-in-Err-clause-sound g c =
     let shelf = c.run_on_shelf-shelf.result.0 in
     sound_from_first g.D.Disk.unseen c.new-shelf.result.units.items c.new-shelf.result.folder.calls.events c.new-shelf.ensures.units c.new-shelf.ensures.calls
     (folder_after g.D.Disk.unseen shelf.units.items shelf.folder.calls.events) c.run_on_shelf-shelf.ensures.sound
