@@ -20,3 +20,5 @@ pub mod GrowLemmas
 pub mod InsertLemmas
 pub mod RaiseLemmas
 pub mod RootLemmas
+pub mod RangeLemmas
+pub mod RangeRowLemmas

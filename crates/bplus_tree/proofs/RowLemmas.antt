@@ -2,8 +2,9 @@
 use Rattle.std.proofs.Common.{◌≡◌, ℕ, zero, suc, ◌<◌, ◌≤◌, true, false, List, [], ◌∷◌, ◌++◌, length, take, drop, get_or, Some, None, refl, ap, arith, flat_map}
 use Rattle.page_bytes.specs.Each.{Each}
 use Rattle.tree_node.specs.Order.{less, Ascends}
-use Rattle.tree_node.proofs.OrderLemmas.{less_itself, less-trans, not_less, either, between_less, Each-weaker}
+use Rattle.tree_node.proofs.OrderLemmas.{less_itself, less-trans, not_less, not_less_through, either, between_less, Each-weaker}
 use Rattle.bplus_tree.specs.Tree.{Bound, NotBelow, Above, Below, IsRow}
+use Rattle.bplus_tree.specs.Range.{IsBeyond}
 
 pub Each-append : {X : Type 0} (P : X → Type 0) (xs ys : List X) → Each P xs → Each P ys → Each P (xs ++ ys)
 Each-append P [] ys h k = k
@@ -25,6 +26,11 @@ Above-trans (Some low) s t h k = less-trans low s t h k
 pub Below-trans : (high : Bound) (s e : List ℕ) → Below high s → less e s ≡ true → Below high e
 Below-trans None s e h k = tt
 Below-trans (Some high) s e h k = less-trans e s high k h
+
+-- what is not below a bound is not below what lies below that bound
+pub IsBeyond-under : (width : ℕ) (s : List ℕ) (high : Bound) → Below high s → (e : List ℕ) → IsBeyond width high e → IsBeyond width (Some s) e
+IsBeyond-under width s None h e b = absurd b
+IsBeyond-under width s (Some high) h e b = not_less_through s high (take width e) h b
 
 abbrev pub Inside : ℕ → Bound → Bound → List ℕ → Type 0
 Inside width low high e = NotBelow low (take width e) × Below high (take width e)
@@ -57,6 +63,10 @@ pub record RowAt (width : ℕ) (X : Type 0) (P : Bound → Bound → X → Type 
   pub over : Below high key → Below to key
   pub below : Each (λ e. less (take width e) key ≡ true) (flat_map f front)
   pub above : Each (λ e. less key (take width e) ≡ true) (flat_map f back)
+  pub to_is : i < length ss → to ≡ Some (get_or ss i [])
+  pub beyond : Each (IsBeyond width to) (flat_map f back)
+  pub further : (e : List ℕ) → IsBeyond width high e → IsBeyond width to e
+  pub tail : 0 < length back → (seps : List (List ℕ)) × IsRow P to seps back high
   pub put : (y : X) → P from to y → IsRow P low ss (front ++ y ∷ back) high
   pub split : (y z : X) (s : List ℕ) → Above from s → Below to s → P from (Some s) y → P (Some s) to z
       → IsRow P low (take i ss ++ s ∷ drop i ss) (front ++ y ∷ z ∷ back) high
@@ -81,6 +91,10 @@ module _ (width : ℕ) {X : Type 0} (P : Bound → Bound → X → Type 0) (f : 
     over = λ u. u;
     below = tt;
     above = tt;
+    to_is = λ more. absurd (omega arith);
+    beyond = tt;
+    further = λ e b. b;
+    tail = λ more. absurd (omega arith);
     put = λ y p. p;
     split = λ y z s l u p q. (l, u, p, q);
   }
@@ -101,6 +115,10 @@ module _ (width : ℕ) {X : Type 0} (P : Bound → Bound → X → Type 0) (f : 
     below = tt;
     above = Each-weaker (Inside width (Some s) high) (λ e. less key (take width e) ≡ true)
         (λ e b. between_less key (take width e) s above.0 b.0) (flat_map f xs) (row_bounded width P f bounded (Some s) ss xs high row.3);
+    to_is = λ more. refl;
+    beyond = Each-weaker (Inside width (Some s) high) (IsBeyond width (Some s)) (λ e b. b.0) (flat_map f xs) (row_bounded width P f bounded (Some s) ss xs high row.3);
+    further = IsBeyond-under width s high row.1;
+    tail = λ more. (ss, row.3);
     put = λ y p. (row.0, row.1, p, row.3);
     split = λ y z t l u p q. (l, Below-trans high s t row.1 u, p, (u, row.1, q, row.3));
   }
@@ -122,9 +140,31 @@ module _ (width : ℕ) {X : Type 0} (P : Bound → Bound → X → Type 0) (f : 
             (Each-weaker (Inside width low (Some s)) (λ e. less (take width e) key ≡ true) (λ e b. between_less (take width e) key s b.1 upto.0) (f x) (bounded low (Some s) x row.2))
             rest.below;
         above = rest.above;
+        to_is = λ more. rest.to_is (omega arith);
+        beyond = rest.beyond;
+        further = rest.further;
+        tail = rest.tail;
         put = λ y p. (row.0, row.1, row.2, rest.put y p);
         split = λ y z t l u p q. (row.0, row.1, row.2, rest.split y z t l u p q);
       }
+
+-- the first member of a row, and what stands behind it
+pub record RowHead (width : ℕ) (X : Type 0) (P : Bound → Bound → X → Type 0) (f : X → List (List ℕ)) (low : Bound) (x : X) (xs : List X) (high : Bound) : Type 0 where
+  pub to : Bound
+  pub between : P low to x
+  pub beyond : Each (IsBeyond width to) (flat_map f xs)
+  pub further : (e : List ℕ) → IsBeyond width high e → IsBeyond width to e
+
+pub row_head : (width : ℕ) {X : Type 0} (P : Bound → Bound → X → Type 0) (f : X → List (List ℕ)) → ((low high : Bound) (x : X) → P low high x → Each (Inside width low high) (f x))
+    → (low : Bound) (ss : List (List ℕ)) (x : X) (xs : List X) (high : Bound) → IsRow P low ss (x ∷ xs) high → RowHead width X P f low x xs high
+row_head width P f bounded low [] x [] high row = record { to = high; between = row; beyond = tt; further = λ e b. b }
+row_head width P f bounded low [] x (y ∷ xs) high row = absurd row
+row_head width P f bounded low (s ∷ ss) x xs high row = record {
+  to = Some s;
+  between = row.2;
+  beyond = Each-weaker (Inside width (Some s) high) (IsBeyond width (Some s)) (λ e b. b.0) (flat_map f xs) (row_bounded width P f bounded (Some s) ss xs high row.3);
+  further = IsBeyond-under width s high row.1;
+}
 
 -- the separators of a row rise
 module _ (width : ℕ) {X : Type 0} (P : Bound → Bound → X → Type 0) where

@@ -107,7 +107,7 @@ head_index (x ∷ xs) h = refl
 pub head_at : (xs : List (List ℕ)) → 0 < length xs → head_of xs ≡ Some (get_or xs 0 [])
 head_at = head_index
 
-if_ok : {X : Type 0} (r : Result X Fault) (P Q : X → Type 0) → ((x : X) → P x → Q x) → IsAnswer r P → IsAnswer r Q
+pub if_ok : {X : Type 0} (r : Result X Fault) (P Q : X → Type 0) → ((x : X) → P x → Q x) → IsAnswer r P → IsAnswer r Q
 if_ok (Ok x) P Q f h = record { answer = f x h.answer; no_damage = tt }
 if_ok (Err e) P Q f h = record { answer = tt; no_damage = h.no_damage }
 

@@ -11,6 +11,7 @@ pub mod ReadOff
 pub mod Search
 pub mod Count
 pub mod Cursor
+pub mod Range
 pub mod Start
 pub mod Spot
 pub mod Split

@@ -45,7 +45,7 @@ pub fn descend<P: Pages>(pages: &mut P, shape: Shape, page: u32, key: &[u8]) -> 
 }
 
 /// One step down from the bytes of an inner node.
-fn step_in(page: &[u8; PAGE_SIZE], shape: Shape, key: &[u8]) -> Step
+pub fn step_in(page: &[u8; PAGE_SIZE], shape: Shape, key: &[u8]) -> Step
     requires inner { IsInner shape page.now }
     ensures { IsStep shape.width key.now (separators shape page.now) (children shape page.now) result }
 {

@@ -16,6 +16,7 @@ mod insert;
 mod law;
 mod mend;
 mod raise;
+mod range;
 mod remove;
 mod search;
 mod split;
@@ -25,6 +26,7 @@ mod tree;
 
 pub use cursor::Cursor;
 pub use law::{have_many_entries, reads_its_entries};
+pub use range::First;
 pub use tree::Tree;
 
 #[cfg(test)]

@@ -165,7 +165,7 @@ fn first_of_leaf<P: Pages>(
     }
 }
 
-fn first_child<P: Pages>(pages: &mut P, shape: Shape, page: u32) -> Result<u32, Fault>
+pub fn first_child<P: Pages>(pages: &mut P, shape: Shape, page: u32) -> Result<u32, Fault>
     requires ready { P.IsReady pages.old }
     ensures child { IsTrue (P.state pages.new).is_honest → FirstChild shape (P.state pages.old).live page result }
     ensures cause { IfErr result (IsCaused (P.HasFailed pages.old pages.new) ⊥) }

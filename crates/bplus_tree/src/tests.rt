@@ -106,6 +106,22 @@ fn next(cursor: &mut Cursor, tree: &Tree, pages: &mut MemoryPages) -> Result<Opt
     Ok(found.map(|entry| number_of(&entry, tree.shape)))
 }
 
+// The first number from one to another, and whether the next number is one of them too.
+fn first_within(
+    tree: &Tree,
+    pages: &mut MemoryPages,
+    from: u64,
+    to: u64,
+) -> Result<Option<(u64, bool)>, Fault> {
+    let least = entry_of(tree.shape, from);
+    let greatest = entry_of(tree.shape, to);
+    let width = tree.shape.width as usize;
+    match tree.first_within(pages, &least[..width], &greatest[..width])? {
+        None => Ok(None),
+        Some(first) => Ok(Some((number_of(&first.entry, tree.shape), first.followed))),
+    }
+}
+
 fn last(tree: &Tree, pages: &mut MemoryPages) -> Result<Option<u64>, Fault> {
     let found = tree.last(pages)?;
     Ok(found.map(|entry| number_of(&entry, tree.shape)))
@@ -324,7 +340,15 @@ fn step(
         0 => assert_eq!(rt; find(tree, pages, number)?.is_some(), there),
         1 => assert_eq!(rt; at_or_after(tree, pages, number)?, behind),
         2 => assert_eq!(rt; last(tree, pages)?, list.last().copied()),
-        3 | 4 | 5 => {
+        3 => {
+            let to = number.saturating_add(4);
+            let next = list.get(place.saturating_add(1)).copied();
+            let first = behind
+                .filter(|&other| other <= to)
+                .map(|other| (other, next.is_some_and(|other| other <= to)));
+            assert_eq!(rt; first_within(tree, pages, number, to)?, first);
+        }
+        4 | 5 | 6 => {
             assert_eq!(rt; put(tree, pages, number)?, !there);
             if !there && place <= list.len() {
                 list.insert(place, number)?;
@@ -353,7 +377,7 @@ fn a_series_of_changes_goes_as_in_a_list_in_order(rt: HostRuntime) -> Result<(),
             &mut tree,
             &mut pages,
             &mut list,
-            (random >> 20) % 9,
+            (random >> 20) % 10,
             (random >> 33) % 700,
         )?;
         if i % 100 == 0 {

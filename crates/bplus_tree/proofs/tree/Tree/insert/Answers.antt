@@ -1,4 +1,4 @@
-use Rattle.std.proofs.Common.{◌≡◌, ◌<◌, length, None, IsTrue, refl, subst, sym, ap, ◌∙◌, arith}
+use Rattle.std.proofs.Common.{None, IsTrue, refl, subst}
 use Rattle.bplus_tree.specs.declared.insert.Grown.{Grown}
 use Rattle.bplus_tree.specs.Insert.{HasInserted as HasInsertedBelow}
 use Rattle.bplus_tree.specs.Edits.{with_entry}
