@@ -7,3 +7,4 @@ pub mod EditLemmas
 pub mod LawLemmas
 pub mod MemoryPagesLemmas
 pub mod CursorLemmas
+pub mod FirstLemmas

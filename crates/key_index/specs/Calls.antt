@@ -1,13 +1,15 @@
 -- What the calls of the indexes answer and leave.
-use Rattle.std.specs.Prelude.{◌≡◌, ℕ, Bool, true, false, List, find, Option, None, IsSome, Result}
+use Rattle.std.specs.Prelude.{◌≡◌, ℕ, Bool, true, false, List, find, Option, None, Some, IsSome, Result}
+use Rattle.std.specs.Option.{option_map_or}
 use Rattle.io_state.specs.declared.fault.Fault.{Fault}
 use Rattle.pages.specs.PageMap.{PageMap}
 use Rattle.pages.specs.Answer.{IsAnswer}
 use Rattle.key_index.specs.declared.entry.PrimeEntry.{PrimeEntry}
 use Rattle.key_index.specs.declared.entry.AltEntry.{AltEntry}
+use Rattle.key_index.specs.declared.entry.AltFirst.{AltFirst}
 use Rattle.key_index.specs.declared.prime_index.PrimeIndex.{PrimeIndex}
 use Rattle.key_index.specs.declared.alt_index.AltIndex.{AltIndex}
-use Rattle.key_index.specs.Entries.{has_prime, has_rank, with_prime, with_alt, without_prime, without_rank}
+use Rattle.key_index.specs.Entries.{has_prime, has_value, has_rank, after_rank, with_prime, with_alt, without_prime, without_rank}
 use Rattle.key_index.specs.Standing.{PrimeStands, PrimeChanged, AltStands, AltChanged}
 
 -- a look-up answers what `look` gives of the entries
@@ -18,6 +20,17 @@ PrimeFinds index pages look result =
 abbrev pub AltFinds : AltIndex → PageMap → (List AltEntry → Option AltEntry) → Result (Option AltEntry) Fault → Type 0
 AltFinds index pages look result =
     (entries : List AltEntry) (own : List ℕ) → AltStands index pages entries own → IsAnswer result (λ found. found ≡ look entries)
+
+-- the first entry of a value, and whether the next entry has the value too
+abbrev pub IsAltFirst : List ℕ → List AltEntry → Option AltFirst → Type 0
+IsAltFirst value entries None = find (has_value value) entries ≡ None
+IsAltFirst value entries (Some first) =
+    (find (has_value value) entries ≡ Some first.entry)
+    × (first.followed ≡ option_map_or (has_value value) (find (after_rank first.entry.value.items first.entry.stamp) entries) false)
+
+abbrev pub AltFindsFirst : AltIndex → PageMap → List ℕ → Result (Option AltFirst) Fault → Type 0
+AltFindsFirst index pages value result =
+    (entries : List AltEntry) (own : List ℕ) → AltStands index pages entries own → IsAnswer result (IsAltFirst value entries)
 
 -- the entry was put in where its value was not there; else nothing was changed
 abbrev pub PrimeHasAdded : PageMap → PageMap → PrimeIndex → PrimeIndex → PrimeEntry → List PrimeEntry → List ℕ → Bool → Type 0

@@ -21,6 +21,10 @@ after_prime v e = is_gt (value_cmp e.value.items v)
 abbrev pub past_prime : List ℕ → PrimeEntry → Bool
 past_prime v e = is_gt (value_cmp (take (length v) e.value.items) v)
 
+-- the value is this one
+abbrev pub has_value : List ℕ → AltEntry → Bool
+has_value v e = bytes_eq e.value.items v
+
 -- the value and stamp are these
 abbrev pub has_rank : List ℕ → ℕ → AltEntry → Bool
 has_rank v s e = bytes_eq e.value.items v && (e.stamp == s)

@@ -1,11 +1,11 @@
 //! The index of an alternate key.
 
-ghost use Rattle.std.specs.Prelude.{◌≡◌, ◌+◌, ◌*◌, ◌<◌, ◌≤◌, [], find, length, Ok, Option, option_map, IfSome, IsTrue, IfOk, IfErr, OnOk};
+ghost use Rattle.std.specs.Prelude.{◌≡◌, ◌+◌, ◌*◌, ◌<◌, ◌≤◌, [], find, length, Ok, Some, Option, option_map, IfSome, IsTrue, IfOk, IfErr, OnOk};
 ghost use Rattle.pages.specs.Cause.{IsCaused};
 
-use crate::entry::AltEntry;
+use crate::entry::{AltEntry, AltFirst};
 use crate::keys::{greatest_key, rank_key};
-use bplus_tree::Tree;
+use bplus_tree::{First, Tree};
 use io_state::Fault;
 use pages::Pages;
 use tree_node::{Entry, Shape};
@@ -33,9 +33,9 @@ impl Default for AltIndex {
 
 impl AltIndex {
     ghost use Rattle.pages.specs.Answer.{IsAnswer};
-    ghost use Rattle.key_index.specs.Entries.{from_value, after_rank, past_value, last_of};
+    ghost use Rattle.key_index.specs.Entries.{has_rank, from_value, after_rank, past_value, last_of};
     ghost use Rattle.key_index.specs.Standing.{AltChanged, IsAltStored, CountsAlt, alt_height, alt_key};
-    ghost use Rattle.key_index.specs.Calls.{AltFinds, AltAdds, AltRemoves};
+    ghost use Rattle.key_index.specs.Calls.{AltFinds, AltFindsFirst, AltAdds, AltRemoves};
     ghost use Rattle.key_index.specs.Stored.{IsAltEntry, alt_bytes};
     ghost use Rattle.key_index.specs.Cost.{Spends, AltGrows};
 
@@ -108,6 +108,28 @@ impl AltIndex {
         self.tree.count
     }
 
+    /// The entry of a value of any length and a stamp.
+    pub fn find<P: Pages>(
+        &self,
+        pages: &mut P,
+        value: &[u8],
+        stamp: u64,
+    ) -> Result<Option<AltEntry>, Fault>
+        requires ready { P.IsReady pages.old }
+        ensures found { IsTrue (P.state pages.new).is_honest
+            → AltFinds self.now (P.state pages.old).live (find (has_rank value.now stamp)) result }
+        ensures cause { IfErr result (IsCaused (P.HasFailed pages.old pages.new) ⊥) }
+        ensures asked { (P.state pages.new).asked ≤ (P.state pages.old).asked + alt_height self.now }
+        ensures reads { P.Reads pages.old pages.new }
+    {
+        if value.len() != usize::from(self.width) {
+            return Ok(None);
+        }
+        let wanted = rank_key(value, stamp);
+        let found = self.tree.find(pages, wanted.as_slice())?;
+        self.told(found)
+    }
+
     /// The first entry whose value is not less than this one, which may have any length.
     pub fn first_from<P: Pages>(
         &self,
@@ -126,6 +148,30 @@ impl AltIndex {
         }
         let found = self.tree.at_or_after(pages, value)?;
         self.told(found)
+    }
+
+    /// The first entry of a value, and whether the next entry has the value too. A value of another length than the key's is not found.
+    ///
+    /// It asks one page a level, and more only where a leaf ends between two entries of the value or in front of its first entry; never more than twice the height.
+    pub fn first_of<P: Pages>(&self, pages: &mut P, value: &[u8]) -> Result<Option<AltFirst>, Fault>
+        requires ready { P.IsReady pages.old }
+        ensures found { IsTrue (P.state pages.new).is_honest → AltFindsFirst self.now (P.state pages.old).live value.now result }
+        ensures cause { IfErr result (IsCaused (P.HasFailed pages.old pages.new) ⊥) }
+        ensures asked { (P.state pages.new).asked ≤ (P.state pages.old).asked + 2 * alt_height self.now }
+        ensures reads { P.Reads pages.old pages.new }
+    {
+        if value.len() != usize::from(self.width) {
+            return Ok(None);
+        }
+        let least = rank_key(value, 0);
+        let greatest = rank_key(value, u64::MAX);
+        let found = self
+            .tree
+            .first_within(pages, least.as_slice(), greatest.as_slice())?;
+        match found {
+            Some(First { entry, followed }) => self.told_first(entry, followed),
+            None => Ok(None),
+        }
     }
 
     /// The first entry whose value and stamp come after these. The value may have any length; one that goes on where it ends comes after it.
@@ -246,6 +292,18 @@ impl AltIndex {
                 Ok(true)
             }
             None => Ok(false),
+        }
+    }
+
+    /// The first entry of a value, whose bytes the tree gave, and whether another one follows. Damage where they are not as many as an entry has.
+    fn told_first(&self, bytes: Entry, followed: bool) -> Result<Option<AltFirst>, Fault>
+        ensures told { (e : AltEntry) → IsAltEntry self.now.width self.now.prime e → bytes.items ≡ alt_bytes e
+            → result ≡ Ok (Some (record { entry = e; followed = followed })) }
+        ensures damage { IfErr result (λ fault. fault ≡ Fault.Damage) }
+    {
+        match self.told(Some(bytes))? {
+            Some(entry) => Ok(Some(AltFirst { entry, followed })),
+            None => Ok(None),
         }
     }
 

@@ -34,6 +34,13 @@ pub struct AltEntry {
     pub prime: Key,
 }
 
+/// The first entry of a value of an alternate key, and whether the next entry has the value too.
+#[derive(Drop)]
+pub struct AltFirst {
+    pub entry: AltEntry,
+    pub followed: bool,
+}
+
 impl PrimeEntry {
     ghost use Rattle.key_index.specs.Stored.{prime_entry};
 

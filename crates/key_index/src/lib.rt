@@ -16,7 +16,7 @@ mod prime_index;
 
 pub use alt_index::AltIndex;
 pub use cursor::{AltCursor, PrimeCursor};
-pub use entry::{AltEntry, PrimeEntry};
+pub use entry::{AltEntry, AltFirst, PrimeEntry};
 pub use laws::{alt_laws, prime_laws};
 pub use prime_index::PrimeIndex;
 

@@ -2,7 +2,7 @@
 
 mod memory_pages;
 
-use crate::{AltEntry, AltIndex, PrimeIndex, alt_laws, prime_laws};
+use crate::{AltEntry, AltFirst, AltIndex, PrimeIndex, alt_laws, prime_laws};
 use io_state::Fault;
 use memory_pages::MemoryPages;
 use record_heap::Place;
@@ -51,6 +51,23 @@ fn shows(rt: &impl Abort, found: Option<AltEntry>, name: &[u8], stamp: u64, prim
             assert_eq!(rt; entry.value.as_slice(), name);
             assert_eq!(rt; entry.stamp, stamp);
             assert_eq!(rt; entry.prime.as_slice(), prime);
+        }
+    }
+}
+
+fn begins(
+    rt: &impl Abort,
+    found: Option<AltFirst>,
+    name: &[u8],
+    stamp: u64,
+    prime: &[u8],
+    followed: bool,
+) {
+    match found {
+        None => assert!(rt; false, "no entry"),
+        Some(first) => {
+            assert_eq!(rt; first.followed, followed);
+            shows(rt, Some(first.entry), name, stamp, prime);
         }
     }
 }
@@ -143,6 +160,16 @@ fn names_come_in_their_order_and_from_their_first_bytes(rt: HostRuntime) -> Resu
         3,
         b"03",
     );
+    begins(
+        &rt,
+        index.first_of(&mut pages, b"SMITH")?,
+        b"SMITH",
+        3,
+        b"03",
+        false,
+    );
+    assert!(rt; index.first_of(&mut pages, b"SMIT")?.is_none());
+    assert!(rt; index.first_of(&mut pages, b"SMYTH")?.is_none());
     shows(&rt, index.first_past(&mut pages, b"A")?, b"SMITH", 3, b"03");
     assert!(rt; index.first_past(&mut pages, b"S")?.is_none());
     shows(&rt, index.last(&mut pages)?, b"SVEN ", 1, b"01");
@@ -179,6 +206,22 @@ fn duplicates_come_in_the_order_of_their_stamps(rt: HostRuntime) -> Result<(), F
         b"03",
     );
     assert!(rt; index.first_after(&mut pages, b"SMITH", 256)?.is_none());
+    begins(
+        &rt,
+        index.first_of(&mut pages, b"SMITH")?,
+        b"SMITH",
+        2,
+        b"01",
+        true,
+    );
+    shows(
+        &rt,
+        index.find(&mut pages, b"SMITH", 255)?,
+        b"SMITH",
+        255,
+        b"02",
+    );
+    assert!(rt; index.find(&mut pages, b"SMITH", 3)?.is_none());
     assert!(rt; !index.remove(&mut pages, b"SMITH", 3)?);
     assert!(rt; index.remove(&mut pages, b"SMITH", 255)?);
     shows(
