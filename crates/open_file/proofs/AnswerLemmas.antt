@@ -1,59 +1,59 @@
 -- The answers of a look-up by a key.
-use Rattle.std.proofs.Common.{◌≡◌, ℕ, ◌+◌, ◌-◌, ◌≤◌, ◌<◌, Bool, true, false, List, length, Option, Some, None, refl, ap, sym, subst, ◌∙◌, arith}
-use Rattle.std.specs.Prelude.{Result, Ok, option_map, bytes_eq, not, if◌then◌else◌}
+use Rattle.std.proofs.Common.{◌≡◌, ℕ, ◌+◌, ◌-◌, ◌≤◌, ◌<◌, Bool, true, false, List, length, Option, Some, None, refl, ap, sym, ◌∙◌, arith}
+use Rattle.std.specs.Prelude.{Result, Ok, option_map}
 use Rattle.record_layout.specs.Schema.{Schema, value_of}
 use Rattle.arrayvec.specs.ArrayVec.{ArrayVec}
 use Rattle.indexed_file.specs.File.{Row, File}
-use Rattle.indexed_file.specs.Rank.{has_value, least}
+use Rattle.indexed_file.specs.Rank.{has_value, least, is_repeated}
+use Rattle.indexed_file.specs.Sound.{is_file}
 use Rattle.indexed_file.specs.Change.{row_of}
 use Rattle.indexed_file.specs.Answers.{found_of}
 use Rattle.indexed_file.specs.declared.answer.Found.{Found}
 use Rattle.key_index.specs.declared.entry.AltEntry.{AltEntry}
+use Rattle.key_index.specs.declared.entry.AltFirst.{AltFirst}
+use Rattle.key_index.specs.Calls.{IsAltFirst}
 use Rattle.open_file.specs.declared.open_file.OpenFile.{OpenFile}
-use Rattle.open_file.specs.InOrder.{alt_entry, in_order}
+use Rattle.open_file.specs.InOrder.{alt_entry, alt_entries, in_order}
 use Rattle.io_state.specs.declared.fault.Fault.{Fault}
-use Rattle.key_index.specs.Entries.{from_value}
-use Rattle.open_file.specs.Reading.{Reads}
-use Rattle.open_file.proofs.ByKeyLemmas.{prime_once, by_entry}
-use Rattle.open_file.proofs.FirstLemmas.{same_bytes, first_passes, RowOf}
+use Rattle.key_index.specs.Entries.{has_value as entry_has}
+use Rattle.open_file.specs.Reading.{Reads, IsOf}
+use Rattle.open_file.proofs.ByKeyLemmas.{prime_once, by_entry, entry_is_of}
+use Rattle.open_file.proofs.FirstLemmas.{same_bytes, first_passes, RowOf, row_of_entry}
 use Rattle.open_file.proofs.RowLemmas.{least_is_first}
-use Rattle.open_file.proofs.DeliverLemmas.{from_some}
+use Rattle.open_file.proofs.DeliverLemmas.{from_some, repeated_first}
 
 -- where the index of key k stands
 pub index_at : (opened : OpenFile) (k : ℕ) → 1 ≤ k → k ≤ length opened.alternates.items → (k - 1 < length opened.alternates.items) × (k - 1 + 1 ≡ k)
 index_at opened k some within = (omega (arith, some, within), omega (arith, some))
-
-pub was_false : (b : Bool) → true ≡ not b → b ≡ false
-was_false true h = absurd (cc)
-was_false false h = refl
-
-pub was_true : (b : Bool) → false ≡ not b → b ≡ true
-was_true true h = refl
-was_true false h = absurd (cc)
 
 -- what is told, by the row that there is
 abbrev pub Tells : Schema → ℕ → File → List ℕ → Result (Option Found) Fault → List ℕ → List ℕ → Type 0
 Tells schema k file v result old new =
     Reads result (option_map (found_of schema k file) (least schema k (has_value schema k v) file)) old new (least schema k (has_value schema k v) file)
 
-pub nothing : (schema : Schema) (j k : ℕ) → j + 1 ≡ k → (file : File) (v old : List ℕ) → least schema (j + 1) (has_value schema (j + 1) v) file ≡ None → Tells schema k file v (Ok None) old old
-nothing schema j k e file v old none =
-    subst (λ m. Tells schema m file v (Ok None) old old) e (rw none (record { answered = record { answer = refl; no_damage = tt }; area = refl }))
+pub nothing : (schema : Schema) (k : ℕ) (file : File) (v old : List ℕ) → least schema k (has_value schema k v) file ≡ None → Tells schema k file v (Ok None) old old
+nothing schema k file v old none = rw none (record { answered = record { answer = refl; no_damage = tt }; area = refl })
 
--- the first entry has another value
-pub missed : (schema : Schema) (j k : ℕ) → j + 1 ≡ k → (file : File) (v : List ℕ) (entry : AltEntry) (r : RowOf schema (j + 1) (λ row. from_value v (alt_entry schema (j + 1) row)) (in_order schema (j + 1) file.rows) entry)
-    → bytes_eq entry.value.items v ≡ false → (old : List ℕ) → Tells schema k file v (Ok None) old old
-missed schema j k e file v entry r other old =
-    let miss : has_value schema (j + 1) v r.row ≡ false = ap (λ (x : AltEntry). bytes_eq x.value.items v) (sym r.is_entry) ∙ other in
-    nothing schema j k e file v old (by_entry schema (j + 1) v file entry r ∙ ap (λ b. if b then Some r.row else None) miss)
+-- the row of the first entry of a value, and whether another row has the value
+pub record FirstRow (schema : Schema) (k : ℕ) (file : File) (v : List ℕ) (first : AltFirst) : Type 0 where
+  pub of : RowOf schema k (λ row. entry_has v (alt_entry schema k row)) (in_order schema k file.rows) first.entry
+  pub is : IsOf schema k file first.entry of.row
+  pub repeated : first.followed ≡ is_repeated schema k of.row file
 
--- or this one
-pub found_it : (schema : Schema) (j k : ℕ) → j + 1 ≡ k → (file : File) (v : List ℕ) (entry : AltEntry) (r : RowOf schema (j + 1) (λ row. from_value v (alt_entry schema (j + 1) row)) (in_order schema (j + 1) file.rows) entry)
-    → bytes_eq entry.value.items v ≡ true → (answer : Found) (old new : List ℕ) → Reads (Ok answer) (found_of schema (j + 1) file r.row) old new (Some r.row) → Tells schema k file v (Ok (Some answer)) old new
-found_it schema j k e file v entry r same answer old new found =
-    let hit : has_value schema (j + 1) v r.row ≡ true = ap (λ (x : AltEntry). bytes_eq x.value.items v) (sym r.is_entry) ∙ same in
-    let row : least schema (j + 1) (has_value schema (j + 1) v) file ≡ Some r.row = by_entry schema (j + 1) v file entry r ∙ ap (λ b. if b then Some r.row else None) hit in
-    subst (λ m. Tells schema m file v (Ok (Some answer)) old new) e (rw row (record { answered = record { answer = ap Some found.answered.answer; no_damage = tt }; area = found.area }))
+pub first_row : (schema : Schema) (k : ℕ) (file : File) (v : List ℕ) (first : AltFirst) → is_file schema file ≡ true → IsAltFirst v (alt_entries schema k file.rows) (Some first) → FirstRow schema k file v first
+first_row schema k file v first sound found =
+    let test : Row → Bool = λ row. entry_has v (alt_entry schema k row) in
+    let r = row_of_entry schema k (entry_has v) file.rows first.entry found.0 in
+    let is = entry_is_of schema k file sound test first.entry r in
+    let has = same_bytes (value_of schema k r.row.bytes) v (first_passes test (in_order schema k file.rows) r.row r.is_first) in
+    record { of = r; is = is; repeated = repeated_first schema k file v first r.row is has found }
+
+-- the row of the first entry of the value
+pub found_it : (schema : Schema) (k : ℕ) (file : File) (v : List ℕ) (entry : AltEntry) (r : RowOf schema k (λ row. entry_has v (alt_entry schema k row)) (in_order schema k file.rows) entry) → (answer : Found) (old new : List ℕ)
+    → Reads (Ok answer) (found_of schema k file r.row) old new (Some r.row) → Tells schema k file v (Ok (Some answer)) old new
+found_it schema k file v entry r answer old new found =
+    let row : least schema k (has_value schema k v) file ≡ Some r.row = by_entry schema k v file entry r in
+    rw row (record { answered = record { answer = ap Some found.answered.answer; no_damage = tt }; area = found.area })
 
 -- the row of a prime value
 prime_told : (schema : Schema) (file : File) (v : List ℕ) (key : ArrayVec ℕ) → key.items ≡ v → (n : ℕ) (old new : List ℕ) (found : Option Row) → least schema 0 (has_value schema 0 v) file ≡ found

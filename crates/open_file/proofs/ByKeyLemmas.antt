@@ -1,4 +1,4 @@
--- The first row of a value, by the first entry that is not below it.
+-- The first row of a value, by the first entry of it.
 use Rattle.std.proofs.Common.{◌≡◌, ℕ, Bool, true, false, List, [], ◌∷◌, Option, Some, None, refl, ap, sym, ◌∙◌}
 use Rattle.std.specs.Prelude.{find, option_map, ◌&&◌, nat_lt}
 use Rattle.std.specs.List.{list_any, list_all}
@@ -13,13 +13,13 @@ use Rattle.indexed_file.specs.Rank.{value_cmp, has_value, is_repeated, least}
 use Rattle.indexed_file.specs.Sound.{are_rows, is_file, are_apart}
 use Rattle.page_bytes.specs.Each.{Each}
 use Rattle.key_index.specs.declared.entry.AltEntry.{AltEntry}
-use Rattle.key_index.specs.Entries.{from_value}
+use Rattle.key_index.specs.Entries.{has_value as entry_has}
 use Rattle.open_file.specs.InOrder.{in_order, alt_entry, alt_entries}
 use Rattle.open_file.specs.Reading.{IsOf}
-use Rattle.open_file.proofs.RowLemmas.{in_order_sorted, least_is_first, row_is_first, put_each, both}
+use Rattle.open_file.proofs.RowLemmas.{least_is_first, row_is_first, put_each, both}
 use Rattle.open_file.proofs.RepeatLemmas.{find_mapped}
 use Rattle.open_file.proofs.PlaceLemmas.{find_each}
-use Rattle.open_file.proofs.FirstLemmas.{kept, first_exact, RowOf}
+use Rattle.open_file.proofs.FirstLemmas.{RowOf}
 
 -- a row is the first of its own prime value
 own_each : (schema : Schema) (row : Row) (all rows : List Row)
@@ -47,7 +47,7 @@ each_own schema next (row ∷ rows) h =
     let itself : has_value schema 0 p row ≡ true = sym (is_eq-slice_cmp p p) ∙ ap is_eq (tied_itself nat_list_cmp_total p) in
     (rw itself refl, own_each schema row rows rows two.1 (each_own schema next rows one.1))
 
-in_order_each : (schema : Schema) (k : ℕ) (P : Row → Type 0) (rows : List Row) → Each P rows → Each P (in_order schema k rows)
+pub in_order_each : (schema : Schema) (k : ℕ) (P : Row → Type 0) (rows : List Row) → Each P rows → Each P (in_order schema k rows)
 in_order_each schema k P [] h = tt
 in_order_each schema k P (row ∷ rows) h = put_each schema k P row (in_order schema k rows) h.0 (in_order_each schema k P rows h.1)
 
@@ -70,20 +70,17 @@ and_false false = refl
 pub prime_once : (schema : Schema) (row : Row) (file : File) → is_repeated schema 0 row file ≡ false
 prime_once schema row file = never (λ other. has_value schema 0 (value_of schema 0 row.bytes) other && nat_lt (stamp_of 0 row) (stamp_of 0 other)) file.rows (λ other. and_false _)
 
-pub least_by : (schema : Schema) (k : ℕ) (v : List ℕ) (file : File) → least schema k (has_value schema k v) file ≡ kept (has_value schema k v) (find (λ row. from_value v (alt_entry schema k row)) (in_order schema k file.rows))
-least_by schema k v file = least_is_first schema k (has_value schema k v) file.rows ∙ first_exact schema k v (in_order schema k file.rows) (in_order_sorted schema k file.rows)
-
 -- no entry, so no row
-pub by_none : (schema : Schema) (k : ℕ) (v : List ℕ) (file : File) → find (from_value v) (alt_entries schema k file.rows) ≡ None → least schema k (has_value schema k v) file ≡ None
+pub by_none : (schema : Schema) (k : ℕ) (v : List ℕ) (file : File) → find (entry_has v) (alt_entries schema k file.rows) ≡ None → least schema k (has_value schema k v) file ≡ None
 by_none schema k v file none =
     let rows = in_order schema k file.rows in
-    least_by schema k v file ∙ ap (kept (has_value schema k v)) (unmapped _ (sym (find_mapped (alt_entry schema k) (from_value v) rows) ∙ none))
+    least_is_first schema k (has_value schema k v) file.rows ∙ unmapped _ (sym (find_mapped (alt_entry schema k) (entry_has v) rows) ∙ none)
   where
     unmapped : (found : Option Row) → option_map (alt_entry schema k) found ≡ None → found ≡ None
     unmapped None e = refl
     unmapped (Some row) e = absurd (cc)
 
 -- the first entry tells
-pub by_entry : (schema : Schema) (k : ℕ) (v : List ℕ) (file : File) (entry : AltEntry) (r : RowOf schema k (λ row. from_value v (alt_entry schema k row)) (in_order schema k file.rows) entry)
-    → least schema k (has_value schema k v) file ≡ kept (has_value schema k v) (Some r.row)
-by_entry schema k v file entry r = least_by schema k v file ∙ ap (kept (has_value schema k v)) r.is_first
+pub by_entry : (schema : Schema) (k : ℕ) (v : List ℕ) (file : File) (entry : AltEntry) (r : RowOf schema k (λ row. entry_has v (alt_entry schema k row)) (in_order schema k file.rows) entry)
+    → least schema k (has_value schema k v) file ≡ Some r.row
+by_entry schema k v file entry r = least_is_first schema k (has_value schema k v) file.rows ∙ r.is_first

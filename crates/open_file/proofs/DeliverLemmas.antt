@@ -1,13 +1,16 @@
 -- What is told of the row of an entry.
-use Rattle.std.proofs.Common.{◌≡◌, ℕ, Bool, false, List, length, Some, None, refl, sym}
+use Rattle.std.proofs.Common.{◌≡◌, ℕ, Bool, false, List, length, Some, None, refl, sym, ap, ◌∙◌}
 use Rattle.std.specs.Prelude.{find, Ok, option_map, bytes_eq}
-use Rattle.record_layout.specs.Schema.{Schema}
+use Rattle.std.specs.Option.{option_map_or}
+use Rattle.record_layout.specs.Schema.{Schema, value_of}
 use Rattle.indexed_file.specs.File.{Row, File}
 use Rattle.indexed_file.specs.Rank.{is_repeated}
 use Rattle.indexed_file.specs.Change.{row_of}
 use Rattle.indexed_file.specs.Answers.{found_of}
 use Rattle.key_index.specs.declared.entry.AltEntry.{AltEntry}
-use Rattle.key_index.specs.Entries.{after_rank}
+use Rattle.key_index.specs.declared.entry.AltFirst.{AltFirst}
+use Rattle.key_index.specs.Entries.{after_rank, has_value as entry_has}
+use Rattle.key_index.specs.Calls.{IsAltFirst}
 use Rattle.open_file.specs.InOrder.{alt_entries}
 use Rattle.open_file.specs.Reading.{Reads, IsOf}
 use Rattle.open_file.proofs.RepeatLemmas.{next_tells}
@@ -40,3 +43,12 @@ pub repeated_none : (schema : Schema) (k : ℕ) (file : File) (entry : AltEntry)
 repeated_none schema k file entry row is found =
     let same = rw is.is_entry at found in
     rw (next_tells schema k row file, sym same) refl
+
+-- the first entry of a value tells whether another row has the value
+pub repeated_first : (schema : Schema) (k : ℕ) (file : File) (v : List ℕ) (first : AltFirst) (row : Row) → IsOf schema k file first.entry row → value_of schema k row.bytes ≡ v
+    → IsAltFirst v (alt_entries schema k file.rows) (Some first) → first.followed ≡ is_repeated schema k row file
+repeated_first schema k file v first row is has found =
+    found.1
+    ∙ ap (λ (w : List ℕ). option_map_or (entry_has w) (find (after_rank first.entry.value.items first.entry.stamp) (alt_entries schema k file.rows)) false) (sym has)
+    ∙ ap (λ (e : AltEntry). option_map_or (entry_has (value_of schema k row.bytes)) (find (after_rank e.value.items e.stamp) (alt_entries schema k file.rows)) false) is.is_entry
+    ∙ sym (next_tells schema k row file)

@@ -45,3 +45,4 @@ pub mod ReplacedLemmas
 pub mod FullLemmas
 pub mod FoundLemmas
 pub mod FilledLemmas
+pub mod UniqueLemmas

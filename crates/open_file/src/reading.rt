@@ -1,27 +1,33 @@
 //! The record that a key leads to.
 
-ghost use Rattle.std.specs.Prelude.{◌≡◌, ◌+◌, ◌*◌, ◌≤◌, ◌<◌, ℕ, length, None, Some, Ok, Err, Option, option_map, IsTrue, IfOk, IfErr, OnErr, slice_index_or};
+ghost use Rattle.std.specs.Prelude.{◌≡◌, ◌+◌, ◌*◌, ◌≤◌, ◌<◌, ℕ, length, None, Some, Ok, Err, Option, option_map, IsTrue, IsFalse, IfOk, IfErr, OnErr, slice_index, slice_index_or};
+ghost use Rattle.record_layout.specs.Schema.{key_at};
 ghost use Rattle.indexed_file.specs.File.{Row, File};
 ghost use Rattle.indexed_file.specs.Change.{row_of};
-ghost use Rattle.indexed_file.specs.Rank.{has_value, highest_of};
+ghost use Rattle.indexed_file.specs.Rank.{has_value, is_repeated, highest_of};
 ghost use Rattle.indexed_file.specs.Answers.{found_of};
 ghost use Rattle.indexed_file.specs.Room.{most_to_read, most_to_seek};
 ghost use Rattle.pages.specs.Answer.{IsAnswer};
 ghost use Rattle.pages.specs.Cause.{IsCaused};
+ghost use Rattle.key_index.specs.Calls.{IsAltFirst};
 ghost use Rattle.key_index.specs.Standing.{prime_height, alt_height};
-ghost use Rattle.open_file.specs.Stands.{Stands, IsShaped, room_of};
+ghost use Rattle.open_file.specs.Stands.{Stands, IsShaped, room_of, heights_of};
+ghost use Rattle.open_file.specs.InOrder.{alt_entries};
 ghost use Rattle.open_file.specs.Faults.{IsCausedIn};
 ghost use Rattle.open_file.specs.Reading.{Reads, Delivers, IsAt, IsOf};
 
 use crate::open_file::OpenFile;
 use indexed_file::Found;
 use io_state::{Fault, Key};
-use key_index::{AltEntry, AltIndex};
+use key_index::{AltEntry, AltFirst, AltIndex};
 use pages::Pages;
 use record_heap::Place;
 
 impl OpenFile {
     /// The first record whose key k has this value. It is read into the front of the area, which is as long as the greatest record.
+    ///
+    /// It asks one page for each level of the key's tree, one for each of the prime key's, and the record's; by an alternate key one look tells the
+    /// record and whether a later one has its value, and goes on to a second leaf only where one ends in front of the first such record or behind it.
     ///
     /// Device, Memory, Damage, Broken. A fault leaves the area as it was.
     pub fn by_key<P: Pages>(
@@ -42,6 +48,9 @@ impl OpenFile {
         ensures broken { IsTrue self.now.broken → result ≡ Err Fault.Broken }
         ensures cause { IfErr result (IsCausedIn self.now.broken (P.HasFailed pages.old pages.new) ⊥) }
         ensures asked { (P.state pages.new).asked ≤ (P.state pages.old).asked + most_to_read (room_of self.now (P.state pages.old).available) k }
+        ensures once { (P.state pages.new).asked ≤ (P.state pages.old).asked + 2 * slice_index (heights_of self.now) k + prime_height self.now.prime + 1 }
+        ensures alone { IsFalse (key_at self.now.schema k).duplicates
+            → (P.state pages.new).asked ≤ (P.state pages.old).asked + slice_index (heights_of self.now) k + prime_height self.now.prime + 1 }
         ensures reads { P.Reads pages.old pages.new }
     {
         if self.broken {
@@ -121,17 +130,50 @@ impl OpenFile {
         ensures none { result ≡ Ok None → area.new ≡ area.old }
         ensures kept { OnErr result (area.new ≡ area.old) }
         ensures cause { IfErr result (IsCaused (P.HasFailed pages.old pages.new) ⊥) }
-        ensures asked { (P.state pages.new).asked ≤ (P.state pages.old).asked + most_to_read (room_of self.now (P.state pages.old).available) k }
+        ensures asked { (P.state pages.new).asked ≤ (P.state pages.old).asked + 2 * slice_index (heights_of self.now) k + prime_height self.now.prime + 1 }
+        ensures alone { IsFalse (key_at self.now.schema k).duplicates
+            → (P.state pages.new).asked ≤ (P.state pages.old).asked + slice_index (heights_of self.now) k + prime_height self.now.prime + 1 }
+        ensures reads { P.Reads pages.old pages.new }
+    {
+        match self.first_of(pages, k, key.as_slice())? {
+            Some(AltFirst { entry, followed }) => Ok(Some(self.tell(
+                pages, entry, followed, area,
+            )?)),
+            None => Ok(None),
+        }
+    }
+
+    /// The first entry of a value of an alternate key, and whether the next entry has the value too. Of a key that one record alone can have, the entry is
+    /// the one of stamp 0.
+    fn first_of<P: Pages>(
+        &self,
+        pages: &mut P,
+        k: usize,
+        value: &[u8],
+    ) -> Result<Option<AltFirst>, Fault>
+        requires ready { P.IsReady pages.old }
+        requires shaped { IsShaped self.now }
+        requires some { 1 ≤ k }
+        requires within { k ≤ length self.now.alternates.items }
+        ensures found { IsTrue (P.state pages.new).is_honest → (file : File) → Stands self.now (P.state pages.old).live file
+            → IsAnswer result (IsAltFirst value.now (alt_entries self.now.schema k file.rows)) }
+        ensures cause { IfErr result (IsCaused (P.HasFailed pages.old pages.new) ⊥) }
+        ensures asked { (P.state pages.new).asked ≤ (P.state pages.old).asked + 2 * slice_index (heights_of self.now) k }
+        ensures alone { IsFalse (key_at self.now.schema k).duplicates
+            → (P.state pages.new).asked ≤ (P.state pages.old).asked + slice_index (heights_of self.now) k }
         ensures reads { P.Reads pages.old pages.new }
     {
         let index = self.alternate(k);
-        let Some(entry) = index.first_from(pages, key.as_slice())? else {
-            return Ok(None);
-        };
-        if entry.value.as_slice() != key.as_slice() {
-            return Ok(None);
+        if self.schema.part(k as u8).duplicates {
+            return index.first_of(pages, value);
         }
-        Ok(Some(self.deliver(pages, index, entry, area)?))
+        match index.find(pages, value, 0)? {
+            Some(entry) => Ok(Some(AltFirst {
+                entry,
+                followed: false,
+            })),
+            None => Ok(None),
+        }
     }
 
     /// What is told of the record of an entry of an alternate index, and the record.
@@ -154,15 +196,37 @@ impl OpenFile {
         ensures asked { (P.state pages.new).asked ≤ (P.state pages.old).asked + 2 * alt_height index + prime_height self.now.prime + 1 }
         ensures reads { P.Reads pages.old pages.new }
     {
+        let repeated = match index.first_after(pages, entry.value.as_slice(), entry.stamp)? {
+            Some(next) => next.value.as_slice() == entry.value.as_slice(),
+            None => false,
+        };
+        self.tell(pages, entry, repeated, area)
+    }
+
+    /// The same of an entry of which it is known whether the next one has its value.
+    fn tell<P: Pages>(
+        &self,
+        pages: &mut P,
+        entry: AltEntry,
+        repeated: bool,
+        area: &mut [u8],
+    ) -> Result<Found, Fault>
+        requires ready { P.IsReady pages.old }
+        requires shaped { IsShaped self.now }
+        requires area { length area.old ≡ self.now.schema.greatest }
+        ensures found { IsTrue (P.state pages.new).is_honest → (file : File) → Stands self.now (P.state pages.old).live file
+            → (k : ℕ) (row : Row) → IsOf self.now.schema k file entry row → repeated ≡ is_repeated self.now.schema k row file
+            → Reads result (found_of self.now.schema k file row) area.old area.new (Some row) }
+        ensures kept { OnErr result (area.new ≡ area.old) }
+        ensures cause { IfErr result (IsCaused (P.HasFailed pages.old pages.new) ⊥) }
+        ensures asked { (P.state pages.new).asked ≤ (P.state pages.old).asked + prime_height self.now.prime + 1 }
+        ensures reads { P.Reads pages.old pages.new }
+    {
         let AltEntry {
             value,
             stamp,
             prime,
         } = entry;
-        let repeated = match index.first_after(pages, value.as_slice(), stamp)? {
-            Some(next) => next.value.as_slice() == value.as_slice(),
-            None => false,
-        };
         match self.fetch(pages, prime.as_slice(), area)? {
             Some(length) => Ok(Found {
                 key: value,

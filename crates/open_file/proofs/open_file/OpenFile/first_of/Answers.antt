@@ -1,0 +1,55 @@
+use Rattle.std.proofs.Common.{◌≡◌, ℕ, ◌+◌, ◌-◌, ◌<◌, false, length, Some, None, ap, sym, subst, ◌∙◌, arith}
+use Rattle.record_layout.specs.declared.schema.KeyPart.{KeyPart}
+use Rattle.record_layout.specs.Schema.{key_at}
+use Rattle.key_index.specs.Calls.{IsAltFirst}
+use Rattle.open_file.specs.InOrder.{alt_entries}
+use Rattle.open_file.proofs.UniqueLemmas.{are_zero, unique_none, unique_some}
+use Rattle.open_file.proofs.HeightLemmas.{height_by_key}
+use Rattle.open_file.proofs.AnswerLemmas.{index_at}
+use Rattle.open_file.proofs.open_file.OpenFile.first_of.Goals as goal
+
+pub returns-in-Some-clause-found : goal.returns-in-Some-clause-found
+returns-in-Some-clause-found g c honest file stands =
+    let schema = c.args.self.now.schema in
+    let v = c.args.value.now in
+    let at = index_at c.args.self.now c.args.k c.requires.some c.requires.within in
+    let keys = c.requires.shaped.keys in
+    let lt : c.args.k - 1 + 1 < length schema.keys = omega (arith, keys, at.0) in
+    let one : (key_at schema (c.args.k - 1 + 1)).duplicates ≡ false = ap (λ (m : ℕ). (key_at schema m).duplicates) at.1 ∙ sym (ap (λ (part : KeyPart). part.duplicates) c.part.ensures.part) ∙ c.if-part.false in
+    let found = rw c.in-Some.is at (c.in_ok-entry.ensures.found honest _ _ (stands.parts.alternates_stand (c.args.k - 1) c.alternate-index.result at.0 c.alternate-index.ensures)).answer in
+    let zero = are_zero schema (c.args.k - 1 + 1) file stands.sound lt one in
+    record {
+      answer = subst (λ (m : ℕ). IsAltFirst v (alt_entries schema m file.rows) (Some (record { entry = c.in-Some.entry; followed = false }))) at.1
+          (unique_some v (alt_entries schema (c.args.k - 1 + 1) file.rows) zero c.in-Some.entry (sym found));
+      no_damage = tt;
+    }
+
+pub returns-in-Some-clause-asked : goal.returns-in-Some-clause-asked
+returns-in-Some-clause-asked g c =
+    let h = height_by_key c.args.self.now.prime c.args.self.now.alternates.items c.args.k c.alternate-index.result c.requires.some c.requires.within c.alternate-index.ensures in
+    rw h (omega (arith, c.find.ensures.asked))
+
+pub returns-in-None-clause-found : goal.returns-in-None-clause-found
+returns-in-None-clause-found g c honest file stands =
+    let schema = c.args.self.now.schema in
+    let v = c.args.value.now in
+    let at = index_at c.args.self.now c.args.k c.requires.some c.requires.within in
+    let keys = c.requires.shaped.keys in
+    let lt : c.args.k - 1 + 1 < length schema.keys = omega (arith, keys, at.0) in
+    let one : (key_at schema (c.args.k - 1 + 1)).duplicates ≡ false = ap (λ (m : ℕ). (key_at schema m).duplicates) at.1 ∙ sym (ap (λ (part : KeyPart). part.duplicates) c.part.ensures.part) ∙ c.if-part.false in
+    let found = rw c.in-None.is at (c.in_ok-entry.ensures.found honest _ _ (stands.parts.alternates_stand (c.args.k - 1) c.alternate-index.result at.0 c.alternate-index.ensures)).answer in
+    let zero = are_zero schema (c.args.k - 1 + 1) file stands.sound lt one in
+    record {
+      answer = subst (λ (m : ℕ). IsAltFirst v (alt_entries schema m file.rows) None) at.1 (unique_none v (alt_entries schema (c.args.k - 1 + 1) file.rows) zero (sym found));
+      no_damage = tt;
+    }
+
+pub returns-in-None-clause-asked : goal.returns-in-None-clause-asked
+returns-in-None-clause-asked g c =
+    let h = height_by_key c.args.self.now.prime c.args.self.now.alternates.items c.args.k c.alternate-index.result c.requires.some c.requires.within c.alternate-index.ensures in
+    rw h (omega (arith, c.find.ensures.asked))
+
+pub returns-in-None-clause-alone : goal.returns-in-None-clause-alone
+returns-in-None-clause-alone g c one =
+    let h = height_by_key c.args.self.now.prime c.args.self.now.alternates.items c.args.k c.alternate-index.result c.requires.some c.requires.within c.alternate-index.ensures in
+    rw h (c.find.ensures.asked)

@@ -1,0 +1,12 @@
+use Rattle.open_file.proofs.ExitLemmas.{fails_reading}
+use Rattle.open_file.proofs.DeliverLemmas.{told}
+use Rattle.open_file.proofs.open_file.OpenFile.tell.Goals as goal
+
+pub returns-in_err-length-clause-found : goal.returns-in_err-length-clause-found
+returns-in_err-length-clause-found g c honest file stands k row is same =
+    fails_reading c.from_residual.result _ c.from_residual.ensures.1 (c.in_err-length.ensures.fetched honest file stands).answered.no_damage _ _ _ _
+
+pub returns-in-Some-clause-found : goal.returns-in-Some-clause-found
+returns-in-Some-clause-found g c honest file stands k row is same =
+    let fetched = rw c.in-Some.is at c.in_ok-length.ensures.fetched honest file stands in
+    told c.args.self.now.schema k file c.args.entry row is c.in-Some.length c.args.repeated _ _ same (rw c.as_slice.ensures.value at fetched)
