@@ -1,0 +1,2 @@
+pub mod UnitLemmas
+pub mod ShelfLemmas

@@ -1,0 +1,5 @@
+use Rattle.list_library.specs.Clients.{IsOpenWith}
+use Rattle.pages_tests.proofs.numbered.counts_by.Given as goal
+
+abbrev pub invariant-loop-count : goal.invariant-loop-count
+invariant-loop-count g l = IsOpenWith (g.L.Library.shown.world l.library) 0 l.schema
