@@ -1,0 +1,4 @@
+pub mod ReadLemmas
+pub mod AlternateLemmas
+pub mod StandLemmas
+pub mod SoundLemmas

@@ -1,0 +1,7 @@
+use Rattle.page_marks.specs.Marks.{marked_in}
+use Rattle.file_checker.specs.Parts.{AlternatesFound}
+use Rattle.file_checker.proofs.parts.check_alternates.Given as goal
+
+-- the indexes so far were found
+abbrev pub invariant-loop-index : goal.invariant-loop-index
+invariant-loop-index l = AlternatesFound l.file l.pages l.primes l.index-index (marked_in l.initial.reached) (marked_in l.reached)

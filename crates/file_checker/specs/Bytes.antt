@@ -1,0 +1,30 @@
+-- The pages of a file that were read into a list, one after another.
+use Rattle.std.specs.Prelude.{◌≡◌, ℕ, ◌<◌, ◌≤◌, ◌*◌, List, [], Option, length, flat_map, slice_index_or}
+use Rattle.std.specs.Option.{IfSome}
+use Rattle.std.specs.Io.KnownBytes.{Consumes}
+use Rattle.page_bytes.specs.Each.{Each}
+use Rattle.page_store.specs.Pages.{page_of}
+
+-- a reader has fewer bytes left than n
+abbrev pub HasLess : ℕ → Option (List ℕ) → Type 0
+HasLess n known = IfSome known (λ bytes. length bytes < n)
+
+-- it had n bytes, which were read
+pub record HasGiven (before after : Option (List ℕ)) (n : ℕ) : Type 0 where
+  pub bytes : List ℕ
+  pub given : Consumes before after bytes
+  pub many : length bytes ≡ n
+
+-- the bytes of pages, one page after another
+abbrev pub bytes_of : List (List ℕ) → List ℕ
+bytes_of list = flat_map (λ page. page) list
+
+-- it had these pages, which were read
+pub record AreRead (before after : Option (List ℕ)) (list : List (List ℕ)) : Type 0 where
+  pub given : Consumes before after (bytes_of list)
+  pub whole : Each (λ page. length page ≡ 4096) list
+
+-- these are the first pages of a file
+pub record AreFirstPages (bytes : List ℕ) (list : List (List ℕ)) : Type 0 where
+  pub enough : 4096 * length list ≤ length bytes
+  pub each : (n : ℕ) → n < length list → page_of bytes n ≡ slice_index_or list n []

@@ -1,0 +1,41 @@
+-- What is found of the parts of a file whose pages were read into a list.
+use Rattle.std.specs.Prelude.{◌≡◌, ℕ, ◌<◌, Bool, List, IsSome, length, slice_index_or}
+use Rattle.indexed_file.specs.File.{File}
+use Rattle.page_marks.specs.Marks.{Marks}
+use Rattle.page_marks.specs.PageList.{pages_in}
+use Rattle.page_marks.specs.Parted.{own_at, all_of}
+use Rattle.page_alloc.specs.Chain.{chain}
+use Rattle.page_walks.specs.declared.spot.Spot.{Spot}
+use Rattle.page_walks.specs.Spots.{entries_at}
+use Rattle.page_walks.specs.FreeWalk.{page_in}
+use Rattle.page_walks.specs.WholeFile.{used_in}
+use Rattle.bplus_tree.specs.Standing.{Stands as TreeStands}
+use Rattle.key_index.specs.declared.alt_index.AltIndex.{AltIndex}
+use Rattle.file_header.specs.declared.header.Header.{Header}
+use Rattle.open_file.specs.declared.open_file.OpenFile.{OpenFile}
+use Rattle.open_file.specs.Headers.{IsOpenedBy}
+use Rattle.open_file.specs.Stands.{Stands}
+use Rattle.row_checks.specs.Alternate.{AlternateStands}
+
+-- the index stands in pages of its own, and its entries are those of the rows
+pub record AlternateFound (opened : OpenFile) (list : List (List ℕ)) (primes : List Spot) (index : AltIndex) (own : List ℕ) : Type 0 where
+  pub spots : List Spot
+  pub tree : TreeStands index.tree (pages_in list) (entries_at index.tree.shape list spots) own
+  pub rows : AlternateStands opened list primes index spots
+
+-- so do the first alternate indexes, so many, and their pages were reached now
+pub record AlternatesFound (opened : OpenFile) (list : List (List ℕ)) (primes : List Spot) (count : ℕ) (before after : ℕ → Bool) : Type 0 where
+  pub owns : List (List ℕ)
+  pub as_many : length owns ≡ count
+  pub marks : Marks before after (all_of owns)
+  pub each : (j : ℕ) (index : AltIndex) → j < count → index ≡ slice_index_or opened.alternates.items j index
+      → AlternateFound opened list primes index (own_at owns j)
+
+-- the pages of a file, all that its header counts, stand for as many records as the header tells
+pub record PagesStand (header : Header) (list : List (List ℕ)) : Type 0 where
+  pub opened : OpenFile
+  pub by_header : IsOpenedBy header opened
+  pub file : File
+  pub stands : Stands opened (used_in list header.first_free header.free) file
+  pub sound : IsSome (chain (page_in list) (length list) header.first_free header.free)
+  pub records_are : length file.rows ≡ header.records

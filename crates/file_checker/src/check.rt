@@ -1,0 +1,85 @@
+//! The check of a file.
+
+ghost use Rattle.std.specs.Prelude.{◌≡◌, ◌≢◌, List, ℕ, Some, None, IfOk, OnErr, OnOk};
+ghost use Rattle.std.specs.Option.{IfSome};
+ghost use Rattle.std.specs.Io.KnownBytes.{Consumes};
+ghost use Rattle.file_header.specs.Bounds.{IsHeader};
+ghost use Rattle.file_header.specs.Reading.{header_in, IsFirstPage};
+ghost use Rattle.file_checker.specs.Sound.{HasReason, IsRight};
+
+use crate::parts::check_pages;
+use crate::reading::{read_page, read_pages, skip_pages};
+use crate::stop::Stop;
+use crate::verdict::{CheckFault, Reason, Verdict};
+use byteorder::{BigEndian, ByteOrder};
+use file_header::Header;
+use std::alloc::Global;
+use std::io::Read;
+use tree_node::PAGE_SIZE;
+
+/// Where the first page counts the pages, itself among them.
+const PAGES: usize = 12;
+
+const PAGES_END: usize = 16;
+
+/// The first byte of a file whose gate is closed.
+const CLOSED: u8 = b'C';
+
+/// Why a file is refused by its first page, behind which the reader stands.
+fn refusal<R: Read>(reader: &mut R, first: &[u8; PAGE_SIZE]) -> Result<Reason, CheckFault>
+    requires { header_in first.now ≡ None }
+    ensures { (bytes : List ℕ) → Consumes (Some bytes) (R.remaining reader.old) first.now
+        → IfOk result (HasReason bytes) }
+{
+    let pages = BigEndian::read_u32(&first[PAGES..PAGES_END]);
+    if !skip_pages(reader, pages.saturating_sub(1))? {
+        return Ok(Reason::Short);
+    }
+    if first[0] != CLOSED {
+        return Ok(Reason::Gate);
+    }
+    Ok(Reason::Header)
+}
+
+/// Checks the file of a header that its first page has, behind which the reader stands.
+fn check_accepted<R: Read>(
+    alloc: Global,
+    reader: &mut R,
+    first: &[u8; PAGE_SIZE],
+    header: &Header,
+) -> Result<Verdict, CheckFault>
+    requires { IsFirstPage header.now first.now }
+    ensures { (bytes : List ℕ) → Consumes (Some bytes) (R.remaining reader.old) first.now
+        → IfOk result (IsRight bytes) }
+{
+    let mut pages = Vec::new(alloc);
+    pages.push(*first).map_err(|_| CheckFault::Memory)?;
+    if !read_pages(reader, header.pages, &mut pages)? {
+        return Ok(Verdict::Unsound(Reason::Short));
+    }
+    match check_pages(alloc, &pages, header) {
+        Ok(()) => Ok(Verdict::Sound {
+            records: header.records,
+            pages: header.pages,
+        }),
+        Err(Stop::Unsound(reason)) => Ok(Verdict::Unsound(reason)),
+        Err(Stop::Memory) => Err(CheckFault::Memory),
+    }
+}
+
+/// Checks a file. As many pages are read as its first page counts, once and in order, and kept in memory until the answer; a page that is counted and does not
+/// come takes none. The bytes behind them are left to the reader.
+///
+/// Input where the reader fails, or is interrupted a thousand times in a row; Memory.
+pub fn check_file<R: Read>(alloc: Global, reader: &mut R) -> Result<Verdict, CheckFault>
+    ensures { IfSome (R.remaining reader.old) (λ bytes. IfOk result (IsRight bytes)) }
+{
+    let mut first = [0; PAGE_SIZE];
+    if !read_page(reader, &mut first)? {
+        return Ok(Verdict::Unsound(Reason::Short));
+    }
+    match Header::read(&first) {
+        None => Ok(Verdict::Unsound(refusal(reader, &first)?)),
+        Some(header) => check_accepted(alloc, reader, &first, &header),
+    }
+}

@@ -1,0 +1,18 @@
+//! The check of a file, whoever wrote it: whether its bytes stand for an indexed file of so many records.
+//!
+//! All counted pages are read into a list, once and in order. Walks find that each part of the file stands and that each page belongs to one part; then
+//! indexes and records are compared. Where the answer is Sound, the file can be opened, and no call on it will find damage.
+//!
+//! Read `specs/Sound.antt`, then `check`, then `parts`.
+#![tactic(auto)]
+
+mod check;
+mod parts;
+mod reading;
+mod stop;
+#[cfg(test)]
+mod tests;
+mod verdict;
+
+pub use check::check_file;
+pub use verdict::{CheckFault, Reason, Verdict};

@@ -1,0 +1,82 @@
+//! The parts of a file whose pages were read into a list.
+
+ghost use Rattle.std.specs.Prelude.{◌≡◌, ℕ, ◌<◌, false, IfErr, OnOk, length, slice_index_or};
+ghost use Rattle.page_marks.specs.Marks.{marked_in};
+ghost use Rattle.file_header.specs.Bounds.{IsHeader};
+ghost use Rattle.key_index.specs.declared.alt_index.AltIndex.{AltIndex};
+ghost use Rattle.open_file.specs.Stands.{IsShaped};
+ghost use Rattle.file_checker.specs.Later.{StopsLater};
+ghost use Rattle.file_checker.specs.Parts.{AlternatesFound, PagesStand};
+
+use crate::stop::Stop;
+use crate::verdict::Reason;
+use file_header::Header;
+use open_file::OpenFile;
+use page_marks::{all_marked, mark};
+use page_walks::{Spot, walk_free, walk_tree};
+use record_heap::walk_heap;
+use row_checks::{check_alternate, check_rows};
+use std::alloc::Global;
+use tree_node::PAGE_SIZE;
+
+/// Walks the index of each alternate key, and compares it with the rows to which the entries at `primes` lead.
+fn check_alternates(
+    alloc: Global,
+    pages: &[[u8; PAGE_SIZE]],
+    file: &OpenFile,
+    primes: &[Spot],
+    reached: &mut [bool],
+) -> Result<(), Stop>
+    requires shaped { IsShaped file.now }
+    requires many { (j : ℕ) (index : AltIndex) → j < length file.now.alternates.items
+        → index ≡ slice_index_or file.now.alternates.items j index → index.tree.count ≡ length primes.now }
+    ensures found { OnOk result (AlternatesFound file.now pages.now primes.now (length file.now.alternates.items)
+        (marked_in reached.old) (marked_in reached.new)) }
+    ensures later { IfErr result StopsLater }
+{
+    for &index in file.alternates.as_slice() {
+        let spots = walk_tree(alloc, pages, &index.tree, reached)?;
+        check_alternate(pages, file, primes, index, &spots)?;
+    }
+    Ok(())
+}
+
+/// Checks the pages of a file, all that its header counts, where none is marked yet. Each part is walked, and its entries and records are compared, and in
+/// the end no page may be without a mark.
+fn check_parts(
+    alloc: Global,
+    pages: &[[u8; PAGE_SIZE]],
+    header: &Header,
+    reached: &mut [bool],
+) -> Result<(), Stop>
+    requires header { IsHeader header.now }
+    requires clear { (n : ℕ) → marked_in reached.old n ≡ false }
+    requires many { length reached.old ≡ length pages.now }
+    ensures stand { OnOk result (PagesStand header.now pages.now) }
+    ensures later { IfErr result StopsLater }
+{
+    let file = OpenFile::from_header(header);
+    mark(reached, 0)?;
+    walk_free(pages, header.first_free, header.free, reached)?;
+    let own = walk_heap(alloc, pages, &file.heap, reached)?;
+    let primes = walk_tree(alloc, pages, &file.prime.tree, reached)?;
+    check_rows(alloc, pages, &file, &own, &primes)?;
+    check_alternates(alloc, pages, &file, &primes, reached)?;
+    if !all_marked(reached) {
+        return Err(Stop::Unsound(Reason::Lost));
+    }
+    Ok(())
+}
+
+/// Checks the pages of a file, all that its header counts.
+pub fn check_pages(alloc: Global, pages: &[[u8; PAGE_SIZE]], header: &Header) -> Result<(), Stop>
+    requires { IsHeader header.now }
+    ensures stand { OnOk result (PagesStand header.now pages.now) }
+    ensures later { IfErr result StopsLater }
+{
+    let mut reached = match vec![in alloc; false; pages.len()] {
+        Ok(reached) => reached,
+        Err(_) => return Err(Stop::Memory),
+    };
+    check_parts(alloc, pages, header, &mut reached)
+}

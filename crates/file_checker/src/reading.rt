@@ -1,0 +1,104 @@
+//! The pages of a file, as a reader gives them.
+
+ghost use Rattle.std.specs.Prelude.{◌≡◌, ◌≤◌, ◌<◌, ◌*◌, Option, List, ℕ, true, false, IfOk, length, take};
+ghost use Rattle.std.specs.Io.KnownBytes.{Consumes, IsAtEnd};
+ghost use Rattle.file_checker.specs.Bytes.{HasLess, HasGiven, AreRead};
+
+use crate::verdict::CheckFault;
+use std::io::{ErrorKind, Read};
+use tree_node::PAGE_SIZE;
+
+/// So many interrupted reads in a row are a fault of the input.
+const MOST_INTERRUPTED: u32 = 1000;
+
+/// Reads a part, and answers how many bytes came: none at the end.
+fn read_part<R: Read>(reader: &mut R, part: &mut [u8]) -> Result<usize, CheckFault>
+    ensures within { IfOk result (λ n. n ≤ length part.new) }
+    ensures length { length part.new ≡ length part.old }
+    ensures bytes { IfOk result (λ n. Consumes (R.remaining reader.old) (R.remaining reader.new) (take n part.new)) }
+    ensures end { IfOk result (λ n. n ≡ 0 → 0 < length part.old → IsAtEnd (R.remaining reader.new)) }
+{
+    for _ in 0..MOST_INTERRUPTED {
+        match reader.read(part) {
+            Ok(n) => return Ok(n),
+            Err(error) => {
+                if error.kind() != ErrorKind::Interrupted {
+                    return Err(CheckFault::Input);
+                }
+            }
+        }
+    }
+    Err(CheckFault::Input)
+}
+
+/// Reads a page, and answers whether there were enough bytes for it.
+pub fn read_page<R: Read>(reader: &mut R, page: &mut [u8; PAGE_SIZE]) -> Result<bool, CheckFault>
+    ensures whole { IfOk result (λ whole. whole ≡ true
+        → Consumes (R.remaining reader.old) (R.remaining reader.new) page.new) }
+    ensures short { IfOk result (λ whole. whole ≡ false → HasLess 4096 (R.remaining reader.old)) }
+{
+    let mut at = 0;
+    'more: while at < PAGE_SIZE {
+        let n = read_part(reader, &mut page[at..])?;
+        if n == 0 {
+            return Ok(false);
+        }
+        at += n;
+    }
+    Ok(true)
+}
+
+/// Reads so many pages, which nobody keeps, and answers whether there were enough bytes for them.
+pub fn skip_pages<R: Read>(reader: &mut R, count: u32) -> Result<bool, CheckFault>
+    ensures whole { IfOk result (λ whole. whole ≡ true
+        → HasGiven (R.remaining reader.old) (R.remaining reader.new) (4096 * count)) }
+    ensures short { IfOk result (λ whole. whole ≡ false → HasLess (4096 * count) (R.remaining reader.old)) }
+{
+    let mut page = [0; PAGE_SIZE];
+    for _ in 0..count {
+        if !read_page(reader, &mut page)? {
+            return Ok(false);
+        }
+    }
+    Ok(true)
+}
+
+/// Has room for a page more in a list that is to have so many in the end: for twice as many as it has, but for no more than these.
+fn make_room(pages: &mut Vec<[u8; PAGE_SIZE]>, count: usize) -> Result<(), CheckFault>
+    ensures { pages.new.items ≡ pages.old.items }
+{
+    let len = pages.len();
+    if len < pages.capacity() || count <= len {
+        return Ok(());
+    }
+    let more = len.max(1).min(count - len);
+    pages.reserve_exact(more).map_err(|_| CheckFault::Memory)
+}
+
+/// Reads pages behind those of the list until there are so many, and answers whether there were enough bytes for them.
+///
+/// Memory is taken for pages that came, and not for those that are only counted.
+pub fn read_pages<R: Read>(
+    reader: &mut R,
+    count: u32,
+    pages: &mut Vec<[u8; PAGE_SIZE]>,
+) -> Result<bool, CheckFault>
+    requires { length pages.old.items ≤ count }
+    ensures read { IfOk result (λ whole. whole ≡ true → (known : Option (List ℕ))
+        → AreRead known (R.remaining reader.old) pages.old.items
+        → AreRead known (R.remaining reader.new) pages.new.items) }
+    ensures many { IfOk result (λ whole. whole ≡ true → length pages.new.items ≡ count) }
+    ensures short { IfOk result (λ whole. whole ≡ false → (known : Option (List ℕ))
+        → AreRead known (R.remaining reader.old) pages.old.items → HasLess (4096 * count) known) }
+{
+    let wanted = count as usize;
+    let mut page = [0; PAGE_SIZE];
+    'more: while pages.len() < wanted {
+        if !read_page(reader, &mut page)? {
+            return Ok(false);
+        }
+        make_room(pages, wanted)?;
+        pages.push(page).map_err(|_| CheckFault::Memory)?;
+    }
+    Ok(true)
+}

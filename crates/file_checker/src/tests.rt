@@ -1,0 +1,350 @@
+//! What no clause says: that a file which stands is found sound, and which reason is told of one that does not. The files are written byte by byte, as the format says.
+
+mod files;
+mod readers;
+
+use crate::{CheckFault, Reason, Verdict, check_file};
+use files::{one_record, put, three_keys, varying};
+use readers::Slow;
+use std::alloc::Global;
+use std::test::Fail;
+
+const SOUND_ONE: Verdict = Verdict::Sound {
+    records: 1,
+    pages: 3,
+};
+
+const SOUND_THREE: Verdict = Verdict::Sound {
+    records: 3,
+    pages: 6,
+};
+
+fn check(alloc: Global, bytes: &[u8]) -> Result<Verdict, Fail> {
+    let mut reader = bytes;
+    Ok(check_file(alloc, &mut reader)?)
+}
+
+#[test]
+fn each_file_that_stands_is_sound(rt: HostRuntime) -> Result<(), Fail> {
+    let alloc = rt.alloc();
+    assert_eq!(rt; check(alloc, &one_record(&rt, alloc)?)?, SOUND_ONE);
+    assert_eq!(rt;
+        check(alloc, &varying(&rt, alloc)?)?,
+        Verdict::Sound {
+            records: 1,
+            pages: 4
+        }
+    );
+    assert_eq!(rt; check(alloc, &three_keys(&rt, alloc)?)?, SOUND_THREE);
+    Ok(())
+}
+
+// Bytes behind the pages that are counted are not read.
+#[test]
+fn a_file_may_be_longer_than_it_counts(rt: HostRuntime) -> Result<(), Fail> {
+    let mut bytes = one_record(&rt, rt.alloc())?;
+    bytes.push(b'X')?;
+    let mut reader = &bytes[..];
+    assert_eq!(rt; check_file(rt.alloc(), &mut reader)?, SOUND_ONE);
+    assert_eq!(rt; reader, b"X".as_slice());
+    Ok(())
+}
+
+// A table of one byte each that is changed in the file of one record.
+#[test]
+fn a_changed_byte_has_its_reason(rt: HostRuntime) -> Result<(), Fail> {
+    let mut bytes = one_record(&rt, rt.alloc())?;
+    let changes: [(usize, u8, Reason, &str); 17] = [
+        (0, b'D', Reason::Gate, "an open gate"),
+        (9, 7, Reason::Header, "a version that is not known"),
+        (15, 0, Reason::Header, "no page is counted"),
+        (15, 2, Reason::Header, "a root past the last page"),
+        (15, 4, Reason::Short, "a page too many is counted"),
+        (12, 255, Reason::Short, "very many pages are counted"),
+        (8199, 2, Reason::Shared, "a heap page that leads to itself"),
+        (75, 2, Reason::Shared, "a root in the heap"),
+        (
+            69,
+            2,
+            Reason::Node,
+            "a tree that is higher than it was made",
+        ),
+        (4096, b'I', Reason::Node, "another kind of node"),
+        (4097, 1, Reason::Node, "a node of another key"),
+        (8219, 2, Reason::Heap, "a slot without a mark"),
+        (8192, b'L', Reason::Heap, "a heap page of another kind"),
+        (33, 2, Reason::Heap, "a free slot that nothing leads to"),
+        (23, 1, Reason::Heap, "a free page that is none"),
+        (
+            4112,
+            b'1',
+            Reason::Index,
+            "a value that is not the record's",
+        ),
+        (55, 2, Reason::Index, "a record too many is counted"),
+    ];
+    for (at, byte, reason, what) in changes {
+        let was = put(&rt, &mut bytes, at, byte);
+        let found = check(rt.alloc(), &bytes)?;
+        assert_eq!(rt; found, Verdict::Unsound(reason), "{what}");
+        put(&rt, &mut bytes, at, was);
+    }
+    Ok(())
+}
+
+// The gate and all else are looked at only where the bytes are as many as the page count needs, and the page count is that of the first page, accepted or not.
+#[test]
+fn a_file_that_is_cut_is_short(rt: HostRuntime) -> Result<(), Fail> {
+    let mut bytes = one_record(&rt, rt.alloc())?;
+    for gate in [b'C', b'D', 0] {
+        put(&rt, &mut bytes, 0, gate);
+        for length in [0, 1, 4095, 4096, 4097, 8192, 12287] {
+            assert!(rt; length <= bytes.len());
+            let found = check(rt.alloc(), &bytes[..length])?;
+            assert_eq!(rt; found, Verdict::Unsound(Reason::Short), "{length} bytes");
+        }
+    }
+    put(&rt, &mut bytes, 9, 7);
+    assert_eq!(rt;
+        check(rt.alloc(), &bytes)?,
+        Verdict::Unsound(Reason::Gate),
+        "the gate comes before the rest of the first page"
+    );
+    Ok(())
+}
+
+#[test]
+fn a_page_that_nothing_reaches_is_lost(rt: HostRuntime) -> Result<(), Fail> {
+    let mut bytes = one_record(&rt, rt.alloc())?;
+    put(&rt, &mut bytes, 15, 4);
+    for _ in 0..4096 {
+        bytes.push(0)?;
+    }
+    assert_eq!(rt; check(rt.alloc(), &bytes)?, Verdict::Unsound(Reason::Lost));
+    Ok(())
+}
+
+// Each row is a few bytes from one place on in the file of three keys.
+#[test]
+fn indexes_and_records_agree_both_ways(rt: HostRuntime) -> Result<(), Fail> {
+    let alloc = rt.alloc();
+    let changes: [(usize, &[u8], Reason, &str); 18] = [
+        (4096 + 16, b"0002", Reason::Order, "a prime value twice"),
+        (
+            4096 + 25,
+            &[3],
+            Reason::Index,
+            "an entry that leads to a free slot",
+        ),
+        (
+            4096 + 25,
+            &[1],
+            Reason::Index,
+            "an entry that leads to another record",
+        ),
+        (
+            4096 + 23,
+            &[2],
+            Reason::Index,
+            "an entry that leads to a page of no slots",
+        ),
+        (
+            8192 + 16,
+            b"AB",
+            Reason::Index,
+            "a value that is not the record's",
+        ),
+        (8192 + 25, &[1], Reason::Index, "a stamp in a unique key"),
+        (
+            8192 + 26,
+            b"0004",
+            Reason::Index,
+            "a record that is not there",
+        ),
+        (8192 + 26, b"0002", Reason::Index, "another record"),
+        (
+            12288 + 27,
+            &[2],
+            Reason::Index,
+            "a stamp that is not the slot's",
+        ),
+        (12288 + 27, &[3], Reason::Order, "a value and stamp twice"),
+        (
+            16384 + 24,
+            &[2],
+            Reason::Index,
+            "a stamp in the slot that is not the entry's",
+        ),
+        (16384 + 24, &[0], Reason::Index, "no stamp in the slot"),
+        (
+            16384 + 25,
+            b"0009",
+            Reason::Index,
+            "a record of another prime value",
+        ),
+        (
+            16384 + 29,
+            b"ZZ",
+            Reason::Index,
+            "a record of another unique value",
+        ),
+        (
+            16384 + 31,
+            b"BERN",
+            Reason::Index,
+            "a record of another city",
+        ),
+        (47, &[3], Reason::Index, "a stamp that comes next"),
+        (55, &[2], Reason::Index, "a record too few is counted"),
+        (91, &[1], Reason::Shared, "two keys of one root"),
+    ];
+    for (at, change, reason, what) in changes {
+        let mut bytes = three_keys(&rt, alloc)?;
+        for (i, &byte) in change.iter().enumerate() {
+            assert!(rt; at < bytes.len() && i < 4096);
+            put(&rt, &mut bytes, at + i, byte);
+        }
+        let found = check(alloc, &bytes)?;
+        assert_eq!(rt; found, Verdict::Unsound(reason), "{what}");
+    }
+    Ok(())
+}
+
+// The slot behind the three records is in use, and no entry leads to it.
+#[test]
+fn a_record_has_its_entry(rt: HostRuntime) -> Result<(), Fail> {
+    let mut bytes = three_keys(&rt, rt.alloc())?;
+    put(&rt, &mut bytes, 33, 4);
+    put(&rt, &mut bytes, 16384 + 16 + 3 * 21, 1);
+    assert_eq!(rt; check(rt.alloc(), &bytes)?, Verdict::Unsound(Reason::Index));
+    Ok(())
+}
+
+// Two entries of the prime index, of 10 bytes, are exchanged.
+#[test]
+fn entries_that_are_exchanged_are_out_of_order(rt: HostRuntime) -> Result<(), Fail> {
+    let mut bytes = three_keys(&rt, rt.alloc())?;
+    for i in 0..10 {
+        let left = put(&rt, &mut bytes, 4112 + i, 0);
+        let right = put(&rt, &mut bytes, 4122 + i, left);
+        put(&rt, &mut bytes, 4112 + i, right);
+    }
+    assert_eq!(rt; check(rt.alloc(), &bytes)?, Verdict::Unsound(Reason::Order));
+    Ok(())
+}
+
+// The free page, number 5: in the chain, and reached by nothing.
+#[test]
+fn a_free_page_is_reached_by_its_chain(rt: HostRuntime) -> Result<(), Fail> {
+    let changes: [(usize, u8, Reason, &str); 5] = [
+        (20487, 4, Reason::Heap, "a free page more than are counted"),
+        (20480, b'L', Reason::Heap, "a free page of another kind"),
+        (19, 4, Reason::Heap, "a chain that begins in the heap"),
+        (27, 5, Reason::Heap, "a heap that begins with a free page"),
+        (75, 5, Reason::Shared, "a root that is a free page"),
+    ];
+    for (at, byte, reason, what) in changes {
+        let mut bytes = three_keys(&rt, rt.alloc())?;
+        put(&rt, &mut bytes, at, byte);
+        let found = check(rt.alloc(), &bytes)?;
+        assert_eq!(rt; found, Verdict::Unsound(reason), "{what}");
+    }
+    let mut bytes = three_keys(&rt, rt.alloc())?;
+    put(&rt, &mut bytes, 19, 0);
+    put(&rt, &mut bytes, 23, 0);
+    assert_eq!(rt; check(rt.alloc(), &bytes)?, Verdict::Unsound(Reason::Lost));
+    Ok(())
+}
+
+fn check_slowly(
+    alloc: Global,
+    bytes: &[u8],
+    most: usize,
+    interrupted: u32,
+    fails: bool,
+) -> Result<Verdict, CheckFault> {
+    let mut reader = Slow {
+        bytes,
+        most,
+        interrupted,
+        times: 0,
+        fails,
+    };
+    check_file(alloc, &mut reader)
+}
+
+// However the bytes come, the answer is the same; the end is not looked for behind the pages that are counted.
+#[test]
+fn a_file_may_come_in_parts(rt: HostRuntime) -> Result<(), Fail> {
+    let bytes = one_record(&rt, rt.alloc())?;
+    for most in [1, 3, 4095, 4096, 5000] {
+        let found = check_slowly(rt.alloc(), &bytes, most, 0, true)?;
+        assert_eq!(rt; found, SOUND_ONE, "{most} bytes at a call");
+    }
+    assert_eq!(rt;
+        check_slowly(rt.alloc(), &bytes, 4096, 999, false)?,
+        SOUND_ONE
+    );
+    Ok(())
+}
+
+#[test]
+fn a_reader_that_fails_is_a_fault(rt: HostRuntime) -> Result<(), Fail> {
+    let bytes = one_record(&rt, rt.alloc())?;
+    assert_eq!(rt;
+        check_slowly(rt.alloc(), &bytes, 4096, 1000, false),
+        Err(CheckFault::Input),
+        "a thousand interrupted reads in a row"
+    );
+    for length in [0, 1, 4096, 12287] {
+        assert!(rt; length <= bytes.len());
+        assert_eq!(rt;
+            check_slowly(rt.alloc(), &bytes[..length], 4096, 0, true),
+            Err(CheckFault::Input),
+            "after {length} bytes"
+        );
+    }
+    Ok(())
+}
+
+// What may stand at a place of the file of three keys: one thing, or any byte; in the text of a record and in the next stamp, some.
+#[derive(Clone, Copy, PartialEq, Eq, Debug)]
+enum Freedom {
+    None,
+    Some,
+    Any,
+}
+
+fn what_may_stand(at: usize) -> Freedom {
+    let (page, place) = (at / 4096, at % 4096);
+    match (page, place) {
+        (0, 40..48) => Freedom::Some,
+        (1, 46..4096) | (2, 58..4096) | (3, 64..4096) | (5, 8..4096) => Freedom::Any,
+        (4, 16..79) if (place - 16) % 21 >= 19 => Freedom::Any,
+        (4, 79..4090) if (place - 16) % 21 >= 7 => Freedom::Any,
+        // The slot number beside page 0, behind the last free slot.
+        (4, 4074..4076) | (4, 4090..4096) => Freedom::Any,
+        _ => Freedom::None,
+    }
+}
+
+// Each byte of the file of three keys is changed to 0, to 255 and to its complement, one at a time.
+#[test]
+fn no_changed_byte_that_has_a_meaning_is_sound(rt: HostRuntime) -> Result<(), Fail> {
+    let mut bytes = three_keys(&rt, rt.alloc())?;
+    for at in 0..6 * 4096 {
+        let was = put(&rt, &mut bytes, at, 0);
+        for byte in [0, 255, !was] {
+            put(&rt, &mut bytes, at, byte);
+            let found = check(rt.alloc(), &bytes)?;
+            let sound = found == SOUND_THREE;
+            match what_may_stand(at) {
+                Freedom::None => assert_eq!(rt; sound, byte == was, "byte {at} to {byte}"),
+                Freedom::Some => {}
+                Freedom::Any => assert!(rt; sound, "byte {at} to {byte}"),
+            }
+        }
+        put(&rt, &mut bytes, at, was);
+    }
+    Ok(())
+}

@@ -1,0 +1,138 @@
+//! Files of numbered records, and their bytes.
+
+ghost use Rattle.page_store.specs.MemShelves.{state_of};
+ghost use Rattle.shelf_file.specs.Standing.{IsReady};
+
+use byteorder::{BigEndian, ByteOrder};
+use indexed_file::Added;
+use io_state::{FileName, Key};
+use page_store::{MemShelf, Shelf};
+use record_layout::{KeyPart, Schema};
+use shelf_file::ShelfFile;
+use std::alloc::Global;
+use std::num::NonZeroUsize;
+use std::process::Abort;
+use std::test::Fail;
+
+/// The length of a record, which has three keys of 60 bytes.
+const LENGTH: u16 = 200;
+
+const KEY: u16 = 60;
+
+/// Where the numbers stand that the keys end with.
+const NUMBER: usize = 56;
+
+const GROUP: usize = 116;
+
+const CODE: usize = 176;
+
+/// A number and a code that are one record's alone, and a group that several are of.
+const KEYS: [KeyPart; 3] = [
+    KeyPart {
+        offset: 0,
+        length: KEY,
+        duplicates: false,
+    },
+    KeyPart {
+        offset: 60,
+        length: KEY,
+        duplicates: true,
+    },
+    KeyPart {
+        offset: 120,
+        length: KEY,
+        duplicates: false,
+    },
+];
+
+/// The record of a number: its group is one of seven, and codes fall where numbers rise.
+fn record(n: u32) -> [u8; 200] {
+    let mut record = [0; 200];
+    BigEndian::write_u32(&mut record[NUMBER..], n);
+    BigEndian::write_u32(&mut record[GROUP..], n % 7);
+    BigEndian::write_u32(&mut record[CODE..], u32::MAX - n);
+    record
+}
+
+fn name() -> FileName {
+    let mut name = FileName::new();
+    name.push_str("FILE");
+    name
+}
+
+/// Adds the record of a number.
+fn adds<S: Shelf>(rt: &impl Abort, held: &mut ShelfFile, shelf: &mut S, n: u32) -> Result<(), Fail>
+    requires { IsReady held.old (S.state shelf.old) }
+    ensures { IsReady held.new (S.state shelf.new) }
+{
+    let schema = &held.file.schema;
+    assert_eq!(rt; (schema.least(), schema.greatest()), (LENGTH, LENGTH));
+    let added = held.add(shelf, &record(n))?;
+    assert!(rt; added != Added::Clash, "record {n}");
+    Ok(())
+}
+
+/// Removes the record of a number.
+fn removes<S: Shelf>(
+    rt: &impl Abort,
+    held: &mut ShelfFile,
+    shelf: &mut S,
+    n: u32,
+) -> Result<(), Fail>
+    requires { IsReady held.old (S.state shelf.old) }
+    ensures { IsReady held.new (S.state shelf.new) }
+{
+    let mut value = [0; 60];
+    BigEndian::write_u32(&mut value[NUMBER..], n);
+    let mut key = Key::new();
+    let _ = key.try_extend_from_slice(&value);
+    assert!(rt; held.remove(shelf, &key)?, "record {n}");
+    Ok(())
+}
+
+/// Adds records of so many numbers, in no order, and removes those of the first ones.
+fn fills<S: Shelf>(
+    rt: &impl Abort,
+    held: &mut ShelfFile,
+    shelf: &mut S,
+    count: u32,
+    removed: u32,
+) -> Result<(), Fail>
+    requires { IsReady held.old (S.state shelf.old) }
+    ensures { IsReady held.new (S.state shelf.new) }
+{
+    for i in 0..count {
+        adds(rt, held, shelf, i.wrapping_mul(1231) % count)?;
+    }
+    for n in 0..removed {
+        removes(rt, held, shelf, n)?;
+    }
+    Ok(())
+}
+
+/// The bytes of the file of a shelf.
+fn bytes_of<S: Shelf>(alloc: Global, shelf: &mut S) -> Result<Vec<u8>, Fail> {
+    shelf.attach(&[name()])?;
+    if !shelf.exists(0)? {
+        return Ok(Vec::new(alloc));
+    }
+    let size = shelf.size(0)?;
+    let mut bytes = vec![in alloc; 0; size as usize]?;
+    shelf.read_at(0, 0, &mut bytes)?;
+    Ok(bytes)
+}
+
+/// The bytes of a file that was closed with records of so many numbers, but for the first ones, which were removed.
+pub fn made(rt: &impl Abort, alloc: Global, count: u32, removed: u32) -> Result<Vec<u8>, Fail> {
+    let schema = Schema::from_parts(LENGTH, LENGTH, &KEYS);
+    assert!(rt; schema.is_some());
+    let mut shelf = MemShelf::new(alloc);
+    shelf.attach(&[name()])?;
+    if let Some(schema) = schema {
+        let frames = NonZeroUsize::new(4096).unwrap_or(NonZeroUsize::MIN);
+        let mut held = ShelfFile::create(alloc, &mut shelf, 0, frames, 100_000, &schema)?;
+        fills(rt, &mut held, &mut shelf, count, removed)?;
+        held.close(&mut shelf)?;
+    }
+    bytes_of(alloc, &mut shelf)
+}

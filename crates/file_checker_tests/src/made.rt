@@ -1,0 +1,102 @@
+//! What is found of files that an open file has made.
+
+use crate::files::made;
+use byteorder::{BigEndian, ByteOrder};
+use file_checker::{Reason, Verdict, check_file};
+use std::alloc::Global;
+use std::process::Abort;
+use std::test::Fail;
+
+/// The bytes of a page.
+const PAGE: usize = 4096;
+
+fn check(alloc: Global, bytes: &[u8]) -> Result<Verdict, Fail> {
+    let mut reader = bytes;
+    Ok(check_file(alloc, &mut reader)?)
+}
+
+/// So many records, in all pages that the bytes have.
+fn sound(records: u32, bytes: &[u8]) -> Verdict {
+    Verdict::Sound {
+        records: u64::from(records),
+        pages: u32::try_from(bytes.len() / PAGE).unwrap_or(u32::MAX),
+    }
+}
+
+// A body that always finds a file unsound, or always wants memory, fails here.
+#[test]
+fn files_that_were_closed_are_sound(rt: HostRuntime) -> Result<(), Fail> {
+    let alloc = rt.alloc();
+    for count in [0, 1, 2, 18, 19, 20, 400, 2000] {
+        let bytes = made(&rt, alloc, count, 0)?;
+        assert_eq!(rt;
+            check(alloc, &bytes)?,
+            sound(count, &bytes),
+            "{count} records"
+        );
+    }
+    Ok(())
+}
+
+// Pages and slots are free then, and trees are lower.
+#[test]
+fn a_file_that_shrank_is_sound(rt: HostRuntime) -> Result<(), Fail> {
+    let alloc = rt.alloc();
+    for removed in [1, 200, 399, 400] {
+        let bytes = made(&rt, alloc, 400, removed)?;
+        assert_eq!(rt;
+            check(alloc, &bytes)?,
+            sound(400 - removed, &bytes),
+            "{removed} removed"
+        );
+    }
+    Ok(())
+}
+
+#[test]
+fn each_part_of_a_file_is_short(rt: HostRuntime) -> Result<(), Fail> {
+    let alloc = rt.alloc();
+    let bytes = made(&rt, alloc, 2000, 0)?;
+    for page in bytes.chunks(PAGE).enumerate().map(|(n, _)| n) {
+        let end = PAGE.saturating_mul(page).min(bytes.len());
+        let found = check(alloc, &bytes[..end])?;
+        assert_eq!(rt; found, Verdict::Unsound(Reason::Short), "{page} pages");
+    }
+    Ok(())
+}
+
+/// The number in four bytes.
+fn number(rt: &impl Abort, bytes: &[u8], at: usize) -> u32 {
+    assert!(rt; at < bytes.len() && bytes.len() - at >= 4);
+    BigEndian::read_u32(&bytes[at..])
+}
+
+/// The first leaf of the prime index.
+fn first_leaf(rt: &impl Abort, bytes: &[u8]) -> usize {
+    let mut page = number(rt, bytes, 72) as usize;
+    for _ in 0..20 {
+        let at = PAGE.saturating_mul(page);
+        assert!(rt; at < bytes.len());
+        if bytes[at] == b'L' {
+            return at;
+        }
+        page = number(rt, bytes, at.saturating_add(16)) as usize;
+    }
+    0
+}
+
+// An entry is a value of 60 bytes and a place of six.
+#[test]
+fn entries_that_are_exchanged_are_out_of_order(rt: HostRuntime) -> Result<(), Fail> {
+    let alloc = rt.alloc();
+    let mut bytes = made(&rt, alloc, 2000, 0)?;
+    let first = first_leaf(&rt, &bytes).saturating_add(16);
+    for i in 0..66 {
+        let left = first.saturating_add(i);
+        let right = left.saturating_add(66);
+        assert!(rt; right < bytes.len());
+        bytes.swap(left, right);
+    }
+    assert_eq!(rt; check(alloc, &bytes)?, Verdict::Unsound(Reason::Order));
+    Ok(())
+}

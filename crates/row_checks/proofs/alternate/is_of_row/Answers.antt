@@ -1,0 +1,32 @@
+use Rattle.std.proofs.Common.{◌≡◌, ◌+◌, ap, sym, ◌∙◌, take, ℕ, List, Option, Some, Bor}
+use Rattle.std.specs.Option.{option_copied}
+use Rattle.std.proofs.lemmas.Slice.Eq.{bytes_eq-Decides}
+use Rattle.byteorder.specs.Endian.{big_number}
+use Rattle.page_marks.specs.PageList.{pages_in}
+use Rattle.record_heap.specs.Standing.{slot_off}
+use Rattle.key_index.specs.Stored.{prime_entry}
+use Rattle.open_file.proofs.PartsLemmas.{from_eq}
+use Rattle.row_checks.specs.Rows.{place_at}
+use Rattle.row_checks.proofs.StampLemmas.{rest_from}
+use Rattle.row_checks.proofs.AlternateLemmas.{entry_is}
+use Rattle.row_checks.proofs.alternate.is_of_row.Goals.{then-eq, else-eq}
+use Rattle.row_checks.proofs.alternate.is_of_row.Goals as goal
+
+pub returns-then-read_u64-stamp : goal.returns-then-read_u64-stamp
+returns-then-read_u64-stamp c = λ yes. elim c.if-eq.branch [
+  | then-eq w ↦
+      let file = c.args.file.now in
+      let list = c.args.pages.now in
+      let e = c.args.entry_bytes.now in
+      let width = c.args.index.width in
+      let place : place_at file list c.args.leader ≡ c.place_in.result = ap (λ (x : List ℕ). (prime_entry file.prime.width x).place) (sym c.in-Some.ensures.value) ∙ sym c.place_in.ensures in
+      let there : slot_off file.heap (pages_in list) (place_at file list c.args.leader) ≡ Some c.in-Some-stored_at.stored.now =
+      ap (slot_off file.heap (pages_in list)) place ∙ sym c.stored_at.ensures.value ∙ ap (λ (o : Option (Bor (List ℕ))). option_copied o) c.in-Some-stored_at.is in
+      let value = (bytes_eq-Decides (take width e) c.value.result.now).0 (sym c.eq.ensures ∙ w.if-eq.true) in
+      let number = ap (big_number 8) (sym (rest_from width e)) ∙ sym w.read_u64.ensures in
+      let stamp = from_eq w.read_u64.result w.stamp.result (sym w.value-is ∙ c.if-read_u64-stamp.true) in
+      let prime = (bytes_eq-Decides _ c.value-then-read_u64-stamp.result.now).0 (sym c.eq-then-read_u64-stamp.ensures ∙ yes) in
+      entry_is file list c.args.leader c.in-Some-stored_at.stored.now e width c.args.index.tree.shape.key there (value ∙ c.value.ensures) (number ∙ stamp ∙ w.stamp.ensures)
+      (sym (rest_from (width + 8) e) ∙ prime ∙ c.value-then-read_u64-stamp.ensures)
+  | else-eq w ↦ (let off = w.value-is in let on = c.if-read_u64-stamp.true in absurd (cc (off, on)))
+]

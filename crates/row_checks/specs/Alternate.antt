@@ -1,0 +1,33 @@
+-- The index of an alternate key, and the rows that the prime index leads to.
+use Rattle.std.specs.Prelude.{◌≡◌, ◌⊎◌, ℕ, ◌≤◌, ◌<◌, List, [], ◌∷◌, length, map, IsTrue, ⊤}
+use Rattle.std.specs.Ordering.{is_lt}
+use Rattle.page_bytes.specs.Each.{Each}
+use Rattle.record_layout.specs.Schema.{Schema, key_at}
+use Rattle.indexed_file.specs.File.{Row}
+use Rattle.indexed_file.specs.Rank.{row_cmp}
+use Rattle.page_walks.specs.declared.spot.Spot.{Spot}
+use Rattle.page_walks.specs.Spots.{entries_at}
+use Rattle.key_index.specs.declared.alt_index.AltIndex.{AltIndex}
+use Rattle.key_index.specs.Standing.{alt_key}
+use Rattle.key_index.specs.Stored.{alt_bytes, IsAltEntry}
+use Rattle.open_file.specs.InOrder.{alt_entries}
+use Rattle.open_file.specs.declared.open_file.OpenFile.{OpenFile}
+use Rattle.row_checks.specs.Rows.{rows_in}
+
+-- the index is one for an alternate key of this schema
+pub record IsIndexFor (schema : Schema) (index : AltIndex) : Type 0 where
+  pub some : 1 ≤ alt_key index
+  pub within : alt_key index < length schema.keys
+  pub width : index.width ≡ (key_at schema (alt_key index)).length
+  pub prime : index.prime ≡ (key_at schema 0).length
+
+-- no two rows have one rank by key k
+abbrev pub RanksDiffer : Schema → ℕ → List Row → Type 0
+RanksDiffer schema k [] = ⊤
+RanksDiffer schema k (row ∷ rows) = Each (λ other. IsTrue (is_lt (row_cmp schema k row other)) ⊎ IsTrue (is_lt (row_cmp schema k other row))) rows × RanksDiffer schema k rows
+
+-- the entries at these places are those that the index has of the rows, in the order of their ranks, no two of which are one
+pub record AlternateStands (opened : OpenFile) (list : List (List ℕ)) (primes : List Spot) (index : AltIndex) (spots : List Spot) : Type 0 where
+  pub entries_are : map alt_bytes (alt_entries opened.schema (alt_key index) (rows_in opened list primes)) ≡ entries_at index.tree.shape list spots
+  pub each : Each (IsAltEntry index.width index.prime) (alt_entries opened.schema (alt_key index) (rows_in opened list primes))
+  pub differ : RanksDiffer opened.schema (alt_key index) (rows_in opened list primes)

@@ -1,0 +1,52 @@
+-- What single entries and slots of a file show.
+use Rattle.std.specs.Prelude.{◌≡◌, ℕ, ◌+◌, ◌≤◌, ◌<◌, Bool, true, List, drop, length, take, Some, IsSome, IsTrue, find}
+use Rattle.page_bytes.specs.Each.{Each}
+use Rattle.record_layout.specs.Schema.{prime_of}
+use Rattle.indexed_file.specs.Sound.{is_row}
+use Rattle.page_marks.specs.Marks.{marked_in}
+use Rattle.page_marks.specs.PageList.{pages_in}
+use Rattle.page_walks.specs.declared.spot.Spot.{Spot}
+use Rattle.page_walks.specs.Spots.{entry_at}
+use Rattle.record_heap.specs.declared.shape.Place.{Place}
+use Rattle.record_heap.specs.Slot.{room}
+use Rattle.record_heap.specs.Chain.{IsOneOf}
+use Rattle.record_heap.specs.Standing.{slot_off}
+use Rattle.key_index.specs.declared.alt_index.AltIndex.{AltIndex}
+use Rattle.key_index.specs.Standing.{alt_key}
+use Rattle.key_index.specs.Stored.{alt_entry}
+use Rattle.open_file.specs.InOrder.{alt_entry as entry_of}
+use Rattle.open_file.specs.Stored.{stamps_length}
+use Rattle.open_file.specs.ReadOff.{row_off}
+use Rattle.open_file.specs.Stands.{is_same}
+use Rattle.open_file.specs.declared.open_file.OpenFile.{OpenFile}
+use Rattle.row_checks.specs.Rows.{prime_at, place_at, places_in, row_at}
+
+-- stamps, and a record of a length that the file has
+pub record IsStored (opened : OpenFile) (stored : List ℕ) : Type 0 where
+  pub least : stamps_length (drop 1 opened.schema.keys) + opened.schema.least ≤ length stored
+  pub greatest : length stored ≤ stamps_length (drop 1 opened.schema.keys) + opened.schema.greatest
+  pub bytes : Each (λ b. b < 256) stored
+
+-- the entry leads to a row that has its value, in one of the marked pages
+pub record LeadsToRow (opened : OpenFile) (list : List (List ℕ)) (marks : List Bool) (spot : Spot) : Type 0 where
+  pub long : length (prime_at opened list spot) ≡ opened.prime.width + 6
+  pub bytes : Each (λ b. b < 256) (prime_at opened list spot)
+  pub stored : List ℕ
+  pub there : slot_off opened.heap (pages_in list) (place_at opened list spot) ≡ Some stored
+  pub fits : IsStored opened stored
+  pub own : marked_in marks (place_at opened list spot).page ≡ true
+  pub within : (place_at opened list spot).slot < room opened.heap.shape
+  pub row : IsTrue (is_row opened.schema opened.next_stamp (row_off opened.schema (Some stored)))
+  pub value : take opened.prime.width (prime_at opened list spot) ≡ prime_of opened.schema (row_off opened.schema (Some stored)).bytes
+
+-- where a slot is in use, an entry of the prime index leads to it
+abbrev pub HasEntry : OpenFile → List (List ℕ) → List Spot → Place → Type 0
+HasEntry opened list primes place = IsSome (slot_off opened.heap (pages_in list) place) → IsSome (find (is_same place) (places_in opened list primes))
+
+-- the entry is the one that the index has of a row that the prime index leads to
+pub record HasRow (opened : OpenFile) (list : List (List ℕ)) (primes : List Spot) (index : AltIndex) (spot : Spot) : Type 0 where
+  pub long : length (entry_at index.tree.shape list spot) ≡ index.tree.shape.entry
+  pub bytes : Each (λ b. b < 256) (entry_at index.tree.shape list spot)
+  pub leader : Spot
+  pub one : IsOneOf primes leader
+  pub is : alt_entry index.width (entry_at index.tree.shape list spot) ≡ entry_of opened.schema (alt_key index) (row_at opened list leader)

@@ -1,0 +1,4 @@
+pub mod Rows
+pub mod Leading
+pub mod Alternate
+pub mod Laws

@@ -1,0 +1,51 @@
+-- The rows that the prime index of a file leads to.
+use Rattle.std.specs.Prelude.{◌≡◌, List, [], ◌∷◌, map, IsTrue, ⊤, ℕ}
+use Rattle.std.specs.Ordering.{is_lt}
+use Rattle.page_bytes.specs.Each.{Each}
+use Rattle.record_layout.specs.Schema.{Schema, prime_of}
+use Rattle.indexed_file.specs.File.{Row}
+use Rattle.indexed_file.specs.Rank.{value_cmp}
+use Rattle.indexed_file.specs.Sound.{is_row}
+use Rattle.page_marks.specs.PageList.{pages_in}
+use Rattle.page_walks.specs.declared.spot.Spot.{Spot}
+use Rattle.page_walks.specs.Spots.{entry_at, entries_at}
+use Rattle.record_heap.specs.declared.shape.Place.{Place}
+use Rattle.record_heap.specs.Standing.{slot_off}
+use Rattle.record_heap.specs.Walk.{slots_of}
+use Rattle.key_index.specs.Stored.{prime_entry, prime_bytes, IsPrimeEntry}
+use Rattle.open_file.specs.InOrder.{prime_entries}
+use Rattle.open_file.specs.ReadOff.{row_off}
+use Rattle.open_file.specs.Stands.{IsPlaced}
+use Rattle.open_file.specs.declared.open_file.OpenFile.{OpenFile}
+
+-- the bytes of an entry of the prime index
+abbrev pub prime_at : OpenFile → List (List ℕ) → Spot → List ℕ
+prime_at opened list spot = entry_at opened.prime.tree.shape list spot
+
+-- the place that it leads to
+abbrev pub place_at : OpenFile → List (List ℕ) → Spot → Place
+place_at opened list spot = (prime_entry opened.prime.width (prime_at opened list spot)).place
+
+-- the row that is there
+abbrev pub row_at : OpenFile → List (List ℕ) → Spot → Row
+row_at opened list spot = row_off opened.schema (slot_off opened.heap (pages_in list) (place_at opened list spot))
+
+abbrev pub places_in : OpenFile → List (List ℕ) → List Spot → List Place
+places_in opened list spots = map (place_at opened list) spots
+
+abbrev pub rows_in : OpenFile → List (List ℕ) → List Spot → List Row
+rows_in opened list spots = map (row_at opened list) spots
+
+-- the prime values rise
+abbrev pub PrimesRise : Schema → List Row → Type 0
+PrimesRise schema [] = ⊤
+PrimesRise schema (row ∷ rows) = Each (λ other. IsTrue (is_lt (value_cmp (prime_of schema row.bytes) (prime_of schema other.bytes)))) rows × PrimesRise schema rows
+
+-- What the entries of the prime index at these places lead to are rows in the order of their prime values, and they are the entries of these rows; no other
+-- slot of the heap's own pages is in use.
+pub record RowsStand (opened : OpenFile) (list : List (List ℕ)) (own : List ℕ) (spots : List Spot) : Type 0 where
+  pub rows_are : Each (λ row. IsTrue (is_row opened.schema opened.next_stamp row)) (rows_in opened list spots)
+  pub placed : IsPlaced opened.schema (slots_of opened.heap.shape (pages_in list) own) (places_in opened list spots) (rows_in opened list spots)
+  pub entries_are : map prime_bytes (prime_entries opened.schema (places_in opened list spots) (rows_in opened list spots)) ≡ entries_at opened.prime.tree.shape list spots
+  pub each : Each (IsPrimeEntry opened.prime.width) (prime_entries opened.schema (places_in opened list spots) (rows_in opened list spots))
+  pub rise : PrimesRise opened.schema (rows_in opened list spots)

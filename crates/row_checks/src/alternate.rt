@@ -1,0 +1,112 @@
+//! The entries of an alternate key, and the rows.
+
+ghost use Rattle.std.specs.Prelude.{◌≡◌, OnOk, IsTrue, All, length};
+ghost use Rattle.tree_node.specs.Order.{Ascends};
+ghost use Rattle.page_walks.specs.Spots.{entries_at};
+ghost use Rattle.key_index.specs.Standing.{alt_key};
+ghost use Rattle.key_index.specs.Stored.{alt_entry};
+ghost use Rattle.open_file.specs.InOrder.{alt_entry as entry_of};
+ghost use Rattle.open_file.specs.Stands.{IsShaped};
+ghost use Rattle.row_checks.specs.Rows.{row_at};
+ghost use Rattle.row_checks.specs.Alternate.{IsIndexFor, AlternateStands};
+ghost use Rattle.row_checks.specs.Leading.{HasRow};
+
+use crate::entry::{entry, entry_near, place_in};
+use crate::record::stored_at;
+use crate::row::{stamp, value};
+use crate::row_fault::RowFault;
+use byteorder::{BigEndian, ByteOrder};
+use key_index::AltIndex;
+use open_file::OpenFile;
+use page_walks::Spot;
+use tree_node::PAGE_SIZE;
+
+/// The bytes of a stamp.
+const STAMP: usize = 8;
+
+/// The entry is what the index has of the row that an entry of the prime index leads to.
+fn is_of_row(
+    pages: &[[u8; PAGE_SIZE]],
+    file: &OpenFile,
+    index: AltIndex,
+    entry_bytes: &[u8],
+    leader: Spot,
+) -> bool
+    requires shaped { IsShaped file.now }
+    requires index { IsIndexFor file.now.schema index }
+    requires long { length entry_bytes.now ≡ index.tree.shape.entry }
+    ensures { IsTrue result → alt_entry index.width entry_bytes.now ≡ entry_of file.now.schema (alt_key index) (row_at file.now pages.now leader) }
+{
+    let Some(prime) = entry(pages, file.prime.tree.shape, leader) else {
+        return false;
+    };
+    let Some(stored) = stored_at(pages, file, place_in(prime, file.prime.width as usize)) else {
+        return false;
+    };
+    let width = index.width as usize;
+    let k = index.tree.shape.key;
+    &entry_bytes[..width] == value(file, stored, k)
+        && BigEndian::read_u64(&entry_bytes[width..]) == stamp(file, stored, k)
+        && &entry_bytes[width + STAMP..] == value(file, stored, 0)
+}
+
+/// The entry is what the index has of a row that the prime index leads to.
+fn has_row(
+    pages: &[[u8; PAGE_SIZE]],
+    file: &OpenFile,
+    primes: &[Spot],
+    index: AltIndex,
+    spot: Spot,
+) -> bool
+    requires shaped { IsShaped file.now }
+    requires index { IsIndexFor file.now.schema index }
+    ensures { IsTrue result → HasRow file.now pages.now primes.now index spot }
+{
+    let Some(entry) = entry(pages, index.tree.shape, spot) else {
+        return false;
+    };
+    match entry_near(pages, file, primes, &entry[index.width as usize + STAMP..]) {
+        Some(leader) => is_of_row(pages, file, index, entry, leader),
+        None => false,
+    }
+}
+
+/// Each of these entries is what the index has of a row that the prime index leads to.
+fn all_have_rows(
+    pages: &[[u8; PAGE_SIZE]],
+    file: &OpenFile,
+    primes: &[Spot],
+    index: AltIndex,
+    spots: &[Spot],
+) -> bool
+    requires shaped { IsShaped file.now }
+    requires index { IsIndexFor file.now.schema index }
+    ensures { IsTrue result → All (HasRow file.now pages.now primes.now index) spots.now }
+{
+    spots
+        .iter()
+        .all(|spot| has_row(pages, file, primes, index, *spot))
+}
+
+/// Compares the index of an alternate key with the rows of a file. `primes` and `spots` are the places of the entries of the prime index and of this one,
+/// each in their order, in the pages of the file as they were read.
+///
+/// Index where an entry is that of no row.
+pub fn check_alternate(
+    pages: &[[u8; PAGE_SIZE]],
+    file: &OpenFile,
+    primes: &[Spot],
+    index: AltIndex,
+    spots: &[Spot],
+) -> Result<(), RowFault>
+    requires shaped { IsShaped file.now }
+    requires index { IsIndexFor file.now.schema index }
+    requires many { length spots.now ≡ length primes.now }
+    requires rises { Ascends index.tree.shape.width (entries_at index.tree.shape pages.now spots.now) }
+    ensures { OnOk result (AlternateStands file.now pages.now primes.now index spots.now) }
+{
+    if !all_have_rows(pages, file, primes, index, spots) {
+        return Err(RowFault::Index);
+    }
+    Ok(())
+}

@@ -1,0 +1,78 @@
+//! The slots of the heap, each of which an entry of the prime index leads to, if it is in use.
+
+ghost use Rattle.std.specs.Prelude.{◌≡◌, ◌<◌, ℕ, IsTrue, IsSome, find};
+ghost use Rattle.record_heap.specs.declared.shape.Place.{Place};
+ghost use Rattle.record_heap.specs.Slot.{room};
+ghost use Rattle.record_heap.specs.Walk.{slots_of};
+ghost use Rattle.page_marks.specs.PageList.{pages_in};
+ghost use Rattle.open_file.specs.Stands.{IsShaped, is_same};
+ghost use Rattle.row_checks.specs.Rows.{place_at, places_in};
+ghost use Rattle.row_checks.specs.Leading.{HasEntry};
+
+use crate::entry::{entry, entry_near, place_in};
+use crate::record::stored_at;
+use crate::row::value;
+use open_file::OpenFile;
+use page_walks::Spot;
+use record_heap::Place;
+use tree_node::PAGE_SIZE;
+
+/// The slot is not in use, or an entry of the prime index leads to it.
+fn has_entry(pages: &[[u8; PAGE_SIZE]], file: &OpenFile, primes: &[Spot], place: Place) -> bool
+    requires { IsShaped file.now }
+    ensures { IsTrue result → HasEntry file.now pages.now primes.now place }
+{
+    let Some(stored) = stored_at(pages, file, place) else {
+        return true;
+    };
+    match entry_near(pages, file, primes, value(file, stored, 0)) {
+        Some(spot) => leads_to(pages, file, spot, place),
+        None => false,
+    }
+}
+
+/// The entry of the prime index leads to this place.
+fn leads_to(pages: &[[u8; PAGE_SIZE]], file: &OpenFile, spot: Spot, place: Place) -> bool
+    ensures { IsTrue result → place ≡ place_at file.now pages.now spot }
+{
+    match entry(pages, file.prime.tree.shape, spot) {
+        Some(entry) => place_in(entry, file.prime.width as usize) == place,
+        None => false,
+    }
+}
+
+/// Each slot of page n that is in use has its entry in the prime index.
+fn page_has_entries(pages: &[[u8; PAGE_SIZE]], file: &OpenFile, primes: &[Spot], n: u32) -> bool
+    requires { IsShaped file.now }
+    ensures { IsTrue result → (p : Place) → p.page ≡ n → p.slot < room file.now.heap.shape → HasEntry file.now pages.now primes.now p }
+{
+    for i in 0..file.heap.shape.room() {
+        let place = Place {
+            page: n,
+            slot: i as u16,
+        };
+        if !has_entry(pages, file, primes, place) {
+            return false;
+        }
+    }
+    true
+}
+
+/// Each slot of the heap's own pages that is in use has its entry in the prime index.
+pub fn slots_have_entries(
+    pages: &[[u8; PAGE_SIZE]],
+    file: &OpenFile,
+    primes: &[Spot],
+    own: &[u32],
+) -> bool
+    requires { IsShaped file.now }
+    ensures { IsTrue result → (p : Place) → IsSome (slots_of file.now.heap.shape (pages_in pages.now) own.now p)
+        → IsSome (find (is_same p) (places_in file.now pages.now primes.now)) }
+{
+    for &n in own {
+        if !page_has_entries(pages, file, primes, n) {
+            return false;
+        }
+    }
+    true
+}

@@ -1,0 +1,114 @@
+//! The rows that the prime index leads to.
+
+ghost use Rattle.std.specs.Prelude.{◌≡◌, ℕ, true, false, All, IfOk, OnOk, IsTrue};
+ghost use Rattle.tree_node.specs.Order.{Ascends};
+ghost use Rattle.page_marks.specs.Marks.{marked_in};
+ghost use Rattle.page_walks.specs.Spots.{entries_at};
+ghost use Rattle.record_heap.specs.Walk.{is_one_of};
+ghost use Rattle.open_file.specs.Stands.{IsShaped};
+ghost use Rattle.row_checks.specs.Rows.{RowsStand};
+ghost use Rattle.row_checks.specs.Leading.{LeadsToRow};
+
+use crate::entry::{entry, place_in};
+use crate::heap_slots::slots_have_entries;
+use crate::record::stored_at;
+use crate::row::{is_row, value};
+use crate::row_fault::RowFault;
+use open_file::OpenFile;
+use page_marks::mark;
+use page_walks::Spot;
+use std::alloc::Global;
+use tree_node::PAGE_SIZE;
+
+/// No marks, for so many pages.
+fn no_marks(alloc: Global, count: usize) -> Result<Vec<bool>, RowFault>
+    ensures { IfOk result (λ marks. (n : ℕ) → marked_in marks.items n ≡ false) }
+{
+    vec![in alloc; false; count].map_err(|_| RowFault::Memory)
+}
+
+/// Marks these pages.
+fn mark_all(marks: &mut [bool], own: &[u32]) -> Result<(), RowFault>
+    requires { (n : ℕ) → marked_in marks.old n ≡ false }
+    ensures { OnOk result ((n : ℕ) → marked_in marks.new n ≡ true → is_one_of own.now n ≡ true) }
+{
+    for &n in own {
+        mark(marks, n)?;
+    }
+    Ok(())
+}
+
+/// The page is marked.
+fn is_marked(marks: &[bool], n: u32) -> bool
+    ensures { IsTrue result → marked_in marks.now n ≡ true }
+{
+    let i = n as usize;
+    i < marks.len() && marks[i]
+}
+
+/// The entry of the prime index leads to a row that has its value, in one of the marked pages.
+fn leads_to_row(pages: &[[u8; PAGE_SIZE]], file: &OpenFile, marks: &[bool], spot: Spot) -> bool
+    requires { IsShaped file.now }
+    ensures { IsTrue result → LeadsToRow file.now pages.now marks.now spot }
+{
+    let width = file.prime.width as usize;
+    let Some(entry) = entry(pages, file.prime.tree.shape, spot) else {
+        return false;
+    };
+    let place = place_in(entry, width);
+    let Some(stored) = stored_at(pages, file, place) else {
+        return false;
+    };
+    is_marked(marks, place.page)
+        && is_row(file, stored)
+        && &entry[..width] == value(file, stored, 0)
+}
+
+/// Each of these entries of the prime index leads to a row that has its value, in one of the marked pages.
+fn all_lead(pages: &[[u8; PAGE_SIZE]], file: &OpenFile, marks: &[bool], primes: &[Spot]) -> bool
+    requires { IsShaped file.now }
+    ensures { IsTrue result → All (LeadsToRow file.now pages.now marks.now) primes.now }
+{
+    primes
+        .iter()
+        .all(|spot| leads_to_row(pages, file, marks, *spot))
+}
+
+/// Compares the prime index with the records, by marks on the heap's own pages.
+fn compare(
+    pages: &[[u8; PAGE_SIZE]],
+    file: &OpenFile,
+    own: &[u32],
+    primes: &[Spot],
+    marks: &mut [bool],
+) -> Result<(), RowFault>
+    requires shaped { IsShaped file.now }
+    requires rises { Ascends file.now.prime.width (entries_at file.now.prime.tree.shape pages.now primes.now) }
+    requires none { (n : ℕ) → marked_in marks.old n ≡ false }
+    ensures { OnOk result (RowsStand file.now pages.now own.now primes.now) }
+{
+    mark_all(marks, own)?;
+    if !all_lead(pages, file, marks, primes) || !slots_have_entries(pages, file, primes, own) {
+        return Err(RowFault::Index);
+    }
+    Ok(())
+}
+
+/// Compares the prime index of a file with its records. `own` are the heap's own pages, and `primes` the places of the index's entries, in their order, in
+/// the pages of the file as they were read.
+///
+/// Memory; Index where an entry does not lead to a row that has its value, or a slot in use has no entry.
+pub fn check_rows(
+    alloc: Global,
+    pages: &[[u8; PAGE_SIZE]],
+    file: &OpenFile,
+    own: &[u32],
+    primes: &[Spot],
+) -> Result<(), RowFault>
+    requires shaped { IsShaped file.now }
+    requires rises { Ascends file.now.prime.width (entries_at file.now.prime.tree.shape pages.now primes.now) }
+    ensures { OnOk result (RowsStand file.now pages.now own.now primes.now) }
+{
+    let mut marks = no_marks(alloc, pages.len())?;
+    compare(pages, file, own, primes, &mut marks)
+}
