@@ -43,3 +43,20 @@ Codes of a refused deck:
   5   not allowed here
   6   too much: the deck, a number, a ninth file or alternate key
   7   items that are no record layout, other lengths than the record's, or keys that are none";
+
+/// What a check answers.
+pub const REASONS: &str = "Exit status:
+  0   'sound records R pages P': the file stands for R records in P pages
+  1   'unsound N', and why:
+      1  short: fewer bytes than a page, or than its pages need; it was cut, or it is no file of cobix
+      2  the gate is not closed: it was not closed after a change
+      3  the first page is not that of a file
+      4  a page is reached twice
+      5  a page of a tree is not what its place requires
+      6  keys of a tree are out of order
+      7  a slot of a record, or a chain of slots or pages, is broken
+      8  an index and the records do not agree
+      9  a page is reached by nothing
+      Take the last copy of the file; or, where its records are elsewhere too, make it anew with OPEN OUTPUT
+  3   the command line is not understood
+  4   the file could not be read ('cobix: input'), or memory ran out ('cobix: memory')";

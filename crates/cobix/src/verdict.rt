@@ -1,0 +1,40 @@
+//! The check of a file, and what is written of it.
+ghost use Rattle.std.specs.Prelude.{◌≡◌, IfOk, IfErr};
+ghost use Rattle.std.specs.Option.{IfSome};
+ghost use Rattle.file_checker.specs.Sound.{IsRight};
+ghost use Rattle.cobix.specs.Status.{status_of, status_by};
+
+use crate::fault::Fault;
+use file_checker::{CheckFault, Verdict, check_file};
+use std::alloc::Global;
+use std::io::{Read, Write};
+
+/// Checks the file that a reader has.
+pub fn check<R: Read>(alloc: Global, reader: &mut R) -> Result<Verdict, Fault>
+    ensures right { IfSome (R.remaining reader.old) (λ bytes. IfOk result (IsRight bytes)) }
+    ensures fault { IfErr result (λ fault. status_of fault ≡ 4) }
+{
+    match check_file(alloc, reader) {
+        Ok(verdict) => Ok(verdict),
+        Err(CheckFault::Input) => Err(Fault::Input),
+        Err(CheckFault::Memory) => Err(Fault::Memory),
+    }
+}
+
+/// Writes a verdict, and answers the exit status.
+pub fn write_verdict<W: Write>(verdict: Verdict, out: &mut W) -> Result<u8, Fault>
+    ensures status { IfOk result (λ status. status ≡ status_by verdict) }
+    ensures fault { IfErr result (λ fault. fault ≡ Fault.Output) }
+{
+    let (written, status) = match verdict {
+        Verdict::Sound { records, pages } => (
+            writeln!(out, "sound records {records} pages {pages}"),
+            0,
+        ),
+        Verdict::Unsound(reason) => (writeln!(out, "unsound {}", reason.number()), 1),
+    };
+    match written {
+        Ok(()) => Ok(status),
+        Err(_) => Err(Fault::Output),
+    }
+}
