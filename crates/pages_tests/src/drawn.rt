@@ -198,7 +198,7 @@ fn drawn_calls_answer_as_those_of_a_list(rt: HostRuntime) -> Result<(), Fail> {
     let mut opened = OpenFile::create(&mut pages, &schema)?;
     let mut list = ListLibrary::new(rt.alloc());
     opens_list(&rt, &mut list, &schema)?;
-    let most = runs(&rt, &mut opened, &mut pages, &mut list, 1000, 24, 1)?;
+    let most = runs(&rt, &mut opened, &mut pages, &mut list, 5000, 24, 1)?;
     assert!(rt; most >= 12);
     Ok(())
 }
@@ -215,7 +215,7 @@ fn drawn_calls_with_wide_keys_answer_as_those_of_a_list(rt: HostRuntime) -> Resu
     let mut opened = OpenFile::create(&mut pages, &schema)?;
     let mut list = ListLibrary::new(rt.alloc());
     opens_list(&rt, &mut list, &schema)?;
-    let most = runs(&rt, &mut opened, &mut pages, &mut list, 400, 240, 50)?;
+    let most = runs(&rt, &mut opened, &mut pages, &mut list, 1500, 240, 50)?;
     assert!(rt; most >= 80);
     Ok(())
 }

@@ -38,6 +38,8 @@ mod paired;
 #[cfg(test)]
 mod reading_only;
 #[cfg(test)]
+mod reads;
+#[cfg(test)]
 mod records;
 #[cfg(test)]
 mod room;

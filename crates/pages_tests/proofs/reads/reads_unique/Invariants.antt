@@ -1,0 +1,5 @@
+use Rattle.list_library.specs.Clients.{IsOpenWith}
+use Rattle.pages_tests.proofs.reads.reads_unique.Given as goal
+
+abbrev pub invariant-loop-n : goal.invariant-loop-n
+invariant-loop-n g l = IsOpenWith (g.L.Library.shown.world l.library) 0 l.schema
