@@ -59,13 +59,17 @@ module _ (old new : LibraryState) (none : old.shelf.names ≡ []) (empty : old.h
 
   pub exact_run : (bytes : List ℕ) (written written_after : Option (List ℕ)) (end : RunEnd)
       → OfDeck shown_in bytes old new (λ deck. WhereFilesAreTrue shown_in old new deck
-        (RunsExactly written written_after (world_of old.shelf old.held) (world_of new.shelf new.held) end deck))
+      (RunsExactly written written_after (world_of old.shelf old.held) (world_of new.shelf new.held) end deck))
       → IsExactRun bytes old.shelf new.shelf written written_after end
   exact_run bytes written written_after end of =
-      let deck : Deck = of.0 in
-      (deck, of.1, elsewhere deck of.2, λ honest sound.
-        let runs = subst (λ (world : World). RunsExactly written written_after world (world_of new.shelf new.held) end deck) first_world (of.3 honest (all_truly deck sound)) in
-        record { transcript_is = runs.transcript_is; end_is = runs.end_is; leaves = named_same new.shelf new.held (file_names deck.files) many ∙ runs.leaves })
+      let deck : Deck = of.0 in (
+        deck,
+        of.1,
+        elsewhere deck of.2,
+        λ honest sound.
+            let runs = subst (λ (world : World). RunsExactly written written_after world (world_of new.shelf new.held) end deck) first_world (of.3 honest (all_truly deck sound)) in
+            record { transcript_is = runs.transcript_is; end_is = runs.end_is; leaves = named_same new.shelf new.held (file_names deck.files) many ∙ runs.leaves },
+      )
 
   -- ---- what a crash may leave
 
@@ -81,14 +85,14 @@ module _ (old new : LibraryState) (none : old.shelf.names ≡ []) (empty : old.h
   no_false_file deck AreSuch lines goes runs honest sound =
       let was = keeps.honest honest in
       let now = All-weaker (λ name. (c : Option (List ℕ)) → Leaves (old.shelf.file name) c → IsSound c) (λ name. IsSound (old.shelf.file name).seen)
-          (λ name all. all (old.shelf.file name).seen (an_image name was)) (file_names deck.files) sound in
+      (λ name all. all (old.shelf.file name).seen (an_image name was)) (file_names deck.files) sound in
       let is = runs.stretches honest (all_truly deck now) in
       All-weaker (λ name. (c : Option (List ℕ)) → Leaves (old.shelf.file name) c → IsSound c) (λ name. Throughout IsSound (old.shelf.file name) (new.shelf.file name))
       (λ name all.
-        let real = real_at_first name all in
-        let begun : AreReal old is.0 name = (is.2.images name).within any real in
-        let ended : AreReal old is.1.point.library name = goes name (record { point = record { run = run_before (shown_in.world old) deck; library = is.0 }; ledger = _ }) is.1 real is.3 begun in
-        sound_throughout name (subst (λ (state : LibraryState). AreReal old state name) is.4 ended))
+      let real = real_at_first name all in
+      let begun : AreReal old is.0 name = (is.2.images name).within any real in
+      let ended : AreReal old is.1.point.library name = goes name (record { point = record { run = run_before (shown_in.world old) deck; library = is.0 }; ledger = _ }) is.1 real is.3 begun in
+      sound_throughout name (subst (λ (state : LibraryState). AreReal old state name) is.4 ended))
       (file_names deck.files) sound
 
   -- ---- a run, by the states of the library
@@ -111,7 +115,7 @@ module _ (old new : LibraryState) (none : old.shelf.names ≡ []) (empty : old.h
         let deck : Deck = of.0 in
         let told = of.3 in
         let safe = no_false_file deck (IsSafeRun shown_in old deck.statements) told.0
-            (λ name before after real run begun. over_run old name real deck.statements before told.0 after run begun) told.3 in
+        (λ name before after real run begun. over_run old name real deck.statements before told.0 after run begun) told.3 in
         (deck, of.1, elsewhere deck of.2, (told.0, told.1, told.2, by_states (RunsWhole shown_in) limit deck told.0 first last told.3 safe))
 
     pub breaks_off : OfDeck shown_in bytes old new (λ deck. ToldInPart written written_after (RunsInPart shown_in old new deck))
@@ -121,7 +125,7 @@ module _ (old new : LibraryState) (none : old.shelf.names ≡ []) (empty : old.h
         let told = of.3 in
         let lines = told.0 ++ told.1 ∷ [] in
         let safe = no_false_file deck (IsSafeBrokenOff shown_in old deck.statements) lines
-            (λ name before after real run begun. over_broken_off old name real deck.statements before lines after run begun) told.7 in
+        (λ name before after real run begun. over_broken_off old name real deck.statements before lines after run begun) told.7 in
         (deck, of.1, elsewhere deck of.2, (told.0, told.1, told.2, told.3, told.4, told.5, told.6, by_states (RunsInPart shown_in) limit deck lines first last told.7 safe))
 
 -- ---- over any library whose states these are

@@ -75,11 +75,11 @@ returns-clause-exact g c =
     let written_after = g.W.Write.contents c.run_deck-end.new.out in
     IfOk-weaker c.run_deck-end.result
     (λ end. end.clean ≡ true → OfDeck (shown_by (state g c)) bytes c.new-library.result c.run_deck-end.new.library (λ deck.
-      WhereFilesAreTrue (shown_by (state g c)) c.new-library.result c.run_deck-end.new.library deck
-      (RunsExactly written written_after (world_of (old g c).shelf (old g c).held) (world_of (new g c).shelf (new g c).held) end deck)))
+    WhereFilesAreTrue (shown_by (state g c)) c.new-library.result c.run_deck-end.new.library deck
+    (RunsExactly written written_after (world_of (old g c).shelf (old g c).held) (world_of (new g c).shelf (new g c).held) end deck)))
     (λ end. end.clean ≡ true → IsExactRun bytes (g.S.Shelf.state c.args.shelf) (g.S.Shelf.state c.into_shelf.result) written written_after end)
     (λ end exact clean. carried g c (λ first last. IsExactRun bytes (g.S.Shelf.state first) (g.S.Shelf.state last) written written_after end)
-      (run.exact_run (old g c) (new g c) (none g c) (empty g c) (many g c) (keeps g c) (an_image g c) bytes written written_after end (exact clean)))
+    (run.exact_run (old g c) (new g c) (none g c) (empty g c) (many g c) (keeps g c) (an_image g c) bytes written written_after end (exact clean)))
     c.run_deck-end.ensures.exact
 
 pub returns-clause-run : goal.returns-clause-run
@@ -90,14 +90,14 @@ returns-clause-run g c =
     let written_after = g.W.Write.contents c.run_deck-end.new.out in
     IfOk-weaker c.run_deck-end.result
     (λ end. OfDeck (shown_by (state g c)) bytes c.new-library.result c.run_deck-end.new.library (λ deck.
-      Told written written_after end (RunsWhole (shown_by (state g c)) c.new-library.result c.run_deck-end.new.library deck)))
+    Told written written_after end (RunsWhole (shown_by (state g c)) c.new-library.result c.run_deck-end.new.library deck)))
     (λ end. OnShelf bytes (g.S.Shelf.state c.args.shelf) (g.S.Shelf.state c.into_shelf.result) (λ deck. Told written written_after end
-      (Runs c.args.limit (g.S.Shelf.state c.args.shelf) (g.S.Shelf.state c.into_shelf.result) (g.S.Shelf.fault_count c.args.shelf) (g.S.Shelf.fault_count c.into_shelf.result) deck)))
+    (Runs c.args.limit (g.S.Shelf.state c.args.shelf) (g.S.Shelf.state c.into_shelf.result) (g.S.Shelf.fault_count c.args.shelf) (g.S.Shelf.fault_count c.into_shelf.result) deck)))
     (λ end runs. carried g c
-      (λ first last. OnShelf bytes (g.S.Shelf.state first) (g.S.Shelf.state last) (λ deck. Told written written_after end
-        (Runs c.args.limit (g.S.Shelf.state first) (g.S.Shelf.state last) (g.S.Shelf.fault_count first) (g.S.Shelf.fault_count last) deck)))
-      (run.runs_on (old g c) (new g c) (none g c) (empty g c) (many g c) (keeps g c) (an_image g c) c.args.limit (first_limit g c) (last_limit g c) bytes written written_after end
-        (run.whole_in (state g c) bytes c.new-library.result c.run_deck-end.new.library written written_after end runs)))
+    (λ first last. OnShelf bytes (g.S.Shelf.state first) (g.S.Shelf.state last) (λ deck. Told written written_after end
+    (Runs c.args.limit (g.S.Shelf.state first) (g.S.Shelf.state last) (g.S.Shelf.fault_count first) (g.S.Shelf.fault_count last) deck)))
+    (run.runs_on (old g c) (new g c) (none g c) (empty g c) (many g c) (keeps g c) (an_image g c) c.args.limit (first_limit g c) (last_limit g c) bytes written written_after end
+    (run.whole_in (state g c) bytes c.new-library.result c.run_deck-end.new.library written written_after end runs)))
     c.run_deck-end.ensures.run
 
 pub returns-clause-output : goal.returns-clause-output
@@ -108,14 +108,14 @@ returns-clause-output g c =
     let written_after = g.W.Write.contents c.run_deck-end.new.out in
     IfErr-weaker c.run_deck-end.result
     (λ fault. fault ≡ Output → OfDeck (shown_by (state g c)) bytes c.new-library.result c.run_deck-end.new.library (λ deck.
-      ToldInPart written written_after (RunsInPart (shown_by (state g c)) c.new-library.result c.run_deck-end.new.library deck)))
+    ToldInPart written written_after (RunsInPart (shown_by (state g c)) c.new-library.result c.run_deck-end.new.library deck)))
     (λ fault. fault ≡ Output → OnShelf bytes (g.S.Shelf.state c.args.shelf) (g.S.Shelf.state c.into_shelf.result) (λ deck. ToldInPart written written_after
-      (BreaksOff c.args.limit (g.S.Shelf.state c.args.shelf) (g.S.Shelf.state c.into_shelf.result) (g.S.Shelf.fault_count c.args.shelf) (g.S.Shelf.fault_count c.into_shelf.result) deck)))
+    (BreaksOff c.args.limit (g.S.Shelf.state c.args.shelf) (g.S.Shelf.state c.into_shelf.result) (g.S.Shelf.fault_count c.args.shelf) (g.S.Shelf.fault_count c.into_shelf.result) deck)))
     (λ fault runs is. carried g c
-      (λ first last. OnShelf bytes (g.S.Shelf.state first) (g.S.Shelf.state last) (λ deck. ToldInPart written written_after
-        (BreaksOff c.args.limit (g.S.Shelf.state first) (g.S.Shelf.state last) (g.S.Shelf.fault_count first) (g.S.Shelf.fault_count last) deck)))
-      (run.breaks_off (old g c) (new g c) (none g c) (empty g c) (many g c) (keeps g c) (an_image g c) c.args.limit (first_limit g c) (last_limit g c) bytes written written_after
-        (run.part_in (state g c) bytes c.new-library.result c.run_deck-end.new.library written written_after (runs is))))
+    (λ first last. OnShelf bytes (g.S.Shelf.state first) (g.S.Shelf.state last) (λ deck. ToldInPart written written_after
+    (BreaksOff c.args.limit (g.S.Shelf.state first) (g.S.Shelf.state last) (g.S.Shelf.fault_count first) (g.S.Shelf.fault_count last) deck)))
+    (run.breaks_off (old g c) (new g c) (none g c) (empty g c) (many g c) (keeps g c) (an_image g c) c.args.limit (first_limit g c) (last_limit g c) bytes written written_after
+    (run.part_in (state g c) bytes c.new-library.result c.run_deck-end.new.library written written_after (runs is))))
     c.run_deck-end.ensures.output
 
 pub returns-clause-nothing : goal.returns-clause-nothing
@@ -124,8 +124,10 @@ returns-clause-nothing g c =
     IfErr-weaker c.run_deck-end.result
     (λ fault. fault ≢ Output → (c.run_deck-end.new.out ≡ c.args.out.now) × IsUntouched (shown_by (state g c)) c.new-library.result c.run_deck-end.new.library)
     (λ fault. fault ≢ Output → (c.run_deck-end.new.out ≡ c.args.out.now) × LeavesFiles (g.S.Shelf.state c.args.shelf) (g.S.Shelf.state c.into_shelf.result))
-    (λ fault nothing is. let of = nothing is in
-      (of.0, carried g c (λ first last. LeavesFiles (g.S.Shelf.state first) (g.S.Shelf.state last))
-        (run.leaves_files (old g c) (new g c) (none g c) (empty g c) (many g c) (keeps g c) (an_image g c)
-          (run.untouched_in (state g c) c.new-library.result c.run_deck-end.new.library of.1))))
+    (λ fault nothing is. let of = nothing is in (
+      of.0,
+      carried g c (λ first last. LeavesFiles (g.S.Shelf.state first) (g.S.Shelf.state last))
+          (run.leaves_files (old g c) (new g c) (none g c) (empty g c) (many g c) (keeps g c) (an_image g c)
+          (run.untouched_in (state g c) c.new-library.result c.run_deck-end.new.library of.1)),
+    ))
     c.run_deck-end.ensures.nothing

@@ -1,0 +1,48 @@
+//! A deck and its transcript as steps.
+
+use std::alloc::{AllocError, Global};
+
+/// A statement, or several, beside the line that it gives in the transcript, if it gives one.
+pub type Step = (&'static str, &'static str);
+
+/// A deck over one file, and what the file is before it and after it.
+#[derive(Clone, Copy)]
+pub struct Worked {
+    /// All divisions but the statements.
+    pub heading: &'static str,
+    /// The name of the file in the deck.
+    pub file: &'static str,
+    /// The name on the shelf.
+    pub assigned: &'static str,
+    /// The statements that make the file; none where it is absent at first.
+    pub before: &'static [Step],
+    pub steps: &'static [Step],
+    /// What the file reads as before the deck, and after each CLOSE of it.
+    pub reads: &'static [&'static [Step]],
+    /// What it may read as besides, where a READ by key has failed.
+    pub astray: &'static [&'static [Step]],
+    /// A read of the file where it is refused.
+    pub refused: &'static [Step],
+}
+
+/// The deck of a heading and these statements.
+pub fn deck_of(alloc: Global, heading: &str, steps: &[Step]) -> Result<String, AllocError> {
+    let mut deck = String::from_str(alloc, heading)?;
+    for (statement, _) in steps {
+        deck.push_str(statement)?;
+        deck.push_str("\n")?;
+    }
+    Ok(deck)
+}
+
+/// Their lines.
+pub fn transcript_of(alloc: Global, steps: &[Step]) -> Result<String, AllocError> {
+    let mut lines = String::new(alloc);
+    for (_, line) in steps {
+        if !line.is_empty() {
+            lines.push_str(line)?;
+            lines.push_str("\n")?;
+        }
+    }
+    Ok(lines)
+}
