@@ -3,3 +3,4 @@ pub mod PageLemmas
 pub mod BoundsLemmas
 pub mod BackLemmas
 pub mod ReadLemmas
+pub mod LengthLemmas

@@ -1,44 +1,15 @@
 -- What a write into a folder leaves, whatever part of it the system took.
-use Rattle.std.proofs.Common.{◌≡◌, Bool, IsTrue, is_some, not, ◌&&◌, ◌||◌, None, get_or, Result, Ok, Err, OnErr, ℕ, ◌+◌, ◌<◌, ◌≤◌, ◌==◌, leb, List, [], ◌∷◌, ◌++◌, Some, true, false, length, take, drop, bytes_eq, refl, ◌∙◌, ap, inl, inr, arith, length-append, if◌then◌else◌}
-use Rattle.std.proofs.lemmas.Bool.{cases_Bool, and_parts, leb-true, leb-false, le-leb}
+use Rattle.std.proofs.Common.{◌≡◌, Bool, IsTrue, is_some, not, ◌&&◌, ◌||◌, None, get_or, Result, Ok, Err, OnErr, ℕ, ◌+◌, ◌==◌, List, [], ◌∷◌, ◌++◌, Some, true, false, length, take, drop, bytes_eq, refl, ◌∙◌, ap, inl, inr, arith, if◌then◌else◌}
+use Rattle.std.proofs.lemmas.Bool.{cases_Bool, and_parts, le-leb}
 use Rattle.std.proofs.Common.{eq-eqb}
-use Rattle.std.proofs.lemmas.List.{length-take, length-drop, get_or_append_left, get_or-take}
 use Rattle.std.proofs.lemmas.Slice.Eq.{bytes_eq-Decides}
-use Rattle.page_store.specs.File.{File, Torn, IsWithin, IsThere, overlay, content, created, wrote}
+use Rattle.page_store.specs.File.{File, IsWithin, IsThere, overlay, content, created, wrote}
 use Rattle.page_store.specs.Calls.{Reads, Created, CreateFails, Written, WriteFails, Synced, SyncFails}
 use Rattle.page_store.specs.ShelfState.{ShelfState, unit_file, ChangesOnly}
-use Rattle.page_store.specs.ImageLaws.{overlay_torn}
+use Rattle.page_store.proofs.TornLemmas.{part_torn}
 use Rattle.folder_shelf.specs.Events.{Event, named, made, read, written, flushed, asked}
 use Rattle.folder_shelf.specs.Replay.{Unseen, replay, has, left_of, folder_state}
 use Rattle.folder_shelf.specs.ReplayLaws.{length_left}
-
-past_end : (old : List ℕ) (at : ℕ) (bytes : List ℕ) → length old < at → Torn at (length bytes) old (overlay old at bytes)
-past_end old at bytes past =
-    let front = take at old ++ bytes in
-    let rest = drop (at + length bytes) old in
-    let all = length-append front rest in
-    let first = length-append (take at old) bytes in
-    let taken = length-take at old in
-    let left = length-drop (at + length bytes) old in
-    record {
-      no_shorter = omega arith;
-      no_longer = omega arith;
-      below = λ i within low. get_or_append_left front rest 0 i (omega arith) ∙ get_or_append_left (take at old) bytes 0 i (omega arith) ∙ get_or-take at old i 0 low;
-      above = λ i within high. absurd (omega arith);
-    }
-
-any_torn : (old : List ℕ) (at : ℕ) (bytes : List ℕ) → Torn at (length bytes) old (overlay old at bytes)
-any_torn old at bytes =
-    elim (cases_Bool (leb at (length old))) [
-      | inl low ↦ overlay_torn old at bytes (leb-true at (length old) low)
-      | inr past ↦ past_end old at bytes (leb-false at (length old) past)
-    ]
-
-part_torn : (old : List ℕ) (at : ℕ) (bytes part : List ℕ) → length part ≤ length bytes → Torn at (length bytes) old (overlay old at part)
-part_torn old at bytes part less =
-    let torn = any_torn old at part in
-    let longer = torn.no_longer in
-    record { no_shorter = torn.no_shorter; no_longer = omega arith; below = torn.below; above = λ i within high. torn.above i within (omega arith) }
 
 pub on_err : {T E : Type 0} (r : Result T E) (P : Type 0) → P → OnErr r P
 on_err (Ok v) P p = tt

@@ -3,4 +3,3 @@ pub mod Scans
 pub mod Stored
 pub mod Units
 pub mod ListWorld
-pub mod Clients

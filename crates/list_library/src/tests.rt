@@ -2,7 +2,7 @@
 //! one file; the answers are worked out by hand.
 ghost use Rattle.std.specs.Prelude.{◌<◌, length, IfOk, OnOk, IsTrue, IsFalse};
 ghost use Rattle.indexed_file.specs.World.{holding_at, is_open};
-ghost use Rattle.list_library.specs.Clients.{IsOpenWith, IsNotOpen};
+ghost use Rattle.indexed_file.specs.Clients.{IsOpenWith, IsNotOpen};
 
 use crate::ListLibrary;
 use indexed_file::{Added, Found, Library, Replaced, Seen};

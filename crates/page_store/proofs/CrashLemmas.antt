@@ -4,7 +4,7 @@ use Rattle.std.proofs.lemmas.List.{take_more, take_all, map_push, length-take-le
 use Rattle.page_store.specs.CrashImages.{filled}
 use Rattle.page_store.specs.Images.{Durable, durable, after, covered}
 use Rattle.page_store.specs.Events.{steps, step_of}
-use Rattle.page_store.specs.ImageLaws.{durable_push}
+use Rattle.page_store.proofs.ImageLemmas.{durable_push}
 use Rattle.page_store.specs.declared.event.Event.{Event}
 use Rattle.page_store.specs.declared.event.Event.TheVariants.{Created, Wrote, Synced}
 

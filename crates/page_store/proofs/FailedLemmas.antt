@@ -4,8 +4,8 @@ use Rattle.std.proofs.lemmas.Bool.{cases_Bool, eqb-true, eqb-false}
 use Rattle.page_store.specs.File.{File, IsWithin, IsThere, Torn, bytes_or_none, content}
 use Rattle.page_store.specs.Calls.{CreateFails, Written, Synced, SyncFails}
 use Rattle.page_store.specs.Gate.{IsClosed, IsRefused, GateWritten, GateFails, SameOrRefused, OnlyGate}
-use Rattle.page_store.specs.GateLaws.{refused_68}
-use Rattle.page_store.specs.ImageLaws.{overlay_torn}
+use Rattle.page_store.proofs.GateImageLemmas.{refused_68}
+use Rattle.page_store.proofs.ImageLemmas.{overlay_torn}
 use Rattle.page_store.proofs.FileLemmas.{some_bytes}
 
 seen_of : (f g : File) → f ≡ g → f.seen ≡ g.seen

@@ -4,11 +4,11 @@ use Rattle.std.proofs.lemmas.List.{length-take-le}
 use Rattle.page_store.specs.File.{File, IsWithin, content, bytes_or_none}
 use Rattle.page_store.specs.Images.{Leaves}
 use Rattle.page_store.specs.Calls.{Written, WriteFails}
-use Rattle.page_store.specs.GateLaws.{log_written, content_written}
-use Rattle.page_store.specs.ImageLaws.{overlay_torn}
+use Rattle.page_store.proofs.GateImageLemmas.{log_written, content_written}
+use Rattle.page_store.proofs.ImageLemmas.{overlay_torn}
 use Rattle.page_store.specs.Moments.{Quiet}
-use Rattle.page_store.specs.MomentLaws.{quiet_none}
-use Rattle.page_store.specs.QuietLaws.{quiet_written}
+use Rattle.page_store.proofs.MomentLemmas.{quiet_none}
+use Rattle.page_store.proofs.QuietLemmas.{quiet_written}
 
 pub some_bytes : (seen : Option (List ℕ)) → is_some seen ≡ true → seen ≡ Some (bytes_or_none seen)
 some_bytes None there = absurd (cc)

@@ -3,7 +3,7 @@ use Rattle.std.proofs.Common.{◌≡◌, ◌≤◌, ℕ, List, [], ◌∷◌, le
 use Rattle.page_store.specs.File.{File, IsWithin, content}
 use Rattle.page_store.specs.Calls.{Reads, Synced}
 use Rattle.page_store.specs.Gate.{IsClosed, Opens}
-use Rattle.page_store.specs.StartLaws.{opens_open}
+use Rattle.page_store.proofs.StartLemmas.{opens_open}
 use Rattle.page_store.specs.ShelfState.{ShelfState, OnlyReads, unit_file}
 
 first_of : (s bytes : List ℕ) → length bytes ≡ 1 → 1 ≤ length s → bytes ≡ take (length bytes) (drop 0 s) → (rest : List ℕ) × (s ≡ slice_index bytes 0 ∷ rest)

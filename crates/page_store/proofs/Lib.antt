@@ -3,3 +3,17 @@ pub mod GateLemmas
 pub mod CrashLemmas
 pub mod MemLemmas
 pub mod FailedLemmas
+pub mod CrashImageLemmas
+pub mod GateImageLemmas
+pub mod ImageLemmas
+pub mod MemFilesLemmas
+pub mod MomentLemmas
+pub mod OpenLemmas
+pub mod PageLemmas
+pub mod QuietLemmas
+pub mod StartLemmas
+pub mod PropLemmas
+pub mod RefusedLemmas
+pub mod ShelfLemmas
+pub mod TornLemmas
+pub mod MadeLemmas

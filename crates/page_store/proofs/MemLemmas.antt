@@ -4,11 +4,11 @@ use Rattle.std.proofs.lemmas.Bool.{cases_Bool}
 use Rattle.std.proofs.lemmas.Slice.Eq.{bytes_eq-Decides}
 use Rattle.page_store.specs.File.{File, absent, synced}
 use Rattle.page_store.specs.Images.{Leaves}
-use Rattle.page_store.specs.ImageLaws.{only_synced}
+use Rattle.page_store.proofs.ImageLemmas.{only_synced}
 use Rattle.page_store.specs.CrashImages.{Crashed, image_of}
-use Rattle.page_store.specs.CrashLaws.{crash_image, absent_only, image_of_absent}
+use Rattle.page_store.proofs.CrashImageLemmas.{crash_image, absent_only, image_of_absent}
 use Rattle.page_store.specs.MemFiles.{has_name, file_of, file_in, index_of, IsAt}
-use Rattle.page_store.specs.MemLaws.{file_push, others_push, none_from, absent_from, at_from}
+use Rattle.page_store.proofs.MemFilesLemmas.{file_push, others_push, none_from, absent_from, at_from}
 use Rattle.page_store.specs.declared.memory_file.MemFile.{MemFile}
 use Rattle.page_store.specs.declared.crash.Image.{Image}
 

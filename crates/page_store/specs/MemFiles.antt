@@ -1,6 +1,6 @@
 -- Files in memory, each under its name.
-use Rattle.std.specs.Prelude.{ℕ, zero, suc, List, [], ◌∷◌, Option, Some, None, option_map, if◌then◌else◌, bytes_eq, ◌+◌, Bool, true, false, ◌≡◌}
-use Rattle.page_store.specs.File.{File, absent}
+use Rattle.std.specs.Prelude.{ℕ, zero, suc, List, [], ◌∷◌, Option, Some, None, option_map, if◌then◌else◌, bytes_eq, ◌+◌, ◌≤◌, Bool, true, false, ◌≡◌, length, get_or, set}
+use Rattle.page_store.specs.File.{File, absent, IsWithin}
 use Rattle.page_store.specs.Events.{steps}
 use Rattle.page_store.specs.declared.memory_file.MemFile.{MemFile}
 
@@ -26,3 +26,16 @@ abbrev pub IsAt : List MemFile → List ℕ → ℕ → Type 0
 IsAt [] name i = ⊥
 IsAt (f ∷ fs) name zero = has_name f name ≡ true
 IsAt (f ∷ fs) name (suc i) = (has_name f name ≡ false) × IsAt fs name i
+
+-- what is known of a file that was found
+pub record Found (fs : List MemFile) (name : List ℕ) (i : ℕ) : Type 0 where
+  pub at : IsAt fs name i
+  pub file : (d : MemFile) → file_in fs name ≡ file_of (get_or fs i d)
+  pub named : (d : MemFile) → has_name (get_or fs i d) name ≡ true
+  pub within : (d : MemFile) (n : ℕ) → IsWithin n (file_in fs name) → n ≤ length (get_or fs i d).bytes.items
+
+-- one file is changed in its place
+pub record Changed (fs : List MemFile) (name : List ℕ) (i : ℕ) (f g : MemFile) : Type 0 where
+  pub was : file_in fs name ≡ file_of f
+  pub this : file_in (set fs i g) name ≡ file_of g
+  pub others : (other : List ℕ) → ¬ (other ≡ name) → file_in (set fs i g) other ≡ file_in fs other

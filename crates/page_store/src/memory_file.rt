@@ -1,10 +1,10 @@
 //! One file in memory, with what a crash would need to know.
 ghost use Rattle.std.specs.Prelude.{◌≡◌, ◌≤◌, length, Some, OnOk, OnErr, IsOkUnless};
+ghost use Rattle.std.proofs.Props.{props};
 ghost use Rattle.io_state.specs.declared.fault.Fault.TheVariants.{Memory};
 ghost use Rattle.page_store.specs.File.{overlay};
 ghost use Rattle.page_store.specs.Images.{MayLeave, durable};
 ghost use Rattle.page_store.specs.Events.{steps};
-ghost use Rattle.page_store.specs.ImageLaws.{MayLeave-prop};
 
 use crate::event::Event;
 use io_state::{Fault, FileName};
@@ -15,7 +15,7 @@ pub(crate) struct MemFile {
     pub(crate) name: FileName,
     pub(crate) bytes: Vec<u8>,
     pub(crate) log: Vec<Event>,
-    ghost sound: { MayLeave (durable (steps log.items)) (Some bytes.items) } by { MayLeave-prop (durable (steps log.items)) (Some bytes.items) },
+    ghost sound: { MayLeave (durable (steps log.items)) (Some bytes.items) } by { Prim.hlevel props },
 }
 
 impl MemFile {

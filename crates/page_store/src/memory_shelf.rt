@@ -25,9 +25,8 @@ impl MemShelf {
     ghost use Rattle.page_store.specs.File.{absent};
     ghost use Rattle.page_store.specs.CrashImages.{Crashed};
     ghost use Rattle.page_store.specs.ShelfState.{HasUnit, unit_name};
-    ghost use Rattle.page_store.specs.MemFiles.{file_in};
+    ghost use Rattle.page_store.specs.MemFiles.{file_in, Found};
     ghost use Rattle.page_store.specs.MemShelves.{state_of};
-    ghost use Rattle.page_store.specs.MemLaws.{Found};
 
     /// A shelf with no unit, and no file.
     pub fn new(alloc: Global) -> MemShelf

@@ -9,3 +9,4 @@ pub mod RecordLemmas
 pub mod PlacingLemmas
 pub mod LevelLemmas
 pub mod OutcomeLemmas
+pub mod PropLemmas

@@ -1,6 +1,6 @@
 use Rattle.std.proofs.Common.{◌∙◌, sym, inr}
 use Rattle.page_store.specs.ShelfState.{unit_file}
-use Rattle.page_store.specs.StartLaws.{beginning_failed, beginning_done, opens_begun}
+use Rattle.page_store.proofs.StartLemmas.{beginning_failed, beginning_done, opens_begun}
 use Rattle.page_store.proofs.FailedLemmas.{at_err, syncing_seen, beginning_seen, synced_empty}
 use Rattle.page_store.proofs.FileLemmas.{there_image}
 use Rattle.page_store.proofs.gate.begin.Goals as goal

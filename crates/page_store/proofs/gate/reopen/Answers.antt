@@ -2,8 +2,8 @@ use Rattle.std.proofs.Common.{rules, ◌≡◌, ◌∙◌, sym, subst, length, a
 use Rattle.page_store.specs.File.{File}
 use Rattle.page_store.specs.Calls.{Synced, SyncFails}
 use Rattle.page_store.specs.Gate.{GateWritten, GateFails, WasOrRefused}
-use Rattle.page_store.specs.GateLaws.{opening_failed, opening_done, sync_failed}
-use Rattle.page_store.specs.StartLaws.{opens_closed}
+use Rattle.page_store.proofs.GateImageLemmas.{opening_failed, opening_done, sync_failed}
+use Rattle.page_store.proofs.StartLemmas.{opens_closed}
 use Rattle.page_store.specs.ShelfState.{unit_file}
 use Rattle.page_store.proofs.FailedLemmas.{at_err, opening_seen, syncing_seen, only_same, only_synced, only_unsynced, only_gate, only_failed}
 use Rattle.page_store.proofs.FileLemmas.{there_image}

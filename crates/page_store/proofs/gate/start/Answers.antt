@@ -1,6 +1,6 @@
 use Rattle.std.proofs.Common.{◌∙◌, sym, ap, inr}
 use Rattle.page_store.specs.ShelfState.{unit_file}
-use Rattle.page_store.specs.StartLaws.{starting_failed, starting_done, opens_started}
+use Rattle.page_store.proofs.StartLemmas.{starting_failed, starting_done, opens_started}
 use Rattle.page_store.specs.File.{File}
 use Rattle.page_store.proofs.FailedLemmas.{at_err, making_seen, beginning_seen}
 use Rattle.page_store.proofs.FileLemmas.{absent_image}

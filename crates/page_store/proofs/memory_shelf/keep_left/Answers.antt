@@ -1,6 +1,6 @@
 use Rattle.std.proofs.Common.{rules, ◌≡◌, ◌∙◌, ◌++◌, ◌∷◌, [], option_map, ap, sym, true, bytes_eq}
 use Rattle.page_store.specs.MemFiles.{has_name}
-use Rattle.page_store.specs.MemLaws.{file_push}
+use Rattle.page_store.proofs.MemFilesLemmas.{file_push}
 use Rattle.page_store.proofs.MemLemmas.{crashed_some, push_other}
 use Rattle.page_store.proofs.memory_shelf.keep_left.Goals as goal
 

@@ -1,4 +1,4 @@
-use Rattle.page_store.specs.PageLaws.{written_is_read, others_read, others_kept}
+use Rattle.page_store.proofs.PageLemmas.{written_is_read, others_read, others_kept}
 use Rattle.page_store.proofs.pages.page_laws.Goals as goal
 
 pub returns-clause-written : goal.returns-clause-written

@@ -1,5 +1,5 @@
-use Rattle.page_store.specs.MomentLaws.{quiet_none, quiet_then}
-use Rattle.page_store.specs.OpenLaws.{quiet_open, open_kept}
+use Rattle.page_store.proofs.MomentLemmas.{quiet_none, quiet_then}
+use Rattle.page_store.proofs.OpenLemmas.{quiet_open, open_kept}
 use Rattle.page_store.proofs.quiet.quiet_laws.Goals as goal
 
 pub returns-clause-nothing : goal.returns-clause-nothing

@@ -4,7 +4,7 @@ use Rattle.page_store.specs.File.{Step, synced}
 use Rattle.page_store.specs.Images.{MayLeave, durable}
 use Rattle.page_store.specs.Events.{steps, step_of}
 use Rattle.page_store.specs.declared.event.Event.{Event}
-use Rattle.page_store.specs.ImageLaws.{leaves_synced}
+use Rattle.page_store.proofs.ImageLemmas.{leaves_synced}
 use Rattle.page_store.proofs.memory_file.MemFile.sync.Goals as goal
 
 -- whether the sync was noted or not, the bytes are an image

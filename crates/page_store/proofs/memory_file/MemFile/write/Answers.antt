@@ -4,7 +4,7 @@ use Rattle.page_store.specs.File.{Step, Torn, overlay}
 use Rattle.page_store.specs.Images.{MayLeave, durable}
 use Rattle.page_store.specs.Events.{steps, step_of}
 use Rattle.page_store.specs.declared.event.Event.TheVariants.{Wrote}
-use Rattle.page_store.specs.ImageLaws.{leaves_written, overlay_torn, torn_self}
+use Rattle.page_store.proofs.ImageLemmas.{leaves_written, overlay_torn, torn_self}
 use Rattle.page_store.proofs.memory_file.MemFile.write.Goals as goal
 
 -- whether the bytes were written or not, no byte outside the range has changed

@@ -2,7 +2,7 @@ use Rattle.std.proofs.Common.{◌∙◌, List, sym, ap}
 use Rattle.std.proofs.lemmas.List.{length-map}
 use Rattle.page_store.specs.declared.memory_file.MemFile.{MemFile}
 use Rattle.page_store.specs.MemFiles.{index_of}
-use Rattle.page_store.specs.MemLaws.{placed, unit_is}
+use Rattle.page_store.proofs.MemFilesLemmas.{placed, unit_is}
 use Rattle.page_store.proofs.memory_shelf.MemShelf.place.Goals as goal
 
 pub returns-clause-found : goal.returns-clause-found

@@ -1,7 +1,7 @@
 use Rattle.std.proofs.Common.{rules, [], ◌∷◌, ◌++◌, ◌≡◌, ◌∙◌, sym, ap, refl}
 use Rattle.std.proofs.lemmas.Slice.Eq.{bytes_eq-Decides}
 use Rattle.std.proofs.lemmas.List.{length-map}
-use Rattle.page_store.specs.MemLaws.{unit_is, absent_from, file_push, others_push}
+use Rattle.page_store.proofs.MemFilesLemmas.{unit_is, absent_from, file_push, others_push}
 use Rattle.page_store.proofs.memory_shelf.MemShelfShelf.create.Goals as goal
 
 pub returns-clause-made : goal.returns-clause-made

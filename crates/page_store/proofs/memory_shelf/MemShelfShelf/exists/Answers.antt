@@ -1,7 +1,6 @@
 use Rattle.std.proofs.Common.{◌≡◌, ◌∙◌, ℕ, List, [], ◌∷◌, MatchOption, Option, Some, None, is_some, true, sym, ap, refl, zero, suc}
 use Rattle.page_store.specs.declared.memory_file.MemFile.{MemFile}
-use Rattle.page_store.specs.MemFiles.{file_in, IsAt}
-use Rattle.page_store.specs.MemLaws.{Found}
+use Rattle.page_store.specs.MemFiles.{file_in, IsAt, Found}
 use Rattle.page_store.proofs.memory_shelf.MemShelfShelf.exists.Goals as goal
 
 both : (fs : List MemFile) (name : List ℕ) (r : Option ℕ) → MatchOption r ((file_in fs name).seen ≡ None) (λ i. Found fs name i) → is_some r ≡ is_some (file_in fs name).seen

@@ -2,7 +2,7 @@ use Rattle.std.proofs.Common.{◌≡◌, refl, Result, Ok, Err, OnErr, inl}
 use Rattle.page_store.specs.File.{File}
 use Rattle.page_store.specs.Calls.{SyncFails}
 use Rattle.page_store.specs.MemFiles.{file_of}
-use Rattle.page_store.specs.MemLaws.{changed, not_none}
+use Rattle.page_store.proofs.MemFilesLemmas.{changed, not_none}
 use Rattle.page_store.proofs.memory_shelf.MemShelfShelf.sync.Goals as goal
 
 pub unreachable-requires : goal.unreachable-requires

@@ -1,5 +1,5 @@
 use Rattle.std.proofs.Common.{refl, sym}
-use Rattle.page_store.specs.MemLaws.{changed, not_none}
+use Rattle.page_store.proofs.MemFilesLemmas.{changed, not_none}
 use Rattle.page_store.proofs.memory_shelf.MemShelfShelf.write_at.Goals as goal
 
 pub write-requires : goal.write-requires

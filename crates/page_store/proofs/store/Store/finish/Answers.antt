@@ -4,7 +4,7 @@ use Rattle.page_store.specs.Images.{Leaves, IsSettled}
 use Rattle.page_store.specs.Calls.{Synced}
 use Rattle.page_store.specs.Moments.{Throughout}
 use Rattle.page_store.specs.Gate.{GateWritten, GateFails, AllRefused, ClosedOrRefused, with_gate}
-use Rattle.page_store.specs.GateLaws.{closing_done, closing_failed, gate_content, gate_settled, content_synced}
+use Rattle.page_store.proofs.GateImageLemmas.{closing_done, closing_failed, gate_content, gate_settled, content_synced}
 use Rattle.page_store.specs.ShelfState.{unit_file}
 use Rattle.page_store.proofs.FileLemmas.{there_image}
 use Rattle.page_store.proofs.store.Store.finish.Goals as goal

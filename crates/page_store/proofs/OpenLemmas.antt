@@ -4,7 +4,7 @@ use Rattle.std.proofs.lemmas.Bool.{cases_Bool, eqb-false}
 use Rattle.page_store.specs.File.{File, content}
 use Rattle.page_store.specs.Images.{IsSettled}
 use Rattle.page_store.specs.Moments.{Throughout, Begins, BeginsBefore, Quiet}
-use Rattle.page_store.specs.MomentLaws.{throughout_weaker, throughout_last}
+use Rattle.page_store.proofs.MomentLemmas.{throughout_weaker, throughout_last}
 use Rattle.page_store.specs.Gate.{IsClosed, IsOpen, AllOpen, IsRefused, AllRefused, opened, Opens}
 
 begins_open : (c d : Option (List ℕ)) → Begins c d → IsOpen d → IsOpen c

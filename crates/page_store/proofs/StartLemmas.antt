@@ -4,11 +4,11 @@ use Rattle.std.proofs.lemmas.Bool.{cases_Bool, eqb-true}
 use Rattle.page_store.specs.File.{File, created, wrote, bytes_or_none, content}
 use Rattle.page_store.specs.Images.{Durable, after, durable, IsImage, MayLeave, Leaves}
 use Rattle.page_store.specs.Calls.{Created, CreateFails, Synced, SyncFails}
-use Rattle.page_store.specs.ImageLaws.{durable_push}
+use Rattle.page_store.proofs.ImageLemmas.{durable_push}
 use Rattle.page_store.specs.Moments.{Throughout}
-use Rattle.page_store.specs.MomentLaws.{throughout_none, throughout_one, throughout_then, throughout_last}
+use Rattle.page_store.proofs.MomentLemmas.{throughout_none, throughout_one, throughout_then, throughout_last}
 use Rattle.page_store.specs.Gate.{IsClosed, IsRefused, WasOrRefused, GateWritten, GateFails, with_gate, opened, Opens}
-use Rattle.page_store.specs.GateLaws.{gate_done, gate_failed, gate_content, gate_settled, refused_68, sync_done, sync_failed, synced_byte, content_synced, settled_synced}
+use Rattle.page_store.proofs.GateImageLemmas.{gate_done, gate_failed, gate_content, gate_settled, refused_68, sync_done, sync_failed, synced_byte, content_synced, settled_synced}
 
 -- in a file of which nothing was synced there is nothing behind the range
 one_byte : (c : List ℕ) → IsImage [] ((0, 1) ∷ []) c → length c ≤ 1

@@ -4,9 +4,9 @@ use Rattle.std.proofs.lemmas.Bool.{cases_Bool, or_from, and_left, lt-leb, both_w
 use Rattle.std.proofs.lemmas.List.{get_or-drop, length-drop}
 use Rattle.page_store.specs.File.{Step, wrote, synced, File, bytes_or_none}
 use Rattle.page_store.specs.Images.{Durable, after, durable, covered, IsImage, MayLeave, Leaves}
-use Rattle.page_store.specs.ImageLaws.{durable_push, only_synced}
+use Rattle.page_store.proofs.ImageLemmas.{durable_push, only_synced}
 use Rattle.page_store.specs.Moments.{Begins, Quiet}
-use Rattle.page_store.specs.MomentLaws.{throughout_one, begins_self}
+use Rattle.page_store.proofs.MomentLemmas.{throughout_one, begins_self}
 
 base_is_image : (base : List ℕ) (rs : List (ℕ × ℕ)) → IsImage base rs base
 base_is_image base rs = record { kept = λ i within out. within; each = λ i within out. (within, refl) }

@@ -3,7 +3,7 @@ use Rattle.std.proofs.Common.{◌≡◌, ℕ, List, [], ◌∷◌, ◌++◌, Opt
 use Rattle.std.proofs.lemmas.List.{append-nil, append_assoc}
 use Rattle.page_store.specs.File.{Step, File}
 use Rattle.page_store.specs.Images.{Durable, nothing, after, durable_from, durable, MayLeave, Leaves}
-use Rattle.page_store.specs.ImageLaws.{durable_from-append, durable_push}
+use Rattle.page_store.proofs.ImageLemmas.{durable_from-append, durable_push}
 use Rattle.page_store.specs.Moments.{Moments, Throughout, Begins, Quiet}
 
 abbrev Claim : Type 1

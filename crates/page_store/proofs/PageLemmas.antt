@@ -5,7 +5,7 @@ use Rattle.std.proofs.lemmas.Grind.{same_number_lists}
 use Rattle.std.proofs.lemmas.List.{get_or-take, get_or-drop, length-take, length-drop}
 use Rattle.std.proofs.Math.Seq.{take-append_seam, drop-append_seam}
 use Rattle.page_store.specs.File.{File, Torn, overlay, content}
-use Rattle.page_store.specs.ImageLaws.{overlay_torn}
+use Rattle.page_store.proofs.ImageLemmas.{overlay_torn}
 use Rattle.page_store.specs.Pages.{page_of, offset_of, length_of, part_of, PageWritten, PageFails, HasPages}
 use Rattle.page_store.specs.PageFacts.{page_over}
 

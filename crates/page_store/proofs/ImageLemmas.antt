@@ -2,7 +2,6 @@
 use Rattle.std.proofs.Common.{zero, suc, ◌≡◌, ◌⊎◌, inl, inr, ⊎_elim, ℕ, ◌+◌, ◌-◌, ◌<◌, ◌≤◌, leb, ltb, false, ◌&&◌, List, [], ◌∷◌, ◌++◌, length, take, drop, slice_index, Option, Some, None, refl, sym, ◌∙◌, ap, subst, arith, length-append}
 use Rattle.std.proofs.lemmas.Bool.{or_parts, and_cases, leb-false, ltb-false}
 use Rattle.std.proofs.lemmas.List.{get_or_append_left, get_or-append_right, get_or-take, get_or-drop, length-drop, same_lists, get_or_default, length-take-le}
-use Rattle.std.proofs.Props.{props}
 use Rattle.page_store.specs.File.{Step, wrote, synced, overlay, Torn}
 use Rattle.page_store.specs.Images.{Durable, nothing, after, durable_from, durable, covered, IsImage, MayLeave}
 
@@ -82,10 +81,6 @@ only_synced log bytes c may = only c (subst (λ (d : Durable). MayLeave d c) (du
     only : (c : Option (List ℕ)) → MayLeave (after (durable log) (synced bytes)) c → c ≡ Some bytes
     only None may = absurd (cc)
     only (Some c) may = ap Some (image_only bytes c may.1)
-
-pub MayLeave-prop : (d : Durable) (c : Option (List ℕ)) → IsProp (MayLeave d c)
-MayLeave-prop d None = hlevel props
-MayLeave-prop d (Some c) = hlevel props
 
 pub torn_self : (at n : ℕ) (was : List ℕ) → Torn at n was was
 torn_self at n was = record { no_shorter = omega arith; no_longer = omega arith; below = λ i w l. refl; above = λ i w l. refl }

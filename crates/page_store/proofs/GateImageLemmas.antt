@@ -4,9 +4,9 @@ use Rattle.std.proofs.lemmas.Bool.{cases_Bool, or_from, and_right, le-ltb, eqb-t
 use Rattle.page_store.specs.File.{Step, wrote, synced, File, bytes_or_none, content, overlay}
 use Rattle.page_store.specs.Images.{Durable, after, durable, covered, IsImage, MayLeave, Leaves, IsSettled}
 use Rattle.page_store.specs.Calls.{Written, Synced, SyncFails}
-use Rattle.page_store.specs.ImageLaws.{durable_push, only_synced, image_only}
+use Rattle.page_store.proofs.ImageLemmas.{durable_push, only_synced, image_only}
 use Rattle.page_store.specs.Moments.{Throughout}
-use Rattle.page_store.specs.MomentLaws.{throughout_none, throughout_one, throughout_then, throughout_last}
+use Rattle.page_store.proofs.MomentLemmas.{throughout_none, throughout_one, throughout_then, throughout_last}
 use Rattle.page_store.specs.Gate.{IsClosed, IsRefused, AllRefused, with_gate, WasOrRefused, ClosedOrRefused, GateWritten, GateFails}
 
 abbrev Claim : Type 1
