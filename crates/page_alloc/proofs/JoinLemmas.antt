@@ -16,7 +16,7 @@ use Rattle.page_alloc.specs.Chain.{chain, used}
 use Rattle.page_alloc.specs.Joining.{free_pages, pages_state, IsJoined, PartsGo, HasFailed}
 use Rattle.page_alloc.specs.Taking.{CallFails}
 use Rattle.pages.specs.Cause.{IsCaused}
-use Rattle.page_store.specs.OpenLaws.{open_kept}
+use Rattle.page_store.proofs.OpenLemmas.{open_kept}
 use Rattle.page_store.specs.ShelfState.{unit_file}
 use Rattle.page_store.specs.Gate.{AllOpen}
 use Rattle.page_alloc.specs.declared.paged_file.PagedFile.{PagedFile}

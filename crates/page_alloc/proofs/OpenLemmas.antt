@@ -5,8 +5,8 @@ use Rattle.std.proofs.lemmas.List.{length-drop}
 use Rattle.page_store.specs.File.{File, content}
 use Rattle.page_store.specs.Images.{IsSettled}
 use Rattle.page_store.specs.Moments.{Throughout, Quiet}
-use Rattle.page_store.specs.MomentLaws.{throughout_weaker, throughout_then, quiet_then}
-use Rattle.page_store.specs.OpenLaws.{quiet_open, open_kept, refused_open, all_refused}
+use Rattle.page_store.proofs.MomentLemmas.{throughout_weaker, throughout_then, quiet_then}
+use Rattle.page_store.proofs.OpenLemmas.{quiet_open, open_kept, refused_open, all_refused}
 use Rattle.page_store.specs.Gate.{IsRefused, IsOpen, AllOpen, AllRefused, with_gate, ClosedOrRefused, WasOrRefused}
 use Rattle.page_store.specs.Pages.{page_of}
 use Rattle.page_store.specs.PageFacts.{page_over}

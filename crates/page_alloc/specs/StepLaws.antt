@@ -1,15 +1,17 @@
--- Steps of calls, one after the other.
-use Rattle.std.proofs.Common.{◌≡◌, inl, inr, ℕ, ◌≤◌, false, IsTrue, List, Option, refl, sym, ◌∙◌, ap, subst, arith}
+-- Steps of calls, one after the other: what the pages of an open file promise as a trait.
+use Rattle.std.proofs.Common.{◌≡◌, inl, inr, ℕ, ◌≤◌, false, IsTrue, refl, sym, ◌∙◌, ap, subst, arith}
 use Rattle.std.proofs.lemmas.Bool.{cases_Bool}
 use Rattle.page_store.specs.File.{File}
 use Rattle.page_store.specs.Moments.{Throughout}
-use Rattle.page_store.specs.MomentLaws.{throughout_none, throughout_weaker, throughout_last, throughout_then}
-use Rattle.page_store.specs.OpenLaws.{quiet_open, open_kept, refused_open, all_refused}
-use Rattle.page_store.specs.Gate.{IsRefused, IsOpen, AllRefused, WasOrRefused}
-use Rattle.page_store.specs.ShelfState.{ShelfState, unit_name, unit_file, KeepsOthers}
+use Rattle.page_store.proofs.MomentLemmas.{throughout_none, throughout_weaker}
+use Rattle.page_store.proofs.OpenLemmas.{quiet_open, open_kept, refused_open, all_refused}
+use Rattle.page_store.proofs.RefusedLemmas.{refused_after, images_then}
+use Rattle.page_store.proofs.ShelfLemmas.{same_place, others_then}
+use Rattle.page_store.specs.Gate.{IsRefused, IsOpen, WasOrRefused}
+use Rattle.page_store.specs.ShelfState.{ShelfState, unit_file, KeepsOthers}
 use Rattle.page_cache.specs.declared.cache.Cache.{Cache}
 use Rattle.page_cache.specs.Quietly.{GoesQuietly}
-use Rattle.page_cache.specs.QuietLaws.{goes_nowhere, goes_then}
+use Rattle.page_cache.proofs.QuietLemmas.{goes_nowhere, goes_then}
 use Rattle.page_alloc.specs.declared.paged_file.PagedFile.{PagedFile}
 use Rattle.page_alloc.specs.Joining.{PartsGo, HasFailed}
 use Rattle.page_alloc.specs.PagedFile.{IsOpenOver, StandsOrRefused}
@@ -58,17 +60,6 @@ reads_on a b c x y z i j k ab bc = record {
   };
 }
 
--- the file of a unit in another state of the shelf
-pub same_place : (a b : ShelfState) (unit : ℕ) → b.file ≡ a.file → b.names ≡ a.names → unit_file b unit ≡ unit_file a unit
-same_place a b unit file names = ap (λ f. f (unit_name b unit)) file ∙ ap (λ n. a.file (unit_name (record a { names = n }) unit)) names
-
-refused_after : (f g : File) → AllRefused f → Throughout (WasOrRefused f) f g → AllRefused g
-refused_after f g all images c may = either c (throughout_last (WasOrRefused f) f g images c may)
-  where
-    either : (c : Option (List ℕ)) → WasOrRefused f c → IsRefused c
-    either c (inl was) = all c was
-    either c (inr refused) = refused
-
 pub goes_moves : (a b : PagedFile) (x y : ShelfState) (i j : ℕ) → Goes a b x y i j → Moves a b x y i j
 goes_moves a b x y i j goes = record {
   unit = goes.parts.unit;
@@ -95,22 +86,6 @@ goes_moves a b x y i j goes = record {
 
     same : IsOpenOver a x → a.changed ≡ false → g ≡ f
     same r shut = same_place x y a.cache.store.unit (goes.still r shut) goes.parts.quietly.others.names
-
-others_then : (unit : ℕ) (a b c : ShelfState) → KeepsOthers unit a b → KeepsOthers unit b c → KeepsOthers unit a c
-others_then unit a b c ab bc =
-    let name : unit_name b unit ≡ unit_name a unit = ap (λ names. unit_name (record a { names = names }) unit) ab.names in
-    record {
-      names = bc.names ∙ ab.names;
-      others = λ other differs. bc.others other (λ e. differs (e ∙ name)) ∙ ab.others other differs;
-      honest = λ h. ab.honest (bc.honest h);
-    }
-
-weaker : (f g : File) → Throughout (WasOrRefused f) f g → (c : Option (List ℕ)) → WasOrRefused g c → WasOrRefused f c
-weaker f g images c (inl was) = throughout_last (WasOrRefused f) f g images c was
-weaker f g images c (inr refused) = inr refused
-
-pub images_then : (f g h : File) → Throughout (WasOrRefused f) f g → Throughout (WasOrRefused g) g h → Throughout (WasOrRefused f) f h
-images_then f g h fg gh = throughout_then (WasOrRefused f) f g h fg (throughout_weaker (WasOrRefused g) (WasOrRefused f) g h (weaker f g fg) gh)
 
 stands_then : (f g h : File) → Throughout (WasOrRefused g) g h → StandsOrRefused f g → StandsOrRefused g h → StandsOrRefused f h
 stands_then f g h gh (inr all) next = inr (refused_after g h all gh)

@@ -10,6 +10,7 @@ use page_store::{FuseShelf, Kind, MemShelf, Shelf, Store};
 use pages::Pages;
 use std::alloc::Global;
 use std::num::NonZeroUsize;
+use std::process::Abort;
 use std::test::Fail;
 
 /// What a file is found to be.
@@ -178,28 +179,83 @@ fn a_hundred_pages_are_read_as_written_with_any_number_of_frames(
     Ok(())
 }
 
-// The n-th call of a kind fails, in a program that makes a file of twenty pages with three frames.
+// How a call of a shelf fails: after it was made or before, and once or for good.
+const WAYS: [(bool, bool); 4] = [(false, false), (false, true), (true, false), (true, true)];
+
+// The n-th call of a kind fails, in a program that makes a file of eight pages. Whether it has so many calls.
+fn fails_at(
+    rt: &impl Abort,
+    alloc: Global,
+    kind: Kind,
+    way: (bool, bool),
+    held: usize,
+    at: u64,
+) -> Result<bool, Fail> {
+    let inner = new_shelf(alloc)?;
+    let mut shelf = FuseShelf::new(inner, kind, at, way.0, way.1);
+    let made = make(alloc, &mut shelf, frames(held), 8);
+    let failed = shelf.faults() > 0;
+    let mut inner = shelf.into_inner();
+    inner.attach(&[name()])?;
+    let found = find(alloc, &mut inner, frames(held))?;
+    if made.is_ok() {
+        assert_eq!(rt; found, Found::Closed(8, 8), "{kind:?} {at}, {held} frames");
+    } else {
+        assert!(rt;
+            failed && (found == Found::Refused || found == Found::Closed(8, 8)),
+            "{kind:?} {at}, {held} frames"
+        );
+    }
+    Ok(failed)
+}
+
 #[test]
 fn a_file_is_closed_whole_or_refused_whichever_call_failed(rt: HostRuntime) -> Result<(), Fail> {
-    for kind in [Kind::Reads, Kind::Writes, Kind::Syncs] {
-        for (after, for_good) in [(false, false), (false, true), (true, false), (true, true)] {
-            for at in 1..200 {
-                let inner = new_shelf(rt.alloc())?;
-                let mut shelf = FuseShelf::new(inner, kind, at, after, for_good);
-                let made = make(rt.alloc(), &mut shelf, frames(3), 20);
-                let failed = shelf.faults() > 0;
-                let mut inner = shelf.into_inner();
-                inner.attach(&[name()])?;
-                let found = find(rt.alloc(), &mut inner, frames(3))?;
-                if made.is_ok() {
-                    assert_eq!(rt; found, Found::Closed(20, 20), "{kind:?} {at}");
-                } else {
-                    assert!(rt;
-                        failed && (found == Found::Refused || found == Found::Closed(20, 20)),
-                        "{kind:?} {at}"
-                    );
+    for held in [1, 3, 64] {
+        for kind in [Kind::Reads, Kind::Writes, Kind::Syncs] {
+            for way in WAYS {
+                for at in 1..200 {
+                    if !fails_at(&rt, rt.alloc(), kind, way, held, at)? {
+                        break;
+                    }
                 }
-                if !failed {
+            }
+        }
+    }
+    Ok(())
+}
+
+// The n-th read fails, where a closed file of eight pages is read back. Whether it has so many reads.
+fn read_fails_at(
+    rt: &impl Abort,
+    alloc: Global,
+    way: (bool, bool),
+    held: usize,
+    at: u64,
+) -> Result<bool, Fail> {
+    let mut inner = new_shelf(alloc)?;
+    make(alloc, &mut inner, frames(held), 8)?;
+    let mut shelf = FuseShelf::new(inner, Kind::Reads, at, way.0, way.1);
+    let found = find(alloc, &mut shelf, frames(held));
+    let failed = shelf.faults() > 0;
+    match found {
+        Ok(found) => assert_eq!(rt; found, Found::Closed(8, 8), "read {at}, {held} frames"),
+        Err(_) => assert!(rt; failed, "read {at}, {held} frames"),
+    }
+    let mut inner = shelf.into_inner();
+    inner.attach(&[name()])?;
+    assert_eq!(rt; find(alloc, &mut inner, frames(held))?, Found::Closed(8, 8));
+    Ok(failed)
+}
+
+#[test]
+fn pages_are_read_as_written_or_not_at_all_whichever_read_failed(
+    rt: HostRuntime,
+) -> Result<(), Fail> {
+    for held in [1, 3, 64] {
+        for way in WAYS {
+            for at in 1..200 {
+                if !read_fails_at(&rt, rt.alloc(), way, held, at)? {
                     break;
                 }
             }
@@ -285,5 +341,82 @@ fn a_page_is_read_once_while_it_is_held_and_written_when_the_file_is_closed(
     assert_eq!(rt; shelf.calls(Kind::Writes).wrapping_sub(writes), 10);
     file.cache.restart_count();
     assert_eq!(rt; file.cache.asked(), 0);
+    Ok(())
+}
+
+// Whether each of the first pages is one of zeros.
+fn all_zeros<P: Pages>(pages: &mut P, count: u32) -> Result<bool, Fault>
+    requires ready { P.IsReady pages.old }
+    ensures goes { P.Goes pages.old pages.new }
+{
+    for n in 0..count {
+        if pages.page(n.wrapping_add(1))?.iter().any(|byte| *byte != 0) {
+            return Ok(false);
+        }
+    }
+    Ok(true)
+}
+
+// Takes so many pages. So many of them have the next number.
+fn take_next<P: Pages>(pages: &mut P, count: u32) -> Result<u32, Fault>
+    requires ready { P.IsReady pages.old }
+    requires open { P.CanChange pages.old }
+    ensures goes { P.Goes pages.old pages.new }
+{
+    let mut right = 0u32;
+    for n in 0..count {
+        if pages.take()? == n.wrapping_add(1) {
+            right = right.wrapping_add(1);
+        }
+    }
+    Ok(right)
+}
+
+// The header counts no page but itself, and eight marked pages lie behind it.
+#[test]
+fn a_page_inside_the_file_is_taken_without_a_read(rt: HostRuntime) -> Result<(), Fail> {
+    for held in [1, 3, 8] {
+        let inner = new_shelf(rt.alloc())?;
+        let mut shelf = FuseShelf::new(inner, Kind::Reads, 0, false, false);
+        let mut file = PagedFile::create(rt.alloc(), &mut shelf, 0, frames(8), 1000, &[0; 4096])?;
+        let mut pages = FilePages {
+            file: &mut file,
+            shelf: &mut shelf,
+        };
+        assert_eq!(rt; fill(&mut pages, 8)?, 8);
+        let mut header = [0; 4096];
+        Pager::fresh(1000).save(&mut header);
+        file.close(&mut shelf, &header)?;
+        let Some(mut file) = reopen(rt.alloc(), &mut shelf, frames(held))? else {
+            return Err(Fault::Damage.into());
+        };
+        file.begin(&mut shelf)?;
+        let reads = shelf.calls(Kind::Reads);
+        let mut pages = FilePages {
+            file: &mut file,
+            shelf: &mut shelf,
+        };
+        assert_eq!(rt; take_next(&mut pages, 8)?, 8);
+        assert_eq!(rt; shelf.calls(Kind::Reads), reads);
+        assert_eq!(rt; file.cache.asked(), 8);
+        let mut pages = FilePages {
+            file: &mut file,
+            shelf: &mut shelf,
+        };
+        assert!(rt; all_zeros(&mut pages, 8)?, "{held} frames");
+    }
+    Ok(())
+}
+
+#[test]
+fn the_gate_is_opened_through_the_pages(rt: HostRuntime) -> Result<(), Fail> {
+    let mut shelf = new_shelf(rt.alloc())?;
+    let mut file = PagedFile::create(rt.alloc(), &mut shelf, 0, frames(2), 16, &[9; 4096])?;
+    let mut pages = FilePages {
+        file: &mut file,
+        shelf: &mut shelf,
+    };
+    pages.begin()?;
+    assert_eq!(rt; pages.pages_left(), 15);
     Ok(())
 }

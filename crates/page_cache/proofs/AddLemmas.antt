@@ -4,7 +4,7 @@ use Rattle.std.specs.Option.{option_map_or}
 use Rattle.std.proofs.lemmas.Bool.{cases_Bool, and_parts, and_from, ltb-true, ltb-false, lt-ltb, le-ltb, both_ways, and_right}
 use Rattle.page_store.specs.File.{File, content}
 use Rattle.page_store.specs.Pages.{page_of, HasPages, PageWritten, PageFails}
-use Rattle.page_store.specs.PageLaws.{written_is_read, others_read, others_kept}
+use Rattle.page_store.proofs.PageLemmas.{written_is_read, others_read, others_kept}
 use Rattle.io_state.specs.declared.fault.Fault.{Fault}
 use Rattle.page_cache.proofs.WriteLemmas.{over_positive, same_unit}
 use Rattle.page_store.specs.ShelfState.{ShelfState, HasUnit, unit_file, WhereHonest, ChangesOnly}
@@ -14,7 +14,7 @@ use Rattle.page_cache.specs.declared.cache.Cache.{Cache}
 use Rattle.page_cache.specs.Cached.{frame_of, is_counted, pages_of, IsOver}
 use Rattle.page_cache.specs.Calls.{KeepsPages, Zeroed, GoesOn}
 use Rattle.page_cache.specs.Quietly.{GoesQuietly}
-use Rattle.page_cache.specs.QuietLaws.{goes_then}
+use Rattle.page_cache.proofs.QuietLemmas.{goes_then}
 use Rattle.page_cache.specs.Turning.{HasRoom}
 use Rattle.page_cache.specs.Rewrites.{Extends, AddsPage, IsZeros}
 use Rattle.page_cache.proofs.PutLemmas.{Brought, brought, cap_kept}

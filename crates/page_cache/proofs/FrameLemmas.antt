@@ -1,9 +1,9 @@
 -- What the order of the entries, and a value set in one of them, are to a look-up.
-use Rattle.std.proofs.Common.{◌≡◌, ◌≢◌, inl, inr, ℕ, Bool, List, [], ◌∷◌, Option, Some, None, IsSome, nat_eq, option_map, refl, sym, ◌∙◌, ap, subst, if◌then◌else◌}
+use Rattle.std.proofs.Common.{◌≡◌, ◌≢◌, inl, inr, ℕ, Bool, List, [], ◌∷◌, Option, Some, None, IsSome, true, slice_get, nat_eq, option_map, refl, sym, ◌∙◌, ap, subst, if◌then◌else◌}
 use Rattle.std.specs.Option.{option_map_or}
 use Rattle.std.specs.Cmp.{nat_eq_equiv}
 use Rattle.std.specs.Map.{lookup, lookup_entry, remove_entry, set_value, AreApart}
-use Rattle.std.proofs.lemmas.Bool.{cases_Bool, eqb-true, ne_eqb, cases_eq, cond-true, cond-false}
+use Rattle.std.proofs.lemmas.Bool.{cases_Bool, eqb-true, eq-eqb, ne_eqb, cases_eq, cond-true, cond-false}
 use Rattle.std.proofs.lemmas.Map.{lookup-set_value}
 use Rattle.lru.specs.LruCache.{promoted}
 use Rattle.lru.proofs.CallerLemmas.{Contains-lookup_entry}
@@ -38,12 +38,30 @@ module _ {X : Type 0} where
             rw (apart_keys n k differs e.0 hit) (lookup-removed (nat_eq n) (nat_eq k) (apart_keys n k differs) es)
       ]
 
-  set_value_at : (n k : ℕ) (es : List (ℕ × X)) (w : X) → IsSome (lookup (nat_eq n) es) → lookup (nat_eq k) (set_value (nat_eq n) (promoted (nat_eq n) es) w) ≡ (if nat_eq n k then Some w else lookup (nat_eq k) (promoted (nat_eq n) es))
-  set_value_at n k es w there = lookup-set_value nat_eq_equiv (nat_eq n) (nat_eq_equiv.congr n) k w (promoted (nat_eq n) es) (subst IsSome (sym (lookup-promoted n n es)) there)
+  value_at : (n k : ℕ) (es : List (ℕ × X)) (w : X) → IsSome (lookup (nat_eq n) es) → lookup (nat_eq k) (set_value (nat_eq n) es w) ≡ (if nat_eq n k then Some w else lookup (nat_eq k) es)
+  value_at n k es w there = lookup-set_value nat_eq_equiv (nat_eq n) (nat_eq_equiv.congr n) k w es there
+
+  -- a value set in an entry
+  pub value_here : (n : ℕ) (es : List (ℕ × X)) (w : X) → IsSome (lookup (nat_eq n) es) → lookup (nat_eq n) (set_value (nat_eq n) es w) ≡ Some w
+  value_here n es w there = value_at n n es w there ∙ cond-true (nat_eq n n) (Some w) _ (nat_eq_equiv.refl n)
+
+  pub value_apart : (n k : ℕ) (es : List (ℕ × X)) (w : X) → IsSome (lookup (nat_eq n) es) → k ≢ n → lookup (nat_eq k) (set_value (nat_eq n) es w) ≡ lookup (nat_eq k) es
+  value_apart n k es w there differs = value_at n k es w there ∙ cond-false (nat_eq n k) (Some w) _ (ne_eqb n k (λ e. differs (sym e)))
+
+  there_promoted : (n : ℕ) (es : List (ℕ × X)) → IsSome (lookup (nat_eq n) es) → IsSome (lookup (nat_eq n) (promoted (nat_eq n) es))
+  there_promoted n es there = subst IsSome (sym (lookup-promoted n n es)) there
 
   -- a value set in a promoted entry
   pub set_here : (n : ℕ) (es : List (ℕ × X)) (w : X) → IsSome (lookup (nat_eq n) es) → lookup (nat_eq n) (set_value (nat_eq n) (promoted (nat_eq n) es) w) ≡ Some w
-  set_here n es w there = set_value_at n n es w there ∙ cond-true (nat_eq n n) (Some w) _ (nat_eq_equiv.refl n)
+  set_here n es w there = value_here n (promoted (nat_eq n) es) w (there_promoted n es there)
 
   pub set_apart : (n k : ℕ) (es : List (ℕ × X)) (w : X) → IsSome (lookup (nat_eq n) es) → k ≢ n → lookup (nat_eq k) (set_value (nat_eq n) (promoted (nat_eq n) es) w) ≡ lookup (nat_eq k) es
-  set_apart n k es w there differs = set_value_at n k es w there ∙ cond-false (nat_eq n k) (Some w) _ (ne_eqb n k (λ e. differs (sym e))) ∙ lookup-promoted n k es
+  set_apart n k es w there differs = value_apart n k (promoted (nat_eq n) es) w (there_promoted n es there) differs ∙ lookup-promoted n k es
+
+  -- the first entry is the one that its key finds
+  pub first_found : (n : ℕ) (es : List (ℕ × X)) (first : ℕ) (value : X) → slice_get es 0 ≡ Some (first, value) → first ≡ n → lookup (nat_eq n) es ≡ Some value
+  first_found n [] first value is same = absurd (cc)
+  first_found n (e ∷ es) first value is same =
+      let pair : e ≡ (first, value) = ap (λ (o : Option (ℕ × X)). option_map_or (λ p. p) o e) is in
+      let hit : nat_eq n e.0 ≡ true = eq-eqb n e.0 (sym (ap (λ p. p.0) pair ∙ same)) in
+      rw hit (ap (λ p. Some p.1) pair)

@@ -6,7 +6,7 @@ use Rattle.std.proofs.lemmas.List.{length-drop}
 use Rattle.page_store.specs.File.{File, content, bytes_or_none}
 use Rattle.page_store.specs.Gate.{OnlyGate, with_gate}
 use Rattle.page_store.specs.Pages.{page_of, HasPages, PageWritten, PageFails}
-use Rattle.page_store.specs.PageLaws.{others_read, others_kept}
+use Rattle.page_store.proofs.PageLemmas.{others_read, others_kept}
 use Rattle.page_store.specs.ShelfState.{ShelfState, HasUnit, unit_file, WhereHonest, KeepsOthers, ChangesOnly}
 use Rattle.page_store.specs.declared.store.Store.{Store}
 use Rattle.page_cache.specs.declared.frame.Frame.{Frame}

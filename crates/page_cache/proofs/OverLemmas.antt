@@ -10,7 +10,7 @@ use Rattle.page_cache.specs.declared.cache.Cache.{Cache}
 use Rattle.page_cache.specs.Lending.{FrameSet}
 use Rattle.page_cache.specs.Cached.{frame_of, is_counted, pages_of, IsOver, IsClean}
 use Rattle.page_cache.specs.Calls.{KeepsPages}
-use Rattle.page_cache.specs.QuietLaws.{goes_nowhere}
+use Rattle.page_cache.proofs.QuietLemmas.{goes_nowhere}
 
 pub over_same : (c d : Cache) (s : ShelfState) → d.store ≡ c.store → ((k : ℕ) → frame_of d k ≡ frame_of c k) → IsOver c s → IsOver d s
 over_same c d s store same over = record {
@@ -79,13 +79,15 @@ module _ (c : Cache) (t u : ShelfState) (only : OnlyReads t u) where
     clean = λ honest k frame is clean. rw file_read (over.clean (only.honest honest) k frame is clean);
   }
 
+-- the frames are the same, in another order perhaps
+pub keeps_frames : (c d : Cache) (s : ShelfState) → d.store ≡ c.store → ((k : ℕ) → frame_of d k ≡ frame_of c k) → d.frames.cap ≡ c.frames.cap → IsOver c s → KeepsPages c d s s
+keeps_frames c d s store same cap over = record {
+  over = over_same c d s store same over;
+  pages = λ honest. pages_same c d s store same;
+  keeps = record { store = store; cap = cap };
+  goes = goes_nowhere c.store.unit s;
+}
+
 -- nothing but the count of pages asked has changed
 pub keeps_same : (c d : Cache) (s : ShelfState) → d.store ≡ c.store → d.frames ≡ c.frames → IsOver c s → KeepsPages c d s s
-keeps_same c d s store frames over =
-    let same : (k : ℕ) → frame_of d k ≡ frame_of c k = λ k. ap (λ f. frame_of (record c { frames = f }) k) frames in
-    record {
-      over = over_same c d s store same over;
-      pages = λ honest. pages_same c d s store same;
-      keeps = record { store = store; cap = ap (λ f. f.cap) frames };
-      goes = goes_nowhere c.store.unit s;
-    }
+keeps_same c d s store frames over = keeps_frames c d s store (λ k. ap (λ f. frame_of (record c { frames = f }) k) frames) (ap (λ f. f.cap) frames) over

@@ -1,11 +1,14 @@
 -- What a frame that is put in front leaves of the list of pages.
-use Rattle.std.proofs.Common.{zero, suc, ◌≡◌, ◌≢◌, ◌⊎◌, inl, inr, ℕ, ◌+◌, ◌-◌, ◌<◌, ◌≤◌, false, if◌then◌else◌, nat_eq, Option, Some, None, option_map, List, [], ◌∷◌, length, take, slice_get, refl, sym, ◌∙◌, ap, subst, arith, IsTrue, IsSome, is_some, Result, Ok, Err, OnOk, OnErr}
+use Rattle.std.proofs.Common.{zero, suc, ◌≡◌, ◌≢◌, ◌⊎◌, inl, inr, ℕ, ◌+◌, ◌-◌, ◌<◌, ◌≤◌, max, false, true, if◌then◌else◌, nat_eq, Option, Some, None, option_map, List, [], ◌∷◌, length, take, slice_get, refl, sym, ◌∙◌, ap, subst, arith, IsTrue, IsSome, is_some, Result, Ok, Err, OnOk, OnErr}
 use Rattle.io_state.specs.declared.fault.Fault.{Fault}
-use Rattle.page_cache.proofs.OverLemmas.{over_same, pages_same, clean_same, over_read, pages_read}
+use Rattle.page_cache.proofs.OverLemmas.{over_same, pages_same, clean_same, over_read, pages_read, keeps_same}
+use Rattle.page_cache.proofs.WriteLemmas.{counted_low}
+use Rattle.page_cache.specs.Calls.{Zeroed, KeepsPages}
+use Rattle.page_cache.specs.Rewrites.{IsZeros}
 use Rattle.std.specs.Option.{option_map_or}
 use Rattle.std.specs.Cmp.{nat_eq_equiv}
 use Rattle.std.specs.Map.{lookup, lookup_entry}
-use Rattle.std.proofs.lemmas.Bool.{cases_Bool, cases_eq, eqb-true, ne_eqb}
+use Rattle.std.proofs.lemmas.Bool.{cases_Bool, cases_eq, both_ways, eqb-true, ne_eqb}
 use Rattle.lru.specs.LruCache.{LruCache, lru_cache, put_entries}
 use Rattle.page_store.specs.File.{content}
 use Rattle.page_store.specs.Pages.{page_of, HasPages}
@@ -46,8 +49,7 @@ module _ {X : Type 0} where
 
 -- the frame stands in front of the others, of which the last may be gone
 module _ (c d : Cache) (t u : ShelfState) (n : ℕ) (frame : Frame) (over : IsOver c t) (room : HasRoom c t) (fits : length c.frames.entries ≤ c.frames.cap) (counted : IsTrue (is_counted c n))
-    (absent : frame_of c n ≡ None) (store : d.store ≡ c.store) (put : d.frames ≡ lru_cache (put_entries nat_eq c.frames n frame) c.frames.cap)
-    (only : OnlyReads t u) (unchanged : frame.changed ≡ false) (bytes : IsTrue u.is_honest → frame.page.value ≡ page_of (content (unit_file t c.store.unit)) n) where
+    (absent : frame_of c n ≡ None) (store : d.store ≡ c.store) (put : d.frames ≡ lru_cache (put_entries nat_eq c.frames n frame) c.frames.cap) (only : OnlyReads t u) where
   entries : d.frames.entries ≡ (n, frame) ∷ take (c.frames.cap - 1) c.frames.entries
   entries = ap (λ frames. frames.entries) put ∙ put_front c.frames n frame absent
 
@@ -82,45 +84,50 @@ module _ (c d : Cache) (t u : ShelfState) (n : ℕ) (frame : Frame) (over : IsOv
   counted_in : (k : ℕ) → IsTrue (is_counted c k) → IsTrue (is_counted d k)
   counted_in k is = subst (λ x. IsTrue (is_counted (record c { store = x }) k)) (sym store) is
 
-  pub over_put : IsOver d u
-  over_put = record {
+  -- the frame is that of the file, or counts as changed
+  pub over_put : (IsTrue u.is_honest → frame.changed ≡ false → frame.page.value ≡ page_of (content (unit_file t c.store.unit)) n) → IsOver d u
+  over_put bytes = record {
     attached = record { attached = subst (λ names. d.store.unit < length names) (sym only.names) (subst (λ x. x.unit < length t.names) (sym store) over.attached.attached) };
     counted = λ k other is. counted_in k (elim (cases_eq k n) [ inl same ↦ rw same counted | inr differs ↦ over.counted k other (was_held k other differs is) ]);
     pages = λ honest. rw file_same (subst (λ x. HasPages x.pages (unit_file t c.store.unit)) (sym store) (over.pages (only.honest honest)));
     clean = λ honest k other is clean. rw file_same (elim (cases_eq k n) [
-      | inl same ↦ ap (λ (x : Frame). x.page.value) (one_frame other (ap (frame_of d) (sym same) ∙ is)) ∙ bytes honest ∙ ap (page_of (content (unit_file t c.store.unit))) (sym same)
+      | inl same ↦
+          let one = one_frame other (ap (frame_of d) (sym same) ∙ is) in
+          ap (λ (x : Frame). x.page.value) one ∙ bytes honest (sym (ap (λ (x : Frame). x.changed) one) ∙ clean) ∙ ap (page_of (content (unit_file t c.store.unit))) (sym same)
       | inr differs ↦ over.clean (only.honest honest) k other (was_held k other differs is) clean
     ]);
   }
 
-  pub clean_put : IsClean c → IsClean d
-  clean_put clean = record {
+  pub clean_put : frame.changed ≡ false → IsClean c → IsClean d
+  clean_put unchanged clean = record {
     clean = λ k other is. elim (cases_eq k n) [
       | inl same ↦ ap (λ (x : Frame). x.changed) (one_frame other (ap (frame_of d) (sym same) ∙ is)) ∙ unchanged
       | inr differs ↦ clean.clean k other (was_held k other differs is)
     ];
   }
 
-  -- page k, where nothing or this frame holds it
-  seen : Cache → ShelfState → ℕ → Option Frame → List ℕ
-  seen x s k o = option_map_or (λ (f : Frame). f.page.value) o (if is_counted x k then page_of (content (unit_file s x.store.unit)) k else [])
+  stored : (k : ℕ) → (if is_counted d k then page_of (content (unit_file u d.store.unit)) k else []) ≡ (if is_counted c k then page_of (content (unit_file t c.store.unit)) k else [])
+  stored k = ap (λ file. if is_counted d k then page_of (content file) k else []) file_same ∙ ap (λ x. if is_counted (record c { store = x }) k then page_of (content (unit_file t c.store.unit)) k else []) store
 
-  pub pages_put : IsTrue u.is_honest → pages_of d u ≡ pages_of c t
-  pages_put honest = λ i k. at k i
+  of_frame : (k : ℕ) (o q : Option Frame) → frame_of d k ≡ o → frame_of c k ≡ q → option_map_or (λ (f : Frame). f.page.value) o (if is_counted d k then page_of (content (unit_file u d.store.unit)) k else []) ≡ option_map_or (λ (f : Frame). f.page.value) q (if is_counted c k then page_of (content (unit_file t c.store.unit)) k else []) → pages_of d u k ≡ pages_of c t k
+  of_frame k o q d_is c_is same = rw (d_is, c_is) same
+
+  pub page_here : pages_of d u n ≡ frame.page.value
+  page_here = ap (λ o. option_map_or (λ (f : Frame). f.page.value) o (if is_counted d n then page_of (content (unit_file u d.store.unit)) n else [])) put_here
+
+  pub pages_apart : IsTrue u.is_honest → (k : ℕ) → k ≢ n → pages_of d u k ≡ pages_of c t k
+  pages_apart honest k differs = elim (put_other k differs) [
+    | inl kept ↦ ap (λ o. option_map_or (λ (f : Frame). f.page.value) o (if is_counted d k then page_of (content (unit_file u d.store.unit)) k else [])) kept ∙ ap (option_map_or (λ (f : Frame). f.page.value) (frame_of c k)) (stored k)
+    | inr gone ↦ of_frame k None (Some gone.1.0) gone.0 gone.1.2 (stored k ∙ rw (over.counted k gone.1.0 gone.1.2) (sym (room.settled (only.honest honest) k gone.1.0 gone.1.1)))
+  ]
+
+  pub pages_put : (IsTrue u.is_honest → frame.page.value ≡ page_of (content (unit_file t c.store.unit)) n) → IsTrue u.is_honest → pages_of d u ≡ pages_of c t
+  pages_put bytes honest = λ i k. at k i
     where
-      stored : (k : ℕ) → (if is_counted d k then page_of (content (unit_file u d.store.unit)) k else []) ≡ (if is_counted c k then page_of (content (unit_file t c.store.unit)) k else [])
-      stored k = ap (λ file. if is_counted d k then page_of (content file) k else []) file_same ∙ ap (λ x. if is_counted (record c { store = x }) k then page_of (content (unit_file t c.store.unit)) k else []) store
-
-      of_frame : (k : ℕ) (o q : Option Frame) → frame_of d k ≡ o → frame_of c k ≡ q → option_map_or (λ (f : Frame). f.page.value) o (if is_counted d k then page_of (content (unit_file u d.store.unit)) k else []) ≡ option_map_or (λ (f : Frame). f.page.value) q (if is_counted c k then page_of (content (unit_file t c.store.unit)) k else []) → pages_of d u k ≡ pages_of c t k
-      of_frame k o q d_is c_is same = rw (d_is, c_is) same
-
       at : (k : ℕ) → pages_of d u k ≡ pages_of c t k
       at k = elim (cases_eq k n) [
         | inl same ↦ of_frame k (Some frame) None (ap (frame_of d) same ∙ put_here) (ap (frame_of c) same ∙ absent) (bytes honest ∙ rw (same, counted) refl)
-        | inr differs ↦ elim (put_other k differs) [
-          | inl kept ↦ ap (λ o. option_map_or (λ (f : Frame). f.page.value) o (if is_counted d k then page_of (content (unit_file u d.store.unit)) k else [])) kept ∙ ap (option_map_or (λ (f : Frame). f.page.value) (frame_of c k)) (stored k)
-          | inr gone ↦ of_frame k None (Some gone.1.0) gone.0 gone.1.2 (stored k ∙ rw (over.counted k gone.1.0 gone.1.2) (sym (room.settled (only.honest honest) k gone.1.0 gone.1.1)))
-        ]
+        | inr differs ↦ pages_apart honest k differs
       ]
 
 -- what a page that was read and put in front leaves, or one that could not be put
@@ -134,10 +141,10 @@ pub brought : (c d : Cache) (t u : ShelfState) (n : ℕ) (frame : Frame) → IsO
     → OnlyReads t u → frame.changed ≡ false → (IsTrue u.is_honest → frame.page.value ≡ page_of (content (unit_file t c.store.unit)) n)
     → (r : Result (Unit {0}) Fault) → OnOk r (d.frames ≡ lru_cache (put_entries nat_eq c.frames n frame) c.frames.cap) → OnErr r (d.frames ≡ c.frames) → Brought n r c d t u
 brought c d t u n frame over room fits counted absent store only unchanged bytes (Ok x) put kept = record {
-  held = ap is_some (put_here c d t u n frame over room fits counted absent store put only unchanged bytes);
-  over = over_put c d t u n frame over room fits counted absent store put only unchanged bytes;
-  pages = pages_put c d t u n frame over room fits counted absent store put only unchanged bytes;
-  clean = clean_put c d t u n frame over room fits counted absent store put only unchanged bytes;
+  held = ap is_some (put_here c d t u n frame over room fits counted absent store put only);
+  over = over_put c d t u n frame over room fits counted absent store put only (λ honest _. bytes honest);
+  pages = pages_put c d t u n frame over room fits counted absent store put only bytes;
+  clean = clean_put c d t u n frame over room fits counted absent store put only unchanged;
 }
 brought c d t u n frame over room fits counted absent store only unchanged bytes (Err x) put kept =
     let same : (k : ℕ) → frame_of d k ≡ frame_of c k = λ k. ap (λ frames. lookup (nat_eq k) frames.entries) kept in
@@ -151,3 +158,29 @@ brought c d t u n frame over room fits counted absent store only unchanged bytes
 pub cap_kept : (old mid new : LruCache ℕ Frame) (es : List (ℕ × Frame)) (r : Result (Unit {0}) Fault) → mid ≡ old → OnOk r (new ≡ lru_cache es mid.cap) → OnErr r (new ≡ mid) → new.cap ≡ old.cap
 cap_kept old mid new es (Ok x) same put kept = ap (λ x. x.cap) put ∙ ap (λ x. x.cap) same
 cap_kept old mid new es (Err x) same put kept = ap (λ x. x.cap) kept ∙ ap (λ x. x.cap) same
+
+-- what a page of zeros that was put in front leaves, or one that could not be put
+pub record Blanked (n : ℕ) (r : Result (Unit {0}) Fault) (c d : Cache) (t : ShelfState) : Type 0 where
+  pub zeroed : OnOk r (Zeroed n c d t t)
+  pub kept : OnErr r (KeepsPages c d t t)
+  pub over : IsOver d t
+
+pub blanked : (c d : Cache) (t : ShelfState) (n : ℕ) (frame : Frame) → IsOver c t → HasRoom c t → length c.frames.entries ≤ c.frames.cap → IsTrue (is_counted c n) → frame_of c n ≡ None → d.store ≡ c.store
+    → frame.changed ≡ true → IsZeros frame.page.value
+    → (r : Result (Unit {0}) Fault) → OnOk r (d.frames ≡ lru_cache (put_entries nat_eq c.frames n frame) c.frames.cap) → OnErr r (d.frames ≡ c.frames) → Blanked n r c d t
+blanked c d t n frame over room fits counted absent store changed zeros (Ok x) put kept =
+    let only : OnlyReads t t = record { names = refl; file = refl; honest = λ h. h } in
+    let low = (counted_low c n counted).1 in
+    let most : c.store.pages ≡ max c.store.pages (n + 1) = omega arith in
+    record {
+      zeroed = record {
+        zeros = λ honest. subst IsZeros (sym (page_here c d t t n frame over room fits counted absent store put only)) zeros;
+        others = λ honest k differs. pages_apart c d t t n frame over room fits counted absent store put only honest k differs;
+        store = store ∙ ap (λ p. record c.store { pages = p }) most;
+      };
+      kept = tt;
+      over = over_put c d t t n frame over room fits counted absent store put only (λ honest clean. absurd (both_ways frame.changed clean changed));
+    }
+blanked c d t n frame over room fits counted absent store changed zeros (Err x) put kept =
+    let same = keeps_same c d t store kept over in
+    record { zeroed = tt; kept = same; over = same.over }

@@ -9,7 +9,7 @@ use Rattle.lru.specs.LruCache.{IsValid, last_entry}
 use Rattle.page_store.specs.File.{File, content}
 use Rattle.page_store.specs.Pages.{page_of, HasPages, PageWritten, PageFails}
 use Rattle.page_store.specs.PageFacts.{page_over}
-use Rattle.page_store.specs.PageLaws.{written_is_read, others_read, others_kept}
+use Rattle.page_store.proofs.PageLemmas.{written_is_read, others_read, others_kept}
 use Rattle.page_store.specs.ShelfState.{ShelfState, HasUnit, unit_file, WhereHonest, ChangesOnly}
 use Rattle.page_store.specs.declared.store.Store.{Store}
 use Rattle.page_cache.specs.declared.frame.Frame.{Frame}
@@ -103,6 +103,10 @@ either (Err x) p q = inr q
 pub if_ok : {P Q : Type 0} (r : Result (Unit {0}) Fault) → (P → Q) → OnOk r P → OnOk r Q
 if_ok (Ok x) f p = f p
 if_ok (Err x) f p = tt
+
+pub if_err : {P Q : Type 0} (r : Result (Unit {0}) Fault) → (P → Q) → OnErr r P → OnErr r Q
+if_err (Ok x) f p = tt
+if_err (Err x) f p = f p
 
 pub at_err : {P : Type 0} (r : Result (Unit {0}) Fault) → P → OnErr r P
 at_err (Ok x) p = tt

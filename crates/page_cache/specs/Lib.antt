@@ -4,4 +4,3 @@ pub mod Cached
 pub mod Calls
 pub mod Lending
 pub mod Turning
-pub mod QuietLaws

@@ -1,5 +1,5 @@
 //! The cache, and what it reads and writes.
-ghost use Rattle.std.specs.Prelude.{◌≡◌, ◌≢◌, ℕ, ◌+◌, ◌-◌, ◌^◌, ◌<◌, ◌≤◌, max, [], length, min, nat_eq, None, IsSome, IsTrue, IfOk, OnOk, OnErr, if◌then◌else◌};
+ghost use Rattle.std.specs.Prelude.{◌≡◌, ◌≢◌, ℕ, ◌+◌, ◌-◌, ◌^◌, ◌<◌, ◌≤◌, max, [], length, min, nat_eq, slice_get, option_map, None, Some, IsSome, is_some, IsTrue, IfOk, OnOk, OnErr, if◌then◌else◌};
 ghost use Rattle.std.specs.NonZero.{non_zero_usize_get};
 ghost use Rattle.lru.specs.LruCache.{lru_cache, put_entries};
 ghost use Rattle.page_store.specs.File.{content};
@@ -7,6 +7,7 @@ ghost use Rattle.page_store.specs.Pages.{page_of, HasPages};
 ghost use Rattle.page_store.specs.ShelfState.{ShelfState, HasUnit, unit_file, WhereHonest, OnlyReads, HasCause};
 ghost use Rattle.page_cache.specs.Cached.{frame_of, is_counted, pages_of, IsOver, IsClean};
 ghost use Rattle.page_cache.specs.Calls.{KeepsPages, Zeroed, GoesOn, Looks};
+ghost use Rattle.page_cache.specs.Lending.{SameFrames};
 ghost use Rattle.page_cache.specs.Turning.{HasRoom, IsLastWritten, settled, Turned};
 
 use crate::frame::{self, Frame};
@@ -84,10 +85,32 @@ impl Cache {
         ensures cause { HasCause (S.fault_count shelf.old) (S.fault_count shelf.new) result }
     {
         self.asked = self.asked.saturating_add(1);
-        if self.frames.contains(&n) {
+        if self.promote(n) {
             return Ok(());
         }
         self.bring(shelf, n)
+    }
+
+    // Puts page n in front, where it is held.
+    fn promote(&mut self, n: u32) -> bool
+        ensures held { result ≡ is_some (frame_of self.old n) }
+        ensures same { SameFrames self.old self.new }
+    {
+        if self.is_first(n) {
+            return true;
+        }
+        self.frames.promote(&n)
+    }
+
+    // Whether page n is the one used last.
+    pub(crate) fn is_first(&self, n: u32) -> bool
+        ensures held { IsTrue result → IsSome (frame_of self.now n) }
+        ensures first { IsTrue result → option_map (λ e. e.0) (slice_get self.now.frames.entries 0) ≡ Some n }
+    {
+        match self.frames.peek_mru() {
+            Some((first, _)) => *first == n,
+            None => false,
+        }
     }
 
     /// Makes page `n` one of zeros, and counts one page asked. Where `n` is the number of pages, it is added, and
@@ -107,7 +130,7 @@ impl Cache {
         self.add(shelf, n)
     }
 
-    // Fills a page of the store with zeros.
+    // Makes a page of the store one of zeros; one that is not held is not read.
     fn clear<S: Shelf>(&mut self, shelf: &mut S, n: u32) -> Result<(), Fault>
         requires over { IsOver self.old (S.state shelf.old) }
         requires page { IsTrue (is_counted self.old n) }
@@ -117,14 +140,38 @@ impl Cache {
         ensures asked { self.new.asked ≡ min (self.old.asked + 1) (2 ^ 64 - 1) }
         ensures cause { HasCause (S.fault_count shelf.old) (S.fault_count shelf.new) result }
     {
-        self.load(shelf, n)?;
+        self.asked = self.asked.saturating_add(1);
+        let _held = self.promote(n);
         match self.held_mut(n) {
             Ok(page) => {
                 page.fill(0);
                 Ok(())
             }
-            Err(_) => Ok(()),
+            Err(_) => self.hold_zeros(shelf, n),
         }
+    }
+
+    // Holds a page of zeros for one that is not held.
+    fn hold_zeros<S: Shelf>(&mut self, shelf: &mut S, n: u32) -> Result<(), Fault>
+        requires over { IsOver self.old (S.state shelf.old) }
+        requires page { IsTrue (is_counted self.old n) }
+        requires absent { frame_of self.old n ≡ None }
+        ensures zeroed { OnOk result (Zeroed n self.old self.new (S.state shelf.old) (S.state shelf.new)) }
+        ensures kept { OnErr result (KeepsPages self.old self.new (S.state shelf.old) (S.state shelf.new)) }
+        ensures goes_on { GoesOn self.old self.new (S.state shelf.old) (S.state shelf.new) }
+        ensures asked { self.new.asked ≡ self.old.asked }
+        ensures cause { HasCause (S.fault_count shelf.old) (S.fault_count shelf.new) result }
+    {
+        self.make_room(shelf)?;
+        let mut page = self.box_for_page()?;
+        page.fill(0);
+        self.put(
+            n,
+            Frame {
+                changed: true,
+                page,
+            },
+        )
     }
 
     // Writes a page of zeros behind the last page, and holds it.

@@ -2,7 +2,7 @@ use Rattle.std.proofs.Common.{◌≡◌, ◌<◌, ◌≤◌, ◌*◌, ◌∙◌,
 use Rattle.page_store.specs.File.{content, IsWithin}
 use Rattle.page_store.specs.Pages.{HasPages}
 use Rattle.page_store.specs.ShelfState.{ShelfState, HasUnit, OnlyReads, unit_file, unit_name, WhereHonest}
-use Rattle.page_alloc.specs.StepLaws.{same_place}
+use Rattle.page_store.proofs.ShelfLemmas.{same_place}
 use Rattle.page_alloc.proofs.tests.reopen.Goals as goal
 
 has_pages : (old new : ShelfState) (unit pages : _) → new.file ≡ old.file → new.names ≡ old.names → 0 < pages → IsWithin (4096 * pages) (unit_file old unit) → HasPages pages (unit_file new unit)

@@ -1,5 +1,5 @@
 use Rattle.std.proofs.Common.{◌≡◌, ◌∙◌, sym, subst, IsTrue}
-use Rattle.page_store.specs.MomentLaws.{quiet_then}
+use Rattle.page_store.proofs.MomentLemmas.{quiet_then}
 use Rattle.page_store.specs.ShelfState.{unit_file, IsQuiet}
 use Rattle.page_cache.specs.Cached.{pages_of, IsOver}
 use Rattle.page_alloc.proofs.OpenLemmas.{quiet_closes, all_closes, all_closed}

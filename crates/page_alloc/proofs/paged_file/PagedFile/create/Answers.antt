@@ -1,5 +1,5 @@
 use Rattle.std.proofs.Common.{◌≡◌, ◌≤◌, ◌∙◌, sym, ap, subst, arith, IsTrue, inr}
-use Rattle.page_store.specs.OpenLaws.{opened_open, open_kept, all_refused}
+use Rattle.page_store.proofs.OpenLemmas.{opened_open, open_kept, all_refused}
 use Rattle.page_store.specs.ShelfState.{HasUnit, unit_file, IsQuiet}
 use Rattle.page_store.specs.Gate.{AllOpen}
 use Rattle.page_alloc.proofs.OpenLemmas.{made_quietly}

@@ -1,6 +1,6 @@
 use Rattle.std.proofs.Common.{◌∙◌, refl, sym, ap, false, Err}
 use Rattle.std.specs.Box.{with_value}
-use Rattle.page_cache.specs.QuietLaws.{keeps_then}
+use Rattle.page_cache.proofs.QuietLemmas.{keeps_then}
 use Rattle.page_cache.proofs.AddLemmas.{all_added, zeroed_put, goes_on_put, zeroed_then, goes_on_then}
 use Rattle.page_cache.proofs.OverLemmas.{keeps_same}
 use Rattle.page_cache.proofs.WriteLemmas.{at_err}

@@ -1,5 +1,5 @@
 use Rattle.page_cache.proofs.WriteLemmas.{if_ok}
-use Rattle.page_store.specs.OpenLaws.{opened_open}
+use Rattle.page_store.proofs.OpenLemmas.{opened_open}
 use Rattle.page_cache.proofs.HeaderLemmas.{shows_kept, opening_kept}
 use Rattle.page_cache.proofs.cache.Cache.begin_change.Goals as goal
 

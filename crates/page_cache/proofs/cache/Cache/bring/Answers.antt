@@ -1,7 +1,7 @@
 use Rattle.std.proofs.Common.{◌≡◌, ◌∙◌, refl, sym, ap, nat_eq, false}
 use Rattle.std.specs.Map.{lookup}
 use Rattle.page_cache.specs.Cached.{pages_of}
-use Rattle.page_cache.specs.QuietLaws.{goes_then, reads_quietly}
+use Rattle.page_cache.proofs.QuietLemmas.{goes_then, reads_quietly}
 use Rattle.page_cache.proofs.OverLemmas.{over_same, over_read, pages_same, pages_read}
 use Rattle.page_cache.proofs.PutLemmas.{Brought, brought, cap_kept}
 use Rattle.page_cache.proofs.cache.Cache.bring.Goals as goal

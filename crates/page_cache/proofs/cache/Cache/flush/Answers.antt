@@ -1,5 +1,5 @@
 use Rattle.std.proofs.Common.{◌≡◌, ◌∙◌, subst, arith, length}
-use Rattle.page_cache.specs.QuietLaws.{keeps_then}
+use Rattle.page_cache.proofs.QuietLemmas.{keeps_then}
 use Rattle.page_cache.proofs.TurnLemmas.{CleanFront, front_more, front_all}
 use Rattle.page_cache.proofs.cache.Cache.flush.Goals as goal
 

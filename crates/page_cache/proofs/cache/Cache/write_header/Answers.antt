@@ -1,8 +1,8 @@
 use Rattle.std.proofs.Common.{◌∙◌, refl, sym, subst, arith}
 use Rattle.page_store.specs.Pages.{HasPages}
-use Rattle.page_store.specs.PageLaws.{written_is_read}
+use Rattle.page_store.proofs.PageLemmas.{written_is_read}
 use Rattle.page_store.specs.ShelfState.{unit_file, WhereHonest}
-use Rattle.page_cache.specs.QuietLaws.{changes_quietly}
+use Rattle.page_cache.proofs.QuietLemmas.{changes_quietly}
 use Rattle.page_cache.proofs.WriteLemmas.{if_ok, either, store_same, fewer}
 use Rattle.page_cache.proofs.HeaderLemmas.{HeaderKept, over_kept, pages_kept, header_kept}
 use Rattle.page_cache.proofs.cache.Cache.write_header.Goals as goal

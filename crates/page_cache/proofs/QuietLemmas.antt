@@ -1,7 +1,7 @@
 -- Doing nothing goes quietly, and so do two steps in a row.
 use Rattle.std.proofs.Common.{◌≡◌, ℕ, refl, sym, ◌∙◌, ap, subst}
 use Rattle.page_store.specs.File.{File}
-use Rattle.page_store.specs.MomentLaws.{quiet_none, quiet_then}
+use Rattle.page_store.proofs.MomentLemmas.{quiet_none, quiet_then}
 use Rattle.page_store.specs.ShelfState.{ShelfState, unit_name, unit_file, OnlyReads, ChangesOnly, IsQuiet}
 use Rattle.page_cache.specs.Quietly.{GoesQuietly}
 use Rattle.page_cache.specs.Cached.{IsOver}
