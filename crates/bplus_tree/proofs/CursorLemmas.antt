@@ -14,7 +14,7 @@ use Rattle.io_state.specs.declared.fault.Fault.{Fault}
 use Rattle.io_state.specs.declared.fault.Fault.TheVariants.{Damage}
 use Rattle.pages.specs.Owners.{IsOutside}
 use Rattle.bplus_tree.specs.Stored.{IsLeafAt}
-use Rattle.bplus_tree.specs.Spot.{EntryAt, StandsAt}
+use Rattle.bplus_tree.specs.Spot.{CopiesEntry, StandsAt}
 use Rattle.bplus_tree.specs.Cursor.{IsAt, Belongs, HasNeighbour, IsBehind, HasMoved}
 use Rattle.bplus_tree.proofs.SearchLemmas.{after_at}
 use Rattle.bplus_tree.proofs.RemoveLemmas.{tree_ascends}
@@ -79,37 +79,39 @@ is_at cursor tree pages entries own belongs near =
 
 module _ (cursor : Cursor) (tree : Tree) (pages : PageMap) (entries : List (List ℕ)) (own : List ℕ) (stands : Stands tree pages entries own) (belongs : Belongs cursor tree pages entries own) (near : HasNeighbour cursor tree)
     (place : ℕ) (is_place : place ≡ cursor.spot.place + 1) (spot : Spot) where
-  pub stepped : (e : ArrayVec ℕ) → EntryAt tree.shape pages cursor.spot.leaf place spot (Ok (Some e)) → IsBehind cursor tree pages entries own spot (Some e)
-  stepped e at =
+  pub stepped : (e : ArrayVec ℕ) → spot.leaf ≡ cursor.spot.leaf → spot.place ≡ place → spot.count ≡ cursor.spot.count → CopiesEntry tree.shape pages cursor.spot.leaf place e.items (Ok true)
+      → IsBehind cursor tree pages entries own spot (Some e)
+  stepped e leaf_is at_place count_is at =
       let is = is_at cursor tree pages entries own belongs near in
       let here = is.stands.here in
       let found = (at here is.stands.leaf).answer in
-      let same : get_or here spot.place [] ≡ get_or here (cursor.spot.place + 1) [] = ap (λ (n : ℕ). get_or here n []) (found.0 ∙ is_place) in
+      let inside = found.0 in
+      let same : get_or here place [] ≡ get_or here (cursor.spot.place + 1) [] = ap (λ (n : ℕ). get_or here n []) is_place in
       record {
-        found_is = ap Some (found.1.entry_is ∙ same) ∙ sym (neighbour cursor tree pages entries own stands is near.more);
+        found_is = ap Some (found.1 ∙ same) ∙ sym (neighbour cursor tree pages entries own stands is near.more);
         at = record {
           before = is.stands.before;
           here = here;
           behind = is.stands.behind;
           parts = is.stands.parts;
-          leaf = subst (λ (n : ℕ). IsLeafAt tree.shape pages n here) (sym found.1.leaf_is) is.stands.leaf;
-          inside = subst (λ (n : ℕ). IsOutside own n → ⊥) (sym found.1.leaf_is) is.stands.inside;
-          within = found.1.within;
-          count = found.1.count;
-          entry_is = found.1.entry_is;
+          leaf = subst (λ (n : ℕ). IsLeafAt tree.shape pages n here) (sym leaf_is) is.stands.leaf;
+          inside = subst (λ (n : ℕ). IsOutside own n → ⊥) (sym leaf_is) is.stands.inside;
+          within = omega arith;
+          count = count_is ∙ is.stands.count;
+          entry_is = found.1 ∙ ap (λ (n : ℕ). get_or here n []) (sym at_place);
         };
       }
 
-  pub has_next : EntryAt tree.shape pages cursor.spot.leaf place spot (Ok None) → ⊥
-  has_next at =
+  pub has_next : (entry : List ℕ) → CopiesEntry tree.shape pages cursor.spot.leaf place entry (Ok false) → ⊥
+  has_next entry at =
       let is = is_at cursor tree pages entries own belongs near in
       let past = (at is.stands.here is.stands.leaf).answer in
       let more = near.more in
       let count = is.stands.count in
       omega arith
 
-  pub no_damage : (fault : Fault) → EntryAt tree.shape pages cursor.spot.leaf place spot (Err fault) → fault ≢ Damage
-  no_damage fault at =
+  pub no_damage : (entry : List ℕ) (fault : Fault) → CopiesEntry tree.shape pages cursor.spot.leaf place entry (Err fault) → fault ≢ Damage
+  no_damage entry fault at =
       let is = is_at cursor tree pages entries own belongs near in
       (at is.stands.here is.stands.leaf).no_damage
 

@@ -1,5 +1,5 @@
 -- One entry or separator more in a node: from its bytes to its pages.
-use Rattle.std.proofs.Common.{◌≡◌, ◌≢◌, ℕ, ◌+◌, ◌-◌, ◌<◌, ◌≤◌, List, [], ◌∷◌, ◌++◌, length, take, drop, get_or, Option, Some, None, Ok, Err, Result, refl, ap, sym, subst, ◌∙◌, arith, add-one}
+use Rattle.std.proofs.Common.{◌≡◌, ℕ, ◌+◌, ◌-◌, ◌<◌, List, [], ◌∷◌, ◌++◌, length, take, drop, get_or, Option, Some, None, Ok, Err, Result, refl, ap, sym, subst, ◌∙◌, arith, add-one}
 use Rattle.std.specs.Prelude.{IfOk, IfErr, IsErrAnd, option_map, insert}
 use Rattle.std.proofs.lemmas.Result.{err_from_is_err_and}
 use Rattle.pages.specs.Cause.{IsCaused}
@@ -17,7 +17,7 @@ use Rattle.bplus_tree.specs.Stored.{IsLeafAt, IsInnerAt}
 use Rattle.pages.specs.Answer.{IsAnswer}
 use Rattle.node_balance.specs.Put.{PutInLeaf, PutInInner}
 use Rattle.bplus_tree.specs.Split.{HasParts, WritesParts}
-use Rattle.bplus_tree.specs.Grow.{HasLeaf, HasAddedToLeaf, AddsToLeaf, HasAddedToInner}
+use Rattle.bplus_tree.specs.Grow.{HasAddedToLeaf, HasAddedToInner}
 
 if_ok : {X : Type 0} (r : Result X Fault) (P Q : X → Type 0) → ((x : X) → P x → Q x) → IfOk r P → IfOk r Q
 if_ok (Ok x) P Q f h = f x h
@@ -110,30 +110,6 @@ module _ (shape : Shape) (before mid after : PageMap) (is_sound : Type 0) (page 
       both_ok result (λ up. HasParts before after page lower upper key up × is_sound) (λ up. option_map (λ (s : Separator). s.key) up ≡ key)
       (λ up. HasAddedToInner shape before after page (insert seps place new.key.items) (insert below (place + 1) new.child) up × is_sound)
       (λ up parts k. (inner_parts shape before after page lower upper (insert seps place new.key.items) (insert below (place + 1) new.child) key up put' parts.0 k, parts.1)) wrote keyed
-
--- a leaf that was as it is, and was changed then
-module _ (shape : Shape) (before mid after : PageMap) (page : ℕ) (entries : List (List ℕ)) (first : HasLeaf shape before mid page entries) where
-  added_later : (es : List (List ℕ)) (up : Option Separator) → HasAddedToLeaf shape mid after page es up → HasAddedToLeaf shape before after page es up
-  added_later es None put = record { leaf = put.leaf; others = λ n ne. put.others n ne ∙ first.others n ne }
-  added_later es (Some separator) put =
-      let ne : separator.child ≢ page = λ e. let none : mid page ≡ None = ap mid (sym e) ∙ put.free in let some = first.leaf.there in cc (none, some) in
-      record {
-        lower = put.lower;
-        upper = put.upper;
-        has = put.has;
-        first = put.first;
-        second = put.second;
-        full = put.full;
-        key = put.key;
-        free = sym (first.others separator.child ne) ∙ put.free;
-        others = λ n off other. put.others n off other ∙ first.others n off;
-      }
-
-  pub leaf_retried : (is_sound : Type 0) (place : ℕ) (e : List ℕ) (result : Result (Option Separator) Fault) → place ≤ length entries → AddsToLeaf shape mid after is_sound page place e result
-      → IsAnswer result (λ up. HasAddedToLeaf shape before after page (insert entries place e) up × is_sound)
-  leaf_retried is_sound place e result within adds =
-      answer_map result (λ up. HasAddedToLeaf shape mid after page (insert entries place e) up × is_sound) (λ up. HasAddedToLeaf shape before after page (insert entries place e) up × is_sound)
-      (λ up a. (added_later (insert entries place e) up a.0, a.1)) (adds entries first.leaf within)
 
 -- a fault, seen from an earlier state
 pub caused_since : {X : Type 0} (r : Result X Fault) (failed failed' lacks lacks' : Type 0) → (failed → failed') → (lacks → lacks') → IfErr r (IsCaused failed lacks) → IfErr r (IsCaused failed' lacks')

@@ -1,5 +1,5 @@
 -- An insert below a child, seen from its parent; and in a leaf.
-use Rattle.std.proofs.Common.{◌≡◌, ◌≢◌, ℕ, zero, suc, ◌+◌, ◌<◌, ◌≤◌, List, [], ◌∷◌, ◌++◌, length, take, drop, get_or, map, Option, Some, None, Ok, Err, Result, IsSome, refl, ap, sym, subst, ◌∙◌, arith, flat_map, append_assoc, add-one}
+use Rattle.std.proofs.Common.{◌≡◌, ◌≢◌, ℕ, zero, suc, ◌+◌, ◌<◌, ◌≤◌, List, [], ◌∷◌, ◌++◌, length, take, drop, get_or, map, Bool, true, false, Option, Some, None, Ok, Err, Result, IsSome, refl, ap, sym, subst, ◌∙◌, arith, flat_map, append_assoc, add-one}
 use Rattle.std.specs.Prelude.{IsErrAnd, option_map}
 use Rattle.std.specs.List.{insert}
 use Rattle.std.proofs.lemmas.List.{map-append, take-append-drop, append-nil, length-append, length-map, take_at, drop_at, get_or_at, take-map, drop-map}
@@ -9,11 +9,12 @@ use Rattle.arrayvec.specs.ArrayVec.{ArrayVec}
 use Rattle.io_state.specs.declared.fault.Fault.{Fault}
 use Rattle.page_bytes.specs.Each.{Each}
 use Rattle.tree_node.specs.declared.shape.Shape.{Shape}
+use Rattle.tree_node.specs.Leaf.{IsLeaf, leaf_entries}
 use Rattle.tree_node.specs.Order.{Ascends}
 use Rattle.tree_node.proofs.LeafLemmas.{leaf_room_some}
 use Rattle.tree_node.proofs.InnerLemmas.{length_separators, length_children}
 use Rattle.tree_node.proofs.OrderLemmas.{Each-weaker}
-use Rattle.pages.specs.PageMap.{PageMap}
+use Rattle.pages.specs.PageMap.{PageMap, Writes}
 use Rattle.pages.specs.Owners.{AreApart, Changes}
 use Rattle.bplus_tree.specs.declared.descent.Step.{Step}
 use Rattle.bplus_tree.specs.declared.descent.Look.{Look}
@@ -29,9 +30,9 @@ use Rattle.bplus_tree.specs.Calls.{entry_of, IsTree, IsWhole}
 use Rattle.bplus_tree.specs.Descent.{Steps, IsLook}
 use Rattle.bplus_tree.specs.Remove.{Becomes, IsFull}
 use Rattle.bplus_tree.specs.Grow.{HasLeaf, HasLeaves, HasAddedToLeaf, AddsToLeaf, HasInner, HasInners, HasAddedToInner, AddsToInner}
-use Rattle.bplus_tree.specs.Insert.{BecomesTwo, HasInserted, Inserts}
+use Rattle.bplus_tree.specs.Insert.{BecomesTwo, HasInserted, Inserts, HasPutIf, PutsBelow, IsPutIf, HasPutInPlaceIf, PutsInPlace}
 use Rattle.bplus_tree.proofs.RowLemmas.{Inside, Each-append, row_split, row_rises}
-use Rattle.bplus_tree.proofs.PageLemmas.{each_left, each_right, each_both, each_pages, pages_live, rows_still, change_within, change_inside, change_parted}
+use Rattle.bplus_tree.proofs.PageLemmas.{written_same, each_left, each_right, each_both, each_pages, pages_live, rows_still, change_within, change_inside, change_parted}
 use Rattle.bplus_tree.proofs.DescentLemmas.{node_whole, each_take, each_drop, entry_below}
 use Rattle.bplus_tree.proofs.ShareLemmas.{parts}
 use Rattle.bplus_tree.proofs.RemoveLemmas.{fails, Child, child_of_whole, replaced, step_of}
@@ -107,6 +108,26 @@ leaf_grows shape before mid after is_sound page low high e t look result same tr
         → HasInserted shape before after zero page low high e t (Added up)
     grown none None put = (none, leaf_same shape before mid after page low high e t same tree lo hi none put)
     grown none (Some separator) put = (none, leaf_split shape before mid after page low high e t same tree lo hi none separator put)
+
+-- ---- a leaf that has room
+
+pub put_page : (shape : Shape) (before after : PageMap) (page : ℕ) (e old new : List ℕ) (done : Bool) → before page ≡ Some old → Writes before after page new → IsLeaf shape new
+    → (done ≡ false → new ≡ old) → IsPutIf shape.width e (leaf_entries shape old) (leaf_entries shape new) done → HasPutInPlaceIf shape before after page e (leaf_entries shape old) done
+put_page shape before after page e old new true there writes leaf same put =
+    (put.0, record { leaf = record { bytes = new; there = writes.page; leaf = leaf; holds = put.1 }; others = writes.others })
+put_page shape before after page e old new false there writes leaf same put =
+    written_same before after page old there (record { page = writes.page ∙ ap Some (same refl); others = writes.others })
+
+pub put_leaf : (shape : Shape) (before after : PageMap) (is_sound : Type 0) (h page : ℕ) (e : List ℕ) (out : Result Bool Fault) → h ≡ 0 → PutsInPlace shape before after is_sound page e out
+    → PutsBelow shape before after is_sound h page e out
+put_leaf shape before after is_sound zero page e out none puts t low high whole lo hi =
+    answer_map out (λ done. HasPutInPlaceIf shape before after page e t.1 done × is_sound) (λ done. HasPutIf shape before after zero page low high e t done × is_sound)
+    (λ done put. (placed done put.0, put.1)) (puts t.1 (subst (λ (n : ℕ). IsLeafAt shape before n t.1) whole.stands.root whole.stands.holds) whole.stands.ordered.0)
+  where
+    placed : (done : Bool) → HasPutInPlaceIf shape before after page e t.1 done → HasPutIf shape before after zero page low high e t done
+    placed true put = (put.0, leaf_same shape before before after page low high e t refl whole.stands lo hi put.0 put.1)
+    placed false put = put
+put_leaf shape before after is_sound (suc h) page e out none puts t low high whole lo hi = absurd (omega arith)
 
 -- ---- a node
 
@@ -290,6 +311,12 @@ module _ (shape : Shape) (h k page : ℕ) (e : List ℕ) (one : h ≡ suc k) whe
       let a = step_of shape before k page low high (take shape.width e) t (Err fault) whole.stands steps in
       fails out fault (λ grown. HasInserted shape before after (suc k) page low high e t grown × is_sound) was a.no_damage)
 
+  pub put_fails : (before after : PageMap) (is_sound : Type 0) (fault : Fault) (out : Result Bool Fault) → Steps shape before page (take shape.width e) (Err fault) → IsErrAnd out (λ f. f ≡ fault)
+      → PutsBelow shape before after is_sound h page e out
+  put_fails before after is_sound fault out steps was = subst (λ (n : ℕ). PutsBelow shape before after is_sound n page e out) (sym one) (λ t low high whole lo hi.
+      let a = step_of shape before k page low high (take shape.width e) t (Err fault) whole.stands steps in
+      fails out fault (λ done. HasPutIf shape before after (suc k) page low high e t done × is_sound) was a.no_damage)
+
   module _ (before mid : PageMap) (same : mid ≡ before) (step : Step) (steps : Steps shape before page (take shape.width e) (Ok step)) where
     child_at : (low high : Bound) (t : TreeOf (suc k)) → IsWhole shape before (suc k) page low high t → Child shape before k page low high (take shape.width e) t step
     child_at low high t whole =
@@ -306,6 +333,22 @@ module _ (shape : Shape) (h k page : ℕ) (e : List ℕ) (one : h ≡ suc k) whe
         → (let child = child_at low high t whole in entry_of shape.width (take shape.width e) (entries_of k child.row.here) ≡ o) → entry_of shape.width (take shape.width e) (entries_of (suc k) t) ≡ o
     none_below low high t whole o is =
         let child = child_at low high t whole in entry_below shape.width k (take shape.width e) low high t.1 t.2 step.place child.row ∙ is
+
+    pub put_inner : (after : PageMap) (is_sound : Type 0) (out : Result Bool Fault) → PutsBelow shape mid after is_sound k step.child e out → PutsBelow shape before after is_sound h page e out
+    put_inner after is_sound out puts = subst (λ (n : ℕ). PutsBelow shape before after is_sound n page e out) (sym one) put_at_one
+      where
+        put_at_one : PutsBelow shape before after is_sound (suc k) page e out
+        put_at_one t low high whole lo hi =
+            let child = child_at low high t whole in
+            let a = (subst (λ (m : PageMap). PutsBelow shape m after is_sound k step.child e out) same puts) child.row.here child.row.from child.row.to child.whole (child.row.under lo) (child.row.over hi) in
+            answer_map out (λ done. HasPutIf shape before after k step.child child.row.from child.row.to e child.row.here done × is_sound)
+            (λ done. HasPutIf shape before after (suc k) page low high e t done × is_sound) (λ done put. (grown child done put.0, put.1)) a
+          where
+            grown : (child : Child shape before k page low high (take shape.width e) t step) → (done : Bool) → HasPutIf shape before after k step.child child.row.from child.row.to e child.row.here done
+                → HasPutIf shape before after (suc k) page low high e t done
+            grown child true put =
+                (entry_below shape.width k (take shape.width e) low high t.1 t.2 step.place child.row ∙ put.0, child_same shape before after k page low high e t step whole child put.1)
+            grown child false put = put
 
     pub child_fails : (after : PageMap) (is_sound : Type 0) (fault : Fault) (out : Result Grown Fault) → Inserts shape mid after is_sound k step.child e (Err fault) → IsErrAnd out (λ f. f ≡ fault)
         → Inserts shape before after is_sound h page e out

@@ -1,13 +1,25 @@
 -- Pages of trees that stand side by side, and what a change of one leaves of the others.
-use Rattle.std.proofs.Common.{◌≡◌, ◌≢◌, ℕ, zero, suc, List, [], ◌∷◌, ◌++◌, None, IsSome, refl, sym, subst, ◌∙◌, flat_map}
+use Rattle.std.proofs.Common.{◌≡◌, ◌≢◌, ℕ, zero, suc, List, [], ◌∷◌, ◌++◌, Some, None, IsSome, refl, ap, sym, subst, ◌∙◌, arith, flat_map}
+use mathlib.Core.Path.{fun_ext}
 use Rattle.tree_node.specs.declared.shape.Shape.{Shape}
 use Rattle.page_bytes.specs.Each.{Each}
 use Rattle.tree_node.proofs.OrderLemmas.{Each-weaker}
 use Rattle.bplus_tree.specs.Tree.{TreeOf, pages_of}
-use Rattle.pages.specs.PageMap.{PageMap}
+use Rattle.pages.specs.PageMap.{PageMap, Writes}
 use Rattle.bplus_tree.specs.Stored.{Holds}
 use Rattle.pages.specs.Owners.{IsOutside, AreApart, Changes}
 use Rattle.bplus_tree.proofs.RowLemmas.{Each-append}
+
+same_or : (m n : ℕ) (Q : Type 0) → (m ≡ n → Q) → (m ≢ n → Q) → Q
+same_or zero zero Q f g = f refl
+same_or zero (suc n) Q f g = g (λ e. absurd (omega arith))
+same_or (suc m) zero Q f g = g (λ e. absurd (omega arith))
+same_or (suc m) (suc n) Q f g = same_or m n Q (λ e. f (ap suc e)) (λ ne. g (λ e. ne (omega arith)))
+
+-- what was there is written again
+pub written_same : (before after : PageMap) (page : ℕ) (bytes : List ℕ) → before page ≡ Some bytes → Writes before after page bytes → after ≡ before
+written_same before after page bytes there writes =
+    fun_ext (λ m. same_or m page (after m ≡ before m) (λ e. ap after e ∙ writes.page ∙ sym there ∙ ap before (sym e)) (writes.others m))
 
 module _ {X : Type 0} (P : X → Type 0) where
   pub each_left : (xs ys : List X) → Each P (xs ++ ys) → Each P xs

@@ -17,10 +17,11 @@ use Rattle.io_state.specs.declared.fault.Fault.{Fault}
 use Rattle.io_state.specs.declared.fault.Fault.TheVariants.{Damage}
 use Rattle.tree_node.specs.declared.shape.Shape.{Shape}
 use Rattle.page_bytes.specs.Each.{Each}
+use Rattle.tree_node.specs.Leaf.{IsLeaf, leaf_entries}
 use Rattle.tree_node.specs.Order.{less, Ascends, IsRank}
 use Rattle.tree_node.proofs.InnerLemmas.{inner_room_some}
 use Rattle.tree_node.proofs.OrderLemmas.{Each-weaker, either}
-use Rattle.pages.specs.PageMap.{PageMap}
+use Rattle.pages.specs.PageMap.{PageMap, Writes}
 use Rattle.bplus_tree.specs.declared.descent.Step.{Step}
 use Rattle.bplus_tree.specs.declared.descent.Look.{Look}
 use Rattle.bplus_tree.specs.declared.remove.Shrunk.{Shrunk}
@@ -33,10 +34,10 @@ use Rattle.bplus_tree.specs.Edits.{without_key}
 use Rattle.pages.specs.Answer.{IsAnswer}
 use Rattle.bplus_tree.specs.Calls.{entry_of, IsTree, IsWhole}
 use Rattle.bplus_tree.specs.Descent.{IsStep, Steps, IsLook}
-use Rattle.bplus_tree.specs.Remove.{Becomes, BecomesShort, HasRemoved, Removes, AreFullBut, IsFull, LacksOne, Mends, TakesOut, OutOfLeaf}
+use Rattle.bplus_tree.specs.Remove.{Becomes, BecomesShort, HasRemoved, Removes, HasTaken, HasTakenIf, TakesBelow, IsTakenIf, HasTakenInPlace, HasTakenInPlaceIf, TakesInPlace, AreFullBut, IsFull, LacksOne, Mends, TakesOut, OutOfLeaf}
 use Rattle.bplus_tree.proofs.FindLemmas.{differs, differs_back, found_past, missed_at, apart_behind}
 use Rattle.bplus_tree.proofs.RowLemmas.{RowAt, Inside, Each-append}
-use Rattle.bplus_tree.proofs.PageLemmas.{each_left, each_right, apart_left, apart_right, change_within, pages_live, rows_still}
+use Rattle.bplus_tree.proofs.PageLemmas.{written_same, each_left, each_right, apart_left, apart_right, change_within, pages_live, rows_still}
 use Rattle.bplus_tree.proofs.DescentLemmas.{below, entry_below}
 
 -- a fault that is no damage is handed on
@@ -44,6 +45,11 @@ pub fails : {X : Type 0} (r : Result X Fault) (fault : Fault) (P : X → Type 0)
 fails r fault P was sound =
     let p = err_from_is_err_and r was in
     rw (p.1, p.2) (record { answer = tt; no_damage = sound })
+
+-- an answer says as much of what follows from it
+answers : {X : Type 0} (r : Result X Fault) (P Q : X → Type 0) → ((x : X) → P x → Q x) → IsAnswer r P → IsAnswer r Q
+answers (Ok x) P Q f a = record { answer = f x a.answer; no_damage = tt }
+answers (Err e) P Q f a = record { answer = tt; no_damage = a.no_damage }
 
 -- one of two cases
 le_or : (a b : ℕ) (Q : Type 0) → (a ≤ b → Q) → (b < a → Q) → Q
@@ -126,6 +132,39 @@ module _ (width : ℕ) (key : List ℕ) where
 
 -- ---- a leaf
 
+-- the entry of a key was taken out of a leaf
+record Without (shape : Shape) (before after : PageMap) (page : ℕ) (low high : Bound) (key : List ℕ) (t : TreeOf zero) (i : ℕ) : Type 0 where
+  pub becomes : Becomes shape before after zero page low high (pages_of zero t) (size_of zero t - 1) (without_key shape.width key (entries_of zero t))
+  pub size : size_of zero becomes.tree ≡ length (remove t.1 i)
+
+leaf_without : (shape : Shape) (before after : PageMap) (page : ℕ) (low high : Bound) (key : List ℕ) (t : TreeOf zero) (i : ℕ) (e : List ℕ) → IsTree shape before zero page low high t → IsRank shape.width key t.1 i
+    → entry_of shape.width key t.1 ≡ Some e → IsLeafAt shape after page (remove t.1 i) → ((n : ℕ) → n ≢ page → after n ≡ before n) → Without shape before after page low high key t i
+leaf_without shape before after page low high key t i e tree rank was leaf frame =
+    let here = there shape.width key t.1 i e rank tree.ordered.0 was in
+    let p = λ (e : List ℕ). not (bytes_eq (take shape.width e) key) in
+    let fewer = length-remove t.1 i here.within in
+    let long : length (without_key shape.width key t.1) + 1 ≡ length t.1 = ap (λ (l : List (List ℕ)). length l + 1) (sym here.without) ∙ fewer in
+    let root = tree.root in
+    record {
+      becomes = record {
+        tree = (page, without_key shape.width key t.1);
+        stands = record {
+          holds = subst (IsLeafAt shape after page) here.without leaf;
+          root = refl;
+          ordered = (ascends_filter shape.width p t.1 tree.ordered.0, each_filter (Inside shape.width low high) p t.1 tree.ordered.1);
+        };
+        filled = tt;
+        large = omega arith;
+        has = refl;
+        changes = record {
+          others = λ n here_ off. let ne : n ≢ page = λ e. off.0 (e ∙ sym root) in (frame n ne, (ne, tt));
+          no_stray = λ n here_ off. (rw (← frame n off.0) here_, ((λ e. off.0 (e ∙ root)), tt));
+          apart = (tt, tt);
+        };
+      };
+      size = ap length (sym here.without);
+    }
+
 pub leaf_removes : (shape : Shape) (before mid after : PageMap) (is_sound : Type 0) (page : ℕ) (low high : Bound) (key : List ℕ) (t : TreeOf zero) (look : Look) (entry : ArrayVec ℕ) (result : Result Bool Fault)
     → mid ≡ before → IsTree shape before zero page low high t → IsLook shape.width key t.1 look → look.found ≡ Some entry → OutOfLeaf shape mid after is_sound page look.place result
     → IsAnswer result (λ short. HasRemoved shape before after zero page low high key t (Taken entry short) × is_sound)
@@ -133,47 +172,40 @@ leaf_removes shape before mid after is_sound page low high key t look entry resu
     let was : entry_of shape.width key t.1 ≡ Some entry.items = sym is.found ∙ ap (option_map (λ (e : ArrayVec ℕ). e.items)) found in
     let here = there shape.width key t.1 look.place entry.items is.rank tree.ordered.0 was in
     let at : IsLeafAt shape mid page t.1 = subst (λ (m : PageMap). IsLeafAt shape m page t.1) (sym same) (subst (λ (n : ℕ). IsLeafAt shape before n t.1) tree.root tree.holds) in
-    let answer = out t.1 at here.within in
-    let p = λ (e : List ℕ). not (bytes_eq (take shape.width e) key) in
-    record {
-      no_damage = answer.no_damage;
-      answer = if_ok result (λ short. TakesOut shape mid after page (remove t.1 look.place) short × is_sound) (λ short. HasRemoved shape before after zero page low high key t (Taken entry short) × is_sound)
-          (λ short taken.
-          let took = taken.0 in
-          let fewer = length-remove t.1 look.place here.within in
-          let long : length (without_key shape.width key t.1) + 1 ≡ length t.1 = ap (λ (l : List (List ℕ)). length l + 1) (sym here.without) ∙ fewer in
-          let frame : (n : ℕ) → n ≢ page → after n ≡ before n = λ n ne. took.others n ne ∙ ap (λ (m : PageMap). m n) same in
-          let root = tree.root in (
-            (
-              was,
-              record {
-                becomes = record {
-                  tree = (page, without_key shape.width key t.1);
-                  stands = record {
-                    holds = subst (IsLeafAt shape after page) here.without took.leaf;
-                    root = refl;
-                    ordered = (ascends_filter shape.width p t.1 tree.ordered.0, each_filter (Inside shape.width low high) p t.1 tree.ordered.1);
-                  };
-                  filled = tt;
-                  large = omega arith;
-                  has = refl;
-                  changes = record {
-                    others = λ n here_ off. let ne : n ≢ page = λ e. off.0 (e ∙ sym root) in (frame n ne, (ne, tt));
-                    no_stray = λ n here_ off. (rw (← frame n off.0) here_, ((λ e. off.0 (e ∙ root)), tt));
-                    apart = (tt, tt);
-                  };
-                };
-                short_is = subst (λ (l : List (List ℕ)). IsTrue short ↔ (length l < least shape 0)) here.without took.short_is;
-              },
-            ),
-            taken.1,
-          ))
-          answer.answer;
-    }
+    answers result (λ short. TakesOut shape mid after page (remove t.1 look.place) short × is_sound) (λ short. HasRemoved shape before after zero page low high key t (Taken entry short) × is_sound)
+    (λ short taken.
+    let took = taken.0 in
+    let left = leaf_without shape before after page low high key t look.place entry.items tree is.rank was took.leaf (λ n ne. took.others n ne ∙ ap (λ (m : PageMap). m n) same) in
+    ((was, record { becomes = left.becomes; short_is = subst (λ (n : ℕ). IsTrue short ↔ (n < least shape 0)) (sym left.size) took.short_is }), taken.1))
+    (out t.1 at here.within)
+
+-- ---- a leaf that has enough still
+
+pub take_page : (shape : Shape) (before after : PageMap) (page : ℕ) (key old new : List ℕ) (entry : ArrayVec ℕ) (done : Bool) → before page ≡ Some old → Writes before after page new → IsLeaf shape new
+    → (done ≡ false → new ≡ old) → IsTakenIf shape key (leaf_entries shape old) (leaf_entries shape new) entry done → HasTakenInPlaceIf shape before after page key (leaf_entries shape old) entry done
+take_page shape before after page key old new entry true there writes leaf same taken =
+    record { now = leaf_entries shape new; taken = taken; leaf = record { bytes = new; there = writes.page; leaf = leaf; holds = refl }; others = writes.others }
+take_page shape before after page key old new entry false there writes leaf same taken =
+    written_same before after page old there (record { page = writes.page ∙ ap Some (same refl); others = writes.others })
+
+leaf_taken : (shape : Shape) (before after : PageMap) (page : ℕ) (low high : Bound) (key : List ℕ) (t : TreeOf zero) (entry : List ℕ) → IsTree shape before zero page low high t
+    → HasTakenInPlace shape before after page key t.1 entry → HasTaken shape before after zero page low high key t entry
+leaf_taken shape before after page low high key t entry tree put =
+    let taken = put.taken in
+    let left = leaf_without shape before after page low high key t taken.place entry tree taken.rank taken.was (subst (IsLeafAt shape after page) taken.left put.leaf) put.others in
+    let enough : least shape zero ≤ size_of zero left.becomes.tree = subst (λ (n : ℕ). least shape zero ≤ n) (ap length taken.left ∙ sym left.size) taken.enough in
+    record { was = taken.was; becomes = left.becomes; enough = λ full. enough; rooted = λ r. tt }
+
+pub take_leaf : (shape : Shape) (before after : PageMap) (is_sound : Type 0) (h page : ℕ) (key : List ℕ) (entry : ArrayVec ℕ) (out : Result Bool Fault) → h ≡ 0 → TakesInPlace shape before after is_sound page key entry out
+    → TakesBelow shape before after is_sound h page key entry out
+take_leaf shape before after is_sound zero page key entry out none takes t low high whole =
+    answers out (λ done. HasTakenInPlaceIf shape before after page key t.1 entry done × is_sound) (λ done. HasTakenIf shape before after zero page low high key t entry.items done × is_sound)
+    (λ done put. (placed done put.0, put.1)) (takes t.1 (subst (λ (n : ℕ). IsLeafAt shape before n t.1) whole.stands.root whole.stands.holds) whole.stands.ordered.0)
   where
-    if_ok : {X : Type 0} (r : Result X Fault) (P Q : X → Type 0) → ((x : X) → P x → Q x) → IfOk r P → IfOk r Q
-    if_ok (Ok x) P Q f h = f x h
-    if_ok (Err e) P Q f h = tt
+    placed : (done : Bool) → HasTakenInPlaceIf shape before after page key t.1 entry done → HasTakenIf shape before after zero page low high key t entry.items done
+    placed true put = leaf_taken shape before after page low high key t entry.items whole.stands put
+    placed false put = put
+take_leaf shape before after is_sound (suc h) page key entry out none takes t low high whole = absurd (omega arith)
 
 -- ---- a node
 
@@ -298,6 +330,12 @@ module _ (shape : Shape) (h k page : ℕ) (key : List ℕ) (one : h ≡ suc k) w
       let a = step_of shape before k page low high key t (Err fault) whole.stands steps in
       fails out fault (λ shrunk. HasRemoved shape before after (suc k) page low high key t shrunk × is_sound) was a.no_damage)
 
+  pub take_fails : (before after : PageMap) (is_sound : Type 0) (entry : ArrayVec ℕ) (fault : Fault) (out : Result Bool Fault) → Steps shape before page key (Err fault) → IsErrAnd out (λ e. e ≡ fault)
+      → TakesBelow shape before after is_sound h page key entry out
+  take_fails before after is_sound entry fault out steps was = subst (λ (n : ℕ). TakesBelow shape before after is_sound n page key entry out) (sym one) (λ t low high whole.
+      let a = step_of shape before k page low high key t (Err fault) whole.stands steps in
+      fails out fault (λ done. HasTakenIf shape before after (suc k) page low high key t entry.items done × is_sound) was a.no_damage)
+
   module _ (before mid : PageMap) (same : mid ≡ before) (step : Step) (steps : Steps shape before page key (Ok step)) where
     child_at : (low high : Bound) (t : TreeOf (suc k)) → IsWhole shape before (suc k) page low high t → Child shape before k page low high key t step
     child_at low high t whole = child_of_whole shape before k page low high key t step whole (step_of shape before k page low high key t (Ok step) whole.stands steps).answer
@@ -307,6 +345,37 @@ module _ (shape : Shape) (h k page : ℕ) (key : List ℕ) (one : h ≡ suc k) w
     below_answer after is_sound out low high t whole removes =
         let child = child_at low high t whole in
         (subst (λ (m : PageMap). Removes shape m after is_sound k step.child key out) same removes) child.row.here child.row.from child.row.to child.whole
+
+    pub take_inner : (after : PageMap) (is_sound : Type 0) (entry : ArrayVec ℕ) (out : Result Bool Fault) → TakesBelow shape mid after is_sound k step.child key entry out → TakesBelow shape before after is_sound h page key entry out
+    take_inner after is_sound entry out takes = subst (λ (n : ℕ). TakesBelow shape before after is_sound n page key entry out) (sym one) take_at_one
+      where
+        take_at_one : TakesBelow shape before after is_sound (suc k) page key entry out
+        take_at_one t low high whole =
+            let child = child_at low high t whole in
+            let a = (subst (λ (m : PageMap). TakesBelow shape m after is_sound k step.child key entry out) same takes) child.row.here child.row.from child.row.to child.whole in
+            answers out (λ done. HasTakenIf shape before after k step.child child.row.from child.row.to key child.row.here entry.items done × is_sound)
+            (λ done. HasTakenIf shape before after (suc k) page low high key t entry.items done × is_sound) (λ done put. (taken child done put.0, put.1)) a
+          where
+            taken : (child : Child shape before k page low high key t step) → (done : Bool) → HasTakenIf shape before after k step.child child.row.from child.row.to key child.row.here entry.items done
+                → HasTakenIf shape before after (suc k) page low high key t entry.items done
+            taken child true put =
+                let new = put.becomes in
+                let w = with_child shape before after k page low high key t step whole child new in
+                let full = put.enough child.size in
+                record {
+                  was = entry_below shape.width k key low high t.1 t.2 step.place child.row ∙ put.was;
+                  becomes = record {
+                    tree = (page, t.1, child.row.front ++ new.tree ∷ child.row.back);
+                    stands = w.put.stands;
+                    filled = Each-append (IsFull shape k) child.row.front (new.tree ∷ child.row.back) child.in_front ((full, new.filled), child.behind);
+                    large = omega arith;
+                    has = w.has;
+                    changes = w.put.changes;
+                  };
+                  enough = λ f. f;
+                  rooted = λ r. r;
+                }
+            taken child false put = put
 
     pub child_fails : (after : PageMap) (is_sound : Type 0) (fault : Fault) (out : Result Shrunk Fault) → Removes shape mid after is_sound k step.child key (Err fault) → IsErrAnd out (λ e. e ≡ fault)
         → Removes shape before after is_sound h page key out

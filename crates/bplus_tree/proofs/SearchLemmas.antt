@@ -16,14 +16,13 @@ use Rattle.tree_node.proofs.LeafLemmas.{leaf_room_some}
 use Rattle.tree_node.proofs.InnerLemmas.{inner_room_some}
 use Rattle.pages.specs.PageMap.{PageMap}
 use Rattle.bplus_tree.specs.declared.descent.Step.{Step}
-use Rattle.bplus_tree.specs.declared.descent.Look.{Look}
 use Rattle.node_balance.specs.Fill.{least}
 use Rattle.bplus_tree.specs.Tree.{TreeOf, page_of, entries_of, size_of, IsFilled, Bound, IsRow, IsOrdered}
 use Rattle.bplus_tree.specs.Stored.{Holds, IsLeafAt, IsInnerAt}
 use Rattle.pages.specs.Answer.{IsAnswer}
 use Rattle.bplus_tree.specs.Calls.{entry_of, first_from, first_after, last_of, IsTree}
-use Rattle.bplus_tree.specs.Descent.{Steps, Looks}
-use Rattle.bplus_tree.specs.Search.{first_of, head_of, IsFound, Finds, FindsFilled, FindsInLeaf, FindsFirst, FirstOfLeaf, FirstChild, FindsLast, LastOfLeaf, LastChild}
+use Rattle.bplus_tree.specs.Descent.{Steps}
+use Rattle.bplus_tree.specs.Search.{first_of, head_of, IsFound, Finds, FindsFilled, FindsInLeaf, FindsFirst, FirstOfLeaf, FirstChild, FindsLast, LastOfLeaf, LastChild, IsLeafFor, Leads, FillsFromLeaf, filled}
 use Rattle.bplus_tree.proofs.FindLemmas.{find_behind}
 use Rattle.bplus_tree.proofs.RowLemmas.{RowAt}
 use Rattle.bplus_tree.proofs.PageLemmas.{each_right}
@@ -141,29 +140,49 @@ module _ (shape : Shape) (pages : PageMap) (h k page : ℕ) (one : h ≡ suc k) 
 
 -- ---- the entry of a key
 
-pub find_leaf : (shape : Shape) (pages : PageMap) (h page : ℕ) (key : List ℕ) (look : Look) → h ≡ 0 → Looks shape pages page key (Ok look) → Finds shape pages h page (entry_of shape.width key) (Ok look.found)
-find_leaf shape pages zero page key look none looks t low high tree =
-    record { answer = (looks t.1 (subst (λ (n : ℕ). IsLeafAt shape pages n t.1) tree.root tree.holds) tree.ordered.0).answer.found; no_damage = tt }
-find_leaf shape pages (suc h) page key look none looks t low high tree = absurd (omega arith)
-
-pub find_leaf_fails : (shape : Shape) (pages : PageMap) (h page : ℕ) (key : List ℕ) (fault : Fault) (out : Result (Option (ArrayVec ℕ)) Fault) → h ≡ 0 → Looks shape pages page key (Err fault) → IsErrAnd out (λ e. e ≡ fault)
-    → Finds shape pages h page (entry_of shape.width key) out
-find_leaf_fails shape pages zero page key fault out none looks was t low high tree =
-    fails out fault (IsFound (entry_of shape.width key) t.1) was (looks t.1 (subst (λ (n : ℕ). IsLeafAt shape pages n t.1) tree.root tree.holds) tree.ordered.0).no_damage
-find_leaf_fails shape pages (suc h) page key fault out none looks was t low high tree = absurd (omega arith)
+pub lead_leaf : (shape : Shape) (pages : PageMap) (h page : ℕ) (key : List ℕ) → h ≡ 0 → Leads shape pages h page key (Ok page)
+lead_leaf shape pages zero page key none t low high tree =
+    record {
+      answer = record { entries = t.1; at = subst (λ (n : ℕ). IsLeafAt shape pages n t.1) tree.root tree.holds; rises = tree.ordered.0; same = refl };
+      no_damage = tt;
+    }
+lead_leaf shape pages (suc h) page key none t low high tree = absurd (omega arith)
 
 module _ (shape : Shape) (pages : PageMap) (h k page : ℕ) (key : List ℕ) (one : h ≡ suc k) where
-  pub find_down_fails : (fault : Fault) (out : Result (Option (ArrayVec ℕ)) Fault) → Steps shape pages page key (Err fault) → IsErrAnd out (λ e. e ≡ fault) → Finds shape pages h page (entry_of shape.width key) out
-  find_down_fails fault out steps was = subst (λ (n : ℕ). Finds shape pages n page (entry_of shape.width key) out) (sym one) (λ t low high tree.
-      fails out fault (IsFound (entry_of shape.width key) (entries_of (suc k) t)) was (step_of shape pages k page low high key t (Err fault) tree steps).no_damage)
+  pub lead_fails : (fault : Fault) (out : Result ℕ Fault) → Steps shape pages page key (Err fault) → IsErrAnd out (λ e. e ≡ fault) → Leads shape pages h page key out
+  lead_fails fault out steps was = subst (λ (n : ℕ). Leads shape pages n page key out) (sym one) (λ t low high tree.
+      fails out fault (IsLeafFor shape pages (suc k) key t) was (step_of shape pages k page low high key t (Err fault) tree steps).no_damage)
 
-  pub find_inner : (mid : PageMap) (step : Step) (out : Result (Option (ArrayVec ℕ)) Fault) → mid ≡ pages → Steps shape pages page key (Ok step) → Finds shape mid k step.child (entry_of shape.width key) out
-      → Finds shape pages h page (entry_of shape.width key) out
-  find_inner mid step out same steps finds = subst (λ (n : ℕ). Finds shape pages n page (entry_of shape.width key) out) (sym one) (λ t low high tree.
+  pub lead_inner : (mid : PageMap) (step : Step) (out : Result ℕ Fault) → mid ≡ pages → Steps shape pages page key (Ok step) → Leads shape mid k step.child key out → Leads shape pages h page key out
+  lead_inner mid step out same steps leads = subst (λ (n : ℕ). Leads shape pages n page key out) (sym one) (λ t low high tree.
       let b = below shape pages k page low high key t step tree (step_of shape pages k page low high key t (Ok step) tree steps).answer in
       let child = subst (λ (m : PageMap). IsTree shape m k step.child b.row.from b.row.to b.row.here) (sym same) b.child in
-      if_ok out (IsFound (entry_of shape.width key) (entries_of k b.row.here)) (IsFound (entry_of shape.width key) (entries_of (suc k) t))
-      (λ found is. is ∙ sym (entry_below shape.width k key low high t.1 t.2 step.place b.row)) (finds b.row.here b.row.from b.row.to child))
+      if_ok out (IsLeafFor shape mid k key b.row.here) (IsLeafFor shape pages (suc k) key t)
+      (λ leaf is. record {
+        entries = is.entries;
+        at = subst (λ (m : PageMap). IsLeafAt shape m leaf is.entries) same is.at;
+        rises = is.rises;
+        same = entry_below shape.width k key low high t.1 t.2 step.place b.row ∙ is.same;
+      }) (leads b.row.here b.row.from b.row.to child))
+
+module _ (shape : Shape) (pages mid : PageMap) (h page : ℕ) (key : List ℕ) where
+  pub find_fails : (fault : Fault) (out : Result (Option (ArrayVec ℕ)) Fault) → Leads shape pages h page key (Err fault) → IsErrAnd out (λ e. e ≡ fault) → Finds shape pages h page (entry_of shape.width key) out
+  find_fails fault out leads was t low high tree = fails out fault (IsFound (entry_of shape.width key) (entries_of h t)) was (leads t low high tree).no_damage
+
+  module _ (leaf : ℕ) (entry : ArrayVec ℕ) (same : mid ≡ pages) (leads : Leads shape pages h page key (Ok leaf)) where
+    filled_in : (r : Result Bool Fault) → FillsFromLeaf shape mid leaf (entry_of shape.width key) entry r
+        → (t : TreeOf h) (low high : Bound) → IsTree shape pages h page low high t → IsAnswer r (λ done. IsFound (entry_of shape.width key) (entries_of h t) (filled entry done))
+    filled_in r fills t low high tree =
+        let is = (leads t low high tree).answer in
+        if_ok r (λ done. IsFound (entry_of shape.width key) is.entries (filled entry done)) (λ done. IsFound (entry_of shape.width key) (entries_of h t) (filled entry done)) (λ done found. found ∙ sym is.same)
+        (fills is.entries (subst (λ (m : PageMap). IsLeafAt shape m leaf is.entries) (sym same) is.at) is.rises)
+
+    pub leaf_fails : (fault : Fault) (out : Result (Option (ArrayVec ℕ)) Fault) → FillsFromLeaf shape mid leaf (entry_of shape.width key) entry (Err fault) → IsErrAnd out (λ e. e ≡ fault)
+        → Finds shape pages h page (entry_of shape.width key) out
+    leaf_fails fault out fills was t low high tree = fails out fault (IsFound (entry_of shape.width key) (entries_of h t)) was (filled_in (Err fault) fills t low high tree).no_damage
+
+    pub leaf_found : (done : Bool) → FillsFromLeaf shape mid leaf (entry_of shape.width key) entry (Ok done) → Finds shape pages h page (entry_of shape.width key) (Ok (filled entry done))
+    leaf_found done fills t low high tree = record { answer = (filled_in (Ok done) fills t low high tree).answer; no_damage = tt }
 
 -- ---- the first entry at a key or behind it
 

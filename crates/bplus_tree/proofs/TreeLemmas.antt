@@ -10,7 +10,7 @@ use Rattle.pages.specs.Owners.{Changes}
 use Rattle.bplus_tree.specs.Edits.{without_key}
 use Rattle.bplus_tree.specs.Calls.{entry_of}
 use Rattle.bplus_tree.specs.Crown.{Settles}
-use Rattle.bplus_tree.specs.Remove.{HasRemoved as HasRemovedBelow}
+use Rattle.bplus_tree.specs.Remove.{HasRemoved as HasRemovedBelow, HasTaken}
 use Rattle.pages.specs.PageMap.{Takes}
 use Rattle.tree_node.specs.declared.shape.Shape.{Shape}
 use Rattle.bplus_tree.specs.Start.{HasStarted}
@@ -43,6 +43,29 @@ removed_some before mid late is_sound old key entries own stands entry short bas
         },
       ),
       s.1,
+    )
+
+pub removed_one : (before after : PageMap) (old : Tree) (key : List ℕ) (entries : List (List ℕ)) (own : List ℕ) (stands : Stands old before entries own) (entry : ArrayVec ℕ) (n changes : ℕ) (low : old.levels < 20) → n ≡ old.count - 1
+    → HasTaken old.shape before after old.levels old.root None None key stands.value entry.items → HasRemoved before after old (record { shape = old.shape; root = old.root; levels = old.levels; count = n; changes = changes; low = low }) key entries own (Some entry)
+removed_one before after old key entries own stands entry n changes low is_n h =
+    let b = h.becomes in
+    let was = subst (λ (es : List (List ℕ)). entry_of old.shape.width key es ≡ Some entry.items) stands.has h.was in
+    let has : entries_of old.levels b.tree ≡ without_key old.shape.width key entries = b.has ∙ ap (without_key old.shape.width key) stands.has in
+    let fewer : length (without_key old.shape.width key entries) + 1 ≡ length entries =
+    subst (λ (es : List (List ℕ)). length (without_key old.shape.width key es) + 1 ≡ length es) stands.has (taken_once old.shape.width key old.levels stands.value stands.whole.stands.ordered entry.items h.was) in
+    let count = stands.count in (
+      was,
+      record {
+        own_now = pages_of old.levels b.tree;
+        stands = record {
+          value = b.tree;
+          whole = record { stands = b.stands; apart = b.changes.apart; filled = b.filled; rooted = h.rooted stands.whole.rooted };
+          has = has;
+          pages_are = refl;
+          count = omega arith;
+        };
+        changes = subst (λ (l : List ℕ). Changes before after l (pages_of old.levels b.tree)) stands.pages_are b.changes;
+      },
     )
 
 -- ---- a new tree

@@ -1,5 +1,5 @@
 -- What one visit of a node answers.
-use Rattle.std.specs.Prelude.{◌≡◌, ℕ, ◌+◌, ◌<◌, ◌≤◌, List, length, slice_index, Result, option_map}
+use Rattle.std.specs.Prelude.{◌≡◌, ℕ, ◌+◌, ◌<◌, ◌≤◌, Bool, true, false, List, [], length, slice_index, slice_index_or, Some, None, Result, option_map}
 use Rattle.io_state.specs.declared.fault.Fault.{Fault}
 use Rattle.tree_node.specs.declared.shape.Shape.{Shape}
 use Rattle.tree_node.specs.Order.{Ascends, IsRank, IsRankAfter}
@@ -30,3 +30,8 @@ pub record IsLook (width : ℕ) (key : List ℕ) (entries : List (List ℕ)) (lo
 abbrev pub Looks : Shape → PageMap → ℕ → List ℕ → Result Look Fault → Type 0
 Looks shape pages page key result =
     (entries : List (List ℕ)) → IsLeafAt shape pages page entries → Ascends shape.width entries → IsAnswer result (IsLook shape.width key entries)
+
+-- whether the entry of a key stands at this place
+pub record IsKeyAt (width : ℕ) (key : List ℕ) (entries : List (List ℕ)) (place : ℕ) (has : Bool) : Type 0 where
+  pub present : has ≡ true → entry_of width key entries ≡ Some (slice_index_or entries place [])
+  pub absent : has ≡ false → entry_of width key entries ≡ None

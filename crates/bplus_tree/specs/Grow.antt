@@ -1,5 +1,5 @@
 -- One entry more in a leaf, one separator more in an inner node, one level more above a root.
-use Rattle.std.specs.Prelude.{◌≡◌, ◌≢◌, ℕ, ◌+◌, ◌≤◌, Bool, true, false, List, ◌∷◌, ◌++◌, [], length, take, insert, slice_index_or, Some, None, Option, Result}
+use Rattle.std.specs.Prelude.{◌≡◌, ◌≢◌, ℕ, ◌+◌, ◌≤◌, List, ◌∷◌, ◌++◌, [], length, take, insert, slice_index_or, Some, None, Option, Result}
 use Rattle.io_state.specs.declared.fault.Fault.{Fault}
 use Rattle.tree_node.specs.declared.shape.Shape.{Shape}
 use Rattle.tree_node.specs.Inner.{IsInner, separators, children}
@@ -36,17 +36,6 @@ abbrev pub AddsToLeaf : Shape → PageMap → PageMap → Type 0 → ℕ → ℕ
 AddsToLeaf shape before after is_sound page place e result =
     (entries : List (List ℕ)) → IsLeafAt shape before page entries → place ≤ length entries
     → IsAnswer result (λ separator. HasAddedToLeaf shape before after page (insert entries place e) separator × is_sound)
-
--- the leaf has one more entry, or is as it was
-abbrev pub HasPut : Shape → PageMap → PageMap → ℕ → ℕ → List ℕ → List (List ℕ) → Bool → Type 0
-HasPut shape before after page place e entries true = HasLeaf shape before after page (insert entries place e)
-HasPut shape before after page place e entries false = HasLeaf shape before after page entries
-
--- an entry is put before entry `place` of a leaf, or not where there is no room
-abbrev pub PutsWhereRoom : Shape → PageMap → PageMap → Type 0 → ℕ → ℕ → List ℕ → Result Bool Fault → Type 0
-PutsWhereRoom shape before after is_sound page place e result =
-    (entries : List (List ℕ)) → IsLeafAt shape before page entries → place ≤ length entries
-    → IsAnswer result (λ done. HasPut shape before after page place e entries done × is_sound)
 
 -- the page is an inner node of these separators and children now, and every other page is as it was
 pub record HasInner (shape : Shape) (before after : PageMap) (page : ℕ) (seps : List (List ℕ)) (below : List ℕ) : Type 0 where

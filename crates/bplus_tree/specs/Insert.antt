@@ -1,5 +1,5 @@
 -- What an insert ensures below one page.
-use Rattle.std.specs.Prelude.{◌≡◌, ℕ, List, ◌++◌, take, Some, None, Option, Result, ⊤}
+use Rattle.std.specs.Prelude.{◌≡◌, ℕ, Bool, true, false, List, ◌++◌, take, Some, None, Option, Result, ⊤}
 use Rattle.io_state.specs.declared.fault.Fault.{Fault}
 use Rattle.tree_node.specs.declared.shape.Shape.{Shape}
 use Rattle.pages.specs.PageMap.{PageMap}
@@ -12,6 +12,9 @@ use Rattle.pages.specs.Answer.{IsAnswer}
 use Rattle.bplus_tree.specs.Calls.{entry_of, IsTree, IsWhole}
 use Rattle.bplus_tree.specs.Edits.{with_entry}
 use Rattle.bplus_tree.specs.Split.{HasWidth}
+use Rattle.bplus_tree.specs.Stored.{IsLeafAt}
+use Rattle.bplus_tree.specs.Grow.{HasLeaf}
+use Rattle.tree_node.specs.Order.{Ascends}
 use Rattle.bplus_tree.specs.Remove.{Becomes, IsFull}
 
 -- The page heads the first of two trees now, which have these entries together, and the separator leads to the second. Both are at least half full.
@@ -50,3 +53,29 @@ Inserts shape before after is_sound h page e result =
 abbrev pub HasWholeKey : Shape → Grown → Type 0
 HasWholeKey shape (Present found) = ⊤
 HasWholeKey shape (Added up) = HasWidth shape.width up
+
+-- the entry was put in where its key was not, and its leaf was not split; or nothing has changed
+abbrev pub HasPutIf : (shape : Shape) → PageMap → PageMap → (h page : ℕ) → (low high : Bound) → List ℕ → TreeOf h → Bool → Type 0
+HasPutIf shape before after h page low high e t true = HasInserted shape before after h page low high e t (Added None)
+HasPutIf shape before after h page low high e t false = after ≡ before
+
+abbrev pub PutsBelow : Shape → PageMap → PageMap → Type 0 → ℕ → ℕ → List ℕ → Result Bool Fault → Type 0
+PutsBelow shape before after is_sound h page e result =
+    (t : TreeOf h) (low high : Bound) → IsWhole shape before h page low high t → NotBelow low (take shape.width e) → Below high (take shape.width e)
+    → IsAnswer result (λ done. HasPutIf shape before after h page low high e t done × is_sound)
+
+-- the same of the entries of a leaf
+abbrev pub IsPutIf : ℕ → List ℕ → (old new : List (List ℕ)) → Bool → Type 0
+IsPutIf width e old new true = (entry_of width (take width e) old ≡ None) × (new ≡ with_entry width e old)
+IsPutIf width e old new false = new ≡ old
+
+-- and of its page
+abbrev pub HasPutInPlaceIf : Shape → PageMap → PageMap → ℕ → List ℕ → List (List ℕ) → Bool → Type 0
+HasPutInPlaceIf shape before after page e entries true =
+    (entry_of shape.width (take shape.width e) entries ≡ None) × HasLeaf shape before after page (with_entry shape.width e entries)
+HasPutInPlaceIf shape before after page e entries false = after ≡ before
+
+abbrev pub PutsInPlace : Shape → PageMap → PageMap → Type 0 → ℕ → List ℕ → Result Bool Fault → Type 0
+PutsInPlace shape before after is_sound page e result =
+    (entries : List (List ℕ)) → IsLeafAt shape before page entries → Ascends shape.width entries
+    → IsAnswer result (λ done. HasPutInPlaceIf shape before after page e entries done × is_sound)

@@ -1,5 +1,5 @@
 -- What a removal ensures below one page.
-use Rattle.std.specs.Prelude.{◌≡◌, ◌≢◌, ℕ, zero, suc, ◌+◌, ◌-◌, ◌<◌, ◌≤◌, ◌↔◌, Bool, List, [], ◌∷◌, length, remove, Some, None, Result, IsTrue}
+use Rattle.std.specs.Prelude.{◌≡◌, ◌≢◌, ℕ, zero, suc, ◌+◌, ◌-◌, ◌<◌, ◌≤◌, ◌↔◌, Bool, true, false, List, [], ◌∷◌, length, remove, Some, None, Result, IsTrue}
 use Rattle.io_state.specs.declared.fault.Fault.{Fault}
 use Rattle.tree_node.specs.declared.shape.Shape.{Shape}
 use Rattle.page_bytes.specs.Each.{Each}
@@ -7,7 +7,9 @@ use Rattle.pages.specs.PageMap.{PageMap}
 use Rattle.bplus_tree.specs.declared.remove.Shrunk.{Shrunk}
 use Rattle.bplus_tree.specs.declared.remove.Shrunk.TheVariants.{Absent, Taken}
 use Rattle.node_balance.specs.Fill.{least}
-use Rattle.bplus_tree.specs.Tree.{TreeOf, entries_of, pages_of, size_of, Bound, IsFilled}
+use Rattle.arrayvec.specs.ArrayVec.{ArrayVec}
+use Rattle.tree_node.specs.Order.{Ascends, IsRank}
+use Rattle.bplus_tree.specs.Tree.{TreeOf, entries_of, pages_of, size_of, Bound, IsFilled, IsRooted}
 use Rattle.bplus_tree.specs.Stored.{IsLeafAt}
 use Rattle.pages.specs.Answer.{IsAnswer}
 use Rattle.bplus_tree.specs.Calls.{entry_of, IsTree, IsWhole}
@@ -69,3 +71,47 @@ abbrev pub OutOfLeaf : Shape → PageMap → PageMap → Type 0 → ℕ → ℕ 
 OutOfLeaf shape before after is_sound page place result =
     (entries : List (List ℕ)) → IsLeafAt shape before page entries → place < length entries
     → IsAnswer result (λ short. TakesOut shape before after page (remove entries place) short × is_sound)
+
+-- The entry of the key was taken out, and its leaf has enough still: no other node has changed.
+pub record HasTaken (shape : Shape) (before after : PageMap) (h page : ℕ) (low high : Bound) (key : List ℕ) (t : TreeOf h) (entry : List ℕ) : Type 0 where
+  pub was : entry_of shape.width key (entries_of h t) ≡ Some entry
+  pub becomes : Becomes shape before after h page low high (pages_of h t) (size_of h t - 1) (without_key shape.width key (entries_of h t))
+  pub enough : least shape h ≤ size_of h t → least shape h ≤ size_of h becomes.tree
+  pub rooted : IsRooted h t → IsRooted h becomes.tree
+
+abbrev pub HasTakenIf : (shape : Shape) → PageMap → PageMap → (h page : ℕ) → (low high : Bound) → List ℕ → TreeOf h → List ℕ → Bool → Type 0
+HasTakenIf shape before after h page low high key t entry true = HasTaken shape before after h page low high key t entry
+HasTakenIf shape before after h page low high key t entry false = after ≡ before
+
+abbrev pub TakesBelow : Shape → PageMap → PageMap → Type 0 → ℕ → ℕ → List ℕ → ArrayVec ℕ → Result Bool Fault → Type 0
+TakesBelow shape before after is_sound h page key entry result =
+    (t : TreeOf h) (low high : Bound) → IsWhole shape before h page low high t
+    → IsAnswer result (λ done. HasTakenIf shape before after h page low high key t entry.items done × is_sound)
+
+-- the same of the entries of a leaf
+pub record IsTaken (shape : Shape) (key : List ℕ) (old new : List (List ℕ)) (entry : List ℕ) : Type 0 where
+  pub place : ℕ
+  pub rank : IsRank shape.width key old place
+  pub was : entry_of shape.width key old ≡ Some entry
+  pub left : new ≡ remove old place
+  pub enough : least shape 0 ≤ length new
+
+abbrev pub IsTakenIf : Shape → List ℕ → (old new : List (List ℕ)) → ArrayVec ℕ → Bool → Type 0
+IsTakenIf shape key old new entry true = IsTaken shape key old new entry.items
+IsTakenIf shape key old new entry false = new ≡ old
+
+-- and of its page
+pub record HasTakenInPlace (shape : Shape) (before after : PageMap) (page : ℕ) (key : List ℕ) (entries : List (List ℕ)) (entry : List ℕ) : Type 0 where
+  pub now : List (List ℕ)
+  pub taken : IsTaken shape key entries now entry
+  pub leaf : IsLeafAt shape after page now
+  pub others : (n : ℕ) → n ≢ page → after n ≡ before n
+
+abbrev pub HasTakenInPlaceIf : Shape → PageMap → PageMap → ℕ → List ℕ → List (List ℕ) → ArrayVec ℕ → Bool → Type 0
+HasTakenInPlaceIf shape before after page key entries entry true = HasTakenInPlace shape before after page key entries entry.items
+HasTakenInPlaceIf shape before after page key entries entry false = after ≡ before
+
+abbrev pub TakesInPlace : Shape → PageMap → PageMap → Type 0 → ℕ → List ℕ → ArrayVec ℕ → Result Bool Fault → Type 0
+TakesInPlace shape before after is_sound page key entry result =
+    (entries : List (List ℕ)) → IsLeafAt shape before page entries → Ascends shape.width entries
+    → IsAnswer result (λ done. HasTakenInPlaceIf shape before after page key entries entry done × is_sound)

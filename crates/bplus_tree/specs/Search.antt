@@ -1,5 +1,5 @@
 -- What searches answer below one page.
-use Rattle.std.specs.Prelude.{◌≡◌, ℕ, ◌≤◌, Bool, true, false, List, find, length, slice_index, Some, Option, option_map, Result}
+use Rattle.std.specs.Prelude.{◌≡◌, ℕ, ◌≤◌, Bool, true, false, List, find, length, slice_index, Some, None, Option, option_map, Result}
 use Rattle.arrayvec.specs.ArrayVec.{ArrayVec}
 use Rattle.io_state.specs.declared.fault.Fault.{Fault}
 use Rattle.tree_node.specs.declared.shape.Shape.{Shape}
@@ -8,7 +8,7 @@ use Rattle.pages.specs.PageMap.{PageMap}
 use Rattle.bplus_tree.specs.Tree.{TreeOf, page_of, entries_of, size_of, Bound, IsFilled}
 use Rattle.bplus_tree.specs.Stored.{Holds, IsLeafAt, IsInnerAt}
 use Rattle.pages.specs.Answer.{IsAnswer}
-use Rattle.bplus_tree.specs.Calls.{IsTree, first_from, first_after, last_of}
+use Rattle.bplus_tree.specs.Calls.{IsTree, entry_of, first_from, first_after, last_of}
 
 -- the first entry at a key or behind it; where `past`, the first one behind it
 abbrev pub first_of : Bool → ℕ → List ℕ → List (List ℕ) → Option (List ℕ)
@@ -39,6 +39,26 @@ FindsFilled shape pages h page look result =
 abbrev pub FindsInLeaf : Shape → PageMap → ℕ → (List (List ℕ) → Option (List ℕ)) → Result (Option (ArrayVec ℕ)) Fault → Type 0
 FindsInLeaf shape pages page look result =
     (entries : List (List ℕ)) → IsLeafAt shape pages page entries → Ascends shape.width entries → IsAnswer result (IsFound look entries)
+
+-- a leaf in which the entry of a key stands, where the tree has one
+pub record IsLeafFor (shape : Shape) (pages : PageMap) (h : ℕ) (key : List ℕ) (t : TreeOf h) (leaf : ℕ) : Type 0 where
+  pub entries : List (List ℕ)
+  pub at : IsLeafAt shape pages leaf entries
+  pub rises : Ascends shape.width entries
+  pub same : entry_of shape.width key (entries_of h t) ≡ entry_of shape.width key entries
+
+abbrev pub Leads : Shape → PageMap → ℕ → ℕ → List ℕ → Result ℕ Fault → Type 0
+Leads shape pages h page key result =
+    (t : TreeOf h) (low high : Bound) → IsTree shape pages h page low high t → IsAnswer result (IsLeafFor shape pages h key t)
+
+-- the entry that was filled, or none
+abbrev pub filled : ArrayVec ℕ → Bool → Option (ArrayVec ℕ)
+filled entry true = Some entry
+filled entry false = None
+
+abbrev pub FillsFromLeaf : Shape → PageMap → ℕ → (List (List ℕ) → Option (List ℕ)) → ArrayVec ℕ → Result Bool Fault → Type 0
+FillsFromLeaf shape pages page look entry result =
+    (entries : List (List ℕ)) → IsLeafAt shape pages page entries → Ascends shape.width entries → IsAnswer result (λ done. IsFound look entries (filled entry done))
 
 -- the first entry of a tree that has one
 abbrev pub FindsFirst : Shape → PageMap → ℕ → ℕ → Result (ArrayVec ℕ) Fault → Type 0

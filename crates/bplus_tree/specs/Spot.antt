@@ -1,5 +1,5 @@
 -- Where an entry stands in a tree.
-use Rattle.std.specs.Prelude.{◌≡◌, ℕ, ◌<◌, ◌≤◌, List, [], ◌++◌, length, slice_index_or, Option, Some, None, Result, IfOk, ⊤}
+use Rattle.std.specs.Prelude.{◌≡◌, ℕ, ◌<◌, ◌≤◌, Bool, true, false, List, [], ◌++◌, length, slice_index_or, Option, Some, None, Result, IfOk, ⊤}
 use Rattle.arrayvec.specs.ArrayVec.{ArrayVec}
 use Rattle.io_state.specs.declared.fault.Fault.{Fault}
 use Rattle.tree_node.specs.declared.shape.Shape.{Shape}
@@ -30,6 +30,15 @@ IsEntryAt leaf place entries spot (Some entry) = (spot.place ≡ place) × IsInL
 abbrev pub EntryAt : Shape → PageMap → (page place : ℕ) → Spot → Result (Option (ArrayVec ℕ)) Fault → Type 0
 EntryAt shape pages page place spot result =
     (entries : List (List ℕ)) → IsLeafAt shape pages page entries → IsAnswer result (IsEntryAt page place entries spot)
+
+-- the entry at a place of a leaf was copied, or the leaf has no more
+abbrev pub IsCopyAt : ℕ → List (List ℕ) → List ℕ → Bool → Type 0
+IsCopyAt place entries entry true = (place < length entries) × (entry ≡ slice_index_or entries place [])
+IsCopyAt place entries entry false = length entries ≤ place
+
+abbrev pub CopiesEntry : Shape → PageMap → (page place : ℕ) → List ℕ → Result Bool Fault → Type 0
+CopiesEntry shape pages page place entry result =
+    (entries : List (List ℕ)) → IsLeafAt shape pages page entries → IsAnswer result (IsCopyAt place entries entry)
 
 -- the entry stands at this place of this leaf of these pages, between these of the entries
 pub record StandsAt (shape : Shape) (pages : PageMap) (own : List ℕ) (entries : List (List ℕ)) (spot : Spot) (entry : List ℕ) : Type 0 where

@@ -5,7 +5,7 @@ ghost use Rattle.pages.specs.PageMap.{PageMap};
 ghost use Rattle.pages.specs.Cause.{IsCaused};
 
 use crate::search::next_below;
-use crate::spot::{Spot, entry_in_leaf};
+use crate::spot::{Spot, copy_entry};
 use crate::tree::Tree;
 use io_state::Fault;
 use pages::Pages;
@@ -56,6 +56,9 @@ impl Cursor {
         ensures reads { P.Reads pages.old pages.new }
         ensures err { OnErr result (self.new ≡ self.old) }
     {
+        if self.has_neighbour(tree) {
+            return self.step(tree, pages);
+        }
         let mut spot = Spot::nowhere();
         match self.look_behind(tree, pages, &mut spot)? {
             None => Ok(None),
@@ -68,6 +71,30 @@ impl Cursor {
                 Ok(Some(entry))
             }
         }
+    }
+
+    /// The next entry where it stands in the same leaf.
+    fn step<P: Pages>(&mut self, tree: &Tree, pages: &mut P) -> Result<Option<Entry>, Fault>
+        requires near { HasNeighbour self.old tree.now }
+        requires ready { P.IsReady pages.old }
+        ensures moved { IsTrue (P.state pages.new).is_honest
+            → Moves self.old self.new tree.now (P.state pages.old).live result }
+        ensures key { IfOk result (λ found. self.new.key.items
+            ≡ key_after tree.now.shape.width self.old.key.items found) }
+        ensures cause { IfErr result (IsCaused (P.HasFailed pages.old pages.new) ⊥) }
+        ensures asked { (P.state pages.new).asked ≤ (P.state pages.old).asked + 1 }
+        ensures reads { P.Reads pages.old pages.new }
+        ensures err { OnErr result (self.new ≡ self.old) }
+    {
+        let Spot { leaf, place, count } = self.spot;
+        let place = place + 1;
+        let mut entry = Entry::new();
+        if !copy_entry(pages, tree.shape, leaf, place as usize, &mut entry)? {
+            return Err(Fault::Damage);
+        }
+        take_key(&mut self.key, &entry, tree.shape);
+        self.spot = Spot { leaf, place, count };
+        Ok(Some(entry))
     }
 
     /// The first entry above the key, and where it stands.
@@ -84,13 +111,6 @@ impl Cursor {
         ensures asked { (P.state pages.new).asked ≤ (P.state pages.old).asked + 2 * (tree.now.levels + 1) }
         ensures reads { P.Reads pages.old pages.new }
     {
-        if self.has_neighbour(tree) {
-            let place = self.spot.place as usize + 1;
-            return match entry_in_leaf(pages, tree.shape, self.spot.leaf, place, spot)? {
-                Some(entry) => Ok(Some(entry)),
-                None => Err(Fault::Damage),
-            };
-        }
         let key = self.key.as_slice();
         next_below(pages, tree.shape, tree.root, tree.levels, key, true, spot)
     }
@@ -109,8 +129,16 @@ impl Cursor {
 fn key_of(entry: &Entry, shape: Shape) -> TreeKey
     ensures { result.items ≡ take shape.width entry.now.items }
 {
-    let width = (shape.width as usize).min(entry.len());
     let mut key = TreeKey::new();
-    let _ = key.try_extend_from_slice(&entry[..width]);
+    take_key(&mut key, entry, shape);
     key
+}
+
+/// Makes the tree key that of an entry.
+fn take_key(key: &mut TreeKey, entry: &Entry, shape: Shape)
+    ensures { key.new.items ≡ take shape.width entry.now.items }
+{
+    let width = (shape.width as usize).min(entry.len());
+    key.clear();
+    let _ = key.try_extend_from_slice(&entry[..width]);
 }

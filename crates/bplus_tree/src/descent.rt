@@ -1,11 +1,11 @@
 //! One step down a tree, and a look into a leaf.
 
-ghost use Rattle.std.specs.Prelude.{◌≡◌, ◌+◌, ◌<◌, ◌≤◌, ℕ, IsTrue, IfErr, length};
+ghost use Rattle.std.specs.Prelude.{◌≡◌, ◌+◌, ◌<◌, ◌≤◌, ℕ, true, IsTrue, IfErr, length};
 ghost use Rattle.pages.specs.Cause.{IsCaused};
-ghost use Rattle.bplus_tree.specs.Descent.{Steps, IsStep, Looks, IsLook};
+ghost use Rattle.bplus_tree.specs.Descent.{Steps, IsStep, Looks, IsLook, IsKeyAt};
 ghost use Rattle.tree_node.specs.Inner.{IsInner, separators, children};
 ghost use Rattle.tree_node.specs.Leaf.{IsLeaf, leaf_entries};
-ghost use Rattle.tree_node.specs.Order.{Ascends};
+ghost use Rattle.tree_node.specs.Order.{Ascends, IsRank};
 
 use crate::spot::entry_with;
 use io_state::Fault;
@@ -82,12 +82,24 @@ fn find_in(page: &[u8; PAGE_SIZE], shape: Shape, key: &[u8]) -> Look
 {
     let leaf = LeafView { page, shape };
     let place = leaf.rank(key);
-    if place >= leaf.count() {
-        return Look { place, found: None };
-    }
-    if leaf.key(place) != key {
+    if !has_key(page, shape, place, key) {
         return Look { place, found: None };
     }
     let found = Some(entry_with(leaf.entry(place)));
     Look { place, found }
+}
+
+/// An entry of the key stands at this place of a leaf, where the place is the key's.
+pub fn has_key(page: &[u8; PAGE_SIZE], shape: Shape, place: usize, key: &[u8]) -> bool
+    requires leaf { IsLeaf shape page.now }
+    ensures within { result ≡ true → place < length (leaf_entries shape page.now) }
+    ensures key { Ascends shape.width (leaf_entries shape page.now)
+        → IsRank shape.width key.now (leaf_entries shape page.now) place
+        → IsKeyAt shape.width key.now (leaf_entries shape page.now) place result }
+{
+    let leaf = LeafView { page, shape };
+    if place >= leaf.count() {
+        return false;
+    }
+    leaf.key(place) == key
 }

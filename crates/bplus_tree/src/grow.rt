@@ -5,15 +5,14 @@ ghost use Rattle.tree_node.specs.Leaf.{IsLeaf, leaf_entries, leaf_room};
 ghost use Rattle.tree_node.specs.Inner.{IsInner, separators};
 ghost use Rattle.pages.specs.Cause.{IsCaused};
 ghost use Rattle.bplus_tree.specs.Split.{HasWidth};
-ghost use Rattle.bplus_tree.specs.Grow.{AddsToLeaf, PutsWhereRoom, AddsToInner, IsOver, AddsRoot};
+ghost use Rattle.bplus_tree.specs.Grow.{AddsToLeaf, AddsToInner, IsOver, AddsRoot};
 
 use crate::split::write_parts;
 use io_state::Fault;
 use node_balance::{Separator, put_in_inner, put_in_leaf};
 use pages::{Pages, copy, store};
 use tree_node::{
-    InnerView, InnerViewMut, LeafView, LeafViewMut, PAGE_SIZE, Shape, is_inner, is_leaf,
-    write_inner,
+    InnerView, InnerViewMut, LeafView, PAGE_SIZE, Shape, is_inner, is_leaf, write_inner,
 };
 
 /// Puts an entry before entry `place` of a leaf. Where the leaf is full, its upper half goes to a
@@ -21,63 +20,6 @@ use tree_node::{
 ///
 /// Full where no page is available.
 pub fn add_to_leaf<P: Pages>(
-    pages: &mut P,
-    shape: Shape,
-    page: u32,
-    place: usize,
-    entry: &[u8],
-) -> Result<Option<Separator>, Fault>
-    requires size { length entry.now ≡ shape.entry }
-    requires ready { P.IsReady pages.old }
-    requires open { P.CanChange pages.old }
-    ensures added { IsTrue (P.state pages.new).is_honest → IsTrue (P.state pages.old).is_sound
-        → AddsToLeaf shape (P.state pages.old).live (P.state pages.new).live
-        (IsTrue (P.state pages.new).is_sound) page place entry.now result }
-    ensures width { IfOk result (HasWidth shape.width) }
-    ensures few { (P.state pages.old).available ≤ (P.state pages.new).available + 1 }
-    ensures cause { IfErr result
-        (IsCaused (P.HasFailed pages.old pages.new) ((P.state pages.old).available ≡ 0)) }
-    ensures asked { (P.state pages.new).asked ≤ (P.state pages.old).asked + 5 }
-    ensures goes { P.Goes pages.old pages.new }
-{
-    if put_where_room(pages, shape, page, place, entry)? {
-        return Ok(None);
-    }
-    rebuild_leaf(pages, shape, page, place, entry)
-}
-
-/// Puts an entry into a leaf that is not full. The answer is whether it did.
-fn put_where_room<P: Pages>(
-    pages: &mut P,
-    shape: Shape,
-    page: u32,
-    place: usize,
-    entry: &[u8],
-) -> Result<bool, Fault>
-    requires size { length entry.now ≡ shape.entry }
-    requires ready { P.IsReady pages.old }
-    requires open { P.CanChange pages.old }
-    ensures put { IsTrue (P.state pages.new).is_honest → IsTrue (P.state pages.old).is_sound
-        → PutsWhereRoom shape (P.state pages.old).live (P.state pages.new).live
-        (IsTrue (P.state pages.new).is_sound) page place entry.now result }
-    ensures available { (P.state pages.new).available ≡ (P.state pages.old).available }
-    ensures cause { IfErr result (IsCaused (P.HasFailed pages.old pages.new) ⊥) }
-    ensures asked { (P.state pages.new).asked ≤ (P.state pages.old).asked + 1 }
-    ensures goes { P.Goes pages.old pages.new }
-{
-    let bytes = pages.page_mut(page)?;
-    if !is_leaf(bytes, shape) || !has_entry_place(bytes, shape, place) {
-        return Err(Fault::Damage);
-    }
-    if (LeafView { page: bytes, shape }).is_full() {
-        return Ok(false);
-    }
-    LeafViewMut { page: bytes, shape }.insert_at(place, entry);
-    Ok(true)
-}
-
-/// Puts an entry into a copy of a leaf, and writes it back, in two parts where it was full.
-fn rebuild_leaf<P: Pages>(
     pages: &mut P,
     shape: Shape,
     page: u32,

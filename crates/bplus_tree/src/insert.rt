@@ -1,15 +1,17 @@
 //! Inserts by descent. A page without room is split, and a separator goes up.
 
-ghost use Rattle.std.specs.Prelude.{◌≡◌, ◌≢◌, ◌+◌, ◌*◌, ◌<◌, ◌≤◌, ℕ, IsTrue, IfErr, IfOk, length, take};
+ghost use Rattle.std.specs.Prelude.{◌≡◌, ◌≢◌, ◌+◌, ◌*◌, ◌<◌, ◌≤◌, ℕ, false, IsTrue, IfErr, IfOk, length, take, insert};
+ghost use Rattle.tree_node.specs.Leaf.{IsLeaf, leaf_entries, leaf_room};
+ghost use Rattle.tree_node.specs.Order.{Ascends};
 ghost use Rattle.pages.specs.Cause.{IsCaused};
-ghost use Rattle.bplus_tree.specs.Insert.{Inserts, HasWholeKey};
+ghost use Rattle.bplus_tree.specs.Insert.{Inserts, HasWholeKey, PutsBelow, PutsInPlace, IsPutIf};
 
-use crate::descent::{Look, descend, seek};
+use crate::descent::{Look, descend, has_key, seek};
 use crate::grow::{add_to_inner, add_to_leaf};
 use io_state::Fault;
 use node_balance::Separator;
 use pages::Pages;
-use tree_node::{Entry, Shape};
+use tree_node::{Entry, LeafView, LeafViewMut, PAGE_SIZE, Shape, is_leaf};
 
 /// What an insert found, or did, below a page.
 #[derive(Drop)]
@@ -53,6 +55,88 @@ pub fn insert_below<P: Pages>(
             Ok(Grown::Added(up))
         }
     }
+}
+
+/// Puts an entry into the leaf below which its key belongs, where that has room and not the key. The answer is whether it did; where it did
+/// not, nothing is changed.
+pub fn put_below<P: Pages>(
+    pages: &mut P,
+    shape: Shape,
+    page: u32,
+    levels: u8,
+    entry: &[u8],
+) -> Result<bool, Fault>
+    requires size { length entry.now ≡ shape.entry }
+    requires ready { P.IsReady pages.old }
+    requires open { P.CanChange pages.old }
+    ensures put { IsTrue (P.state pages.new).is_honest → IsTrue (P.state pages.old).is_sound
+        → PutsBelow shape (P.state pages.old).live (P.state pages.new).live
+        (IsTrue (P.state pages.new).is_sound) levels page entry.now result }
+    ensures available { (P.state pages.new).available ≡ (P.state pages.old).available }
+    ensures cause { IfErr result (IsCaused (P.HasFailed pages.old pages.new) ⊥) }
+    ensures asked { (P.state pages.new).asked ≤ (P.state pages.old).asked + (levels + 1) }
+    ensures goes { P.Goes pages.old pages.new }
+{
+    if levels == 0 {
+        return put_in_place(pages, shape, page, entry);
+    }
+    let down = descend(pages, shape, page, &entry[..shape.width as usize])?;
+    put_below(pages, shape, down.child, levels - 1, entry)
+}
+
+/// Puts an entry into a leaf, where that has room and not its key.
+fn put_in_place<P: Pages>(
+    pages: &mut P,
+    shape: Shape,
+    page: u32,
+    entry: &[u8],
+) -> Result<bool, Fault>
+    requires size { length entry.now ≡ shape.entry }
+    requires ready { P.IsReady pages.old }
+    requires open { P.CanChange pages.old }
+    ensures put { IsTrue (P.state pages.new).is_honest → IsTrue (P.state pages.old).is_sound
+        → PutsInPlace shape (P.state pages.old).live (P.state pages.new).live
+        (IsTrue (P.state pages.new).is_sound) page entry.now result }
+    ensures available { (P.state pages.new).available ≡ (P.state pages.old).available }
+    ensures cause { IfErr result (IsCaused (P.HasFailed pages.old pages.new) ⊥) }
+    ensures asked { (P.state pages.new).asked ≤ (P.state pages.old).asked + 1 }
+    ensures goes { P.Goes pages.old pages.new }
+{
+    let bytes = pages.page_mut(page)?;
+    if !is_leaf(bytes, shape) {
+        return Err(Fault::Damage);
+    }
+    Ok(put_new(bytes, shape, entry))
+}
+
+/// The same in the bytes of a leaf.
+fn put_new(page: &mut [u8; PAGE_SIZE], shape: Shape, entry: &[u8]) -> bool
+    requires leaf { IsLeaf shape page.old }
+    requires size { length entry.now ≡ shape.entry }
+    ensures leaf { IsLeaf shape page.new }
+    ensures put { Ascends shape.width (leaf_entries shape page.old)
+        → IsPutIf shape.width entry.now (leaf_entries shape page.old) (leaf_entries shape page.new) result }
+    ensures same { result ≡ false → page.new ≡ page.old }
+{
+    let key = &entry[..shape.width as usize];
+    let place = LeafView { page, shape }.rank(key);
+    if has_key(page, shape, place, key) || (LeafView { page, shape }).is_full() {
+        return false;
+    }
+    put_at(page, shape, place, entry);
+    true
+}
+
+/// Puts an entry before entry `place` of the bytes of a leaf.
+fn put_at(page: &mut [u8; PAGE_SIZE], shape: Shape, place: usize, entry: &[u8])
+    requires leaf { IsLeaf shape page.old }
+    requires room { length (leaf_entries shape page.old) < leaf_room shape }
+    requires within { place ≤ length (leaf_entries shape page.old) }
+    requires size { length entry.now ≡ shape.entry }
+    ensures leaf { IsLeaf shape page.new }
+    ensures put { leaf_entries shape page.new ≡ insert (leaf_entries shape page.old) place entry.now }
+{
+    LeafViewMut { page, shape }.insert_at(place, entry);
 }
 
 /// Puts an entry into a leaf, where its key is not there.

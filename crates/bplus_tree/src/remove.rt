@@ -1,13 +1,15 @@
 //! Removals by descent. A node that has too little takes from a neighbour or becomes one with it.
 
-ghost use Rattle.std.specs.Prelude.{◌≡◌, ◌+◌, ◌*◌, ◌<◌, ◌≤◌, ◌↔◌, ℕ, IsTrue, IfErr, length, remove};
+ghost use Rattle.std.specs.Prelude.{◌≡◌, ◌+◌, ◌*◌, ◌<◌, ◌≤◌, ◌↔◌, ℕ, false, IsTrue, IfErr, length, remove};
 ghost use Rattle.tree_node.specs.Leaf.{IsLeaf, leaf_entries};
+ghost use Rattle.tree_node.specs.Order.{Ascends};
 ghost use Rattle.node_balance.specs.Fill.{least};
 ghost use Rattle.pages.specs.Cause.{IsCaused};
-ghost use Rattle.bplus_tree.specs.Remove.{Removes, TakesOut, OutOfLeaf};
+ghost use Rattle.bplus_tree.specs.Remove.{Removes, TakesOut, OutOfLeaf, TakesBelow, TakesInPlace, IsTakenIf};
 
-use crate::descent::{Look, descend, seek};
+use crate::descent::{Look, descend, has_key, seek};
 use crate::mend::mend;
+use crate::spot::fill;
 use io_state::Fault;
 use pages::Pages;
 use tree_node::{Entry, LeafView, LeafViewMut, PAGE_SIZE, Shape, is_leaf};
@@ -54,6 +56,74 @@ pub fn remove_below<P: Pages>(
             }
         }
     }
+}
+
+/// Takes the entry of a key, which goes to `to`, out of a leaf that keeps enough without it. The answer is whether it did; where it did not,
+/// nothing is changed.
+pub fn take_below<P: Pages>(
+    pages: &mut P,
+    shape: Shape,
+    page: u32,
+    levels: u8,
+    key: &[u8],
+    to: &mut Entry,
+) -> Result<bool, Fault>
+    requires ready { P.IsReady pages.old }
+    requires open { P.CanChange pages.old }
+    ensures taken { IsTrue (P.state pages.new).is_honest → IsTrue (P.state pages.old).is_sound
+        → TakesBelow shape (P.state pages.old).live (P.state pages.new).live (IsTrue (P.state pages.new).is_sound) levels page key.now to.new result }
+    ensures available { (P.state pages.new).available ≡ (P.state pages.old).available }
+    ensures cause { IfErr result (IsCaused (P.HasFailed pages.old pages.new) ⊥) }
+    ensures asked { (P.state pages.new).asked ≤ (P.state pages.old).asked + (levels + 1) }
+    ensures goes { P.Goes pages.old pages.new }
+{
+    if levels == 0 {
+        return take_in_place(pages, shape, page, key, to);
+    }
+    let down = descend(pages, shape, page, key)?;
+    take_below(pages, shape, down.child, levels - 1, key, to)
+}
+
+/// Takes the entry of a key out of a leaf that keeps enough without it.
+fn take_in_place<P: Pages>(
+    pages: &mut P,
+    shape: Shape,
+    page: u32,
+    key: &[u8],
+    to: &mut Entry,
+) -> Result<bool, Fault>
+    requires ready { P.IsReady pages.old }
+    requires open { P.CanChange pages.old }
+    ensures taken { IsTrue (P.state pages.new).is_honest → IsTrue (P.state pages.old).is_sound
+        → TakesInPlace shape (P.state pages.old).live (P.state pages.new).live (IsTrue (P.state pages.new).is_sound) page key.now to.new result }
+    ensures available { (P.state pages.new).available ≡ (P.state pages.old).available }
+    ensures cause { IfErr result (IsCaused (P.HasFailed pages.old pages.new) ⊥) }
+    ensures asked { (P.state pages.new).asked ≤ (P.state pages.old).asked + 1 }
+    ensures goes { P.Goes pages.old pages.new }
+{
+    let bytes = pages.page_mut(page)?;
+    if !is_leaf(bytes, shape) {
+        return Err(Fault::Damage);
+    }
+    Ok(take_spare(bytes, shape, key, to))
+}
+
+/// The same in the bytes of a leaf.
+fn take_spare(page: &mut [u8; PAGE_SIZE], shape: Shape, key: &[u8], to: &mut Entry) -> bool
+    requires leaf { IsLeaf shape page.old }
+    ensures leaf { IsLeaf shape page.new }
+    ensures taken { Ascends shape.width (leaf_entries shape page.old)
+        → IsTakenIf shape key.now (leaf_entries shape page.old) (leaf_entries shape page.new) to.new result }
+    ensures same { result ≡ false → page.new ≡ page.old }
+{
+    let leaf = LeafView { page, shape };
+    let place = leaf.rank(key);
+    if leaf.count() <= shape.leaf_room() / 2 || !has_key(page, shape, place, key) {
+        return false;
+    }
+    fill(to, (LeafView { page, shape }).entry(place));
+    let _short = cut_out(page, shape, place);
+    true
 }
 
 /// Takes the entry of a key out of a leaf.

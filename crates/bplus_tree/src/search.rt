@@ -6,10 +6,10 @@ ghost use Rattle.tree_node.specs.Order.{Ascends};
 ghost use Rattle.pages.specs.Cause.{IsCaused};
 ghost use Rattle.bplus_tree.specs.Calls.{entry_of, last_of};
 ghost use Rattle.bplus_tree.specs.Spot.{IsInLeafIf, Spots, SpotsInLeaf, SpotsFirst, SpotsFirstInLeaf};
-ghost use Rattle.bplus_tree.specs.Search.{Finds, FindsFilled, FindsInLeaf, FindsFirst, FirstOfLeaf, FirstChild, FindsLast, LastOfLeaf, LastChild, IsFound, IsPlace, first_of};
+ghost use Rattle.bplus_tree.specs.Search.{Finds, FindsFilled, FindsInLeaf, FindsFirst, FirstOfLeaf, FirstChild, FindsLast, LastOfLeaf, LastChild, IsFound, IsPlace, Leads, FillsFromLeaf, filled, first_of};
 
-use crate::descent::{Look, descend, seek};
-use crate::spot::{Spot, entry_at, entry_in_leaf, entry_with};
+use crate::descent::{descend, has_key};
+use crate::spot::{Spot, entry_at, entry_in_leaf, entry_with, fill};
 use io_state::Fault;
 use pages::Pages;
 use tree_node::{Entry, InnerView, LeafView, PAGE_SIZE, Shape, is_inner, is_leaf};
@@ -28,12 +28,70 @@ pub fn find_below<P: Pages>(
     ensures asked { (P.state pages.new).asked ≤ (P.state pages.old).asked + (levels + 1) }
     ensures reads { P.Reads pages.old pages.new }
 {
+    let leaf = leaf_below(pages, shape, page, levels, key)?;
+    let mut entry = Entry::new();
+    if find_in_leaf(pages, shape, leaf, key, &mut entry)? {
+        return Ok(Some(entry));
+    }
+    Ok(None)
+}
+
+/// The leaf in which the entry of a key stands, where a tree with `levels` levels above its leaves has one.
+fn leaf_below<P: Pages>(
+    pages: &mut P,
+    shape: Shape,
+    page: u32,
+    levels: u8,
+    key: &[u8],
+) -> Result<u32, Fault>
+    requires ready { P.IsReady pages.old }
+    ensures leaf { IsTrue (P.state pages.new).is_honest → Leads shape (P.state pages.old).live levels page key.now result }
+    ensures cause { IfErr result (IsCaused (P.HasFailed pages.old pages.new) ⊥) }
+    ensures asked { (P.state pages.new).asked ≤ (P.state pages.old).asked + levels }
+    ensures reads { P.Reads pages.old pages.new }
+{
     if levels == 0 {
-        let Look { place: _, found } = seek(pages, shape, page, key)?;
-        return Ok(found);
+        return Ok(page);
     }
     let down = descend(pages, shape, page, key)?;
-    find_below(pages, shape, down.child, levels - 1, key)
+    leaf_below(pages, shape, down.child, levels - 1, key)
+}
+
+/// The entry of a key in a leaf goes to `to`. The answer is whether there is one.
+fn find_in_leaf<P: Pages>(
+    pages: &mut P,
+    shape: Shape,
+    page: u32,
+    key: &[u8],
+    to: &mut Entry,
+) -> Result<bool, Fault>
+    requires ready { P.IsReady pages.old }
+    ensures found { IsTrue (P.state pages.new).is_honest
+        → FillsFromLeaf shape (P.state pages.old).live page (entry_of shape.width key.now) to.new result }
+    ensures cause { IfErr result (IsCaused (P.HasFailed pages.old pages.new) ⊥) }
+    ensures asked { (P.state pages.new).asked ≤ (P.state pages.old).asked + 1 }
+    ensures reads { P.Reads pages.old pages.new }
+{
+    let bytes = pages.page(page)?;
+    if !is_leaf(bytes, shape) {
+        return Err(Fault::Damage);
+    }
+    Ok(find_entry(bytes, shape, key, to))
+}
+
+/// The same in the bytes of a leaf.
+fn find_entry(bytes: &[u8; PAGE_SIZE], shape: Shape, key: &[u8], to: &mut Entry) -> bool
+    requires leaf { IsLeaf shape bytes.now }
+    ensures { Ascends shape.width (leaf_entries shape bytes.now)
+        → IsFound (entry_of shape.width key.now) (leaf_entries shape bytes.now) (filled to.new result) }
+{
+    let leaf = LeafView { page: bytes, shape };
+    let place = leaf.rank(key);
+    if !has_key(bytes, shape, place, key) {
+        return false;
+    }
+    fill(to, leaf.entry(place));
+    true
 }
 
 /// The first entry at a key or behind it, and where `past`, behind it. Where one is found, `spot` is where it stands.

@@ -29,7 +29,7 @@ impl Spot {
     }
 }
 
-ghost use Rattle.bplus_tree.specs.Spot.{IsEntryAt, EntryAt};
+ghost use Rattle.bplus_tree.specs.Spot.{IsEntryAt, EntryAt, CopiesEntry};
 
 /// Entry `place` of the leaf on a page, where it has so many; `spot` is then where that is.
 pub fn entry_in_leaf<P: Pages>(
@@ -77,12 +77,48 @@ pub fn entry_at(
     Some(entry_with(view.entry(place)))
 }
 
+/// Entry `place` of the leaf on a page goes to `to`. The answer is whether the leaf has so many.
+pub fn copy_entry<P: Pages>(
+    pages: &mut P,
+    shape: Shape,
+    page: u32,
+    place: usize,
+    to: &mut Entry,
+) -> Result<bool, Fault>
+    requires ready { P.IsReady pages.old }
+    ensures entry { IsTrue (P.state pages.new).is_honest
+        → CopiesEntry shape (P.state pages.old).live page place to.new.items result }
+    ensures cause { IfErr result (IsCaused (P.HasFailed pages.old pages.new) ⊥) }
+    ensures asked { (P.state pages.new).asked ≤ (P.state pages.old).asked + 1 }
+    ensures reads { P.Reads pages.old pages.new }
+{
+    let bytes = pages.page(page)?;
+    if !is_leaf(bytes, shape) {
+        return Err(Fault::Damage);
+    }
+    let leaf = LeafView { page: bytes, shape };
+    if place >= leaf.count() {
+        return Ok(false);
+    }
+    fill(to, leaf.entry(place));
+    Ok(true)
+}
+
 /// An entry with these bytes.
 pub fn entry_with(bytes: &[u8]) -> Entry
     requires { length bytes.now ≤ 508 }
     ensures { result.items ≡ bytes.now }
 {
     let mut entry = Entry::new();
-    let _ = entry.try_extend_from_slice(bytes);
+    fill(&mut entry, bytes);
     entry
+}
+
+/// Makes these bytes the entry.
+pub fn fill(entry: &mut Entry, bytes: &[u8])
+    requires { length bytes.now ≤ 508 }
+    ensures { entry.new.items ≡ bytes.now }
+{
+    entry.clear();
+    let _ = entry.try_extend_from_slice(bytes);
 }

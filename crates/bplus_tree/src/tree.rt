@@ -1,12 +1,12 @@
 //! A tree, from its root.
 
-ghost use Rattle.std.specs.Prelude.{◌≡◌, ◌≢◌, ◌+◌, ◌*◌, ◌<◌, ◌≤◌, ℕ, IsTrue, IsSome, IfErr, IfOk, OnOk, Ok, Err, None, length, take};
+ghost use Rattle.std.specs.Prelude.{◌≡◌, ◌≢◌, ◌+◌, ◌-◌, ◌*◌, ◌^◌, ◌<◌, ◌≤◌, ℕ, IsTrue, IsSome, IfErr, IfOk, OnOk, Ok, Err, None, length, take};
 ghost use Rattle.pages.specs.Cause.{IsCaused};
 
 use crate::crown::settle;
-use crate::insert::{Grown, insert_below};
+use crate::insert::{Grown, insert_below, put_below};
 use crate::raise::raise;
-use crate::remove::{Shrunk, remove_below};
+use crate::remove::{Shrunk, remove_below, take_below};
 use crate::search::{find_below, last_below, next_below};
 use crate::spot::Spot;
 use crate::start::start;
@@ -153,6 +153,35 @@ impl Tree {
         if self.levels >= 19 || self.count == u64::MAX {
             return Err(Fault::Memory);
         }
+        if put_below(pages, self.shape, self.root, self.levels, entry)? {
+            self.count += 1;
+            self.changes = self.changes.saturating_add(1);
+            return Ok(None);
+        }
+        self.insert_or_split(pages, entry)
+    }
+
+    /// The same, whether a leaf has room or has to be split.
+    fn insert_or_split<P: Pages>(
+        &mut self,
+        pages: &mut P,
+        entry: &[u8],
+    ) -> Result<Option<Entry>, Fault>
+        requires low { (self.old.levels < 19) × (self.old.count < 2 ^ 64 - 1) }
+        requires size { length entry.now ≡ self.old.shape.entry }
+        requires ready { P.IsReady pages.old }
+        requires open { P.CanChange pages.old }
+        ensures inserted { IsTrue (P.state pages.new).is_honest → IsTrue (P.state pages.old).is_sound
+            → Inserts (P.state pages.old).live (P.state pages.new).live (IsTrue (P.state pages.new).is_sound) self.old self.new entry.now result }
+        ensures shape { self.new.shape ≡ self.old.shape }
+        ensures height { self.new.levels ≤ self.old.levels + 1 }
+        ensures few { (P.state pages.old).available ≤ (P.state pages.new).available + (self.old.levels + 2) }
+        ensures changes { result ≡ Ok None → self.new.changes ≡ one_more self.old.changes }
+        ensures cause { IfErr result (IsCaused (P.HasFailed pages.old pages.new)
+            ((P.state pages.old).available < self.old.levels + 2)) }
+        ensures asked { (P.state pages.new).asked ≤ (P.state pages.old).asked + 7 * (self.old.levels + 2) }
+        ensures goes { P.Goes pages.old pages.new }
+    {
         match insert_below(pages, self.shape, self.root, self.levels, entry)? {
             Grown::Present(found) => Ok(Some(found)),
             Grown::Added(up) => {
@@ -181,6 +210,33 @@ impl Tree {
         ensures few { (P.state pages.old).available ≤ (P.state pages.new).available }
         ensures cause { IfErr result (IsCaused (P.HasFailed pages.old pages.new) ⊥) }
         ensures asked { (P.state pages.new).asked ≤ (P.state pages.old).asked + 8 * (self.old.levels + 2) }
+        ensures goes { P.Goes pages.old pages.new }
+    {
+        let mut entry = Entry::new();
+        if take_below(pages, self.shape, self.root, self.levels, key, &mut entry)? {
+            self.count = self.count.saturating_sub(1);
+            self.changes = self.changes.saturating_add(1);
+            return Ok(Some(entry));
+        }
+        self.remove_or_mend(pages, key)
+    }
+
+    /// The same, whether a leaf has enough still or has to be mended.
+    fn remove_or_mend<P: Pages>(
+        &mut self,
+        pages: &mut P,
+        key: &[u8],
+    ) -> Result<Option<Entry>, Fault>
+        requires ready { P.IsReady pages.old }
+        requires open { P.CanChange pages.old }
+        ensures removed { IsTrue (P.state pages.new).is_honest → IsTrue (P.state pages.old).is_sound
+            → Removes (P.state pages.old).live (P.state pages.new).live (IsTrue (P.state pages.new).is_sound) self.old self.new key.now result }
+        ensures shape { self.new.shape ≡ self.old.shape }
+        ensures height { self.new.levels ≤ self.old.levels }
+        ensures changes { IfOk result (λ found. IsSome found → self.new.changes ≡ one_more self.old.changes) }
+        ensures few { (P.state pages.old).available ≤ (P.state pages.new).available }
+        ensures cause { IfErr result (IsCaused (P.HasFailed pages.old pages.new) ⊥) }
+        ensures asked { (P.state pages.new).asked ≤ (P.state pages.old).asked + 7 * (self.old.levels + 2) }
         ensures goes { P.Goes pages.old pages.new }
     {
         match remove_below(pages, self.shape, self.root, self.levels, key)? {

@@ -1,46 +1,37 @@
-use Rattle.std.proofs.Common.{None, IsTrue, refl, subst}
-use Rattle.bplus_tree.specs.declared.insert.Grown.{Grown}
-use Rattle.bplus_tree.specs.Insert.{HasInserted as HasInsertedBelow}
-use Rattle.bplus_tree.specs.Edits.{with_entry}
-use Rattle.bplus_tree.specs.Tree.{entries_of}
+use Rattle.std.proofs.Common.{◌≡◌, Bool, None, IsTrue, refl, subst}
+use Rattle.pages.specs.PageMap.{PageMap}
+use Rattle.bplus_tree.specs.Insert.{HasPutIf}
+use Rattle.bplus_tree.specs.Standing.{Inserts}
 use Rattle.bplus_tree.proofs.RemoveLemmas.{fails}
-use Rattle.bplus_tree.proofs.RootLemmas.{inserted_none, inserted_one}
+use Rattle.bplus_tree.proofs.RaiseLemmas.{raises_none}
+use Rattle.bplus_tree.proofs.RootLemmas.{inserted_one}
 use Rattle.bplus_tree.proofs.tree.Tree.insert.Goals as goal
 
-pub returns-in_err-found-clause-inserted : goal.returns-in_err-found-clause-inserted
-returns-in_err-found-clause-inserted g c honest sound entries own stands =
-    fails c.from_residual.result _ _ c.from_residual.ensures.1 (c.in_err-found.ensures.inserted honest sound stands.value None None stands.whole tt tt).no_damage
+pub returns-in_err-put_below-clause-inserted : goal.returns-in_err-put_below-clause-inserted
+returns-in_err-put_below-clause-inserted g c honest sound entries own stands =
+    fails c.from_residual.result _ _ c.from_residual.ensures.1 (c.in_err-put_below.ensures.put honest sound stands.value None None stands.whole tt tt).no_damage
 
-pub returns-in-Present-clause-inserted : goal.returns-in-Present-clause-inserted
-returns-in-Present-clause-inserted g c honest sound entries own stands =
+pub returns-then-branch-clause-inserted : goal.returns-then-branch-clause-inserted
+returns-then-branch-clause-inserted g c honest sound entries own stands =
     let old = c.args.self.now in
     let before = (g.P.Pages.state c.args.pages.now).live in
-    let after = (g.P.Pages.state c.insert_below.new.pages).live in
-    let a = (c.in_ok-found.ensures.inserted honest sound stands.value None None stands.whole tt tt).answer in
-    let h = subst (λ (s : Grown). HasInsertedBelow old.shape before after old.levels old.root None None c.args.entry.now stands.value s) c.in-Present.is a.0 in
-    record { answer = (inserted_none old c.args.entry.now before entries own stands after c.in-Present.found h, a.1); no_damage = tt }
-
-pub returns-in_err-base-in-Added-clause-inserted : goal.returns-in_err-base-in-Added-clause-inserted
-returns-in_err-base-in-Added-clause-inserted g c honest sound entries own stands =
-    let old = c.args.self.now in
-    let before = (g.P.Pages.state c.args.pages.now).live in
-    let mid = (g.P.Pages.state c.insert_below.new.pages).live in
-    let h1 = g.met.P.Pages.goes_honestly c.insert_below.new.pages c.raise.new.pages c.raise.ensures.goes honest in
-    let a = (c.in_ok-found.ensures.inserted h1 sound stands.value None None stands.whole tt tt).answer in
-    let h = subst (λ (s : Grown). HasInsertedBelow old.shape before mid old.levels old.root None None c.args.entry.now stands.value s) c.in-Added.is a.0 in
-    fails c.from_residual-in_err-base-in-Added.result _ _ c.from_residual-in_err-base-in-Added.ensures.1
-    (c.in_err-base-in-Added.ensures.raised honest a.1 before stands.value (with_entry old.shape.width c.args.entry.now (entries_of old.levels stands.value)) stands.whole.rooted h.1).no_damage
-
-pub returns-in_ok-base-in-Added-clause-inserted : goal.returns-in_ok-base-in-Added-clause-inserted
-returns-in_ok-base-in-Added-clause-inserted g c honest sound entries own stands =
-    let old = c.args.self.now in
-    let before = (g.P.Pages.state c.args.pages.now).live in
-    let mid = (g.P.Pages.state c.insert_below.new.pages).live in
-    let late = g.P.Pages.state c.raise.new.pages in
-    let h1 = g.met.P.Pages.goes_honestly c.insert_below.new.pages c.raise.new.pages c.raise.ensures.goes honest in
-    let a = (c.in_ok-found.ensures.inserted h1 sound stands.value None None stands.whole tt tt).answer in
-    let h = subst (λ (s : Grown). HasInsertedBelow old.shape before mid old.levels old.root None None c.args.entry.now stands.value s) c.in-Added.is a.0 in
+    let new = g.P.Pages.state c.put_below.new.pages in
+    let a = (c.in_ok-put_below.ensures.put honest sound stands.value None None stands.whole tt tt).answer in
+    let h = subst (λ (b : Bool). HasPutIf old.shape before new.live old.levels old.root None None c.args.entry.now stands.value b) c.if-branch.true a.0 in
     record {
-      answer = inserted_one old c.args.entry.now before entries own stands mid late.live (IsTrue late.is_sound) c.in-Added.up c.in_ok-base-in-Added.base _ _ _ refl h (c.in_ok-base-in-Added.ensures.raised honest a.1);
+      answer = inserted_one old c.args.entry.now before entries own stands new.live new.live (IsTrue new.is_sound) None (record { root = old.root; levels = old.levels }) _ _ _ refl h
+          (raises_none old.shape old.levels old.root new.live new.live (IsTrue new.is_sound) refl a.1);
       no_damage = tt;
     }
+
+pub returns-clause-inserted : goal.returns-clause-inserted
+returns-clause-inserted g c honest sound entries own stands =
+    let old = c.args.self.now in
+    let before = (g.P.Pages.state c.args.pages.now).live in
+    let mid = g.P.Pages.state c.put_below.new.pages in
+    let new = g.P.Pages.state c.insert_or_split.new.pages in
+    let h1 = g.met.P.Pages.goes_honestly c.put_below.new.pages c.insert_or_split.new.pages c.insert_or_split.ensures.goes honest in
+    let a = (c.in_ok-put_below.ensures.put h1 sound stands.value None None stands.whole tt tt).answer in
+    let same : mid.live ≡ before = subst (λ (b : Bool). HasPutIf old.shape before mid.live old.levels old.root None None c.args.entry.now stands.value b) c.if-branch.false a.0 in
+    (subst (λ (m : PageMap). Inserts m new.live (IsTrue new.is_sound) old c.insert_or_split.new.self c.args.entry.now c.insert_or_split.result) same
+    (c.insert_or_split.ensures.inserted honest a.1)) entries own stands

@@ -1,45 +1,37 @@
-use Rattle.std.proofs.Common.{None, subst, IsTrue}
-use Rattle.bplus_tree.specs.declared.remove.Shrunk.{Shrunk}
-use Rattle.bplus_tree.specs.Remove.{HasRemoved as HasRemovedBelow}
+use Rattle.std.proofs.Common.{◌≡◌, Bool, None, IsTrue, subst}
+use Rattle.pages.specs.PageMap.{PageMap}
+use Rattle.bplus_tree.specs.Remove.{HasTakenIf}
+use Rattle.bplus_tree.specs.Standing.{Removes}
 use Rattle.bplus_tree.proofs.RemoveLemmas.{fails}
-use Rattle.bplus_tree.proofs.TreeLemmas.{removed_absent, removed_some}
+use Rattle.bplus_tree.proofs.TreeLemmas.{removed_one}
 use Rattle.bplus_tree.proofs.tree.Tree.remove.Goals as goal
 
-pub returns-in_err-remove_below-clause-removed : goal.returns-in_err-remove_below-clause-removed
-returns-in_err-remove_below-clause-removed g c honest sound entries own stands =
-    fails c.from_residual.result _ _ c.from_residual.ensures.1 (c.in_err-remove_below.ensures.removed honest sound stands.value None None stands.whole).no_damage
+pub returns-in_err-take_below-clause-removed : goal.returns-in_err-take_below-clause-removed
+returns-in_err-take_below-clause-removed g c honest sound entries own stands =
+    fails c.from_residual.result _ _ c.from_residual.ensures.1 (c.in_err-take_below.ensures.taken honest sound stands.value None None stands.whole).no_damage
 
-pub returns-in-Absent-clause-removed : goal.returns-in-Absent-clause-removed
-returns-in-Absent-clause-removed g c honest sound entries own stands =
+pub returns-then-branch-clause-removed : goal.returns-then-branch-clause-removed
+returns-then-branch-clause-removed g c honest sound entries own stands =
     let old = c.args.self.now in
     let before = (g.P.Pages.state c.args.pages.now).live in
-    let after = (g.P.Pages.state c.remove_below.new.pages).live in
-    let a = (c.in_ok-remove_below.ensures.removed honest sound stands.value None None stands.whole).answer in
-    let h = subst (λ (s : Shrunk). HasRemovedBelow old.shape before after old.levels old.root None None c.args.key.now stands.value s) c.in-Absent.is a.0 in
-    record { answer = (removed_absent before after old c.args.key.now entries own stands h, a.1); no_damage = tt }
-
-pub returns-in_err-base-in-Taken-clause-removed : goal.returns-in_err-base-in-Taken-clause-removed
-returns-in_err-base-in-Taken-clause-removed g c honest sound entries own stands =
-    let h1 = g.met.P.Pages.goes_honestly c.remove_below.new.pages c.settle.new.pages c.settle.ensures.goes honest in
-    let old = c.args.self.now in
-    let before = (g.P.Pages.state c.args.pages.now).live in
-    let mid = (g.P.Pages.state c.remove_below.new.pages).live in
-    let a = (c.in_ok-remove_below.ensures.removed h1 sound stands.value None None stands.whole).answer in
-    let h = subst (λ (s : Shrunk). HasRemovedBelow old.shape before mid old.levels old.root None None c.args.key.now stands.value s) c.in-Taken.is a.0 in
-    let b = h.1.becomes in
-    fails c.from_residual-in_err-base-in-Taken.result _ _ c.from_residual-in_err-base-in-Taken.ensures.1
-    (c.in_err-base-in-Taken.ensures.settled honest a.1 b.tree b.stands b.changes.apart b.filled).no_damage
-
-pub returns-in_ok-base-in-Taken-clause-removed : goal.returns-in_ok-base-in-Taken-clause-removed
-returns-in_ok-base-in-Taken-clause-removed g c honest sound entries own stands =
-    let h1 = g.met.P.Pages.goes_honestly c.remove_below.new.pages c.settle.new.pages c.settle.ensures.goes honest in
-    let old = c.args.self.now in
-    let before = (g.P.Pages.state c.args.pages.now).live in
-    let mid = (g.P.Pages.state c.remove_below.new.pages).live in
-    let late = (g.P.Pages.state c.settle.new.pages).live in
-    let a = (c.in_ok-remove_below.ensures.removed h1 sound stands.value None None stands.whole).answer in
-    let h = subst (λ (s : Shrunk). HasRemovedBelow old.shape before mid old.levels old.root None None c.args.key.now stands.value s) c.in-Taken.is a.0 in
+    let new = g.P.Pages.state c.take_below.new.pages in
+    let entry = c.take_below.new.to in
+    let a = (c.in_ok-take_below.ensures.taken honest sound stands.value None None stands.whole).answer in
+    let h = subst (λ (b : Bool). HasTakenIf old.shape before new.live old.levels old.root None None c.args.key.now stands.value entry.items b) c.if-branch.true a.0 in
     record {
-      answer = removed_some before mid late (IsTrue (g.P.Pages.state c.settle.new.pages).is_sound) old c.args.key.now entries own stands c.in-Taken.entry _ c.in_ok-base-in-Taken.base c.saturating_sub.result c.saturating_add.result _ c.saturating_sub.ensures h (c.in_ok-base-in-Taken.ensures.settled honest a.1);
+      answer = (removed_one before new.live old c.args.key.now entries own stands entry c.saturating_sub-self.result c.saturating_add-self.result _ c.saturating_sub-self.ensures h, a.1);
       no_damage = tt;
     }
+
+pub returns-clause-removed : goal.returns-clause-removed
+returns-clause-removed g c honest sound entries own stands =
+    let old = c.args.self.now in
+    let before = (g.P.Pages.state c.args.pages.now).live in
+    let mid = g.P.Pages.state c.take_below.new.pages in
+    let new = g.P.Pages.state c.remove_or_mend.new.pages in
+    let h1 = g.met.P.Pages.goes_honestly c.take_below.new.pages c.remove_or_mend.new.pages c.remove_or_mend.ensures.goes honest in
+    let a = (c.in_ok-take_below.ensures.taken h1 sound stands.value None None stands.whole).answer in
+    let same : mid.live ≡ before =
+    subst (λ (b : Bool). HasTakenIf old.shape before mid.live old.levels old.root None None c.args.key.now stands.value c.take_below.new.to.items b) c.if-branch.false a.0 in
+    (subst (λ (m : PageMap). Removes m new.live (IsTrue new.is_sound) old c.remove_or_mend.new.self c.args.key.now c.remove_or_mend.result) same
+    (c.remove_or_mend.ensures.removed honest a.1)) entries own stands

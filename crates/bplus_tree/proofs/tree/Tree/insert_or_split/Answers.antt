@@ -1,0 +1,46 @@
+use Rattle.std.proofs.Common.{None, IsTrue, refl, subst}
+use Rattle.bplus_tree.specs.declared.insert.Grown.{Grown}
+use Rattle.bplus_tree.specs.Insert.{HasInserted as HasInsertedBelow}
+use Rattle.bplus_tree.specs.Edits.{with_entry}
+use Rattle.bplus_tree.specs.Tree.{entries_of}
+use Rattle.bplus_tree.proofs.RemoveLemmas.{fails}
+use Rattle.bplus_tree.proofs.RootLemmas.{inserted_none, inserted_one}
+use Rattle.bplus_tree.proofs.tree.Tree.insert_or_split.Goals as goal
+
+pub returns-in_err-found-clause-inserted : goal.returns-in_err-found-clause-inserted
+returns-in_err-found-clause-inserted g c honest sound entries own stands =
+    fails c.from_residual.result _ _ c.from_residual.ensures.1 (c.in_err-found.ensures.inserted honest sound stands.value None None stands.whole tt tt).no_damage
+
+pub returns-in-Present-clause-inserted : goal.returns-in-Present-clause-inserted
+returns-in-Present-clause-inserted g c honest sound entries own stands =
+    let old = c.args.self.now in
+    let before = (g.P.Pages.state c.args.pages.now).live in
+    let after = (g.P.Pages.state c.insert_below.new.pages).live in
+    let a = (c.in_ok-found.ensures.inserted honest sound stands.value None None stands.whole tt tt).answer in
+    let h = subst (λ (s : Grown). HasInsertedBelow old.shape before after old.levels old.root None None c.args.entry.now stands.value s) c.in-Present.is a.0 in
+    record { answer = (inserted_none old c.args.entry.now before entries own stands after c.in-Present.found h, a.1); no_damage = tt }
+
+pub returns-in_err-base-in-Added-clause-inserted : goal.returns-in_err-base-in-Added-clause-inserted
+returns-in_err-base-in-Added-clause-inserted g c honest sound entries own stands =
+    let old = c.args.self.now in
+    let before = (g.P.Pages.state c.args.pages.now).live in
+    let mid = (g.P.Pages.state c.insert_below.new.pages).live in
+    let h1 = g.met.P.Pages.goes_honestly c.insert_below.new.pages c.raise.new.pages c.raise.ensures.goes honest in
+    let a = (c.in_ok-found.ensures.inserted h1 sound stands.value None None stands.whole tt tt).answer in
+    let h = subst (λ (s : Grown). HasInsertedBelow old.shape before mid old.levels old.root None None c.args.entry.now stands.value s) c.in-Added.is a.0 in
+    fails c.from_residual-in_err-base-in-Added.result _ _ c.from_residual-in_err-base-in-Added.ensures.1
+    (c.in_err-base-in-Added.ensures.raised honest a.1 before stands.value (with_entry old.shape.width c.args.entry.now (entries_of old.levels stands.value)) stands.whole.rooted h.1).no_damage
+
+pub returns-in_ok-base-in-Added-clause-inserted : goal.returns-in_ok-base-in-Added-clause-inserted
+returns-in_ok-base-in-Added-clause-inserted g c honest sound entries own stands =
+    let old = c.args.self.now in
+    let before = (g.P.Pages.state c.args.pages.now).live in
+    let mid = (g.P.Pages.state c.insert_below.new.pages).live in
+    let late = g.P.Pages.state c.raise.new.pages in
+    let h1 = g.met.P.Pages.goes_honestly c.insert_below.new.pages c.raise.new.pages c.raise.ensures.goes honest in
+    let a = (c.in_ok-found.ensures.inserted h1 sound stands.value None None stands.whole tt tt).answer in
+    let h = subst (λ (s : Grown). HasInsertedBelow old.shape before mid old.levels old.root None None c.args.entry.now stands.value s) c.in-Added.is a.0 in
+    record {
+      answer = inserted_one old c.args.entry.now before entries own stands mid late.live (IsTrue late.is_sound) c.in-Added.up c.in_ok-base-in-Added.base _ _ _ refl h (c.in_ok-base-in-Added.ensures.raised honest a.1);
+      no_damage = tt;
+    }
