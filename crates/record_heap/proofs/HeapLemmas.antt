@@ -10,10 +10,10 @@ use Rattle.record_heap.specs.declared.shape.Place.{Place}
 use Rattle.record_heap.specs.declared.heap.Heap.{Heap}
 use Rattle.record_heap.specs.Slot.{room, used_in, behind_in}
 use Rattle.record_heap.specs.Chain.{Slots, put, Keeps}
-use Rattle.record_heap.specs.Calls.{used_at, behind_at, IsHeapAt, Rewrites, Rewriting, Refilling, Gets}
+use Rattle.record_heap.specs.Calls.{used_at, behind_at, IsHeapAt, Rewrites, Rewriting, Refilling, Gets, GetsRecord}
 use Rattle.pages.specs.Answer.{IsAnswer}
 use Rattle.record_heap.specs.Standing.{HeapStands}
-use Rattle.record_heap.specs.Found.{HeapHas, Got, Sets, Adds, MakesRoom}
+use Rattle.record_heap.specs.Found.{HeapHas, Got, GotRecord, Sets, Adds, MakesRoom}
 use Rattle.record_heap.proofs.StandLemmas.{in_heap, page_of_chain, slot_rewritten, heap_freed, heap_set}
 use Rattle.record_heap.proofs.GrowLemmas.{changes_on}
 use Rattle.record_heap.proofs.ChainLemmas.{Front, front_of, taken, some_same}
@@ -54,6 +54,11 @@ rewriting_fails heap new before after place bytes P fault out rewriting was hone
 
 pub gets : (heap : Heap) (pages : PageMap) (place : Place) (old new : List ℕ) (result : Result ℕ Fault) → Gets heap.shape pages place old new result → Got heap pages place old new result
 gets heap pages place old new result reads slots own bytes stands here =
+    let at = in_heap heap pages slots own place bytes stands here in reads at.next at.at at.within bytes at.used
+
+pub gets_record : (heap : Heap) (pages : PageMap) (place : Place) (old new : List ℕ) (result : Result ℕ Fault) → GetsRecord heap.shape pages place old new result
+    → GotRecord heap pages place old new result
+gets_record heap pages place old new result reads slots own bytes stands here =
     let at = in_heap heap pages slots own place bytes stands here in reads at.next at.at at.within bytes at.used
 
 -- the first free slot holds a record now

@@ -47,11 +47,22 @@ Refilling shape before after place bytes result =
     (behind : Place) → behind_at shape before.live place ≡ Some behind
     → Rewriting shape before after place (λ x slot. (x ≡ behind) × (used_in shape slot ≡ Some bytes)) result
 
+-- n bytes stand in the front of what was there
+pub record IsFront (n : ℕ) (bytes old new : List ℕ) : Type 0 where
+  pub long : n ≡ length bytes
+  pub front : new ≡ bytes ++ drop (length bytes) old
+
 -- the answer of a call that reads a slot of a heap page: its length, and its bytes at the front of `to`
 abbrev pub Gets : Shape → PageMap → Place → List ℕ → List ℕ → Result ℕ Fault → Type 0
 Gets shape pages place old new result =
     (next : ℕ) → IsHeapAt pages place.page next → place.slot < room shape → (bytes : List ℕ) → used_at shape pages place ≡ Some bytes
     → IsAnswer result (λ n. (n ≡ length bytes) × (new ≡ bytes ++ drop (length bytes) old))
+
+-- the answer of a call that reads the record of a slot: its length, and its bytes at the front of `to`
+abbrev pub GetsRecord : Shape → PageMap → Place → List ℕ → List ℕ → Result ℕ Fault → Type 0
+GetsRecord shape pages place old new result =
+    (next : ℕ) → IsHeapAt pages place.page next → place.slot < room shape → (bytes : List ℕ) → used_at shape pages place ≡ Some bytes
+    → IsAnswer result (λ n. IsFront n (drop shape.stamps bytes) old new)
 
 -- what a call that reads a slot leaves in `to`, whatever the pages hold: the answer is a length that the heap has, and at a fault nothing has changed
 pub record FillsFront (shape : Shape) (old new : List ℕ) (result : Result ℕ Fault) : Type 0 where

@@ -9,6 +9,7 @@ use Rattle.record_heap.specs.declared.heap.Heap.{Heap}
 use Rattle.record_heap.specs.Chain.{Slots, put}
 use Rattle.pages.specs.Answer.{IsAnswer}
 use Rattle.record_heap.specs.Standing.{HeapStands}
+use Rattle.record_heap.specs.Calls.{IsFront}
 
 -- the heap has these slots now, in pages of which those new to it were free
 pub record HeapHas (before after : PageMap) (new : Heap) (own : List ℕ) (slots : Slots) : Type 0 where
@@ -21,6 +22,12 @@ abbrev pub Got : Heap → PageMap → Place → List ℕ → List ℕ → Result
 Got heap pages place old new result =
     (slots : Slots) (own : List ℕ) (bytes : List ℕ) → HeapStands heap pages slots own → slots place ≡ Some bytes
     → IsAnswer result (λ n. (n ≡ length bytes) × (new ≡ bytes ++ drop (length bytes) old))
+
+-- the record at a place, without its stamps, read to the front of `to`
+abbrev pub GotRecord : Heap → PageMap → Place → List ℕ → List ℕ → Result ℕ Fault → Type 0
+GotRecord heap pages place old new result =
+    (slots : Slots) (own : List ℕ) (bytes : List ℕ) → HeapStands heap pages slots own → slots place ≡ Some bytes
+    → IsAnswer result (λ n. IsFront n (drop heap.shape.stamps bytes) old new)
 
 -- a place that was free holds these stamps and this record now
 abbrev pub Adds : PagesState → PagesState → Heap → Heap → List ℕ → Result Place Fault → Type 0

@@ -1,5 +1,5 @@
 -- The bytes of one slot of a heap page.
-use Rattle.std.specs.Prelude.{ℕ, ◌+◌, ◌/◌, ◌==◌, ◌&&◌, nat_lt, nat_le, max, Bool, List, take, drop, length, ◌++◌, slice_index, Option, Some, None, if◌then◌else◌}
+use Rattle.std.specs.Prelude.{ℕ, ◌+◌, ◌/◌, ◌==◌, ◌&&◌, nat_lt, nat_le, max, Bool, List, take, drop, length, ◌++◌, slice_index, Option, Some, None, option_map, if◌then◌else◌}
 use Rattle.byteorder.specs.Endian.{big_number}
 use Rattle.record_heap.specs.declared.shape.Shape.{Shape}
 use Rattle.record_heap.specs.declared.shape.Place.{Place}
@@ -31,6 +31,10 @@ is_used shape slot = (slice_index slot 0 == 1) && (nat_le shape.least (record_le
 -- the stamps and the record of a slot in use
 abbrev pub used_in : Shape → List ℕ → Option (List ℕ)
 used_in shape slot = if is_used shape slot then Some (take (shape.stamps + record_length shape slot) (drop (head shape) slot)) else None
+
+-- its record, without the stamps
+abbrev pub record_in : Shape → List ℕ → Option (List ℕ)
+record_in shape slot = option_map (λ bytes. drop shape.stamps bytes) (used_in shape slot)
 
 -- the free slot behind a free one
 abbrev pub behind_in : List ℕ → Option Place

@@ -3,10 +3,10 @@
 ghost use Rattle.std.specs.Prelude.{◌≡◌, ◌≤◌, ◌<◌, ◌+◌, IsTrue, IfOk, IfErr, OnErr, Some, length};
 ghost use Rattle.pages.specs.Cause.{IsCaused};
 ghost use Rattle.record_heap.specs.Slot.{used_in, behind_in};
-ghost use Rattle.record_heap.specs.Calls.{Rewriting, Refilling, Gets, FillsFront};
+ghost use Rattle.record_heap.specs.Calls.{Rewriting, Refilling, Gets, GetsRecord, FillsFront};
 
 use crate::shape::{Place, Shape};
-use crate::slot::{behind, fetch};
+use crate::slot::{behind, fetch, fetch_record};
 use crate::slots::{put_free, put_used, slot};
 use io_state::Fault;
 use pages::Pages;
@@ -32,6 +32,33 @@ pub fn read_used<P: Pages>(
         return Err(Fault::Damage);
     }
     match fetch(slot(page, shape, place.slot as usize), shape, to) {
+        None => Err(Fault::Damage),
+        Some(n) => Ok(n),
+    }
+}
+
+/// The record at a place goes to the front of `to`.
+pub fn read_record<P: Pages>(
+    pages: &mut P,
+    shape: Shape,
+    place: Place,
+    to: &mut [u8],
+) -> Result<usize, Fault>
+    requires ready { P.IsReady pages.old }
+    requires room { shape.greatest ≤ length to.old }
+    ensures got { IsTrue (P.state pages.new).is_honest
+        → GetsRecord shape (P.state pages.old).live place to.old to.new result }
+    ensures greatest { IfOk result (λ n. n ≤ shape.greatest) }
+    ensures kept { OnErr result (to.new ≡ to.old) }
+    ensures cause { IfErr result (IsCaused (P.HasFailed pages.old pages.new) ⊥) }
+    ensures asked { (P.state pages.new).asked ≤ (P.state pages.old).asked + 1 }
+    ensures reads { P.Reads pages.old pages.new }
+{
+    let page = pages.page(place.page)?;
+    if page[0] != b'H' || place.slot as usize >= shape.room() {
+        return Err(Fault::Damage);
+    }
+    match fetch_record(slot(page, shape, place.slot as usize), shape, to) {
         None => Err(Fault::Damage),
         Some(n) => Ok(n),
     }

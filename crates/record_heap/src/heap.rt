@@ -1,6 +1,6 @@
 //! The heap.
 
-use crate::calls::{fill, link, read_used, refill};
+use crate::calls::{fill, link, read_record, read_used, refill};
 use crate::shape::{Place, Shape};
 use crate::slots::{PAGE_SIZE, new_page};
 use io_state::Fault;
@@ -21,7 +21,7 @@ impl Heap {
     ghost use Rattle.record_heap.specs.Chain.{no_slots};
     ghost use Rattle.record_heap.specs.Calls.{FillsFront};
     ghost use Rattle.record_heap.specs.Standing.{HeapStands};
-    ghost use Rattle.record_heap.specs.Found.{Got, Adds, MakesRoom, Sets, TakesFew, LacksRoom};
+    ghost use Rattle.record_heap.specs.Found.{Got, GotRecord, Adds, MakesRoom, Sets, TakesFew, LacksRoom};
 
     /// A heap without records and without pages.
     pub fn new(shape: Shape) -> Heap
@@ -49,6 +49,28 @@ impl Heap {
         ensures reads { P.Reads pages.old pages.new }
     {
         read_used(pages, self.shape, place, to)
+    }
+
+    /// Reads the record at a place in use to the front of `to`, without its stamps, and answers its length. The rest of `to` stays; at a fault it all does.
+    ///
+    /// Device, Memory; Damage where the place has no record.
+    pub fn get_record<P: Pages>(
+        &self,
+        pages: &mut P,
+        place: Place,
+        to: &mut [u8],
+    ) -> Result<usize, Fault>
+        requires ready { P.IsReady pages.old }
+        requires room { self.now.shape.greatest ≤ length to.old }
+        ensures got { IsTrue (P.state pages.new).is_honest
+            → GotRecord self.now (P.state pages.old).live place to.old to.new result }
+        ensures greatest { IfOk result (λ n. n ≤ self.now.shape.greatest) }
+        ensures kept { OnErr result (to.new ≡ to.old) }
+        ensures cause { IfErr result (IsCaused (P.HasFailed pages.old pages.new) ⊥) }
+        ensures asked { (P.state pages.new).asked ≤ (P.state pages.old).asked + 1 }
+        ensures reads { P.Reads pages.old pages.new }
+    {
+        read_record(pages, self.shape, place, to)
     }
 
     /// Puts stamps and a record, together, into the slot that was freed last, and answers its place. Where no slot is free, a new page is taken for it.

@@ -17,8 +17,8 @@
 //! | 1 to 4 | page of the next free slot, 0 at the end of the chain |
 //! | 5 to 6 | slot of the next free slot |
 
-ghost use Rattle.std.specs.Prelude.{◌≡◌, ◌≤◌, ◌<◌, ◌+◌, ℕ, Some, length, option_map};
-ghost use Rattle.record_heap.specs.Slot.{head, size, record_length, is_used, used_in, behind_in, over};
+ghost use Rattle.std.specs.Prelude.{◌≡◌, ◌≤◌, ◌<◌, ◌+◌, ℕ, Some, IfSome, length, option_map};
+ghost use Rattle.record_heap.specs.Slot.{head, size, record_length, is_used, used_in, record_in, behind_in, over};
 
 use crate::shape::{Place, Shape};
 use byteorder::{BigEndian, ByteOrder};
@@ -64,6 +64,21 @@ pub fn is_used(slot: &[u8], shape: Shape) -> bool
     slot[0] == USED && shape.least as usize <= record && record <= shape.greatest as usize
 }
 
+/// The stamps and the record of a slot in use.
+fn used(slot: &[u8], shape: Shape) -> Option<&[u8]>
+    requires { size shape ≤ length slot.now }
+    ensures value { option_map (λ bytes. bytes.now) result ≡ used_in shape slot.now }
+    ensures least { IfSome result (λ bytes. shape.stamps ≤ length bytes.now) }
+    ensures greatest { IfSome result (λ bytes. length bytes.now ≤ shape.stamps + shape.greatest) }
+{
+    if !is_used(slot, shape) {
+        return None;
+    }
+    let head = shape.head();
+    let n = shape.stamps as usize + record_length(slot, shape);
+    Some(&slot[head..head + n])
+}
+
 /// The stamps and the record go to the front of `to`, the rest of which stays. The answer is how many bytes they are; none where the slot is not in use.
 pub fn fetch(slot: &[u8], shape: Shape, to: &mut [u8]) -> Option<usize>
     requires slot { size shape ≤ length slot.now }
@@ -71,14 +86,32 @@ pub fn fetch(slot: &[u8], shape: Shape, to: &mut [u8]) -> Option<usize>
     ensures value { result ≡ option_map length (used_in shape slot.now) }
     ensures to { to.new ≡ over (used_in shape slot.now) to.old }
 {
-    if !is_used(slot, shape) {
-        return None;
+    match used(slot, shape) {
+        None => None,
+        Some(bytes) => {
+            to[..bytes.len()].copy_from_slice(bytes);
+            Some(bytes.len())
+        }
     }
-    let record = record_length(slot, shape);
-    let n = shape.stamps as usize + record;
-    let head = shape.head();
-    to[..n].copy_from_slice(&slot[head..head + n]);
-    Some(n)
+}
+
+/// The record goes to the front of `to`, the rest of which stays, and the stamps in front of it are left out. The answer is its length; none where the slot is not
+/// in use.
+pub fn fetch_record(slot: &[u8], shape: Shape, to: &mut [u8]) -> Option<usize>
+    requires slot { size shape ≤ length slot.now }
+    requires room { shape.greatest ≤ length to.old }
+    ensures value { result ≡ option_map length (record_in shape slot.now) }
+    ensures greatest { IfSome result (λ n. n ≤ shape.greatest) }
+    ensures to { to.new ≡ over (record_in shape slot.now) to.old }
+{
+    match used(slot, shape) {
+        None => None,
+        Some(bytes) => {
+            let record = &bytes[shape.stamps as usize..];
+            to[..record.len()].copy_from_slice(record);
+            Some(record.len())
+        }
+    }
 }
 
 /// The slot behind a free one.

@@ -57,7 +57,7 @@ fn set(
     heap.set(pages, place, record)
 }
 
-// Reads a place into an area of dots.
+// Reads a place into an area of dots, and the record alone into another.
 fn get(
     rt: &impl Abort,
     heap: &Heap,
@@ -68,6 +68,11 @@ fn get(
     let mut area = [b'.'; 16];
     assert!(rt; shape.stamps as usize + shape.greatest as usize <= area.len());
     let n = heap.get(pages, place, &mut area)?;
+    let mut alone = [b'.'; 16];
+    let m = heap.get_record(pages, place, &mut alone)?;
+    let stamps = shape.stamps as usize;
+    assert!(rt; m <= 16 && stamps <= n && n <= 16);
+    assert!(rt; alone[..m] == area[stamps..n]);
     Ok((n, area))
 }
 
