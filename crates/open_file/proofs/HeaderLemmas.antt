@@ -1,15 +1,14 @@
 -- What is opened by the header of a file that stands, stands for the same records.
-use Rattle.std.proofs.Common.{◌≡◌, ℕ, zero, suc, ◌+◌, ◌-◌, ◌*◌, ◌^◌, ◌≤◌, ◌<◌, List, [], ◌∷◌, length, drop, map, Option, Some, None, refl, ap, sym, subst, ◌∙◌, arith}
-use Rattle.std.specs.Prelude.{slice_index_or, IsTrue, if◌then◌else◌}
+use Rattle.std.proofs.Common.{◌≡◌, ℕ, ◌+◌, ◌^◌, ◌≤◌, ◌<◌, List, [], ◌∷◌, length, drop, map, None, refl, ap, sym, subst, ◌∙◌, arith}
+use Rattle.std.specs.Prelude.{IsTrue}
 use Rattle.std.specs.Ordering.{is_lt}
 use Rattle.std.proofs.lemmas.List.{length-map}
 use Rattle.std.proofs.Math.Bridge.{le_prop}
 use mathlib.Core.HLevel.{is_prop→PathP}
 use Rattle.record_layout.specs.Schema.{Schema, key_at}
-use Rattle.indexed_file.specs.File.{Row, File}
+use Rattle.indexed_file.specs.File.{Row}
 use Rattle.indexed_file.specs.Sound.{is_file}
 use Rattle.indexed_file.specs.Rank.{row_cmp}
-use Rattle.file_header.specs.declared.header.Header.{Header}
 use Rattle.pages.specs.PageMap.{PageMap}
 use Rattle.tree_node.specs.declared.shape.Shape.{Shape}
 use Rattle.bplus_tree.specs.declared.tree.Tree.{Tree}
@@ -31,9 +30,8 @@ use Rattle.record_heap.specs.Standing.{HeapStands}
 use Rattle.open_file.specs.InOrder.{put, in_order, alt_entries, prime_entries}
 use Rattle.open_file.specs.Stored.{AreAt, stamps_length}
 use Rattle.open_file.specs.Parts.{own_at, Parts}
-use Rattle.open_file.specs.Stands.{Stands, IsShaped, IsPlaced}
-use Rattle.open_file.specs.Headers.{IsOf, IsOpenedBy, is_read_back}
-use Rattle.open_file.specs.declared.open_file.OpenFile.{OpenFile}
+use Rattle.open_file.specs.Stands.{IsPlaced}
+use Rattle.open_file.specs.Headers.{is_read_back}
 use Rattle.open_file.proofs.OrderLemmas.{either}
 use Rattle.open_file.proofs.PartsLemmas.{found_at}
 

@@ -22,3 +22,7 @@ record_part schema row stamps buffer old h b =
     let front = stamp_bytes (drop 1 schema.keys) row.stamps in
     let rest = drop (length (stored schema row)) old in
     rw (b, sym h, append_assoc front row.bytes rest, drop_front front (row.bytes ++ rest)) (take_front row.bytes rest)
+
+-- behind the stamps of a row stands its record
+pub behind_stamps : (schema : Schema) (row : Row) (stamps : ℕ) → length (stamp_bytes (drop 1 schema.keys) row.stamps) ≡ stamps → drop stamps (stored schema row) ≡ row.bytes
+behind_stamps schema row stamps h = rw (sym h) (drop_front (stamp_bytes (drop 1 schema.keys) row.stamps) row.bytes)

@@ -1,19 +1,23 @@
 -- Rows in order: the least that passes a test is the first that does.
-use Rattle.std.proofs.Common.{◌≡◌, ℕ, Bool, true, false, List, [], ◌∷◌, Some, refl, ap, ◌∙◌}
-use Rattle.std.specs.Prelude.{find, filter, ⊤, ◌&&◌}
+use Rattle.std.proofs.Common.{◌≡◌, ℕ, zero, suc, ◌+◌, ◌<◌, Bool, true, false, List, [], ◌∷◌, length, drop, Some, refl, ap, ◌∙◌, arith, length-drop}
+use Rattle.std.specs.Prelude.{find, filter, slice_index, slice_index_or, ⊤, ◌&&◌}
 use Rattle.std.specs.List.{list_all}
 use Rattle.std.specs.Ordering.{is_lt, nat_cmp, ordering_then}
 use Rattle.std.specs.declared.cmp.Ordering.{Ordering}
 use Rattle.std.specs.declared.cmp.Ordering.TheVariants.{Less, Equal, Greater}
 use Rattle.std.specs.Cmp.{IsTotalOrder}
 use Rattle.std.proofs.lemmas.Cmp.{nat_list_cmp_total, nat_cmp_total, on_total, then_total}
-use Rattle.record_layout.specs.Schema.{Schema, value_of, prime_of}
+use Rattle.std.proofs.lemmas.Bool.{and_parts}
+use Rattle.record_layout.specs.declared.schema.KeyPart.{KeyPart}
+use Rattle.record_layout.specs.Schema.{Schema, key_at, value_of, prime_of}
 use Rattle.indexed_file.specs.File.{Row, File, stamp_of}
 use Rattle.indexed_file.specs.Rank.{row_cmp, value_cmp, lower_of, lowest, least, has_value}
-use Rattle.indexed_file.specs.Sound.{is_row, are_rows, are_apart, is_file}
+use Rattle.indexed_file.specs.Sound.{is_row, is_stamp, are_rows, are_apart, is_file}
+use Rattle.indexed_file.proofs.RowLemmas.{are_stamps, row_parts}
 use Rattle.page_bytes.specs.Each.{Each}
 use Rattle.open_file.specs.InOrder.{put, in_order}
 use Rattle.open_file.proofs.OrderLemmas.{either, not_below, not_back}
+use Rattle.open_file.proofs.PartsLemmas.{from_eq}
 
 pub row_total : (schema : Schema) (k : ℕ) → IsTotalOrder (row_cmp schema k)
 row_total schema k = then_total (on_total (λ (row : Row). value_of schema k row.bytes) nat_list_cmp_total) (on_total (λ (row : Row). stamp_of k row) nat_cmp_total)
@@ -131,3 +135,23 @@ each_row schema next (row ∷ rows) h =
     let one = both _ _ h in
     let two = both _ _ one.0 in
     (two.0, each_row schema next rows one.1)
+
+zero_at : (parts : List KeyPart) (stamps : List ℕ) (next j : ℕ) (d : KeyPart) → are_stamps next parts stamps ≡ true → j < length parts → j < length stamps → (slice_index_or parts j d).duplicates ≡ false → slice_index stamps j ≡ 0
+zero_at [] stamps next j d all lt within one = absurd (omega (arith, lt))
+zero_at (part ∷ parts) [] next j d all lt within one = absurd (omega (arith, within))
+zero_at (part ∷ parts) (s ∷ stamps) next zero d all lt within one = from_eq s 0 (rw one at (and_parts (is_stamp next part s) (are_stamps next parts stamps) all).0)
+zero_at (part ∷ parts) (s ∷ stamps) next (suc j) d all lt within one =
+    zero_at parts stamps next j d (and_parts (is_stamp next part s) (are_stamps next parts stamps) all).1 (omega (arith, lt)) (omega (arith, within)) one
+
+-- in a unique key each row has the stamp 0
+pub stamp_zero : (schema : Schema) (next k : ℕ) (row : Row) → is_row schema next row ≡ true → k < length schema.keys → (key_at schema k).duplicates ≡ false → stamp_of k row ≡ 0
+stamp_zero schema next zero row fit lt one = refl
+stamp_zero schema next (suc j) row fit lt one =
+    let d : KeyPart = record { offset = 0; length = 0; duplicates = false } in
+    let parts = row_parts schema next row fit in
+    let many = from_eq (length row.stamps + 1) (length schema.keys) parts.1 in
+    zero_at (drop 1 schema.keys) row.stamps next j d parts.2 (omega (arith, lt, length-drop 1 schema.keys)) (omega (arith, lt, many)) (ap (λ (part : KeyPart). part.duplicates) (behind schema.keys j d) ∙ one)
+  where
+    behind : (keys : List KeyPart) (j : ℕ) (d : KeyPart) → slice_index_or (drop 1 keys) j d ≡ slice_index_or keys (suc j) d
+    behind [] j d = refl
+    behind (x ∷ xs) j d = refl

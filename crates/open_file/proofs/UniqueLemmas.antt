@@ -16,11 +16,10 @@ use Rattle.key_index.specs.Entries.{has_value, has_rank, after_rank}
 use Rattle.key_index.specs.Calls.{IsAltFirst}
 use Rattle.open_file.specs.InOrder.{in_order, alt_entry, alt_entries}
 use Rattle.open_file.proofs.OrderLemmas.{either}
-use Rattle.open_file.proofs.RowLemmas.{both, each_row}
+use Rattle.open_file.proofs.RowLemmas.{both, each_row, stamp_zero}
 use Rattle.open_file.proofs.ByKeyLemmas.{in_order_each}
 use Rattle.open_file.proofs.PlaceLemmas.{find_each}
 use Rattle.open_file.proofs.FirstLemmas.{first_passes, same_bytes}
-use Rattle.open_file.proofs.SeenLemmas.{stamp_zero}
 
 -- the entries of a unique key have stamp 0
 entries_zero : (schema : Schema) (k : ℕ) (rows : List Row) → Each (λ row. stamp_of k row ≡ 0) rows → Each (λ (e : AltEntry). e.stamp ≡ 0) (map (alt_entry schema k) rows)

@@ -1,5 +1,5 @@
 -- An open file and its header.
-use Rattle.std.specs.Prelude.{◌≡◌, ℕ, ◌+◌, ◌<◌, List, ◌∷◌, map, length, slice_index_or, IsFalse, Option, None}
+use Rattle.std.specs.Prelude.{◌≡◌, ℕ, ◌+◌, ◌<◌, List, ◌∷◌, map, length, slice_index_or, IsFalse, None}
 use Rattle.record_layout.specs.Schema.{key_at}
 use Rattle.indexed_file.specs.File.{File}
 use Rattle.file_header.specs.declared.header.Header.{Header}

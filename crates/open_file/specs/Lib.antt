@@ -6,11 +6,7 @@ pub mod ReadOff
 pub mod Faults
 pub mod Reading
 pub mod Paths
-pub mod Adding
 pub mod Creating
 pub mod Laws
 pub mod Headers
 pub mod Steps
-pub mod Old
-pub mod Removing
-pub mod Replacing

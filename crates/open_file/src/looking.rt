@@ -49,13 +49,10 @@ impl OpenFile {
         }
     }
 
-    /// Whether some record has the value of a key that this one has.
-    pub(crate) fn is_there<P: Pages>(
-        &self,
-        pages: &mut P,
-        k: u8,
-        bytes: &[u8],
-    ) -> Result<bool, Fault>
+    /// Whether some record has the value of a key, by its number, that this one has. Nothing is changed.
+    ///
+    /// Device, Memory, Damage.
+    pub fn is_there<P: Pages>(&self, pages: &mut P, k: u8, bytes: &[u8]) -> Result<bool, Fault>
         requires ready { P.IsReady pages.old }
         requires shaped { IsShaped self.now }
         requires key { k < length self.now.schema.keys }

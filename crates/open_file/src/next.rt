@@ -1,6 +1,6 @@
 //! The record that comes next.
 
-ghost use Rattle.std.specs.Prelude.{◌≡◌, ◌+◌, ◌*◌, ◌≤◌, ◌<◌, length, None, Ok, Err, IsTrue, IfErr, OnErr};
+ghost use Rattle.std.specs.Prelude.{◌≡◌, ◌+◌, ◌≤◌, ◌<◌, length, None, Ok, Err, IsTrue, IfErr, OnErr};
 ghost use Rattle.indexed_file.specs.File.{File};
 ghost use Rattle.indexed_file.specs.Rank.{admits};
 ghost use Rattle.indexed_file.specs.Room.{most_to_read};

@@ -24,8 +24,8 @@ pub struct OpenFile {
 impl OpenFile {
     ghost use Rattle.std.specs.Prelude.{◌≡◌, ◌-◌, ◌≤◌, length, slice_index_or};
 
-    /// The index of an alternate key.
-    pub(crate) fn alternate(&self, k: usize) -> AltIndex
+    /// The index of an alternate key, by its number: the first is 1. It is a copy.
+    pub fn alternate(&self, k: usize) -> AltIndex
         requires some { 1 ≤ k }
         requires within { k ≤ length self.now.alternates.items }
         ensures { result ≡ slice_index_or self.now.alternates.items (k - 1) result }

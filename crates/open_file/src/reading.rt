@@ -1,6 +1,6 @@
 //! The record that a key leads to.
 
-ghost use Rattle.std.specs.Prelude.{◌≡◌, ◌+◌, ◌*◌, ◌≤◌, ◌<◌, ℕ, length, None, Some, Ok, Err, Option, option_map, IsTrue, IsFalse, IfOk, IfErr, OnErr, slice_index, slice_index_or};
+ghost use Rattle.std.specs.Prelude.{◌≡◌, ◌+◌, ◌*◌, ◌≤◌, ◌<◌, ℕ, length, None, Some, Ok, Err, Option, option_map, IsTrue, IsFalse, IfErr, OnErr, slice_index, slice_index_or};
 ghost use Rattle.record_layout.specs.Schema.{key_at};
 ghost use Rattle.indexed_file.specs.File.{Row, File};
 ghost use Rattle.indexed_file.specs.Change.{row_of};
@@ -280,11 +280,7 @@ impl OpenFile {
         ensures asked { (P.state pages.new).asked ≤ (P.state pages.old).asked + 1 }
         ensures reads { P.Reads pages.old pages.new }
     {
-        let mut buffer = [0; 4064];
-        let end = self.heap.get(pages, place, &mut buffer)?;
-        let start = self.heap.shape.stamps as usize;
-        let length = end - start;
-        area[..length].copy_from_slice(&buffer[start..end]);
+        let length = self.heap.get_record(pages, place, area)?;
         Ok(length as u16)
     }
 }

@@ -1,6 +1,6 @@
 //! The first value that is so related to an operand.
 
-ghost use Rattle.std.specs.Prelude.{◌≡◌, ◌+◌, ◌*◌, ◌≤◌, ◌<◌, length, find, Some, None, Err, IsTrue, IfErr, slice_index_or, if◌then◌else◌};
+ghost use Rattle.std.specs.Prelude.{◌≡◌, ◌+◌, ◌*◌, ◌≤◌, ◌<◌, length, find, Some, None, Err, IsTrue, IfErr, if◌then◌else◌};
 ghost use Rattle.indexed_file.specs.Room.{most_to_seek};
 ghost use Rattle.pages.specs.Cause.{IsCaused};
 ghost use Rattle.key_index.specs.Standing.{prime_height, alt_height};

@@ -5,7 +5,7 @@ use Rattle.std.specs.List.{IsDistinct}
 use Rattle.std.proofs.lemmas.List.{get_or-set_other, length-set}
 use Rattle.record_layout.specs.Schema.{Schema}
 use Rattle.indexed_file.specs.World.{World, FileUnit, Absent, Shut, OnlyAt, unit_at, is_open, schema_in, attached}
-use Rattle.list_library.specs.Clients.{IsOpenWith}
+use Rattle.indexed_file.specs.Clients.{IsOpenWith}
 use Rattle.pages_tests.specs.Alike.{AreShut, AreBoth, KeepsOthers}
 
 abbrev no_unit : FileUnit

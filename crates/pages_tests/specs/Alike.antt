@@ -2,7 +2,7 @@
 use Rattle.std.specs.Prelude.{◌≢◌, ℕ, ◌<◌}
 use Rattle.record_layout.specs.Schema.{Schema}
 use Rattle.indexed_file.specs.World.{World}
-use Rattle.list_library.specs.Clients.{IsOpenWith, IsNotOpen}
+use Rattle.indexed_file.specs.Clients.{IsOpenWith, IsNotOpen}
 
 -- no unit below count is open
 abbrev pub AreShut : World → ℕ → Type 0

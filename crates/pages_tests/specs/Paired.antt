@@ -1,6 +1,6 @@
 -- A file in pages beside one in a list.
 use Rattle.indexed_file.specs.World.{World}
-use Rattle.list_library.specs.Clients.{IsOpenWith}
+use Rattle.indexed_file.specs.Clients.{IsOpenWith}
 use Rattle.open_file.specs.Stands.{IsShaped}
 use Rattle.open_file.specs.declared.open_file.OpenFile.{OpenFile}
 

@@ -1,7 +1,7 @@
 //! Calls that are given to two libraries, and the answers of both.
 
 ghost use Rattle.std.specs.Prelude.{OnOk};
-ghost use Rattle.list_library.specs.Clients.{IsNotOpen};
+ghost use Rattle.indexed_file.specs.Clients.{IsNotOpen};
 ghost use Rattle.pages_tests.specs.Alike.{AreAlike};
 
 use crate::units::{self, Told};

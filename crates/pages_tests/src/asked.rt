@@ -1,6 +1,6 @@
 //! The pages that calls ask for, over a file of two thousand records with keys of 120 bytes.
 
-ghost use Rattle.list_library.specs.Clients.{IsOpenWith, IsNotOpen};
+ghost use Rattle.indexed_file.specs.Clients.{IsOpenWith, IsNotOpen};
 
 use crate::bounds::{HasTrees, asked_at_most, most_to_change, most_to_read, most_to_seek};
 use crate::libraries::library_over;

@@ -1,6 +1,6 @@
 //! The most pages that a call may ask for, by the heights of the trees of its file.
 
-ghost use Rattle.list_library.specs.Clients.{IsOpenWith};
+ghost use Rattle.indexed_file.specs.Clients.{IsOpenWith};
 
 use crate::units::{asked, restarts};
 use indexed_file::Library;

@@ -53,7 +53,7 @@ pub fn adds<P: Pages>(
     ensures ready { P.IsReady pages.new }
 {
     assert_eq!(rt; (opened.schema.least(), opened.schema.greatest()), (16, 16));
-    assert_eq!(rt; opened.add(pages, record)?, answer);
+    assert_eq!(rt; file_changes::add(opened, pages, record)?, answer);
     Ok(())
 }
 
@@ -71,7 +71,7 @@ pub fn replaces<P: Pages>(
     ensures ready { P.IsReady pages.new }
 {
     assert_eq!(rt; (opened.schema.least(), opened.schema.greatest()), (16, 16));
-    assert_eq!(rt; opened.replace(pages, record)?, answer);
+    assert_eq!(rt; file_changes::replace(opened, pages, record)?, answer);
     Ok(())
 }
 

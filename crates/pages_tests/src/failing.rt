@@ -1,6 +1,6 @@
 //! A device that fails at each call in turn, once or from then on.
 
-ghost use Rattle.list_library.specs.Clients.{IsOpenWith, IsNotOpen};
+ghost use Rattle.indexed_file.specs.Clients.{IsOpenWith, IsNotOpen};
 
 use crate::customers::{customers, numbered};
 use crate::libraries::library_over;

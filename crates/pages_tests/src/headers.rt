@@ -38,7 +38,10 @@ fn adds<P: Pages>(
     ensures ready { P.IsReady pages.new }
 {
     assert_eq!(rt; (opened.schema.least(), opened.schema.greatest()), (6, 6));
-    assert_eq!(rt; opened.add(pages, record)?, Added::Done { repeated });
+    assert_eq!(rt;
+        file_changes::add(opened, pages, record)?,
+        Added::Done { repeated }
+    );
     Ok(())
 }
 
@@ -93,7 +96,7 @@ fn goes_on<P: Pages>(rt: &impl Abort, opened: &mut OpenFile, pages: &mut P) -> R
     let rome = [(b"05OSLO", 3), (b"07ROME", 1), (b"03ROME", 2)];
     reads_city(rt, opened, pages, &rome)?;
     adds(rt, opened, pages, b"01ROME", true)?;
-    assert!(rt; opened.remove(pages, &key(b"07"))?);
+    assert!(rt; file_changes::remove(opened, pages, &key(b"07"))?);
     let later = [(b"05OSLO", 3), (b"03ROME", 2), (b"01ROME", 4)];
     reads_city(rt, opened, pages, &later)
 }

@@ -2,7 +2,7 @@
 
 ghost use Rattle.std.specs.Prelude.{OnOk};
 ghost use Rattle.page_store.specs.ShelfState.{HasUnit};
-ghost use Rattle.list_library.specs.Clients.{IsOpenWith, IsNotOpen};
+ghost use Rattle.indexed_file.specs.Clients.{IsOpenWith, IsNotOpen};
 ghost use Rattle.pages_tests.specs.Alike.{AreShut};
 
 use crate::customers::{customers, numbered};

@@ -1,6 +1,6 @@
 //! Files of customers of one city, who are numbered from one on.
 
-ghost use Rattle.list_library.specs.Clients.{IsOpenWith};
+ghost use Rattle.indexed_file.specs.Clients.{IsOpenWith};
 
 use crate::customers::numbered;
 use crate::units::goes_on;

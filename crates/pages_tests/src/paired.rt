@@ -1,7 +1,7 @@
 //! Calls that are given to a file in pages and to one in a list, and the answers of both.
 
 ghost use Rattle.std.specs.Prelude.{OnOk};
-ghost use Rattle.list_library.specs.Clients.{IsOpenWith};
+ghost use Rattle.indexed_file.specs.Clients.{IsOpenWith};
 ghost use Rattle.pages_tests.specs.Paired.{ArePaired};
 
 use crate::made::key;
@@ -37,7 +37,7 @@ pub fn adds<P: Pages, L: Library>(
 {
     assert!(rt; usize::from(opened.schema.least()) <= record.len());
     assert!(rt; record.len() <= usize::from(opened.schema.greatest()));
-    let answer = opened.add(pages, record)?;
+    let answer = file_changes::add(opened, pages, record)?;
     let expected = list.add(0, record)?;
     assert_eq!(rt; answer, expected);
     Ok(answer)
@@ -56,7 +56,7 @@ pub fn replaces<P: Pages, L: Library>(
 {
     assert!(rt; usize::from(opened.schema.least()) <= record.len());
     assert!(rt; record.len() <= usize::from(opened.schema.greatest()));
-    let answer = opened.replace(pages, record)?;
+    let answer = file_changes::replace(opened, pages, record)?;
     let expected = list.replace(0, record)?;
     assert_eq!(rt; answer, expected);
     Ok(answer)
@@ -73,7 +73,7 @@ pub fn removes<P: Pages, L: Library>(
     requires { ArePaired opened.old (P.IsReady pages.old) (L.shown.world list.old) }
     ensures { ArePaired opened.new (P.IsReady pages.new) (L.shown.world list.new) }
 {
-    let answer = opened.remove(pages, &key(prime))?;
+    let answer = file_changes::remove(opened, pages, &key(prime))?;
     let expected = list.remove(0, &key(prime))?;
     assert_eq!(rt; answer, expected);
     Ok(answer)

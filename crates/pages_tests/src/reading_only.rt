@@ -2,7 +2,7 @@
 #![tactic(auto, using(crate::proofs::ShelfLemmas::can_read_on))]
 
 ghost use Rattle.std.specs.Prelude.{◌<◌, IfOk, IfSome};
-ghost use Rattle.list_library.specs.Clients.{IsOpenWith};
+ghost use Rattle.indexed_file.specs.Clients.{IsOpenWith};
 ghost use Rattle.pages_tests.specs.Readable.{CanRead};
 
 use crate::customers::{customers, numbered};

@@ -1,6 +1,6 @@
 //! The pages that a READ by key asks for, over a file with keys of 120 bytes.
 
-ghost use Rattle.list_library.specs.Clients.{IsOpenWith};
+ghost use Rattle.indexed_file.specs.Clients.{IsOpenWith};
 
 use crate::libraries::library_over;
 use crate::made::{part, schema};

@@ -1,6 +1,6 @@
 //! A file that is full.
 
-ghost use Rattle.list_library.specs.Clients.{IsOpenWith};
+ghost use Rattle.indexed_file.specs.Clients.{IsOpenWith};
 
 use crate::customers::{customers, numbered};
 use crate::libraries::library_over;

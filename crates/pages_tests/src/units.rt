@@ -2,7 +2,7 @@
 #![tactic(auto, using(crate::proofs::UnitLemmas::only_keeps))]
 
 ghost use Rattle.std.specs.Prelude.{◌≡◌, ◌≤◌, length, OnOk, OnErr, IfOk};
-ghost use Rattle.list_library.specs.Clients.{IsOpenWith, IsNotOpen};
+ghost use Rattle.indexed_file.specs.Clients.{IsOpenWith, IsNotOpen};
 ghost use Rattle.pages_tests.specs.Alike.{KeepsOthers};
 ghost use Rattle.pages_tests.specs.declared.units.Told.TheVariants.{Sound};
 

@@ -224,8 +224,8 @@ fn gives_a_name_up<P: Pages>(
 {
     let smith = Some((b"0002SMITH BERGEN", false));
     let position = has_key(rt, opened, pages, NAME, b"SMITH ", smith)?;
-    assert!(rt; opened.remove(pages, &key(b"0002"))?);
-    assert!(rt; !opened.remove(pages, &key(b"0002"))?);
+    assert!(rt; file_changes::remove(opened, pages, &key(b"0002"))?);
+    assert!(rt; !file_changes::remove(opened, pages, &key(b"0002"))?);
     adds(rt, opened, pages, b"0009SMITH MOSS  ", NEW)?;
     let sven = Some((b"0003SVEN  TROMSO", false));
     let position = comes_next(rt, opened, pages, NAME, &position, sven)?;
@@ -274,10 +274,13 @@ fn finds_room<P: Pages>(rt: &impl Abort, opened: &mut OpenFile, pages: &mut P) -
 {
     assert_eq!(rt; pages.pages_left(), 6);
     assert_eq!(rt; (opened.schema.least(), opened.schema.greatest()), (16, 16));
-    assert_eq!(rt; opened.add(pages, &numbered(228)), Err(Fault::Full));
+    assert_eq!(rt;
+        file_changes::add(opened, pages, &numbered(228)),
+        Err(Fault::Full)
+    );
     has_key(rt, opened, pages, NUMBER, b"0228", None)?;
-    assert!(rt; opened.remove(pages, &key(b"0001"))?);
-    assert!(rt; opened.remove(pages, &key(b"0002"))?);
+    assert!(rt; file_changes::remove(opened, pages, &key(b"0001"))?);
+    assert!(rt; file_changes::remove(opened, pages, &key(b"0002"))?);
     assert_eq!(rt; pages.pages_left(), 10);
     adds(rt, opened, pages, &numbered(228), AGAIN)
 }

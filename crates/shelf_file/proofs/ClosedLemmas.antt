@@ -4,7 +4,7 @@ use Rattle.std.proofs.lemmas.Bool.{and_parts, and_from, ltb-true, lt-ltb, le-ltb
 use Rattle.std.proofs.lemmas.List.{length-map}
 use Rattle.indexed_file.specs.File.{File}
 use Rattle.page_store.specs.Gate.{IsRefused}
-use Rattle.page_store.specs.MomentLaws.{throughout_weaker}
+use Rattle.page_store.proofs.MomentLemmas.{throughout_weaker}
 use Rattle.page_store.specs.File.{File as Bytes, content}
 use Rattle.page_store.specs.Pages.{page_of}
 use Rattle.page_store.specs.ShelfState.{ShelfState}

@@ -7,3 +7,4 @@ pub mod RootLemmas
 pub mod ClosingLemmas
 pub mod ClosedLemmas
 pub mod MadeLemmas
+pub mod AcceptedLemmas

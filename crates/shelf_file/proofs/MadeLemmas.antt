@@ -9,7 +9,7 @@ use Rattle.pages.specs.Cause.{IsCaused}
 use Rattle.page_store.specs.File.{File}
 use Rattle.page_store.specs.Moments.{Throughout, Quiet}
 use Rattle.page_store.specs.Gate.{AllOpen, AllRefused, WasOrRefused}
-use Rattle.page_store.specs.OpenLaws.{open_kept, all_refused}
+use Rattle.page_store.proofs.OpenLemmas.{open_kept, all_refused}
 use Rattle.page_store.specs.ShelfState.{ShelfState, unit_file}
 use Rattle.page_alloc.specs.declared.paged_file.PagedFile.{PagedFile}
 use Rattle.page_alloc.specs.Chain.{is_page}

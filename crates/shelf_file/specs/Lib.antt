@@ -1,6 +1,5 @@
 pub mod Standing
 pub mod Calls
-pub mod Lengths
 pub mod ReadOff
 pub mod Named
 pub mod Shelves

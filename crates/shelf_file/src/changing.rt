@@ -8,9 +8,9 @@ ghost use Rattle.indexed_file.specs.Room.{most_to_change, is_full_to_add, is_ful
 ghost use Rattle.page_alloc.specs.Joining.{HasFailed};
 ghost use Rattle.page_alloc.specs.Steps.{Moves};
 ghost use Rattle.open_file.specs.Faults.{IsCausedIn};
-ghost use Rattle.open_file.specs.Adding.{file_after_add};
-ghost use Rattle.open_file.specs.Replacing.{file_after_replace};
-ghost use Rattle.open_file.specs.Removing.{file_after_remove};
+ghost use Rattle.file_changes.specs.Adding.{file_after_add};
+ghost use Rattle.file_changes.specs.Replacing.{file_after_replace};
+ghost use Rattle.file_changes.specs.Removing.{file_after_remove};
 ghost use Rattle.shelf_file.specs.Standing.{IsReady, StandsFor, room_in};
 ghost use Rattle.shelf_file.specs.Calls.{OnlyReads, Changes, IsFull};
 
@@ -50,7 +50,7 @@ impl ShelfFile {
             file: &mut self.pages,
             shelf,
         };
-        self.file.add(&mut pages, bytes)
+        file_changes::add(&mut self.file, &mut pages, bytes)
     }
 
     /// Puts a record in the place of that of its prime value, unless a unique alternate value is that of another record. At Full nothing is
@@ -85,7 +85,7 @@ impl ShelfFile {
             file: &mut self.pages,
             shelf,
         };
-        self.file.replace(&mut pages, bytes)
+        file_changes::replace(&mut self.file, &mut pages, bytes)
     }
 
     /// Takes out the record of a prime value, and tells whether there was one. After a fault the file is broken.
@@ -110,6 +110,6 @@ impl ShelfFile {
             file: &mut self.pages,
             shelf,
         };
-        self.file.remove(&mut pages, key)
+        file_changes::remove(&mut self.file, &mut pages, key)
     }
 }

@@ -7,7 +7,7 @@ use Rattle.page_store.specs.File.{File as Bytes, content, bytes_or_none}
 use Rattle.shelf_file.specs.declared.look.Look.TheVariants.{Refused, Accepted}
 use Rattle.shelf_file.specs.Named.{named_of}
 use Rattle.shelf_file.specs.Shelves.{AreClosed}
-use Rattle.shelf_library.specs.LookLaws.{reads_back, named_by_header}
+use Rattle.shelf_file.proofs.AcceptedLemmas.{reads_back, named_by_header}
 
 -- bytes that are closed stand for their rows
 pub closed_named : (bytes : List ℕ) (schema : Schema) (rows : File) → AreClosed schema rows bytes → named_of (Some bytes) ≡ Closed schema rows

@@ -19,7 +19,7 @@ use Rattle.shelf_library.specs.Units.{world_of, room_of_held}
 use Rattle.shelf_library.specs.OneUnit.{AreUnits, ChangesAt, IsTrulyHeld}
 use Rattle.shelf_library.specs.Changing.{MovesAt, ChangesFile}
 use Rattle.shelf_library.specs.declared.held.Held.TheVariants.{Opened}
-use Rattle.shelf_library.specs.BelowLaws.{reads_as}
+use Rattle.open_file.proofs.ReadOffLemmas.{reads_as}
 use Rattle.shelf_library.proofs.AsideLemmas.{only_here, named_before, named_after, attached_after, held_here, are_after}
 use Rattle.shelf_library.proofs.ReadingLemmas.{truly_held}
 use Rattle.shelf_library.proofs.ReadsLemmas.{reads_world}

@@ -11,10 +11,10 @@ use Rattle.page_store.specs.File.{File as Bytes, content, bytes_or_none}
 use Rattle.page_store.specs.Gate.{AllOpen}
 use Rattle.page_store.specs.Images.{IsSettled}
 use Rattle.page_store.specs.Moments.{Throughout}
-use Rattle.page_store.specs.MomentLaws.{throughout_none, throughout_last}
-use Rattle.page_store.specs.OpenLaws.{refused_open}
+use Rattle.page_store.proofs.MomentLemmas.{throughout_none, throughout_last}
+use Rattle.page_store.proofs.OpenLemmas.{refused_open}
 use Rattle.page_store.specs.ShelfState.{KeepsOthers, unit_file}
-use Rattle.page_alloc.specs.StepLaws.{same_place}
+use Rattle.page_store.proofs.ShelfLemmas.{same_place}
 use Rattle.file_header.specs.declared.header.Header.{Header}
 use Rattle.shelf_file.specs.declared.look.Look.TheVariants.{Accepted, Refused}
 use Rattle.shelf_file.specs.declared.shelf_file.ShelfFile.{ShelfFile}

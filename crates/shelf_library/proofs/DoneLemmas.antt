@@ -15,9 +15,9 @@ use Rattle.indexed_file.specs.World.{World, Unsound, Opened as HasOpened, with_u
 use Rattle.io_state.specs.declared.fault.Fault.{Fault}
 use Rattle.io_state.specs.declared.fault.Fault.TheVariants.{Full}
 use Rattle.open_file.specs.Faults.{IsCausedIn}
-use Rattle.open_file.specs.Adding.{file_after_add}
-use Rattle.open_file.specs.Replacing.{file_with, file_after_replace}
-use Rattle.open_file.specs.Removing.{file_after_remove}
+use Rattle.file_changes.specs.Adding.{file_after_add}
+use Rattle.file_changes.specs.Replacing.{file_with, file_after_replace}
+use Rattle.file_changes.specs.Removing.{file_after_remove}
 
 -- ---- whether a record was added, replaced or removed, by the answer
 

@@ -9,7 +9,7 @@ use Rattle.shelf_library.specs.State.{LibraryState, held_at}
 use Rattle.shelf_library.specs.Units.{world_of, holding_of}
 use Rattle.shelf_library.specs.Truth.{IsTrulyOpen, IsShownTruly}
 use Rattle.shelf_library.specs.OneUnit.{AreUnits}
-use Rattle.shelf_library.specs.BelowLaws.{reads_as}
+use Rattle.open_file.proofs.ReadOffLemmas.{reads_as}
 use Rattle.shelf_library.specs.Reading.{IsKnown}
 use Rattle.shelf_library.specs.declared.held.Held.TheVariants.{Opened}
 use Rattle.shelf_library.proofs.WorldLemmas.{name_now, holding_now}

@@ -9,7 +9,7 @@ use Rattle.indexed_file.specs.UnitCalls.{OpensUnit, IsNew}
 use Rattle.indexed_file.specs.World.{Named, Unsound, Opened as HasOpened, holding_at, named_at, name_at, schema_at, is_open}
 use Rattle.page_store.specs.Gate.{AllOpen, SameOrRefused, WasOrRefused}
 use Rattle.page_store.specs.Moments.{Throughout}
-use Rattle.page_store.specs.OpenLaws.{refused_open}
+use Rattle.page_store.proofs.OpenLemmas.{refused_open}
 use Rattle.page_store.specs.ShelfState.{ShelfState, unit_name, unit_file}
 use Rattle.page_alloc.specs.PagedFile.{StandsOrRefused}
 use Rattle.shelf_file.specs.declared.look.Look.TheVariants.{Accepted, Refused}
@@ -28,7 +28,7 @@ use Rattle.shelf_library.specs.Opening.{MakesAt}
 use Rattle.shelf_library.proofs.AsideLemmas.{are_after, name_before, name_same, held_here, holding_after, named_before, named_after, truth_here}
 use Rattle.shelf_library.proofs.RefusedLemmas.{refused_look, refused_named}
 use Rattle.shelf_library.proofs.FaultLemmas.{faults_are}
-use Rattle.shelf_library.specs.BelowLaws.{reads_as}
+use Rattle.open_file.proofs.ReadOffLemmas.{reads_as}
 use Rattle.shelf_library.proofs.MovingLemmas.{was_or_refused, closed_kept, named_kept}
 use Rattle.shelf_library.proofs.UnitLemmas.{keeps_at, images_at}
 use Rattle.shelf_library.proofs.OpensLemmas.{same_open, nothing_fits, open_fits, open_holding, is_opened, opens_unit}

@@ -9,8 +9,8 @@ use Rattle.std.proofs.lemmas.Bool.{and_parts}
 use Rattle.page_store.specs.File.{File as Bytes, bytes_or_none}
 use Rattle.page_store.specs.Images.{Leaves}
 use Rattle.page_store.specs.Moments.{Throughout}
-use Rattle.page_store.specs.MomentLaws.{throughout_weaker, throughout_first}
-use Rattle.page_store.specs.OpenLaws.{refused_open}
+use Rattle.page_store.proofs.MomentLemmas.{throughout_weaker, throughout_first}
+use Rattle.page_store.proofs.OpenLemmas.{refused_open}
 use Rattle.page_store.specs.Gate.{AllOpen, SameOrRefused, WasOrRefused}
 use Rattle.page_store.specs.ShelfState.{ShelfState, KeepsOthers, unit_name, unit_file}
 use Rattle.page_alloc.specs.PagedFile.{StandsOrRefused}

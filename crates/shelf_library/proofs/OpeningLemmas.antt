@@ -32,7 +32,7 @@ use Rattle.shelf_library.specs.Opening.{OpensAt}
 use Rattle.shelf_library.proofs.WorldLemmas.{set_twice}
 use Rattle.shelf_library.proofs.AsideLemmas.{are_after, holding_before, holding_after, named_before, named_after, images_aside}
 use Rattle.shelf_library.proofs.UnitLemmas.{keeps_at, images_at}
-use Rattle.shelf_library.specs.LookLaws.{accepted_there, accepted_named}
+use Rattle.shelf_file.proofs.AcceptedLemmas.{accepted_there, accepted_named}
 use Rattle.shelf_library.proofs.OpensLemmas.{same_open, nothing_fits, open_fits, open_holding, is_opened, opens_unit}
 
 pub nothing_changes : (u : ℕ) (shelf : ShelfState) → KeepsOthers u shelf shelf

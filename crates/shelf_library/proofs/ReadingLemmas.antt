@@ -4,11 +4,11 @@ use Rattle.std.proofs.lemmas.Bool.{cases_Bool}
 use Rattle.indexed_file.specs.World.{Opened as HasOpened, Broken}
 use Rattle.record_layout.specs.Schema.{Schema}
 use Rattle.page_store.specs.File.{File as Bytes, content}
-use Rattle.page_store.specs.OpenLaws.{open_kept, refused_open}
+use Rattle.page_store.proofs.OpenLemmas.{open_kept, refused_open}
 use Rattle.page_store.specs.Gate.{AllOpen}
 use Rattle.page_store.specs.ShelfState.{unit_file}
 use Rattle.page_cache.specs.Quietly.{GoesQuietly}
-use Rattle.page_alloc.specs.StepLaws.{same_place}
+use Rattle.page_store.proofs.ShelfLemmas.{same_place}
 use Rattle.open_file.specs.declared.open_file.OpenFile.{OpenFile}
 use Rattle.open_file.specs.ReadOff.{file_off}
 use Rattle.file_header.specs.declared.header.Header.{Header}

@@ -9,8 +9,8 @@ use Rattle.file_header.proofs.ReadLemmas.{header_in_none}
 use Rattle.page_store.specs.File.{File as Bytes}
 use Rattle.page_store.specs.Images.{Leaves}
 use Rattle.page_store.specs.Moments.{Throughout, Quiet}
-use Rattle.page_store.specs.MomentLaws.{throughout_none, throughout_last, throughout_weaker}
-use Rattle.page_store.specs.OpenLaws.{quiet_open, refused_open}
+use Rattle.page_store.proofs.MomentLemmas.{throughout_none, throughout_last, throughout_weaker}
+use Rattle.page_store.proofs.OpenLemmas.{quiet_open, refused_open}
 use Rattle.page_store.specs.Gate.{IsClosed, IsOpen, AllOpen, IsRefused}
 use Rattle.page_store.specs.Pages.{page_of}
 use Rattle.shelf_file.specs.declared.look.Look.TheVariants.{Refused}

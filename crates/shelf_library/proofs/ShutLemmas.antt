@@ -13,7 +13,7 @@ use Rattle.indexed_file.specs.UnitCalls.{ShutsUnit}
 use Rattle.indexed_file.specs.World.{World, Holding, Opened as HasOpened, Broken, Named, Absent, Closed, Unsound, holding_at, named_at, name_at, schema_at, schema_in, file_at, file_in as rows_in, is_broken}
 use Rattle.page_store.specs.File.{File as Bytes}
 use Rattle.page_store.specs.Moments.{Throughout}
-use Rattle.page_store.specs.MomentLaws.{throughout_weaker}
+use Rattle.page_store.proofs.MomentLemmas.{throughout_weaker}
 use Rattle.page_store.specs.ShelfState.{unit_name, unit_file}
 use Rattle.shelf_file.specs.declared.shelf_file.ShelfFile.{ShelfFile}
 use Rattle.shelf_file.specs.Named.{named_of}
@@ -28,7 +28,7 @@ use Rattle.shelf_library.specs.Units.{world_of}
 use Rattle.shelf_library.specs.OneUnit.{AreUnits, ChangesAt}
 use Rattle.shelf_library.specs.Closing.{ClosesAt}
 use Rattle.shelf_library.proofs.AsideLemmas.{lies, name_before, are_after, only_here, name_same, holding_after, named_before as named_was, named_after, images_aside}
-use Rattle.shelf_library.specs.BelowLaws.{reads_as}
+use Rattle.open_file.proofs.ReadOffLemmas.{reads_as}
 use Rattle.shelf_library.proofs.ShownLemmas.{holding_shown, broken_shown}
 use Rattle.shelf_library.proofs.FaultLemmas.{faults_are}
 use Rattle.shelf_library.proofs.OpensLemmas.{nothing_fits, open_holding}

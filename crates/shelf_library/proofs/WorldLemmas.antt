@@ -10,7 +10,8 @@ use Rattle.indexed_file.specs.World.{World, FileUnit, Named, Absent, Holding, Sh
 use Rattle.page_store.specs.File.{File as Bytes}
 use Rattle.page_store.specs.ShelfState.{ShelfState, unit_name, unit_file}
 use Rattle.shelf_file.specs.Named.{named_of}
-pub use Rattle.shelf_library.specs.WorldLaws.{named_anywhere, unit_now, name_now, holding_now, named_now, is_held}
+pub use Rattle.shelf_library.specs.WorldLaws.{named_anywhere, unit_now, name_now, holding_now, named_now}
+use Rattle.shelf_library.specs.WorldLaws.{units_long}
 use Rattle.shelf_library.specs.State.{held_at}
 use Rattle.shelf_library.specs.Units.{unit_of, units_of, holding_of, elsewhere_of, world_of}
 use Rattle.shelf_library.specs.declared.held.Held.{Held}
@@ -97,3 +98,7 @@ only_at old new held u one within many names others same =
     ap (λ (ns : List (List ℕ)). units_of new ns now) names ∙ units_set old new old.names held u one many same ∙ ap (λ (x : FileUnit). slice_set (units_of old old.names held) u x) unit in
     let elsewhere = elsewhere_same old new u (let m = many in omega (arith, within, m)) names others in
     λ i. record { units = units i; elsewhere = λ name. elsewhere name i }
+
+-- a unit of the world is one of the units
+pub is_held : (shelf : ShelfState) (held : List Held) (u : ℕ) → length held ≡ length shelf.names → u < length (world_of shelf held).units → u < length held
+is_held shelf held u many within = let long = units_long shelf shelf.names held many in omega (arith, within, long)

@@ -1,6 +1,6 @@
 -- The laws of a library over a shelf.
-use Rattle.std.proofs.Common.{◌≡◌, ◌≢◌, ℕ, zero, suc, ◌<◌, ◌≤◌, Bool, true, false, List, [], ◌∷◌, length, Option, Some, None, IsTrue, IsFalse, refl, sym, ap, ◌∙◌, subst, arith, inl, inr, get_or}
-use Rattle.std.specs.Prelude.{nat_lt, slice_index_or, if◌then◌else◌}
+use Rattle.std.proofs.Common.{◌≡◌, ℕ, ◌<◌, ◌≤◌, List, [], length, Option, Some, None, IsTrue, IsFalse, refl, sym, ap, ◌∙◌, subst, arith, inl, inr}
+use Rattle.std.specs.Prelude.{nat_lt}
 use Rattle.std.proofs.lemmas.Bool.{cases_Bool, ltb-true, ltb-false}
 use Rattle.std.proofs.lemmas.List.{get_or_past}
 use Rattle.indexed_file.specs.File.{File}
@@ -8,27 +8,26 @@ use Rattle.indexed_file.specs.Moments.{Test}
 use Rattle.indexed_file.specs.Room.{IsFilled}
 use Rattle.indexed_file.specs.Sound.{is_file}
 use Rattle.indexed_file.specs.SoundWorld.{ShowsFiles, ShowsFilesAt, is_sound_named, is_sound_holding}
-use Rattle.indexed_file.specs.World.{World, FileUnit, Named, Absent, Closed, Unsound, Holding, Shut, Broken, Opened as HasOpened, named_in, named_at, unit_at, holding_at, name_at}
+use Rattle.indexed_file.specs.World.{FileUnit, Named, Absent, Closed, Unsound, Holding, Shut, Broken, Opened as HasOpened, unit_at, holding_at, name_at}
 use Rattle.record_layout.specs.Schema.{Schema}
 use Rattle.page_store.specs.File.{File as Bytes, content}
-use Rattle.page_store.specs.MomentLaws.{throughout_then, throughout_last, throughout_none, throughout_weaker}
+use Rattle.page_store.proofs.MomentLemmas.{throughout_then, throughout_last, throughout_none, throughout_weaker}
 use Rattle.page_store.specs.ShelfState.{ShelfState, unit_name, unit_file}
 use Rattle.page_alloc.specs.Joining.{available_of}
 use Rattle.file_header.specs.declared.header.Header.{Header}
-use Rattle.open_file.specs.Headers.{IsOpenedBy}
-use Rattle.open_file.specs.declared.open_file.OpenFile.{OpenFile}
 use Rattle.shelf_file.specs.declared.look.Look.{Look}
 use Rattle.shelf_file.specs.declared.look.Look.TheVariants.{NoFile, Refused, Accepted}
 use Rattle.shelf_file.specs.declared.shelf_file.ShelfFile.{ShelfFile}
-use Rattle.shelf_file.specs.Named.{look_of, named_of, named_by, live_in}
+use Rattle.shelf_file.specs.Named.{look_of, named_of, named_by}
 use Rattle.shelf_file.specs.Standing.{file_in, live_of, room_in}
 use Rattle.shelf_library.specs.State.{held_at, AreReady}
 use Rattle.shelf_library.specs.Units.{world_of, units_of, holding_of, room_of_held}
 use Rattle.shelf_library.specs.Truth.{IsShownTruly, IsTrulyClosed}
-use Rattle.shelf_library.specs.Crashes.{Passes, PassesBy, PassesClosed, AllPass}
+use Rattle.shelf_library.specs.Crashes.{Passes, PassesBy, AllPass}
 use Rattle.shelf_library.specs.WorldLaws.{named_anywhere, name_now, holding_now, named_now, units_long}
-use Rattle.shelf_library.specs.BelowLaws.{reads_as, filled}
-use Rattle.shelf_library.specs.LookLaws.{reads_back, accepted_there, accepted_named}
+use Rattle.open_file.proofs.ReadOffLemmas.{reads_as}
+use Rattle.open_file.proofs.FilledLemmas.{filled}
+use Rattle.shelf_file.proofs.AcceptedLemmas.{reads_back, accepted_there, accepted_named}
 use Rattle.shelf_library.specs.declared.held.Held.{Held}
 use Rattle.shelf_library.specs.declared.held.Held.TheVariants.{Nothing, Looked, Opened}
 

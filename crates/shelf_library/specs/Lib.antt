@@ -1,4 +1,3 @@
-pub mod Props
 pub mod State
 pub mod Units
 pub mod Truth
@@ -13,6 +12,4 @@ pub mod Library
 pub mod Reading
 pub mod Changing
 pub mod Told
-pub mod BelowLaws
-pub mod LookLaws
 pub mod Laws

@@ -1,10 +1,10 @@
--- What is read off a library's units.
-use Rattle.std.proofs.Common.{◌≡◌, ℕ, zero, suc, ◌+◌, ◌<◌, Bool, true, false, List, [], ◌∷◌, length, refl, ap, sym, subst, ◌∙◌, arith, bytes_eq, get_or}
-use Rattle.std.specs.Prelude.{slice_index_or, if◌then◌else◌, ◌||◌}
+-- What is read off a library's units, for the laws of a library.
+use Rattle.std.proofs.Common.{◌≡◌, ℕ, zero, suc, ◌<◌, List, [], ◌∷◌, length, refl, ap, ◌∙◌, arith, bytes_eq, get_or}
+use Rattle.std.specs.Prelude.{slice_index_or, if◌then◌else◌}
 use Rattle.std.specs.List.{list_any}
 use Rattle.std.proofs.lemmas.Slice.Eq.{bytes_eq-Decides}
 use Rattle.indexed_file.proofs.TestLemmas.{either}
-use Rattle.indexed_file.specs.World.{World, FileUnit, Named, Absent, Holding, Shut, name_in, named_in, unit_at, holding_at, named_at, name_at}
+use Rattle.indexed_file.specs.World.{FileUnit, Named, Absent, Shut, name_in, named_in, unit_at, holding_at, named_at, name_at}
 use Rattle.page_store.specs.ShelfState.{ShelfState, unit_name, unit_file}
 use Rattle.shelf_file.specs.Named.{named_of}
 use Rattle.shelf_library.specs.State.{held_at}
@@ -59,7 +59,3 @@ units_long shelf [] [] many = refl
 units_long shelf [] (one ∷ held) many = absurd (omega (arith, many))
 units_long shelf (name ∷ names) [] many = refl
 units_long shelf (name ∷ names) (one ∷ held) many = ap suc (units_long shelf names held (omega (arith, many)))
-
--- a unit of the world is one of the units
-pub is_held : (shelf : ShelfState) (held : List Held) (u : ℕ) → length held ≡ length shelf.names → u < length (world_of shelf held).units → u < length held
-is_held shelf held u many within = let long = units_long shelf shelf.names held many in omega (arith, within, long)

@@ -2,9 +2,11 @@
 
 ghost use Rattle.std.specs.Prelude.{◌≡◌, ◌≤◌, ℕ, List, [], length, map, slice_index, replicate, bytes_eq, Ok, Err, IsTrue, IfOk, IsOkUnless};
 ghost use Rattle.std.specs.List.{IsDistinct};
+ghost use Rattle.std.proofs.Props.{props};
+ghost use Rattle.record_layout.proofs.PropLemmas.{keys_prop};
+ghost use Rattle.page_store.proofs.PropLemmas.{open_prop};
 ghost use Rattle.indexed_file.specs.Room.{height_at};
 ghost use Rattle.open_file.specs.Stands.{heights_of};
-ghost use Rattle.shelf_library.specs.Props.{library_props};
 ghost use Rattle.shelf_library.specs.State.{AreLooked, AreReady, held_at};
 ghost use Rattle.shelf_library.specs.Units.{room_of_held};
 ghost use Rattle.shelf_library.specs.Told.{held_after, seen_after, held_open, answer_open};
@@ -30,9 +32,9 @@ pub struct ShelfLibrary<S: Shelf> {
     units: Vec<Held>,
     ghost room: { 16 ≤ limit },
     ghost many: { length units.items ≡ length (S.state shelf).names },
-    ghost distinct: { IsDistinct bytes_eq (S.state shelf).names } by { Prim.hlevel library_props },
-    ghost looked: { AreLooked (S.state shelf) units.items } by { Prim.hlevel library_props },
-    ghost ready: { AreReady (S.state shelf) units.items } by { Prim.hlevel library_props },
+    ghost distinct: { IsDistinct bytes_eq (S.state shelf).names } by { Prim.hlevel (props, keys_prop, open_prop) },
+    ghost looked: { AreLooked (S.state shelf) units.items } by { Prim.hlevel (props, keys_prop, open_prop) },
+    ghost ready: { AreReady (S.state shelf) units.items } by { Prim.hlevel (props, keys_prop, open_prop) },
 }
 
 /// What a unit holds after a look, and what is answered.

@@ -1,4 +1,4 @@
-use Rattle.std.proofs.Common.{◌≡◌, ℕ, ◌*◌, drop, sym, ◌∙◌, ap, rules}
+use Rattle.std.proofs.Common.{◌≡◌, ◌*◌, ◌∙◌, ap, rules}
 use Rattle.std.specs.Prelude.{count_by}
 use Rattle.record_layout.specs.declared.schema.KeyPart.{KeyPart}
 use Rattle.open_file.proofs.CreatingLemmas.{stamps_of_keys}

@@ -1,9 +1,6 @@
-use Rattle.std.proofs.Common.{◌≡◌, ℕ, ◌+◌, ◌-◌, ◌*◌, ◌≤◌, ◌<◌, [], ◌∷◌, ◌++◌, length, refl, ap, sym, subst, ◌∙◌, arith, rules}
-use Rattle.bplus_tree.proofs.ExitLemmas.{caused}
+use Rattle.std.proofs.Common.{◌≡◌, ◌+◌, ◌-◌, ap, sym, ◌∙◌, arith}
 use Rattle.key_index.proofs.LookLemmas.{fails}
-use Rattle.open_file.specs.Parts.{Parts}
 use Rattle.open_file.specs.Creating.{IsIndexOf}
-use Rattle.record_heap.specs.Chain.{no_slots}
 use Rattle.record_layout.specs.Schema.{key_at}
 use Rattle.record_layout.specs.declared.schema.KeyPart.{KeyPart}
 use Rattle.open_file.proofs.CreatingLemmas.{some_keys, alternate_more, indexes_more}

@@ -1,4 +1,4 @@
-use Rattle.std.proofs.Common.{◌≡◌, ℕ, ◌+◌, length}
+use Rattle.std.proofs.Common.{◌≡◌, ◌+◌, length}
 use Rattle.open_file.specs.Headers.{AreStored}
 use Rattle.open_file.proofs.header.stored_alternates.Given as goal
 

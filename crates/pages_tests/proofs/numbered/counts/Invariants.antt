@@ -1,4 +1,4 @@
-use Rattle.list_library.specs.Clients.{IsOpenWith}
+use Rattle.indexed_file.specs.Clients.{IsOpenWith}
 use Rattle.pages_tests.proofs.numbered.counts.Given as goal
 
 abbrev pub invariant-loop-k : goal.invariant-loop-k

@@ -1,4 +1,4 @@
-use Rattle.list_library.specs.Clients.{IsOpenWith}
+use Rattle.indexed_file.specs.Clients.{IsOpenWith}
 use Rattle.pages_tests.proofs.room.fills.Given as goal
 
 abbrev pub invariant-loop-n : goal.invariant-loop-n

@@ -1,4 +1,4 @@
-use Rattle.list_library.specs.Clients.{IsOpenWith}
+use Rattle.indexed_file.specs.Clients.{IsOpenWith}
 use Rattle.pages_tests.specs.Alike.{KeepsOthers}
 use Rattle.pages_tests.proofs.units.are.Given as goal
 

@@ -1,8 +1,8 @@
-use Rattle.std.proofs.Common.{◌≡◌, ℕ, ◌+◌, ◌≤◌, ◌<◌, [], length, drop, refl, ap, sym, subst, ◌∙◌, arith}
+use Rattle.std.proofs.Common.{refl, ap, ◌∙◌}
 use Rattle.record_layout.specs.declared.schema.KeyPart.{KeyPart}
 use Rattle.record_heap.specs.declared.shape.Shape.{Shape}
 use Rattle.key_index.proofs.LookLemmas.{fails}
-use Rattle.open_file.proofs.CreatingLemmas.{some_keys, first_parts, low_heights, new_stands}
+use Rattle.open_file.proofs.CreatingLemmas.{first_parts, low_heights, new_stands}
 use Rattle.open_file.proofs.open_file.OpenFile.create.Goals as goal
 
 pub returns-in_err-alternates-clause-new : goal.returns-in_err-alternates-clause-new

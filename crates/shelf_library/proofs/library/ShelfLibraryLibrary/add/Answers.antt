@@ -5,7 +5,7 @@ use Rattle.indexed_file.specs.Answers.{added_answer, world_after_add}
 use Rattle.indexed_file.specs.Change.{clashes}
 use Rattle.indexed_file.specs.Images.{is_added}
 use Rattle.indexed_file.specs.Room.{is_full_to_add}
-use Rattle.open_file.specs.Adding.{file_after_add}
+use Rattle.file_changes.specs.Adding.{file_after_add}
 use Rattle.shelf_library.specs.State.{LibraryState}
 use Rattle.shelf_library.specs.Changing.{MovesAt, ChangesFile}
 use Rattle.shelf_library.specs.Units.{world_of}

@@ -3,7 +3,7 @@ use Rattle.std.specs.Prelude.{slice_set}
 use Rattle.indexed_file.specs.Answers.{world_after_remove}
 use Rattle.indexed_file.specs.Change.{row_of}
 use Rattle.indexed_file.specs.Images.{is_removed}
-use Rattle.open_file.specs.Removing.{file_after_remove}
+use Rattle.file_changes.specs.Removing.{file_after_remove}
 use Rattle.shelf_library.specs.State.{LibraryState}
 use Rattle.shelf_library.specs.Changing.{MovesAt, ChangesFile}
 use Rattle.shelf_library.specs.Units.{world_of}

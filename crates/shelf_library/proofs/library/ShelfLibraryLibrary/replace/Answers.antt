@@ -5,7 +5,7 @@ use Rattle.indexed_file.specs.Answers.{replaced_answer, world_after_replace}
 use Rattle.indexed_file.specs.Change.{clashes_with_others}
 use Rattle.indexed_file.specs.Images.{is_replaced}
 use Rattle.indexed_file.specs.Room.{is_full_to_replace}
-use Rattle.open_file.specs.Replacing.{file_after_replace}
+use Rattle.file_changes.specs.Replacing.{file_after_replace}
 use Rattle.shelf_library.specs.State.{LibraryState}
 use Rattle.shelf_library.specs.Changing.{MovesAt, ChangesFile}
 use Rattle.shelf_library.specs.Units.{world_of}

@@ -1,0 +1,23 @@
+use Rattle.std.proofs.Common.{◌≡◌, ℕ, ◌+◌, ◌-◌, arith, ap, sym, ◌∙◌}
+use Rattle.std.specs.Prelude.{slice_index_or, if◌then◌else◌}
+use Rattle.file_changes.specs.Adding.{stamp_in}
+use Rattle.open_file.proofs.PartsLemmas.{alternate_changed}
+use Rattle.file_changes.proofs.adding.add_to_alternate.Goals as goal
+use Rattle.file_changes.proofs.adding.add_to_alternate.Goals.{then-part, else-part}
+
+again : (j : ℕ) → j + 1 - 1 ≡ j
+again j = omega arith
+
+pub returns-then-added-clause-added : goal.returns-then-added-clause-added
+returns-then-added-clause-added g c honest sound slots primes entries p none =
+    let opened = c.args.opened.now in
+    let at : c.alternate-index.result ≡ slice_index_or opened.alternates.items c.args.j c.alternate-index.result =
+    c.alternate-index.ensures ∙ ap (λ m. slice_index_or opened.alternates.items m c.alternate-index.result) (again c.args.j) in
+    let stamp : c.if-part.stamp ≡ stamp_in opened.schema opened.next_stamp c.args.j =
+    (elim c.if-part.branch [
+      | then-part w ↦ w.stamp-is ∙ ap (λ b. if b then opened.next_stamp else 0) (sym (ap (λ part. part.duplicates) (sym c.part-part.ensures.part) ∙ w.if-part.true))
+      | else-part w ↦ w.stamp-is ∙ ap (λ b. if b then opened.next_stamp else 0) (sym (ap (λ part. part.duplicates) (sym c.part-part.ensures.part) ∙ w.if-part.false))
+    ]) in
+    let added = ((rw (c.if-added.true, c.value-value.ensures.value, c.value-prime.ensures.value, stamp) at c.in_ok-added.ensures.added) honest sound (entries c.args.j) _ (p.alternates_stand c.args.j c.alternate-index.result c.requires.index at)).answer in
+    let whole = alternate_changed opened.heap opened.prime opened.alternates.items (g.P.Pages.state c.args.pages.now).live slots primes entries p (g.P.Pages.state c.add.new.pages).live c.args.j c.add.new.self _ c.requires.index added.0.1 in
+    rw c.put_at.ensures (record { answer = (whole, added.1); no_damage = tt })

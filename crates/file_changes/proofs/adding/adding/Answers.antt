@@ -1,0 +1,100 @@
+use Rattle.std.proofs.Common.{◌≡◌, ◌≤◌, ◌<◌, length, not, false, true, Bool, refl, sym, ap, subst, ◌∙◌, arith}
+use Rattle.record_layout.specs.declared.schema.KeyPart.{KeyPart}
+use Rattle.open_file.specs.Stands.{Stands, heights_of}
+use Rattle.open_file.proofs.ExitLemmas.{fails, fails_since}
+use Rattle.open_file.proofs.HeightLemmas.{heights_many}
+use Rattle.open_file.proofs.LookLemmas.{at_start, step_absent, step_repeated, clash_found, clash_told, done_told, asked_start, asked_more, asked_in_all, asked_so_far, was_true}
+use Rattle.file_changes.proofs.adding.adding.Goals as goal
+use Rattle.file_changes.proofs.adding.adding.Goals.{then-branch+else-not-part, else-branch}
+
+pub loop-k-init : goal.loop-k-init
+loop-k-init g c =
+    (g.met.P.Pages.reads_nothing c.args.pages.now, (λ honest file stands. at_start c.args.opened.now.schema.keys c.args.bytes.now file.rows), asked_start (g.P.Pages.state c.args.pages.now).asked (heights_of c.args.opened.now))
+
+pub is_there-requires-clause-ready : goal.is_there-requires-clause-ready
+is_there-requires-clause-ready g c = g.met.P.Pages.goes_ready c.args.pages.now c.loop-k.pages (g.met.P.Pages.reads_goes c.args.pages.now c.loop-k.pages c.loop-k.invariant.0) c.requires.ready
+
+pub loop-k-preserved : goal.loop-k-preserved
+loop-k-preserved g c =
+    let start = c.args.pages.now in
+    let now = c.loop-k.pages in
+    let later = c.is_there.new.pages in
+    let keys = c.args.opened.now.schema.keys in
+    let lt : c.loop-k.k < length keys = omega (arith, c.loop-k-test.true, c.key_count-k-end.ensures.count) in
+    let d : KeyPart = record { offset = 0; length = 0; duplicates = false } in (
+      g.met.P.Pages.reads_on start now later c.loop-k.invariant.0 c.is_there.ensures.reads,
+      (λ honest file stands.
+          let before = g.met.P.Pages.goes_honestly now later (g.met.P.Pages.reads_goes now later c.is_there.ensures.reads) honest in
+          let still = subst (λ p. Stands c.args.opened.now p file) (sym (g.met.P.Pages.reads_live start now c.loop-k.invariant.0 before)) stands in
+          let found = (c.in_ok-is_there.ensures.found honest file still).answer in
+          let on = c.loop-k.invariant.1 before file stands in
+          elim c.if-branch.branch [
+            | then-branch+else-not-part w ↦ rw w.repeated-is (step_repeated keys d c.args.bytes.now file.rows c.loop-k.k c.loop-k.repeated lt (sym found ∙ w.if-branch.true)
+                (ap (λ part. part.duplicates) (sym w.part.ensures.part) ∙ was_true _ w.if-not-part.false) on)
+            | else-branch w ↦ rw w.repeated-is (step_absent keys d c.args.bytes.now file.rows c.loop-k.k c.loop-k.repeated lt (sym found ∙ w.if-branch.false) on)
+          ]),
+      asked_more (g.P.Pages.state start).asked (g.P.Pages.state now).asked (g.P.Pages.state later).asked (heights_of c.args.opened.now) c.loop-k.k
+          (omega (arith, lt, c.requires.shaped.keys, heights_many c.args.opened.now.prime c.args.opened.now.alternates.items)) c.is_there.ensures.asked c.loop-k.invariant.2,
+    )
+
+pub returns-in_err-is_there-clause-found : goal.returns-in_err-is_there-clause-found
+returns-in_err-is_there-clause-found g c honest file stands =
+    let before = g.met.P.Pages.goes_honestly c.loop-k.pages c.is_there.new.pages (g.met.P.Pages.reads_goes c.loop-k.pages c.is_there.new.pages c.is_there.ensures.reads) honest in
+    let still = subst (λ p. Stands c.args.opened.now p file) (sym (g.met.P.Pages.reads_live c.args.pages.now c.loop-k.pages c.loop-k.invariant.0 before)) stands in
+    fails c.from_residual.result _ c.from_residual.ensures.1 (c.in_err-is_there.ensures.found honest file still).no_damage _
+
+pub returns-in_err-is_there-clause-cause : goal.returns-in_err-is_there-clause-cause
+returns-in_err-is_there-clause-cause g c =
+    fails_since c.from_residual.result _ _ _ _ _ c.from_residual.ensures.1 (λ failed. g.met.P.Pages.failed_after c.args.pages.now c.loop-k.pages c.is_there.new.pages (g.met.P.Pages.reads_goes c.args.pages.now c.loop-k.pages c.loop-k.invariant.0) failed) (λ none. none) c.in_err-is_there.ensures.cause
+
+pub returns-in_err-is_there-clause-reads : goal.returns-in_err-is_there-clause-reads
+returns-in_err-is_there-clause-reads g c = g.met.P.Pages.reads_on c.args.pages.now c.loop-k.pages c.is_there.new.pages c.loop-k.invariant.0 c.is_there.ensures.reads
+
+pub returns-in_err-is_there-clause-asked : goal.returns-in_err-is_there-clause-asked
+returns-in_err-is_there-clause-asked g c =
+    let lt : c.loop-k.k < length c.args.opened.now.schema.keys = omega (arith, c.loop-k-test.true, c.key_count-k-end.ensures.count) in
+    asked_so_far (g.P.Pages.state c.args.pages.now).asked (g.P.Pages.state c.loop-k.pages).asked (g.P.Pages.state c.is_there.new.pages).asked (heights_of c.args.opened.now) c.loop-k.k
+    (omega (arith, lt, c.requires.shaped.keys, heights_many c.args.opened.now.prime c.args.opened.now.alternates.items)) c.is_there.ensures.asked c.loop-k.invariant.2
+
+pub returns-then-not-part-clause-found : goal.returns-then-not-part-clause-found
+returns-then-not-part-clause-found g c honest file stands =
+    let start = c.args.pages.now in
+    let now = c.loop-k.pages in
+    let later = c.is_there.new.pages in
+    let keys = c.args.opened.now.schema.keys in
+    let lt : c.loop-k.k < length keys = omega (arith, c.loop-k-test.true, c.key_count-k-end.ensures.count) in
+    let d : KeyPart = record { offset = 0; length = 0; duplicates = false } in
+    let before = g.met.P.Pages.goes_honestly now later (g.met.P.Pages.reads_goes now later c.is_there.ensures.reads) honest in
+    let still = subst (λ p. Stands c.args.opened.now p file) (sym (g.met.P.Pages.reads_live start now c.loop-k.invariant.0 before)) stands in
+    let found = (c.in_ok-is_there.ensures.found honest file still).answer in
+    let on = c.loop-k.invariant.1 before file stands in
+    record {
+      answer = clash_told c.args.opened.now.schema c.args.bytes.now file (clash_found keys d c.args.bytes.now file.rows c.loop-k.k c.loop-k.repeated lt (sym found ∙ c.if-branch.true)
+          (ap (λ part. part.duplicates) (sym c.part.ensures.part) ∙ was_false _ c.if-not-part.true) on);
+      no_damage = tt;
+    }
+  where
+    was_false : (b : Bool) → not b ≡ true → b ≡ false
+    was_false true h = sym h
+    was_false false h = refl
+
+pub returns-then-not-part-clause-reads : goal.returns-then-not-part-clause-reads
+returns-then-not-part-clause-reads g c = g.met.P.Pages.reads_on c.args.pages.now c.loop-k.pages c.is_there.new.pages c.loop-k.invariant.0 c.is_there.ensures.reads
+
+pub returns-then-not-part-clause-asked : goal.returns-then-not-part-clause-asked
+returns-then-not-part-clause-asked g c =
+    let lt : c.loop-k.k < length c.args.opened.now.schema.keys = omega (arith, c.loop-k-test.true, c.key_count-k-end.ensures.count) in
+    asked_so_far (g.P.Pages.state c.args.pages.now).asked (g.P.Pages.state c.loop-k.pages).asked (g.P.Pages.state c.is_there.new.pages).asked (heights_of c.args.opened.now) c.loop-k.k
+    (omega (arith, lt, c.requires.shaped.keys, heights_many c.args.opened.now.prime c.args.opened.now.alternates.items)) c.is_there.ensures.asked c.loop-k.invariant.2
+
+pub returns-clause-found : goal.returns-clause-found
+returns-clause-found g c honest file stands =
+    let on = c.loop-k.invariant.1 honest file stands in
+    let all : length c.args.opened.now.schema.keys ≤ c.loop-k.k = omega (arith, c.loop-k-test.false, c.key_count-k-end.ensures.count) in
+    record { answer = done_told c.args.opened.now.schema c.args.bytes.now file c.loop-k.k c.loop-k.repeated all on; no_damage = tt }
+
+pub returns-clause-reads : goal.returns-clause-reads
+returns-clause-reads g c = c.loop-k.invariant.0
+
+pub returns-clause-asked : goal.returns-clause-asked
+returns-clause-asked g c = asked_in_all (g.P.Pages.state c.args.pages.now).asked (g.P.Pages.state c.loop-k.pages).asked (heights_of c.args.opened.now) c.loop-k.k c.loop-k.invariant.2

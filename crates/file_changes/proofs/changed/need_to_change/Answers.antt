@@ -1,0 +1,39 @@
+use Rattle.std.proofs.Common.{◌≡◌, ℕ, ◌+◌, ◌-◌, ◌<◌, Bool, true, false, not, length, refl, ap, ◌∙◌, arith}
+use Rattle.std.specs.Prelude.{slice_index_or, if◌then◌else◌}
+use Rattle.key_index.specs.Standing.{alt_height}
+use Rattle.file_changes.specs.Replacing.{stays}
+use Rattle.open_file.proofs.PartsLemmas.{found_at}
+use Rattle.file_changes.proofs.ChangedLemmas.{need_step}
+use Rattle.file_changes.proofs.changed.need_to_change.Goals as goal
+use Rattle.file_changes.proofs.changed.need_to_change.Goals.{then-differs, else-differs}
+
+again : (j : ℕ) → j + 1 - 1 ≡ j
+again j = omega arith
+
+moves : (b moved : Bool) (need : ℕ) → moved ≡ not b → moved ≡ true → (if b then 0 else need) ≡ need
+moves true moved need is yes' = absurd (cc)
+moves false moved need is yes' = refl
+
+rests : (b moved : Bool) (need : ℕ) → moved ≡ not b → moved ≡ false → (if b then 0 else need) ≡ 0
+rests true moved need is no' = refl
+rests false moved need is no' = absurd (cc)
+
+pub loop-j-preserved : goal.loop-j-preserved
+loop-j-preserved c =
+    let u = c.args.opened.now in
+    let j = c.loop-j.j in
+    let old = c.args.old.now in
+    let new = c.args.new.now in
+    let lt : j < length u.alternates.items = omega (arith, c.loop-j-test.true, c.len-j-end.ensures.value) in
+    elim c.if-differs.branch [
+      | then-differs w ↦
+          let is : w.alternate.result ≡ slice_index_or u.alternates.items j w.alternate.result = w.alternate.ensures ∙ ap (λ m. slice_index_or u.alternates.items m w.alternate.result) (again j) in
+          let step = need_step u.schema old new u.alternates.items j w.alternate.result c.requires.shaped.keys lt is in
+          let here = moves (stays u.schema old new j) c.differs.result (alt_height w.alternate.result + 1) c.differs.ensures w.if-differs.true in
+          record { so_far = omega (arith, w.need-is, w.from.ensures, w.height.ensures, step, here, c.loop-j.invariant.so_far); small = omega (arith, w.need-is, w.from.ensures, w.height.ensures, w.alternate.result.tree.low, c.loop-j.invariant.small) }
+      | else-differs w ↦
+          let index = found_at u.alternates.items j lt in
+          let step = need_step u.schema old new u.alternates.items j index.0 c.requires.shaped.keys lt index.1 in
+          let here = rests (stays u.schema old new j) c.differs.result (alt_height index.0 + 1) c.differs.ensures w.if-differs.false in
+          record { so_far = omega (arith, w.need-is, step, here, c.loop-j.invariant.so_far); small = omega (arith, w.need-is, c.loop-j.invariant.small) }
+    ]

@@ -1,0 +1,52 @@
+use Rattle.std.proofs.Common.{refl, sym, subst, arith}
+use Rattle.record_heap.specs.Standing.{HeapStands}
+use Rattle.open_file.specs.Parts.{own_at}
+use Rattle.open_file.specs.Stored.{stored}
+use Rattle.open_file.proofs.ExitLemmas.{fails}
+use Rattle.file_changes.proofs.FoundLemmas.{leads_to, old_is, none_is}
+use Rattle.open_file.proofs.StampedLemmas.{few_stamps}
+use Rattle.file_changes.proofs.old_record.find_old.Goals as goal
+
+pub get-requires-clause-room : goal.get-requires-clause-room
+get-requires-clause-room g c =
+    let shaped = c.requires.shaped in
+    omega (arith, few_stamps c.args.opened.now.schema.keys shaped.is_schema.few, shaped.stamps, shaped.greatest, shaped.is_schema.limit, c.fits-slot)
+
+pub stamps_in-stamps-requires-clause-room : goal.stamps_in-stamps-requires-clause-room
+stamps_in-stamps-requires-clause-room g c =
+    let shaped = c.requires.shaped in
+    omega (arith, few_stamps c.args.opened.now.schema.keys shaped.is_schema.few, shaped.stamps, c.get.ensures.front.long, c.fits-slot)
+
+pub returns-in_err-entry-clause-found : goal.returns-in_err-entry-clause-found
+returns-in_err-entry-clause-found g c honest file stands =
+    fails c.from_residual.result _ c.from_residual.ensures.1 (c.in_err-entry.ensures.found honest _ _ stands.parts.prime_stands).no_damage _
+
+pub returns-in_default-clause-found : goal.returns-in_default-clause-found
+returns-in_default-clause-found g c honest file stands =
+    let found = (rw c.in_default.is at c.in_ok-entry.ensures.found honest _ _ stands.parts.prime_stands).answer in
+    record { answer = none_is c.args.opened.now (g.P.Pages.state c.args.pages.now).live file stands c.args.prime.now (sym found); no_damage = tt }
+
+pub returns-in_err-end-clause-found : goal.returns-in_err-end-clause-found
+returns-in_err-end-clause-found g c honest file stands =
+    let u = c.args.opened.now in
+    let start = (g.P.Pages.state c.args.pages.now).live in
+    let before = g.met.P.Pages.goes_honestly c.find.new.pages c.get.new.pages (g.met.P.Pages.reads_goes c.find.new.pages c.get.new.pages c.get.ensures.reads) honest in
+    let found = (rw c.in-Some.is at c.in_ok-entry.ensures.found before _ _ stands.parts.prime_stands).answer in
+    let leads = leads_to u start file stands c.args.prime.now c.in-Some.entry (sym found) in
+    let heap = subst (λ p. HeapStands u.heap p stands.slots (own_at stands.parts.owns 0)) (sym (g.met.P.Pages.reads_live c.args.pages.now c.find.new.pages c.find.ensures.reads before)) stands.parts.heap_stands in
+    fails c.from_residual-in_err-end.result _ c.from_residual-in_err-end.ensures.1 (c.in_err-end.ensures.got honest stands.slots _ (stored u.schema leads.row) heap leads.here).no_damage _
+
+pub returns-clause-found : goal.returns-clause-found
+returns-clause-found g c honest file stands =
+    let u = c.args.opened.now in
+    let start = (g.P.Pages.state c.args.pages.now).live in
+    let before = g.met.P.Pages.goes_honestly c.find.new.pages c.get.new.pages (g.met.P.Pages.reads_goes c.find.new.pages c.get.new.pages c.get.ensures.reads) honest in
+    let found = (rw c.in-Some.is at c.in_ok-entry.ensures.found before _ _ stands.parts.prime_stands).answer in
+    let leads = leads_to u start file stands c.args.prime.now c.in-Some.entry (sym found) in
+    let heap = subst (λ p. HeapStands u.heap p stands.slots (own_at stands.parts.owns 0)) (sym (g.met.P.Pages.reads_live c.args.pages.now c.find.new.pages c.find.ensures.reads before)) stands.parts.heap_stands in
+    let got = (c.in_ok-end.ensures.got honest stands.slots _ (stored u.schema leads.row) heap leads.here).answer in
+    record {
+      answer = old_is u start file stands c.args.prime.now c.in-Some.entry (sym found) c.get.new.to c.args.slot.now
+          (record { place = c.in-Some.entry.place; stamps = c.stamps_in-stamps.result; end = c.in_ok-end.end }) refl got.0 got.1 c.stamps_in-stamps.ensures.stamps;
+      no_damage = tt;
+    }

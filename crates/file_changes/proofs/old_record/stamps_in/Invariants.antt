@@ -1,0 +1,5 @@
+use Rattle.file_changes.proofs.OldLemmas.{AreRead}
+use Rattle.file_changes.proofs.old_record.stamps_in.Given as goal
+
+abbrev pub invariant-loop-k : goal.invariant-loop-k
+invariant-loop-k l = AreRead l.opened.schema.keys l.slot l.k l.at l.stamps.items

@@ -1,0 +1,89 @@
+use Rattle.std.proofs.Common.{◌≡◌, ◌+◌, ◌<◌, length, drop, arith, refl, ap, sym, ◌∙◌}
+use Rattle.file_changes.specs.Adding.{levels_in}
+use Rattle.file_changes.specs.Old.{row_with}
+use Rattle.file_changes.specs.Removing.{without_below}
+use Rattle.open_file.specs.declared.open_file.OpenFile.{OpenFile}
+use Rattle.open_file.proofs.ExitLemmas.{fails}
+use Rattle.open_file.proofs.PartsLemmas.{said_so, found_at}
+use Rattle.file_changes.proofs.LevelLemmas.{levels_dropped}
+use Rattle.file_changes.proofs.WithoutLemmas.{stamp_in_key, without_start, without_here, without_step}
+use Rattle.file_changes.proofs.removing.remove_from_alternates.Goals as goal
+
+pub loop-j-init : goal.loop-j-init
+loop-j-init g c =
+    let u = c.args.opened.now in
+    let row = row_with c.args.bytes.now c.args.stamps.now in
+    record {
+      goes = g.met.P.Pages.goes_nowhere c.args.pages.now;
+      removed = λ honest sound slots primes entries p there. (
+        said_so u.heap u.prime u.alternates.items (g.P.Pages.state c.args.pages.now).live slots primes entries p primes
+            (without_below u.schema row 0 entries) refl (λ i lt. without_start u.schema row entries i),
+        sound,
+      );
+      rest = refl;
+      shaped = c.requires.shaped;
+      many = refl;
+      asked = omega arith;
+    }
+
+pub loop-j-preserved : goal.loop-j-preserved
+loop-j-preserved g c =
+    let start = c.args.pages.now in
+    let now = c.loop-j.pages in
+    let later = c.remove_from_alternate.new.pages in
+    let j = c.loop-j.j in
+    let u = c.loop-j.opened in
+    let new = c.remove_from_alternate.new.opened in
+    let inv = c.loop-j.invariant in
+    let step = c.remove_from_alternate.ensures in
+    let row = row_with c.args.bytes.now c.args.stamps.now in
+    let lt : j < length u.alternates.items = omega (arith, c.loop-j-test.true, c.len-j-end.ensures.value, inv.many) in
+    let index = found_at u.alternates.items j lt in
+    let levels = levels_dropped u.alternates.items j index.0 lt index.1 in
+    let left : levels_in (drop (j + 1) new.alternates.items) ≡ levels_in (drop (j + 1) u.alternates.items) = ap levels_in step.later in
+    record {
+      goes = g.met.P.Pages.goes_on start now later inv.goes step.goes;
+      removed = λ honest sound slots primes entries p there.
+          let before = g.met.P.Pages.goes_honestly now later step.goes honest in
+          let had = inv.removed before sound slots primes entries p there in
+          let schema = ap (λ (o : OpenFile). o.schema) inv.rest in
+          let within : j < length c.args.opened.now.alternates.items = omega (arith, lt, inv.many) in
+          let here = without_here c.args.opened.now.schema row j entries in
+          let done = ((rw (schema, sym (stamp_in_key j row)) at c.in_ok-remove_from_alternate.ensures.removed) honest had.1 slots primes (without_below c.args.opened.now.schema row j entries) had.0 (rw here (there j within))).answer in (
+            said_so new.heap new.prime new.alternates.items (g.P.Pages.state later).live slots primes _ done.0 primes
+                (without_below c.args.opened.now.schema row (j + 1) entries) refl (λ i _. without_step c.args.opened.now.schema row j entries i),
+            done.1,
+          );
+      rest = step.rest ∙ ap (λ (o : OpenFile). record o { alternates = new.alternates }) inv.rest;
+      shaped = step.shaped;
+      many = step.many ∙ inv.many;
+      asked = omega (arith, left, levels, inv.asked, step.asked index.0 index.1);
+    }
+
+pub returns-in_err-remove_from_alternate-clause-removed : goal.returns-in_err-remove_from_alternate-clause-removed
+returns-in_err-remove_from_alternate-clause-removed g c honest sound slots primes entries p there =
+    let now = c.loop-j.pages in
+    let later = c.remove_from_alternate.new.pages in
+    let j = c.loop-j.j in
+    let inv = c.loop-j.invariant in
+    let row = row_with c.args.bytes.now c.args.stamps.now in
+    let within : j < length c.args.opened.now.alternates.items = omega (arith, c.loop-j-test.true, c.len-j-end.ensures.value) in
+    let before = g.met.P.Pages.goes_honestly now later c.remove_from_alternate.ensures.goes honest in
+    let had = inv.removed before sound slots primes entries p there in
+    let schema = ap (λ (o : OpenFile). o.schema) inv.rest in
+    let here = without_here c.args.opened.now.schema row j entries in
+    let failed = (rw (schema, sym (stamp_in_key j row)) at c.in_err-remove_from_alternate.ensures.removed) honest had.1 slots primes (without_below c.args.opened.now.schema row j entries) had.0 (rw here (there j within)) in
+    fails c.from_residual.result _ c.from_residual.ensures.1 failed.no_damage _
+
+pub returns-in_err-remove_from_alternate-clause-asked : goal.returns-in_err-remove_from_alternate-clause-asked
+returns-in_err-remove_from_alternate-clause-asked g c =
+    let u = c.loop-j.opened in
+    let lt : c.loop-j.j < length u.alternates.items = omega (arith, c.loop-j-test.true, c.len-j-end.ensures.value, c.loop-j.invariant.many) in
+    let index = found_at u.alternates.items c.loop-j.j lt in
+    let levels = levels_dropped u.alternates.items c.loop-j.j index.0 lt index.1 in
+    omega (arith, levels, c.loop-j.invariant.asked, c.remove_from_alternate.ensures.asked index.0 index.1)
+
+pub returns-clause-removed : goal.returns-clause-removed
+returns-clause-removed g c honest sound slots primes entries p there =
+    let e : c.loop-j.j ≡ length c.args.opened.now.alternates.items = omega (arith, c.loop-j-test.false, c.loop-j.auto.j-end, c.len-j-end.ensures.value) in
+    record { answer = rw e at (c.loop-j.invariant.removed honest sound slots primes entries p there); no_damage = tt }

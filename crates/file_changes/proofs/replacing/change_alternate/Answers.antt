@@ -1,0 +1,70 @@
+use Rattle.std.proofs.Common.{ℕ, ◌+◌, ◌≤◌, ◌<◌, length, refl, ap, sym, ◌∙◌, arith}
+use Rattle.record_layout.specs.Schema.{value_of}
+use Rattle.key_index.specs.Entries.{with_alt, without_rank}
+use Rattle.key_index.specs.Standing.{alt_height}
+use Rattle.file_changes.specs.Adding.{entry_of}
+use Rattle.open_file.specs.Parts.{but_at}
+use Rattle.open_file.specs.declared.open_file.OpenFile.{OpenFile}
+use Rattle.open_file.proofs.ExitLemmas.{fails, if_ok}
+use Rattle.open_file.proofs.PartsLemmas.{said_so, found_at}
+use Rattle.file_changes.proofs.ChangingLemmas.{causes, but_here, but_twice}
+use Rattle.file_changes.proofs.replacing.change_alternate.Goals as goal
+
+pub returns-in_err-remove_from_alternate-clause-changed : goal.returns-in_err-remove_from_alternate-clause-changed
+returns-in_err-remove_from_alternate-clause-changed g c honest sound slots primes entries p there free =
+    fails c.from_residual.result _ c.from_residual.ensures.1 (c.in_err-remove_from_alternate.ensures.removed honest sound slots primes entries p there).no_damage _
+
+pub returns-clause-changed : goal.returns-clause-changed
+returns-clause-changed g c honest sound slots primes entries p there free =
+    let u = c.args.opened.now in
+    let j = c.args.j in
+    let now = c.remove_from_alternate.new.pages in
+    let last = c.add_to_alternate.new.pages in
+    let new = c.add_to_alternate.new.opened in
+    let before = g.met.P.Pages.goes_honestly now last c.add_to_alternate.ensures.goes honest in
+    let left = without_rank (value_of u.schema (j + 1) c.args.old.now) c.args.stamp (entries j) in
+    let entry = entry_of u.schema u.next_stamp c.args.bytes.now j in
+    let out = (c.in_ok-remove_from_alternate.ensures.removed before sound slots primes entries p there).answer in
+    let schema = ap (λ (o : OpenFile). o.schema) c.remove_from_alternate.ensures.rest in
+    let next = ap (λ (o : OpenFile). o.next_stamp) c.remove_from_alternate.ensures.rest in
+    let added = (rw (schema, next) at c.add_to_alternate.ensures.added) honest out.1 slots primes (but_at j left entries) out.0 (rw (but_here j left entries) free) in
+    record {
+      answer = if_ok c.add_to_alternate.result _ _ (λ x done. (
+        said_so new.heap new.prime new.alternates.items (g.P.Pages.state last).live slots primes _ done.0 primes (but_at j (with_alt entry left) entries) refl
+            (λ i lt. but_twice j left (with_alt entry left) entries i ∙ ap (λ es. but_at j (with_alt entry es) (but_at j left entries) i) (sym (but_here j left entries))),
+        done.1,
+      )) added.answer;
+      no_damage = added.no_damage;
+    }
+
+lower : (a b : ℕ) → a ≤ b → (old now : ℕ) → old ≤ now → now < a + 1 → old < b + 1
+lower a b less old now few lacks = omega (arith, less, few, lacks)
+
+pub returns-clause-few : goal.returns-clause-few
+returns-clause-few g c index is =
+    let mid = c.remove_from_alternate.new.opened in
+    let lt : c.args.j < length mid.alternates.items = omega (arith, c.requires.index, c.remove_from_alternate.ensures.many) in
+    let later = found_at mid.alternates.items c.args.j lt in
+    let less = c.in_ok-remove_from_alternate.ensures.height index later.0 is later.1 in
+    omega (arith, less, c.remove_from_alternate.ensures.few, c.add_to_alternate.ensures.few later.0 later.1)
+
+pub returns-clause-asked : goal.returns-clause-asked
+returns-clause-asked g c index is =
+    let mid = c.remove_from_alternate.new.opened in
+    let lt : c.args.j < length mid.alternates.items = omega (arith, c.requires.index, c.remove_from_alternate.ensures.many) in
+    let later = found_at mid.alternates.items c.args.j lt in
+    let less = c.in_ok-remove_from_alternate.ensures.height index later.0 is later.1 in
+    omega (arith, less, c.remove_from_alternate.ensures.asked index is, c.add_to_alternate.ensures.asked later.0 later.1)
+
+pub returns-clause-cause : goal.returns-clause-cause
+returns-clause-cause g c index is =
+    let mid = c.remove_from_alternate.new.opened in
+    let start = c.args.pages.now in
+    let now = c.remove_from_alternate.new.pages in
+    let last = c.add_to_alternate.new.pages in
+    let lt : c.args.j < length mid.alternates.items = omega (arith, c.requires.index, c.remove_from_alternate.ensures.many) in
+    let later = found_at mid.alternates.items c.args.j lt in
+    let less = c.in_ok-remove_from_alternate.ensures.height index later.0 is later.1 in
+    causes c.add_to_alternate.result _ _ _ _ (λ failed. g.met.P.Pages.failed_after start now last c.remove_from_alternate.ensures.goes failed)
+    (λ lacks. lower (alt_height later.0) (alt_height index) less (g.P.Pages.state start).available (g.P.Pages.state now).available c.remove_from_alternate.ensures.few lacks)
+    (c.add_to_alternate.ensures.cause later.0 later.1)

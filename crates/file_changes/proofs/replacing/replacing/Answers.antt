@@ -1,0 +1,91 @@
+use Rattle.std.proofs.Common.{◌+◌, ◌≤◌, ◌<◌, length, sym, ap, subst, ◌∙◌, arith}
+use Rattle.record_layout.specs.Schema.{prime_of}
+use Rattle.open_file.specs.Stands.{Stands, heights_of}
+use Rattle.open_file.proofs.ExitLemmas.{fails}
+use Rattle.open_file.proofs.HeightLemmas.{heights_many}
+use Rattle.open_file.proofs.LookLemmas.{asked_start, asked_more, asked_in_all, was_true}
+use Rattle.file_changes.proofs.RemovedLemmas.{is_one, file_rows}
+use Rattle.file_changes.proofs.SeenLemmas.{SeenOn, is_told, seen_start, seen_none, seen_repeated, seen_clash, all_seen, clash_seen, was_false}
+use Rattle.file_changes.proofs.replacing.replacing.Goals as goal
+use Rattle.file_changes.proofs.replacing.replacing.Goals.{then-branch+else-not-part, else-branch}
+
+pub loop-k-init : goal.loop-k-init
+loop-k-init g c =
+    let u = c.args.opened.now in
+    let start = c.args.pages.now in
+    let asked = (g.P.Pages.state start).asked in
+    record {
+      reads = g.met.P.Pages.reads_nothing start;
+      seen = λ honest file stands row is same.
+          let one = is_one u.schema file (prime_of u.schema c.args.bytes.now) row stands.sound is in
+          let some : 0 < length u.schema.keys = omega (arith, c.requires.shaped.keys) in
+          rw same at (seen_start u.schema file.next_stamp c.args.bytes.now row file.rows some c.requires.shaped.is_schema.keys (file_rows u.schema file stands.sound) one.fit one.first one.has);
+      asked = asked_more asked asked asked (heights_of u) 0 (omega (arith, heights_many u.prime u.alternates.items)) (omega arith) (asked_start asked (heights_of u));
+    }
+
+pub is_new_there-requires-clause-ready : goal.is_new_there-requires-clause-ready
+is_new_there-requires-clause-ready g c = g.met.P.Pages.goes_ready c.args.pages.now c.loop-k.pages (g.met.P.Pages.reads_goes c.args.pages.now c.loop-k.pages c.loop-k.invariant.reads) c.requires.ready
+
+pub loop-k-preserved : goal.loop-k-preserved
+loop-k-preserved g c =
+    let u = c.args.opened.now in
+    let start = c.args.pages.now in
+    let now = c.loop-k.pages in
+    let later = c.is_new_there.new.pages in
+    let k = c.loop-k.k in
+    let lt : k < length u.schema.keys = omega (arith, c.loop-k-test.true, c.key_count-k-end.ensures.count) in
+    record {
+      reads = g.met.P.Pages.reads_on start now later c.loop-k.invariant.reads c.is_new_there.ensures.reads;
+      seen = λ honest file stands row is same.
+          let before = g.met.P.Pages.goes_honestly now later (g.met.P.Pages.reads_goes now later c.is_new_there.ensures.reads) honest in
+          let still = subst (λ p. Stands u p file) (sym (g.met.P.Pages.reads_live start now c.loop-k.invariant.reads before)) stands in
+          let there = (c.in_ok-is_new_there.ensures.found honest file still).answer in
+          let on = c.loop-k.invariant.seen before file stands row is same in
+          let one = is_one u.schema file (prime_of u.schema c.args.bytes.now) row stands.sound is in
+          let told = rw same at (is_told u.schema file.next_stamp k c.args.bytes.now row file.rows lt (file_rows u.schema file stands.sound) one.fit one.first) in
+          elim c.if-branch.branch [
+            | then-branch+else-not-part w ↦ rw w.repeated-is (seen_repeated u.schema c.args.old.now c.args.bytes.now file.rows k c.loop-k.repeated lt told (sym there ∙ w.if-branch.true)
+                (ap (λ part. part.duplicates) (sym w.part.ensures.part) ∙ was_true _ w.if-not-part.false) on)
+            | else-branch w ↦ rw w.repeated-is (seen_none u.schema c.args.old.now c.args.bytes.now file.rows k c.loop-k.repeated lt told (sym there ∙ w.if-branch.false) on)
+          ];
+      asked = asked_more (g.P.Pages.state start).asked (g.P.Pages.state now).asked (g.P.Pages.state later).asked (heights_of u) k
+          (omega (arith, lt, c.requires.shaped.keys, heights_many u.prime u.alternates.items)) c.is_new_there.ensures.asked c.loop-k.invariant.asked;
+    }
+
+pub returns-in_err-is_new_there-clause-found : goal.returns-in_err-is_new_there-clause-found
+returns-in_err-is_new_there-clause-found g c honest file stands row is same =
+    let before = g.met.P.Pages.goes_honestly c.loop-k.pages c.is_new_there.new.pages (g.met.P.Pages.reads_goes c.loop-k.pages c.is_new_there.new.pages c.is_new_there.ensures.reads) honest in
+    let still = subst (λ p. Stands c.args.opened.now p file) (sym (g.met.P.Pages.reads_live c.args.pages.now c.loop-k.pages c.loop-k.invariant.reads before)) stands in
+    fails c.from_residual.result _ c.from_residual.ensures.1 (c.in_err-is_new_there.ensures.found honest file still).no_damage _
+
+pub returns-then-not-part-clause-found : goal.returns-then-not-part-clause-found
+returns-then-not-part-clause-found g c honest file stands row is same =
+    let u = c.args.opened.now in
+    let k = c.loop-k.k in
+    let now = c.loop-k.pages in
+    let later = c.is_new_there.new.pages in
+    let lt : k < length u.schema.keys = omega (arith, c.loop-k-test.true, c.key_count-k-end.ensures.count) in
+    let before = g.met.P.Pages.goes_honestly now later (g.met.P.Pages.reads_goes now later c.is_new_there.ensures.reads) honest in
+    let still = subst (λ p. Stands u p file) (sym (g.met.P.Pages.reads_live c.args.pages.now now c.loop-k.invariant.reads before)) stands in
+    let there = (c.in_ok-is_new_there.ensures.found honest file still).answer in
+    let on = c.loop-k.invariant.seen before file stands row is same in
+    let one = is_one u.schema file (prime_of u.schema c.args.bytes.now) row stands.sound is in
+    let told = rw same at (is_told u.schema file.next_stamp k c.args.bytes.now row file.rows lt (file_rows u.schema file stands.sound) one.fit one.first) in
+    let unique = ap (λ part. part.duplicates) (sym c.part.ensures.part) ∙ was_false _ c.if-not-part.true in
+    record { answer = clash_seen u.schema c.args.bytes.now file row (seen_clash u.schema c.args.old.now c.args.bytes.now file.rows k c.loop-k.repeated lt told (sym there ∙ c.if-branch.true) unique on); no_damage = tt }
+
+pub returns-then-not-part-clause-asked : goal.returns-then-not-part-clause-asked
+returns-then-not-part-clause-asked g c =
+    let u = c.args.opened.now in
+    let lt : c.loop-k.k < length u.schema.keys = omega (arith, c.loop-k-test.true, c.key_count-k-end.ensures.count) in
+    asked_in_all (g.P.Pages.state c.args.pages.now).asked (g.P.Pages.state c.is_new_there.new.pages).asked (heights_of u) (c.loop-k.k + 1)
+    (asked_more (g.P.Pages.state c.args.pages.now).asked (g.P.Pages.state c.loop-k.pages).asked (g.P.Pages.state c.is_new_there.new.pages).asked (heights_of u) c.loop-k.k
+    (omega (arith, lt, c.requires.shaped.keys, heights_many u.prime u.alternates.items)) c.is_new_there.ensures.asked c.loop-k.invariant.asked)
+
+pub returns-clause-found : goal.returns-clause-found
+returns-clause-found g c honest file stands row is same =
+    let u = c.args.opened.now in
+    let all : length u.schema.keys ≤ c.loop-k.k = omega (arith, c.loop-k-test.false, c.key_count-k-end.ensures.count) in
+    let on = c.loop-k.invariant.seen honest file stands row is same in
+    let seen = subst (λ old. SeenOn u.schema old c.args.bytes.now file.rows c.loop-k.k c.loop-k.repeated) (sym same) on in
+    record { answer = all_seen u.schema c.args.bytes.now file row c.loop-k.k c.loop-k.repeated all seen; no_damage = tt }

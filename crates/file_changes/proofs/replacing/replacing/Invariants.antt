@@ -1,0 +1,17 @@
+use Rattle.std.proofs.Common.{◌≡◌, Some, IsTrue}
+use Rattle.record_layout.specs.Schema.{prime_of}
+use Rattle.indexed_file.specs.File.{Row, File}
+use Rattle.indexed_file.specs.Change.{row_of}
+use Rattle.open_file.specs.Stands.{Stands, heights_of}
+use Rattle.open_file.proofs.LookLemmas.{IsAsked}
+use Rattle.file_changes.proofs.SeenLemmas.{SeenOn}
+use Rattle.file_changes.proofs.replacing.replacing.Given as goal
+
+abbrev pub invariant-loop-k : goal.invariant-loop-k
+invariant-loop-k g l = record {
+  reads : g.P.Pages.Reads l.fn.pages l.pages;
+  seen : IsTrue (g.P.Pages.state l.pages).is_honest → (file : File) → Stands l.opened (g.P.Pages.state l.fn.pages).live file
+      → (row : Row) → row_of l.opened.schema (prime_of l.opened.schema l.bytes) file ≡ Some row → row.bytes ≡ l.old
+      → SeenOn l.opened.schema l.old l.bytes file.rows l.k l.repeated;
+  asked : IsAsked (g.P.Pages.state l.fn.pages).asked (g.P.Pages.state l.pages).asked (heights_of l.opened) l.k;
+}

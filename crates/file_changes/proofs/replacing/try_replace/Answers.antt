@@ -1,0 +1,107 @@
+use Rattle.std.proofs.Common.{◌≡◌, Bool, true, false, not, ◌||◌, refl, sym, subst, ap, ◌∙◌, arith, IsTrue}
+use Rattle.record_layout.specs.Schema.{prime_of}
+use Rattle.indexed_file.specs.Change.{clashes_with_others}
+use Rattle.indexed_file.specs.Room.{is_full_at}
+use Rattle.open_file.specs.InOrder.{prime_entries}
+use Rattle.file_changes.specs.Old.{IsOldAt, row_with}
+use Rattle.open_file.specs.Stands.{Stands, room_of}
+use Rattle.open_file.proofs.ExitLemmas.{fails}
+use Rattle.open_file.proofs.StampedLemmas.{few_stamps}
+use Rattle.file_changes.proofs.LevelLemmas.{heights_few, levels_of_all}
+use Rattle.file_changes.proofs.FoundLemmas.{old_at}
+use Rattle.file_changes.proofs.ChangingLemmas.{causes}
+use Rattle.file_changes.proofs.ReplacedLemmas.{has_none}
+use Rattle.file_changes.proofs.replacing.try_replace.Goals as goal
+
+pub record_in-before-requires-clause-room : goal.record_in-before-requires-clause-room
+record_in-before-requires-clause-room g c =
+    let shaped = c.requires.shaped in
+    omega (arith, few_stamps c.args.opened.now.schema.keys shaped.is_schema.few, shaped.stamps, shaped.greatest, shaped.is_schema.limit, c.find_old.array_long)
+
+pub returns-in_err-old-clause-replaced : goal.returns-in_err-old-clause-replaced
+returns-in_err-old-clause-replaced g c honest sound file stands =
+    fails c.from_residual.result _ c.from_residual.ensures.1 (c.in_err-old.ensures.found honest file stands).no_damage _
+
+pub returns-in_default-clause-replaced : goal.returns-in_default-clause-replaced
+returns-in_default-clause-replaced g c honest sound file stands =
+    let start = c.args.pages.now in
+    let now = c.find_old.new.pages in
+    let none = (rw (c.value-prime.ensures.value, c.in_default.is) at c.in_ok-old.ensures.found honest file stands).answer in
+    record {
+      answer = has_none c.args.opened.now (g.P.Pages.state start).live (g.P.Pages.state now).live (IsTrue (g.P.Pages.state now).is_sound) c.args.bytes.now file stands
+          (g.met.P.Pages.reads_live start now c.find_old.ensures.reads honest) none (g.met.P.Pages.reads_sound start now c.find_old.ensures.reads honest ∙ sound);
+      no_damage = tt;
+    }
+
+or_true : (b : Bool) → (b || true) ≡ true
+or_true true = refl
+or_true false = refl
+
+pub returns-in_default-clause-room : goal.returns-in_default-clause-room
+returns-in_default-clause-room g c honest file stands =
+    let u = c.args.opened.now in
+    let none = (rw (c.value-prime.ensures.value, c.in_default.is) at c.in_ok-old.ensures.found honest file stands).answer in
+    ap (λ row. clashes_with_others u.schema c.args.bytes.now file || not (is_full_at (room_of u (g.P.Pages.state c.args.pages.now).available) u.schema c.args.bytes.now file row)) none
+    ∙ or_true (clashes_with_others u.schema c.args.bytes.now file)
+
+pub returns-clause-replaced : goal.returns-clause-replaced
+returns-clause-replaced g c honest sound file stands =
+    let u = c.args.opened.now in
+    let start = c.args.pages.now in
+    let looked = c.find_old.new.pages in
+    let prime = prime_of u.schema c.args.bytes.now in
+    let row = row_with c.record_in-before.result.now c.in-Some.old.stamps.items in
+    let h1 = g.met.P.Pages.moves_honestly looked c.replace_old.new.pages c.replace_old.ensures.moves honest in
+    let live = g.met.P.Pages.reads_live start looked c.find_old.ensures.reads h1 in
+    let kept = g.met.P.Pages.reads_sound start looked c.find_old.ensures.reads h1 ∙ sound in
+    let is = (rw (c.value-prime.ensures.value, c.in-Some.is) at c.in_ok-old.ensures.found h1 file stands).answer in
+    let at = old_at u.schema stands.slots (prime_entries u.schema stands.places file.rows) file prime c.find_old.new.slot c.record_in-before.result.now c.in-Some.old is c.record_in-before.ensures.bytes in
+    let moved = subst (λ p. (s : Stands u p file) × IsOldAt u.schema s.slots (prime_entries u.schema s.places file.rows) file prime c.in-Some.old.place row) (sym live) (stands, at) in
+    c.replace_old.ensures.replaced honest kept file moved.0 moved.1
+
+pub returns-clause-room : goal.returns-clause-room
+returns-clause-room g c honest file stands =
+    let u = c.args.opened.now in
+    let start = c.args.pages.now in
+    let looked = c.find_old.new.pages in
+    let prime = prime_of u.schema c.args.bytes.now in
+    let h1 = g.met.P.Pages.moves_honestly looked c.replace_old.new.pages c.replace_old.ensures.moves honest in
+    let still = subst (λ p. Stands u p file) (sym (g.met.P.Pages.reads_live start looked c.find_old.ensures.reads h1)) stands in
+    let is = (rw (c.value-prime.ensures.value, c.in-Some.is) at c.in_ok-old.ensures.found h1 file stands).answer in
+    let at = old_at u.schema stands.slots (prime_entries u.schema stands.places file.rows) file prime c.find_old.new.slot c.record_in-before.result.now c.in-Some.old is c.record_in-before.ensures.bytes in
+    rw (g.met.P.Pages.reads_available start looked c.find_old.ensures.reads) at (c.replace_old.ensures.room honest file still at.is_row)
+
+pub returns-clause-full : goal.returns-clause-full
+returns-clause-full g c e =
+    let u = c.args.opened.now in
+    let start = c.args.pages.now in
+    let looked = c.find_old.new.pages in
+    let last = c.replace_old.new.pages in
+    let prime = prime_of u.schema c.args.bytes.now in
+    let full = c.replace_old.ensures.full e in (
+      full.0,
+      g.met.P.Pages.reads_on start looked last c.find_old.ensures.reads full.1,
+      (λ honest file stands.
+          let h1 = g.met.P.Pages.moves_honestly looked last c.replace_old.ensures.moves honest in
+          let still = subst (λ p. Stands u p file) (sym (g.met.P.Pages.reads_live start looked c.find_old.ensures.reads h1)) stands in
+          let is = (rw (c.value-prime.ensures.value, c.in-Some.is) at c.in_ok-old.ensures.found h1 file stands).answer in
+          let at = old_at u.schema stands.slots (prime_entries u.schema stands.places file.rows) file prime c.find_old.new.slot c.record_in-before.result.now c.in-Some.old is c.record_in-before.ensures.bytes in
+          rw (g.met.P.Pages.reads_available start looked c.find_old.ensures.reads) at (full.2 honest file still at.is_row)),
+    )
+
+pub returns-clause-cause : goal.returns-clause-cause
+returns-clause-cause g c =
+    let start = c.args.pages.now in
+    let looked = c.find_old.new.pages in
+    causes c.replace_old.result _ _ _ _ (λ failed. g.met.P.Pages.failed_after start looked c.replace_old.new.pages (g.met.P.Pages.reads_goes start looked c.find_old.ensures.reads) failed) (λ x. x) c.replace_old.ensures.cause
+
+pub returns-clause-moves : goal.returns-clause-moves
+returns-clause-moves g c =
+    let start = c.args.pages.now in
+    let looked = c.find_old.new.pages in
+    g.met.P.Pages.moves_on start looked c.replace_old.new.pages (g.met.P.Pages.goes_moves start looked (g.met.P.Pages.reads_goes start looked c.find_old.ensures.reads)) c.replace_old.ensures.moves
+
+pub returns-clause-asked : goal.returns-clause-asked
+returns-clause-asked g c =
+    let u = c.args.opened.now in
+    omega (arith, c.find_old.ensures.asked, c.replace_old.ensures.asked, heights_few u.prime u.alternates.items, levels_of_all u.prime u.alternates.items)

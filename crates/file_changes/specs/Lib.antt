@@ -1,0 +1,4 @@
+pub mod Adding
+pub mod Old
+pub mod Removing
+pub mod Replacing

@@ -1,0 +1,41 @@
+-- The record of a prime value, as it is before a change.
+use Rattle.std.specs.Prelude.{◌≡◌, ℕ, ◌+◌, ◌≤◌, List, length, drop, find, slice_range, Option, None, Some, option_map}
+use Rattle.record_layout.specs.Schema.{Schema}
+use Rattle.indexed_file.specs.File.{Row, File}
+use Rattle.indexed_file.specs.Change.{row_of}
+use Rattle.key_index.specs.declared.entry.PrimeEntry.{PrimeEntry}
+use Rattle.key_index.specs.declared.alt_index.AltIndex.{AltIndex}
+use Rattle.key_index.specs.Entries.{has_prime}
+use Rattle.record_heap.specs.declared.shape.Shape.{Shape}
+use Rattle.record_heap.specs.declared.shape.Place.{Place}
+use Rattle.record_heap.specs.Chain.{Slots}
+use Rattle.open_file.specs.Stored.{stored, stamps_length}
+use Rattle.file_changes.specs.declared.old_record.OldRecord.{OldRecord}
+
+-- a row of these bytes and stamps
+abbrev pub row_with : List ℕ → List ℕ → Row
+row_with bytes stamps = record { bytes = bytes; stamps = stamps }
+
+-- the row of a prime value lies at this place, to which the prime index leads
+pub record IsOldAt (schema : Schema) (slots : Slots) (primes : List PrimeEntry) (file : File) (prime : List ℕ) (place : Place) (row : Row) : Type 0 where
+  pub is_row : row_of schema prime file ≡ Some row
+  pub leads : option_map (λ (e : PrimeEntry). e.place) (find (has_prime prime) primes) ≡ Some place
+  pub here : slots place ≡ Some (stored schema row)
+
+-- this is that row, whose bytes stand behind its stamps in the slot
+pub record IsOld (schema : Schema) (slots : Slots) (primes : List PrimeEntry) (file : File) (prime slot : List ℕ) (old : OldRecord) : Type 0 where
+  pub row : Row
+  pub at : IsOldAt schema slots primes file prime old.place row
+  pub bytes : slice_range slot (stamps_length (drop 1 schema.keys)) old.end ≡ row.bytes
+  pub stamps : old.stamps.items ≡ row.stamps
+
+-- it was found, where there is one
+abbrev pub HasFound : Schema → Slots → List PrimeEntry → File → List ℕ → List ℕ → Option OldRecord → Type 0
+HasFound schema slots primes file prime slot None = row_of schema prime file ≡ None
+HasFound schema slots primes file prime slot (Some old) = IsOld schema slots primes file prime slot old
+
+-- it is as long as a record, and has a stamp for each alternate key
+pub record IsWithin (shape : Shape) (alternates : List AltIndex) (old : OldRecord) : Type 0 where
+  pub least : shape.stamps + shape.least ≤ old.end
+  pub greatest : old.end ≤ shape.stamps + shape.greatest
+  pub many : length old.stamps.items ≡ length alternates

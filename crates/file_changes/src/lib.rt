@@ -1,0 +1,20 @@
+//! The changes of an indexed file that is open: a record added, replaced or taken out.
+//!
+//! Each call looks first, then tests for room, then opens the gate, and only then changes pages; the file stands for the rows that the definitions
+//! say afterwards. A fault leaves the file broken, but for Full, which leaves it as it was. What reads a file, makes one or writes its header is
+//! not here.
+//!
+//! Read `specs/Adding.antt`, then `adding`.
+#![tactic(auto)]
+
+mod adding;
+mod changed;
+mod old_record;
+mod removing;
+mod replacing;
+mod room;
+mod slot;
+
+pub use adding::add;
+pub use removing::remove;
+pub use replacing::replace;

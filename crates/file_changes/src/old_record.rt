@@ -1,0 +1,88 @@
+//! The record of a prime value, as it is before a change.
+
+ghost use Rattle.std.specs.Prelude.{◌≡◌, ◌+◌, ◌≤◌, length, drop, slice_range, IsTrue, IfOk, IfErr, IfSome};
+ghost use Rattle.indexed_file.specs.File.{File};
+ghost use Rattle.pages.specs.Answer.{IsAnswer};
+ghost use Rattle.pages.specs.Cause.{IsCaused};
+ghost use Rattle.key_index.specs.Standing.{prime_height};
+ghost use Rattle.open_file.specs.InOrder.{prime_entries};
+ghost use Rattle.open_file.specs.Stored.{stamps_length};
+ghost use Rattle.open_file.specs.ReadOff.{stamps_off};
+ghost use Rattle.open_file.specs.Stands.{Stands, IsShaped};
+ghost use Rattle.file_changes.specs.Old.{HasFound, IsWithin};
+
+use arrayvec::ArrayVec;
+use byteorder::{BigEndian, ByteOrder};
+use io_state::Fault;
+use open_file::OpenFile;
+use pages::Pages;
+use record_heap::Place;
+
+/// Where a record is, its stamp in each alternate key (0 in a unique one), and where it ends in its slot. It begins behind the stamps.
+#[derive(Drop)]
+pub struct OldRecord {
+    pub place: Place,
+    pub stamps: ArrayVec<u64, 8>,
+    pub end: usize,
+}
+
+/// The record of a prime value, which is in the front of the slot then, behind its stamps.
+pub(crate) fn find_old<P: Pages>(
+    opened: &OpenFile,
+    pages: &mut P,
+    prime: &[u8],
+    slot: &mut [u8; 4064],
+) -> Result<Option<OldRecord>, Fault>
+    requires ready { P.IsReady pages.old }
+    requires shaped { IsShaped opened.now }
+    ensures found { IsTrue (P.state pages.new).is_honest → (file : File) (stands : Stands opened.now (P.state pages.old).live file)
+        → IsAnswer result (HasFound opened.now.schema stands.slots (prime_entries opened.now.schema stands.places file.rows) file prime.now slot.new) }
+    ensures within { IfOk result (λ found. IfSome found (IsWithin opened.now.heap.shape opened.now.alternates.items)) }
+    ensures cause { IfErr result (IsCaused (P.HasFailed pages.old pages.new) ⊥) }
+    ensures asked { (P.state pages.new).asked ≤ (P.state pages.old).asked + prime_height opened.now.prime + 1 }
+    ensures reads { P.Reads pages.old pages.new }
+{
+    let Some(entry) = opened.prime.find(pages, prime)? else {
+        return Ok(None);
+    };
+    let end = opened.heap.get(pages, entry.place, slot)?;
+    let stamps = stamps_in(opened, slot);
+    Ok(Some(OldRecord {
+        place: entry.place,
+        stamps,
+        end,
+    }))
+}
+
+/// Its bytes, in the slot in which it was found.
+pub(crate) fn record_in<'a>(opened: &OpenFile, old: &OldRecord, slot: &'a [u8]) -> &'a [u8]
+    requires shaped { IsShaped opened.now }
+    requires within { IsWithin opened.now.heap.shape opened.now.alternates.items old.now }
+    requires room { opened.now.heap.shape.stamps + opened.now.heap.shape.greatest ≤ length slot.now }
+    ensures bytes { result.now ≡ slice_range slot.now (stamps_length (drop 1 opened.now.schema.keys)) old.now.end }
+    ensures least { opened.now.schema.least ≤ length result.now }
+    ensures greatest { length result.now ≤ opened.now.schema.greatest }
+{
+    let start = usize::from(opened.heap.shape.stamps);
+    &slot[start..old.end]
+}
+
+/// The stamps in the front of a slot, one for each alternate key, 0 for a unique one.
+fn stamps_in(opened: &OpenFile, slot: &[u8]) -> ArrayVec<u64, 8>
+    requires shaped { IsShaped opened.now }
+    requires room { opened.now.heap.shape.stamps ≤ length slot.now }
+    ensures stamps { result.items ≡ stamps_off (drop 1 opened.now.schema.keys) slot.now }
+    ensures many { length result.items ≡ length opened.now.alternates.items }
+{
+    let mut stamps = ArrayVec::new();
+    let mut at = 0;
+    for k in 1..opened.schema.key_count() {
+        if opened.schema.part(k as u8).duplicates {
+            stamps.push(BigEndian::read_u64(&slot[at..]));
+            at += 8;
+        } else {
+            stamps.push(0);
+        }
+    }
+    stamps
+}

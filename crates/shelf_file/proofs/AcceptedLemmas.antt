@@ -1,0 +1,59 @@
+-- What a closed file whose first page is accepted reads as.
+use Rattle.std.proofs.Common.{◌≡◌, ℕ, ◌*◌, List, length, nat_lt, inl, inr, Option, Some, None, refl, sym, ap, ◌∙◌}
+use Rattle.std.proofs.lemmas.Bool.{cases_Bool}
+use Rattle.indexed_file.specs.File.{File}
+use Rattle.indexed_file.specs.World.{Closed}
+use Rattle.page_store.specs.File.{File as Bytes, content, bytes_or_none}
+use Rattle.page_store.specs.Pages.{page_of}
+use Rattle.file_header.specs.declared.header.Header.{Header}
+use Rattle.file_header.specs.Reading.{header_in}
+use Rattle.file_header.specs.Bounds.{IsHeader}
+use Rattle.file_header.proofs.ReadLemmas.{read_first}
+use Rattle.shelf_file.specs.declared.look.Look.TheVariants.{Refused, Accepted}
+use Rattle.shelf_file.specs.Named.{look_of, look_by, live_in, named_of, named_by, StandsIn}
+use Rattle.shelf_file.specs.ReadOff.{file_by}
+use Rattle.open_file.proofs.ReadOffLemmas.{reads_as}
+use Rattle.shelf_file.proofs.ReadOffLemmas.{reads_by_header}
+
+accepted_by : (bytes : List ℕ) (there : Option Header) (header : Header) → look_by bytes there ≡ Accepted header → there ≡ Some header
+accepted_by bytes None header is = absurd (cc)
+accepted_by bytes (Some other) header is = elim (cases_Bool (nat_lt (length bytes) (4096 * other.pages))) [
+  | inl short ↦ let e : Refused ≡ Accepted header = rw short at is in absurd (cc)
+  | inr long ↦ let e : Accepted other ≡ Accepted header = rw long at is in
+      let same : other ≡ header = cc in
+      ap Some same
+]
+
+-- its first page has this header
+pub accepted_page : (bytes : List ℕ) (header : Header) → look_of (Some bytes) ≡ Accepted header → header_in (page_of bytes 0) ≡ Some header
+accepted_page bytes header is = elim (cases_Bool (nat_lt (length bytes) 4096)) [
+  | inl short ↦ let e : Refused ≡ Accepted header = rw short at is in absurd (cc)
+  | inr long ↦ accepted_by bytes (header_in (page_of bytes 0)) header (rw long at is)
+]
+
+-- which is one that a file may have
+pub accepted_allowed : (bytes : List ℕ) (header : Header) → look_of (Some bytes) ≡ Accepted header → IsHeader header
+accepted_allowed bytes header is = (read_first header (page_of bytes 0) (accepted_page bytes header is)).allowed
+
+-- the file is there
+pub accepted_there : (file : Bytes) (header : Header) → look_of file.seen ≡ Accepted header → file.seen ≡ Some (content file)
+accepted_there file header is = go file.seen is
+  where
+    go : (seen : Option (List ℕ)) → look_of seen ≡ Accepted header → seen ≡ Some (bytes_or_none seen)
+    go None is = absurd (cc)
+    go (Some bytes) is = refl
+
+-- bytes that are accepted read as the rows that they stand for
+pub reads_back : (header : Header) (bytes : List ℕ) (rows : File) → look_of (Some bytes) ≡ Accepted header → StandsIn header bytes rows → file_by header (live_in header bytes) ≡ rows
+reads_back header bytes rows is stands =
+    sym (reads_by_header stands.opened header (live_in header bytes) (accepted_allowed bytes header is) stands.by_header)
+    ∙ reads_as stands.opened (live_in header bytes) rows stands.stands
+
+pub named_by_header : (bytes : List ℕ) (header : Header) → look_of (Some bytes) ≡ Accepted header → named_of (Some bytes) ≡ Closed header.schema (file_by header (live_in header bytes))
+named_by_header bytes header is = ap (named_by bytes) is
+
+-- what the name of a file that was accepted stands for
+pub accepted_named : (file : Bytes) (header : Header) → look_of file.seen ≡ Accepted header → named_of file.seen ≡ Closed header.schema (file_by header (live_in header (content file)))
+accepted_named file header is =
+    let there = accepted_there file header is in
+    ap named_of there ∙ named_by_header (content file) header (ap look_of (sym there) ∙ is)
