@@ -1,13 +1,17 @@
 //! A deck, read whole.
-ghost use Rattle.std.specs.Prelude.{◌≡◌, ◌≢◌, ℕ, List, IfOk, IfErr};
+ghost use Rattle.std.specs.Prelude.{◌≡◌, ◌≢◌, [], ℕ, List, IfOk, IfErr};
 ghost use Rattle.deck_words.specs.Fault.{IsTold};
 ghost use Rattle.deck_words.specs.Word.{Word};
+ghost use Rattle.procedure_division.specs.declared.statement.Statement.{Statement};
+ghost use Rattle.procedure_division.specs.Names.{names_of};
+ghost use Rattle.procedure_division.specs.Procedure.{procedure};
 ghost use Rattle.deck_reader.specs.declared.deck.Deck.{Deck};
 ghost use Rattle.deck_reader.specs.Deck.{Spells, IsDeck, CanBeRun};
 
+use deck_words::Refusal;
 use file_control::{
-    DeckFault, Description, FileList, ItemList, Word, are_described, one_description, one_reading,
-    read_description, words,
+    DeckFault, Description, FileDesc, FileList, ItemList, LengthItem, Word, are_described,
+    one_description, one_reading, read_description, words,
 };
 use procedure_division::{Names, StatementList, one_procedure, only_allowed, procedure};
 use std::alloc::Global;
@@ -19,6 +23,22 @@ pub struct Deck {
     pub files: FileList,
     pub items: ItemList,
     pub statements: StatementList,
+}
+
+/// The statements that the words spell, with the names of these files and items.
+fn statements_of(
+    alloc: Global,
+    files: &[FileDesc],
+    items: &[LengthItem],
+    words: &[Word],
+) -> Result<StatementList, DeckFault>
+    ensures statements { IfOk result (λ list. (procedure (names_of files.now items.now)).Spells list words.now []) }
+    ensures none { IfErr result (λ fault. fault.code ≢ 8 → (statements : List Statement) →
+        (procedure (names_of files.now items.now)).Spells statements words.now [] → ⊥) }
+    ensures told { IfErr result IsTold }
+{
+    let names = Names::new(alloc, files, items).map_err(Refusal::from)?;
+    procedure(alloc, &names, words)
 }
 
 /// The deck that the words spell.
@@ -34,9 +54,8 @@ fn read(alloc: Global, words: &[Word]) -> Result<Deck, DeckFault>
         items,
         words: count,
     } = description;
-    let names = Names::new(files.as_slice(), items.as_slice());
     let (_, rest) = words.split_at(count);
-    let statements = procedure(alloc, &names, rest)?;
+    let statements = statements_of(alloc, files.as_slice(), items.as_slice(), rest)?;
     Ok(Deck {
         files,
         items,

@@ -1,3 +1,4 @@
+pub mod InOrderLemmas
 pub mod NameLemmas
 pub mod LengthItemLemmas
 pub mod LayoutLemmas
@@ -9,3 +10,4 @@ pub mod FileNameLemmas
 pub mod PlaceLemmas
 pub mod DigitsLemmas
 pub mod DescribedLemmas
+pub mod FieldPlaceLemmas

@@ -1,4 +1,6 @@
 pub mod Description
+pub mod InOrder
+pub mod FieldPlaces
 pub mod Checks
 pub mod Whole
 pub mod Described

@@ -7,19 +7,21 @@ ghost use Rattle.record_layout.specs.declared.fault.LayoutFault.{LayoutFault};
 ghost use Rattle.deck_words.specs.Fault.{IsFault};
 ghost use Rattle.file_control.specs.Description.{FileDesc as File, record_name, least_length, DependsOn, IsFile, are_new};
 ghost use Rattle.file_control.specs.Checks.{are_keys_named};
+ghost use Rattle.file_control.specs.FieldPlaces.{AreFields};
 
 use crate::data_names::{DataNames, are_new};
+use crate::field_places::{FieldPlaces, fields_by_name};
 use crate::keys::are_keys_named;
 use crate::length_item::length_item;
 use deck_entries::{Described, FileControlEntry, RecordLength, Selected, StorageItem};
 use deck_words::{Cause, Refusal};
 use io_state::{Access, FileName, Name};
-use record_layout::{Item, Layout, LayoutFault, Schema, one_outcome};
-use std::alloc::Global;
+use record_layout::{Field, Item, Layout, LayoutFault, Schema, one_outcome};
+use std::alloc::{AllocError, Global};
 use std::marker::Model;
 
 /// A file of a deck: its name in the program, the name of its file in the folder, the name of its record, the places of the
-/// items, the keys, and the place among the 77-level items of the one that a record's length depends on.
+/// items, the same by their names, the keys, and the place among the 77-level items of the one that a record's length depends on.
 #[derive(Drop)]
 pub struct FileDesc {
     pub name: Name,
@@ -28,6 +30,7 @@ pub struct FileDesc {
     pub optional: bool,
     pub entry: Option<Name>,
     pub layout: Layout,
+    pub fields: FieldPlaces,
     pub schema: Schema,
     pub depends_on: Option<usize>,
 }
@@ -35,10 +38,25 @@ pub struct FileDesc {
 impl Model for FileDesc {
     ghost use Rattle.std.specs.Prelude.{option_map};
     ghost use Rattle.file_control.specs.Description.{FileDesc as File};
+    ghost use Rattle.file_control.specs.FieldPlaces.{AreFields};
 
     ghost Value = { File };
 
     ghost view = { λ f. record { name = f.name.bytes; file = f.file.bytes; access = f.access; optional = f.optional; entry = option_map (λ name. name.bytes) f.entry; layout = f.layout; schema = f.schema; depends_on = f.depends_on } };
+
+    ghost invariant = { λ f. AreFields f.fields f.layout };
+}
+
+impl FileDesc {
+    ghost use Rattle.std.specs.Prelude.{◌≡◌};
+    ghost use Rattle.record_layout.specs.Layout.{field_of};
+
+    /// The item of a name in its record.
+    pub fn field(&self, name: &Name) -> Option<Field>
+        ensures { result ≡ field_of self.now.layout name.now.bytes }
+    {
+        self.fields.get(name).copied()
+    }
 }
 
 /// Looks at the keys of an entry: each is an item.
@@ -81,6 +99,18 @@ fn described_layout(alloc: Global, described: &Described) -> Result<Layout, Refu
     layout_of(alloc, described.line, described.items())
 }
 
+/// The places of the items by their names.
+fn fields_of(
+    alloc: Global,
+    described: &Described,
+    layout: &Layout,
+) -> Result<FieldPlaces, AllocError>
+    requires laid { IsLayout described.now.items layout.now }
+    ensures fields { IfOk result (λ fields. AreFields fields layout.now) }
+{
+    fields_by_name(alloc, layout, described.items())
+}
+
 fn least_of(described: &Described, layout: &Layout) -> Option<u16>
     ensures least { result ≡ least_length described.now.lengths (length_of layout.now) }
     ensures some { 1 ≤ length_of layout.now }
@@ -88,7 +118,7 @@ fn least_of(described: &Described, layout: &Layout) -> Option<u16>
     least_length(&described.lengths, layout.length())
 }
 
-fn are_names_new(names: &DataNames, described: &Described) -> bool
+fn are_names_new(names: &DataNames<'_>, described: &Described) -> bool
     ensures { result ≡ are_new names.now described.now.items }
 {
     are_new(names, described.items())
@@ -193,9 +223,11 @@ fn file_of(
     entry: &FileControlEntry,
     items: &[Item],
     layout: Layout,
+    fields: FieldPlaces,
     schema: Schema,
     depends_on: Option<usize>,
 ) -> FileDesc
+    requires { AreFields fields layout }
     ensures { result ≡ record {
       name = entry.now.name;
       file = entry.now.file_name;
@@ -214,6 +246,7 @@ fn file_of(
         optional: entry.optional,
         entry: record_name(items),
         layout,
+        fields,
         schema,
         depends_on,
     }
@@ -239,9 +272,11 @@ fn whole_file(
     selected: &Selected,
     described: &Described,
     layout: Layout,
+    fields: FieldPlaces,
     schema: Schema,
     depends_on: Option<usize>,
 ) -> FileDesc
+    requires { AreFields fields layout }
     ensures { result ≡ record {
       name = selected.now.name;
       file = selected.now.file_name;
@@ -257,6 +292,7 @@ fn whole_file(
         &selected.entry,
         described.items(),
         layout,
+        fields,
         schema,
         depends_on,
     )
@@ -270,7 +306,7 @@ pub fn file(
     selected: &Selected,
     described: &Described,
     storage: &[StorageItem],
-    names: &DataNames,
+    names: &DataNames<'_>,
 ) -> Result<FileDesc, Refusal>
     ensures file { IfOk result (IsFile names.now storage.now selected.now described.now) }
     ensures none { IfErr result (λ refusal. IsFault refusal →
@@ -289,5 +325,6 @@ pub fn file(
         Err(cause) => return Err(Refusal::Fault(described.line, cause)),
     };
     let schema = selected_schema(alloc, selected, &layout, least)?;
-    Ok(whole_file(selected, described, layout, schema, place))
+    let fields = fields_of(alloc, described, &layout)?;
+    Ok(whole_file(selected, described, layout, fields, schema, place))
 }

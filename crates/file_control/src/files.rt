@@ -126,12 +126,12 @@ fn described_as<'a>(descriptions: &'a [Described], name: &[u8]) -> Option<&'a De
 }
 
 /// The files of entries, in their order, whose data names are added to the ones before.
-pub fn files_of(
+pub fn files_of<'a>(
     alloc: Global,
     entries: &[Selected],
-    descriptions: &[Described],
+    descriptions: &'a [Described],
     storage: &[StorageItem],
-    names: &mut DataNames,
+    names: &mut DataNames<'a>,
 ) -> Result<FileList, Refusal>
     ensures files { IfOk result (λ files. AreFiles descriptions.now storage.now names.old entries.now files names.new) }
     ensures none { IfErr result (λ refusal. IsFault refusal → (files : List File) (after : List (List ℕ)) →
@@ -152,10 +152,10 @@ pub fn files_of(
 }
 
 /// The 77-level items, whose names are new behind these.
-pub fn items_of(
+pub fn items_of<'a>(
     alloc: Global,
-    storage: &[StorageItem],
-    names: &mut DataNames,
+    storage: &'a [StorageItem],
+    names: &mut DataNames<'a>,
 ) -> Result<ItemList, Refusal>
     ensures items { IfOk result (AreItems names.old storage.now) }
     ensures none { IfErr result (λ refusal. IsFault refusal → (items : List Digits) → AreItems names.old storage.now items → ⊥) }
@@ -163,13 +163,13 @@ pub fn items_of(
     let mut items = ItemList::new(alloc);
     let mut rest = storage;
     'more: while let Some((item, after)) = rest.split_first() {
-        if names.has(item.name_bytes()) {
+        if names.has(item.name.as_str()) {
             return Err(Refusal::Fault(item.line, Cause::Twice));
         }
         let Some(digits) = digits_of_item(item) else {
             return Err(Refusal::Fault(item.line, Cause::Layout));
         };
-        names.push(item.name)?;
+        names.push(&item.name)?;
         items.push(LengthItem {
             name: item.name,
             digits,

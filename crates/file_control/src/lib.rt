@@ -10,6 +10,7 @@
 
 mod data_names;
 mod description;
+mod field_places;
 mod file;
 mod files;
 mod keys;
@@ -17,5 +18,6 @@ mod length_item;
 
 pub use deck_words::{DECK_LIMIT, DeckFault, Word, one_reading, words};
 pub use description::{Description, are_described, one_description, read_description};
+pub use field_places::{FieldPlaces, fields_by_name};
 pub use file::FileDesc;
 pub use files::{FileList, ItemList, LengthItem};

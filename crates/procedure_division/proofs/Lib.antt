@@ -1,3 +1,4 @@
+pub mod PlaceLemmas
 pub mod FollowLemmas
 pub mod ProcedureLemmas
 pub mod JoinLemmas

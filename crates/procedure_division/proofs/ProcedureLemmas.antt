@@ -13,7 +13,7 @@ use Rattle.deck_words.specs.Word.{Word}
 use Rattle.deck_words.specs.Rule.{many}
 use Rattle.deck_words.specs.Notation.{the, name, literal, period}
 use Rattle.deck_words.specs.Operand.{sign, digits}
-use Rattle.deck_words.proofs.ClassLemmas.{begins-append}
+use Rattle.deck_words.proofs.ClassLemmas.{begins-append, begins_apart}
 use Rattle.deck_words.proofs.RuleLemmas.{Lawful, lawful_turn, lawful_optional, lawful_either, lawful_as}
 use Rattle.deck_words.proofs.RepeatLemmas.{lawful_onto, lawful_some}
 use Rattle.deck_words.proofs.NotationLemmas.{lawful_the, lawful_name, lawful_literal, lawful_period}
@@ -289,3 +289,8 @@ paragraph_starts words = refl
 pub sentences_start : (names : Names) (words : List Word) → begins (paragraph_or_sentence names).starts words ≡ (begins (class.names ∷ []) words || begins (statement names).starts words)
 unfolding paragraph_or_sentence paragraph sentence name
 sentences_start names words = begins-append (class.names ∷ []) (statement names).starts words
+
+-- a word that begins a statement is no name
+pub no_name_begins : (known : Names) (words : List Word) → begins (statement known).starts words ≡ true → begins (class.names ∷ []) words ≡ false
+unfolding statement open_statement close_statement read_statement start_statement write_statement rewrite_statement delete_statement move_statement stop_statement the is_reserved
+no_name_begins known words e = begins_apart (statement known).starts (class.names ∷ []) words refl e

@@ -1,4 +1,5 @@
 pub mod Names
+pub mod Places
 pub mod Following
 pub mod StatementRules
 pub mod Procedure

@@ -100,7 +100,7 @@ fn receiver(
 {
     let unknown = parser.fault(Cause::Unknown);
     let not_allowed = parser.fault(Cause::NotAllowed);
-    let name = parser.name()?.as_str();
+    let name = parser.name()?;
     if let Some((file, field)) = names.item(name) {
         if !takes(field, source) {
             return Err(not_allowed);
@@ -112,7 +112,7 @@ fn receiver(
             source,
         })?);
     }
-    let Some(item) = names.length_item(name) else {
+    let Some(item) = names.length_item(name.as_str()) else {
         return Err(unknown);
     };
     if !is_numeric(source) {

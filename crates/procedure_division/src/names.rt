@@ -1,30 +1,39 @@
 //! What the procedure knows of the deck's descriptions.
-ghost use Rattle.std.specs.Prelude.{◌≡◌, is_some};
+ghost use Rattle.std.specs.Prelude.{◌≡◌, ℕ, List, is_some, Some, None, if◌then◌else◌, OnOk, IfOk};
 ghost use Rattle.record_layout.specs.Layout.{is_named, field_of};
 ghost use Rattle.record_layout.specs.Schema.{key_at};
 ghost use Rattle.procedure_division.specs.Names.{names_of, file_of, record_of};
 ghost use Rattle.procedure_division.specs.Names.{item_in, holder_of, item_of};
 ghost use Rattle.procedure_division.specs.Names.{length_item_of, access_at, prime_length, key_of, led_key_of};
-ghost use Rattle.std.specs.Prelude.{position, bytes_eq};
+ghost use Rattle.std.specs.Option.{option_or};
+ghost use Rattle.procedure_division.specs.Places.{place_at, ArePlaces};
+ghost use Rattle.std.specs.Prelude.{bytes_eq};
 
 use file_control::{FileDesc, LengthItem};
-use io_state::Access;
+use io_state::{Access, Name};
 use record_layout::Field;
+use std::alloc::{AllocError, Global};
+use std::collections::BTreeMap;
 use std::marker::Model;
 
-/// The files of a deck in the order of their SELECT entries, and its 77-level items in the order of their entries.
+/// The files of a deck in the order of their SELECT entries, and its 77-level items in the order of their entries. The names of the
+/// 77-level items are kept in their order too, so that one is found by a search.
 #[derive(Drop)]
 pub struct Names<'a> {
     files: &'a [FileDesc],
     items: &'a [LengthItem],
+    item_places: BTreeMap<&'a str, usize>,
 }
 
 impl<'a> Model for Names<'a> {
     ghost use Rattle.procedure_division.specs.Names.{Names as Known, names_of};
+    ghost use Rattle.procedure_division.specs.Places.{ArePlaces};
 
     ghost Value = { Known };
 
     ghost view = { λ n. names_of n.files.now n.items.now };
+
+    ghost invariant = { λ n. ArePlaces n.item_places n.items.now };
 }
 
 fn is_named(file: &FileDesc, name: &str) -> bool
@@ -42,10 +51,10 @@ fn has_record(file: &FileDesc, name: &str) -> bool
     }
 }
 
-fn has_item(file: &FileDesc, name: &str) -> bool
-    ensures { result ≡ is_some (field_of file.now.layout name.now) }
+fn has_item(file: &FileDesc, name: &Name) -> bool
+    ensures { result ≡ is_some (field_of file.now.layout name.now.bytes) }
 {
-    file.layout.field(name).is_some()
+    file.field(name).is_some()
 }
 
 fn prime_length_of(file: &FileDesc) -> u16
@@ -57,17 +66,51 @@ fn prime_length_of(file: &FileDesc) -> u16
     }
 }
 
-fn is_length_item(item: &LengthItem, name: &str) -> bool
-    ensures { result ≡ bytes_eq item.now.name name.now }
+/// Adds the place of a name, unless the name has one.
+fn add_place<'a>(
+    places: &mut BTreeMap<&'a str, usize>,
+    name: &'a str,
+    place: usize,
+) -> Result<(), AllocError>
+    ensures { OnOk result ((other : List ℕ) →
+        place_at places.new other ≡ option_or (place_at places.old other) (if bytes_eq name.now other then Some place else None)) }
 {
-    item.name.as_str() == name
+    if places.contains_key(name) {
+        return Ok(());
+    }
+    places.insert(name, place)?;
+    Ok(())
+}
+
+/// The place of the first item of each name.
+fn places_of<'a>(
+    alloc: Global,
+    items: &'a [LengthItem],
+) -> Result<BTreeMap<&'a str, usize>, AllocError>
+    ensures { IfOk result (λ places. ArePlaces places items.now) }
+{
+    let mut places = BTreeMap::new(alloc);
+    for (place, item) in items.iter().enumerate() {
+        add_place(&mut places, item.name.as_str(), place)?;
+    }
+    Ok(places)
 }
 
 impl<'a> Names<'a> {
-    pub fn new(files: &'a [FileDesc], items: &'a [LengthItem]) -> Self
-        ensures { result ≡ names_of files.now items.now }
+    /// The names of these files and items. Memory is wanted for the places of the items.
+    pub fn new(
+        alloc: Global,
+        files: &'a [FileDesc],
+        items: &'a [LengthItem],
+    ) -> Result<Self, AllocError>
+        ensures { IfOk result (λ names. names ≡ names_of files.now items.now) }
     {
-        Names { files, items }
+        let item_places = places_of(alloc, items)?;
+        Ok(Names {
+            files,
+            items,
+            item_places,
+        })
     }
 
     /// The file of a name.
@@ -85,22 +128,22 @@ impl<'a> Names<'a> {
     }
 
     /// The item of a name in the record of a file.
-    pub fn item_in(&self, file: usize, name: &str) -> Option<Field>
-        ensures { result ≡ item_in self.now file name.now }
+    pub fn item_in(&self, file: usize, name: &Name) -> Option<Field>
+        ensures { result ≡ item_in self.now file name.now.bytes }
     {
-        self.files.get(file)?.layout.field(name)
+        self.files.get(file)?.field(name)
     }
 
     /// The file whose record has an item of this name.
-    fn holder(&self, name: &str) -> Option<usize>
-        ensures { result ≡ holder_of self.now name.now }
+    fn holder(&self, name: &Name) -> Option<usize>
+        ensures { result ≡ holder_of self.now name.now.bytes }
     {
         self.files.iter().position(|file| has_item(file, name))
     }
 
     /// The item of a name in the record of any file, and the file.
-    pub fn item(&self, name: &str) -> Option<(usize, Field)>
-        ensures { result ≡ item_of self.now name.now }
+    pub fn item(&self, name: &Name) -> Option<(usize, Field)>
+        ensures { result ≡ item_of self.now name.now.bytes }
     {
         let file = self.holder(name)?;
         let field = self.item_in(file, name)?;
@@ -111,9 +154,7 @@ impl<'a> Names<'a> {
     pub fn length_item(&self, name: &str) -> Option<usize>
         ensures { result ≡ length_item_of self.now name.now }
     {
-        self.items
-            .iter()
-            .position(|item| is_length_item(item, name))
+        self.item_places.get(name).copied()
     }
 
     /// The access mode of a file.

@@ -1,6 +1,6 @@
 //! Statements, sentences and paragraphs.
-ghost use Rattle.std.specs.Prelude.{◌≡◌, []};
-ghost use Rattle.deck_words.specs.Class.{begins};
+ghost use Rattle.std.specs.Prelude.{◌≡◌, [], ◌∷◌};
+ghost use Rattle.deck_words.specs.Class.{begins, names};
 ghost use Rattle.deck_words.specs.Reading.{Reads};
 ghost use Rattle.deck_words.specs.Scanning.{map_result};
 ghost use Rattle.procedure_division.specs.Names.{Names};
@@ -117,6 +117,13 @@ fn paragraph(parser: &mut Parser<'_>) -> Result<(), Refusal>
     Ok(())
 }
 
+/// Whether a paragraph's name is next. No word that begins a statement is a name, and to see one takes less.
+fn sees_paragraph(parser: &Parser<'_>) -> bool
+    ensures { result ≡ begins (names ∷ []) parser.now }
+{
+    !sees_statement(parser) && parser.sees_name()
+}
+
 #[tactic(auto, unfolding(crate::specs::Procedure::paragraph_or_sentence), using(crate::proofs::ProcedureLemmas::paragraph_starts, crate::proofs::JoinLemmas::nothing_behind))]
 pub fn paragraph_or_sentence(
     alloc: Global,
@@ -126,7 +133,7 @@ pub fn paragraph_or_sentence(
 ) -> Result<StatementList, Refusal>
     ensures { Adds (paragraph_or_sentence names.now) statements parser.old result parser.new }
 {
-    if parser.sees_name() {
+    if sees_paragraph(parser) {
         paragraph(parser)?;
         return Ok(statements);
     }
@@ -138,5 +145,5 @@ pub fn paragraph_or_sentence(
 pub fn sees_sentence(parser: &Parser<'_>) -> bool
     ensures { (known : Names) → result ≡ begins (paragraph_or_sentence known).starts parser.now }
 {
-    parser.sees_name() || sees_statement(parser)
+    sees_statement(parser) || parser.sees_name()
 }

@@ -35,7 +35,7 @@ fn led_key(parser: &mut Parser<'_>, names: &Names<'_>, file: usize) -> Result<(u
 {
     let unknown = parser.fault(Cause::Unknown);
     let not_allowed = parser.fault(Cause::NotAllowed);
-    let name = parser.name()?.as_str();
+    let name = parser.name()?;
     let Some(field) = names.item_in(file, name) else {
         return Err(unknown);
     };

@@ -6,6 +6,7 @@ use io_state::{Access, FileStatement, OpenMode};
 use procedure_division::Statement;
 use record_layout::{Field, Figure, Source};
 use std::alloc::Global;
+use std::fmt::Write;
 use std::test::Fail;
 
 /// Two files, the description of the second first, and two 77-level items.
@@ -214,6 +215,89 @@ fn a_deck_ends_with_its_procedure(rt: HostRuntime) -> Result<(), Fail> {
     ] {
         let fault = deck_of(rt.alloc(), description, procedure)?.err();
         assert_eq!(rt; fault, Some(DeckFault { line, code }), "{procedure:?}");
+    }
+    Ok(())
+}
+
+/// How many items a record of many items has, and how many 77-level items stand behind it.
+const MANY: usize = 200;
+
+/// A file whose record has many items, and as many 77-level items, each on a line of its own from the second and the 203rd on. Their
+/// names have 30 characters, and differ in the last five of them.
+fn many_items(alloc: Global) -> Result<String, Fail> {
+    let mut deck = String::new(alloc);
+    deck.push_str("ENVIRONMENT DIVISION. INPUT-OUTPUT SECTION. FILE-CONTROL. ")?;
+    deck.push_str("SELECT CUST ASSIGN 'cust.dat' INDEXED RECORD CUST-ID. ")?;
+    deck.push_str("DATA DIVISION. FILE SECTION. FD CUST. 01 CUST-REC. 05 CUST-ID PIC 9.")?;
+    for n in 0..MANY {
+        write!(deck, "\n05 A-NAME-OF-THIRTY-LETTERS-R{n:04} PIC 9.")?;
+    }
+    deck.push_str("\nWORKING-STORAGE SECTION.")?;
+    for n in 0..MANY {
+        write!(deck, "\n77 A-NAME-OF-THIRTY-LETTERS-L{n:04} PIC 9.")?;
+    }
+    Ok(deck)
+}
+
+/// Whether the statement moves to the item of the record that stands behind so many digits.
+fn moves_to_digit(statement: &Statement, place: u16) -> bool {
+    match statement {
+        Statement::Move { file, field, .. } => *file == 0 && field.offset == place,
+        _ => false,
+    }
+}
+
+#[test]
+fn a_name_is_found_among_many(rt: HostRuntime) -> Result<(), Fail> {
+    let mut deck = many_items(rt.alloc())?;
+    deck.push_str("\nPROCEDURE DIVISION. MOVE 1 TO CUST-ID")?;
+    for name in [
+        "R0000", "R0001", "R0099", "R0199", "L0000", "L0099", "L0199",
+    ] {
+        write!(deck, " A-NAME-OF-THIRTY-LETTERS-{name}")?;
+    }
+    deck.push_str(".")?;
+    let deck = read_deck(rt.alloc(), deck.as_bytes())?;
+    let statements = deck.statements.as_slice();
+    assert_eq!(rt; statements.len(), 8);
+    for (statement, place) in statements.iter().zip([0, 1, 2, 100, 200]) {
+        assert!(rt; moves_to_digit(statement, place), "{place}");
+    }
+    for (statement, place) in statements.iter().skip(5).zip([0, 99, 199]) {
+        assert!(rt; is_length(statement, place, b"1"), "{place}");
+    }
+    Ok(())
+}
+
+#[test]
+fn a_name_of_many_is_not_taken_again(rt: HostRuntime) -> Result<(), Fail> {
+    for (name, fault) in [
+        ("R0000", Some(DeckFault { line: 403, code: 4 })),
+        ("R0199", Some(DeckFault { line: 403, code: 4 })),
+        ("L0000", Some(DeckFault { line: 403, code: 4 })),
+        ("L0100", Some(DeckFault { line: 403, code: 4 })),
+        ("L0199", Some(DeckFault { line: 403, code: 4 })),
+        ("L0200", None),
+        ("R0200", None),
+    ] {
+        let mut deck = many_items(rt.alloc())?;
+        write!(deck, "\n77 A-NAME-OF-THIRTY-LETTERS-{name} PIC 9.")?;
+        deck.push_str("\nPROCEDURE DIVISION. MOVE 1 TO")?;
+        write!(deck, " A-NAME-OF-THIRTY-LETTERS-{name}.")?;
+        let found = read_deck(rt.alloc(), deck.as_bytes()).err();
+        assert_eq!(rt; found, fault, "{name}");
+    }
+    Ok(())
+}
+
+#[test]
+fn a_name_that_none_of_many_has_is_unknown(rt: HostRuntime) -> Result<(), Fail> {
+    for name in ["R0200", "L0200", "R", "L000", "S0000"] {
+        let mut deck = many_items(rt.alloc())?;
+        deck.push_str("\nPROCEDURE DIVISION.\nMOVE 1 TO CUST-ID")?;
+        write!(deck, "\nA-NAME-OF-THIRTY-LETTERS-{name}.")?;
+        let fault = read_deck(rt.alloc(), deck.as_bytes()).err();
+        assert_eq!(rt; fault, Some(DeckFault { line: 405, code: 3 }), "{name}");
     }
     Ok(())
 }

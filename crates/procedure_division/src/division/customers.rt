@@ -1,16 +1,23 @@
 //! The files and the length item of the tests' procedures.
+ghost use Rattle.std.specs.Prelude.{IfOk};
+ghost use Rattle.file_control.specs.FieldPlaces.{AreFields};
 
 use super::procedure;
 use crate::names::Names;
 use crate::statement_list::StatementList;
 use deck_words::{DeckFault, words};
-use file_control::{FileDesc, LengthItem};
+use file_control::{FieldPlaces, FileDesc, LengthItem, fields_by_name};
 use io_state::{Access, FileName, Name};
 use record_layout::{Item, Layout, Schema};
-use std::alloc::Global;
+use std::alloc::{AllocError, Global};
 use std::test::Fail;
 
-fn layout(alloc: Global, rows: &[(u8, &'static str, &'static str)]) -> Result<Layout, Fail> {
+fn laid_out(
+    alloc: Global,
+    rows: &[(u8, &'static str, &'static str)],
+) -> Result<(Layout, FieldPlaces), Fail>
+    ensures { IfOk result (λ laid. AreFields laid.1 laid.0) }
+{
     let mut items = Vec::new(alloc);
     for (level, name, picture) in rows {
         let picture = if picture.is_empty() {
@@ -24,7 +31,9 @@ fn layout(alloc: Global, rows: &[(u8, &'static str, &'static str)]) -> Result<La
             picture,
         })?;
     }
-    Ok(Layout::build(alloc, &items)?)
+    let layout = Layout::build(alloc, &items)?;
+    let fields = fields_by_name(alloc, &layout, &items)?;
+    Ok((layout, fields))
 }
 
 /// The files and the length items that a procedure names.
@@ -35,13 +44,13 @@ pub struct Described {
 }
 
 impl Described {
-    pub fn names(&self) -> Names<'_> {
-        Names::new(self.files.as_slice(), self.items.as_slice())
+    pub fn names(&self, alloc: Global) -> Result<Names<'_>, AllocError> {
+        Names::new(alloc, self.files.as_slice(), self.items.as_slice())
     }
 }
 
 fn customers(alloc: Global, access: Access) -> Result<FileDesc, Fail> {
-    let layout = layout(
+    let (layout, fields) = laid_out(
         alloc,
         &[
             (1, "CUST-REC", ""),
@@ -64,13 +73,14 @@ fn customers(alloc: Global, access: Access) -> Result<FileDesc, Fail> {
         optional: false,
         entry: Some(Name::from("CUST-REC")?),
         layout,
+        fields,
         schema,
         depends_on: Some(0),
     })
 }
 
 fn parts(alloc: Global) -> Result<FileDesc, Fail> {
-    let layout = layout(
+    let (layout, fields) = laid_out(
         alloc,
         &[
             (1, "PART-REC", ""),
@@ -86,6 +96,7 @@ fn parts(alloc: Global) -> Result<FileDesc, Fail> {
         optional: false,
         entry: Some(Name::from("PART-REC")?),
         layout,
+        fields,
         schema,
         depends_on: None,
     })
@@ -115,5 +126,6 @@ pub fn read(
     deck.push_str(heading)?;
     deck.push_str(text)?;
     let words = words(alloc, deck.as_bytes())?;
-    Ok(procedure(alloc, &described.names(), words.as_slice()))
+    let names = described.names(alloc)?;
+    Ok(procedure(alloc, &names, words.as_slice()))
 }

@@ -12,7 +12,7 @@ returns-in_default-digits_of_item-clause-none c = λ f items h.
 pub more-preserved : goal.more-preserved
 more-preserved c =
     let name_is = ap (λ (e : StorageEntry). e.name) c.item.view_is in
-    let new : has_name c.more.names c.in-Some.item.now.name ≡ false = sym (ap (has_name c.more.names) c.name_bytes.ensures) ∙ (sym c.has.ensures ∙ c.if-has.false) in
+    let new : has_name c.more.names c.in-Some.item.now.name ≡ false = sym (ap (has_name c.more.names) (c.as_str.ensures.value ∙ name_is)) ∙ (sym c.has.ensures ∙ c.if-has.false) in
     let item : LengthItem = record { name = c.item.inside.name.bytes; digits = c.in-Some-digits_of_item.digits } in
     let next = step_item c.args.names.now c.args.storage.now c.more.names c.in-Some.item.now c.more.rest.now c.in-Some.after.now c.more.items item c.more.invariant c.in-Some.ensures.cases.0 new name_is c.in-Some-digits_of_item.ensures.some in
     let names_are = c.in_ok-push.ensures ∙ ap (λ (n : List ℕ). c.more.names ++ n ∷ []) name_is in

@@ -1,10 +1,24 @@
-use Rattle.std.proofs.Common.{◌||◌, ◌∙◌, sym, ap}
-use Rattle.deck_words.specs.Class.{begins}
-use Rattle.procedure_division.specs.Procedure.{statement}
+use Rattle.std.proofs.Common.{◌≡◌, ◌||◌, ◌∙◌, sym, ap, [], ◌∷◌, Bool, true, false, refl}
+use Rattle.deck_words.specs.Class.{begins, names}
 use Rattle.procedure_division.proofs.ProcedureLemmas.{sentences_start}
 use Rattle.procedure_division.proofs.sentence.sees_sentence.Goals as goal
 
-pub returns-else-sees_name : goal.returns-else-sees_name
-returns-else-sees_name c = λ known.
-    c.sees_statement.ensures known
-    ∙ sym (sentences_start known c.args.parser.now ∙ ap (λ v. v || begins (statement known).starts c.args.parser.now) (sym c.sees_name.ensures ∙ c.if-sees_name.false))
+or_true : (b : Bool) → (b || true) ≡ true
+or_true true = refl
+or_true false = refl
+
+or_false : (b : Bool) → (b || false) ≡ b
+or_false true = refl
+or_false false = refl
+
+pub returns-then-sees_statement : goal.returns-then-sees_statement
+returns-then-sees_statement c = λ known.
+    let named = begins (names ∷ []) c.args.parser.now in
+    c.if-sees_statement.true
+    ∙ sym (sentences_start known c.args.parser.now ∙ ap (λ v. named || v) (sym (c.sees_statement.ensures known) ∙ c.if-sees_statement.true) ∙ or_true named)
+
+pub returns-else-sees_statement : goal.returns-else-sees_statement
+returns-else-sees_statement c = λ known.
+    let named = begins (names ∷ []) c.args.parser.now in
+    c.sees_name.ensures
+    ∙ sym (sentences_start known c.args.parser.now ∙ ap (λ v. named || v) (sym (c.sees_statement.ensures known) ∙ c.if-sees_statement.false) ∙ or_false named)
