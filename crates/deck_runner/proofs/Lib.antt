@@ -26,3 +26,4 @@ pub mod LengthCases
 pub mod FalseFileLaws
 pub mod FalseFileRuns
 pub mod LedgerCases
+pub mod LineLemmas

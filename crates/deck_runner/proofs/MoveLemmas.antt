@@ -13,7 +13,7 @@ use Rattle.deck_runner.specs.Running.{Running, schema_of, run_file, run_files, r
 use Rattle.deck_runner.specs.State.{state, IsSafeIn, GoesOn}
 use Rattle.deck_runner.specs.Stretches.{Point, IsStretch, HasCauses, name_by, trace_by}
 use Rattle.indexed_file.specs.Images.{untouched, ImagesGo}
-use Rattle.indexed_file.specs.ImageLaws.{goes_none}
+use Rattle.indexed_file.proofs.ImageLemmas.{goes_none}
 use Rattle.indexed_file.specs.Shown.{Shown}
 use Rattle.procedure_division.specs.declared.statement.Statement.{Statement}
 use Rattle.deck_runner.specs.Line.{Line}

@@ -3,7 +3,7 @@ use Rattle.std.proofs.Common.{◌≡◌, ◌⊎◌, ℕ, true, List, [], ◌∷�
 use Rattle.indexed_file.specs.Images.{Stays}
 use Rattle.page_store.specs.Images.{Leaves}
 use Rattle.page_store.specs.Moments.{Throughout}
-use Rattle.page_store.specs.MomentLaws.{throughout_none, throughout_weaker}
+use Rattle.page_store.proofs.MomentLemmas.{throughout_none, throughout_weaker}
 use Rattle.page_store.specs.ShelfState.{ShelfState}
 use Rattle.procedure_division.specs.declared.statement.Statement.{Statement}
 use Rattle.file_control.specs.Described.{file_names}

@@ -7,7 +7,7 @@ use Rattle.indexed_file.specs.World.{World, Named, named_in}
 use Rattle.page_store.specs.File.{File as Bytes}
 use Rattle.page_store.specs.Images.{Leaves}
 use Rattle.page_store.specs.Moments.{Throughout}
-use Rattle.page_store.specs.MomentLaws.{throughout_none, throughout_weaker}
+use Rattle.page_store.proofs.MomentLemmas.{throughout_none, throughout_weaker}
 use Rattle.page_store.specs.ShelfState.{ShelfState}
 use Rattle.file_control.specs.Described.{file_names}
 use Rattle.deck_reader.specs.declared.deck.Deck.{Deck}

@@ -8,7 +8,7 @@ use Rattle.indexed_file.specs.Moments.{Test}
 use Rattle.indexed_file.specs.Room.{most_to_change}
 use Rattle.indexed_file.specs.Shown.{Shown}
 use Rattle.indexed_file.specs.Images.{Trace, ImagesGo, CallGoes, untouched, trace_of_change}
-use Rattle.indexed_file.specs.ImageLaws.{goes_then}
+use Rattle.indexed_file.proofs.ImageLemmas.{goes_then}
 use Rattle.indexed_file.specs.Calls.{Keeps, OnlyReads, HasRisen, MayFail, MayAnswer, LeavesBroken, AsksAtMost}
 use Rattle.indexed_file.specs.UnitCalls.{RestartsCount, ReadsUnit, ChangesUnit}
 use Rattle.verbs.specs.Pages.{CountsAtMost}
