@@ -54,7 +54,7 @@ fn record(n: u32) -> [u8; 200] {
     record
 }
 
-fn name() -> FileName {
+pub fn name() -> FileName {
     let mut name = FileName::new();
     name.push_str("FILE");
     name
@@ -111,7 +111,7 @@ fn fills<S: Shelf>(
 }
 
 /// The bytes of the file of a shelf.
-fn bytes_of<S: Shelf>(alloc: Global, shelf: &mut S) -> Result<Vec<u8>, Fail> {
+pub fn bytes_of<S: Shelf>(alloc: Global, shelf: &mut S) -> Result<Vec<u8>, Fail> {
     shelf.attach(&[name()])?;
     if !shelf.exists(0)? {
         return Ok(Vec::new(alloc));

@@ -1,12 +1,23 @@
-//! Tests of the file checker over files that an open file on a shelf has made.
+//! Tests of the file checker over files that an open file or a library on a shelf has made.
 //!
-//! That a file is Sound only where it stands is proved. Here files that stand are made, of none to two thousand records, and are found sound; and no part
-//! of one is.
+//! That a file is Sound only where it stands is proved. Here files that stand are made, also by calls that are drawn, and are found sound; a part of one is
+//! not. A second reader, written from the tables of the format, says of each file whether it stands, also where one byte of it is changed; it shares nothing
+//! with the checker.
 //!
-//! Read `files` for how they are made, then `made`.
+//! Read `second_reader`, then `changed` and `drawn_files`.
 #![tactic(auto)]
 
+#[cfg(test)]
+mod changed;
+#[cfg(test)]
+mod drawn;
+#[cfg(test)]
+mod drawn_files;
 #[cfg(test)]
 mod files;
 #[cfg(test)]
 mod made;
+#[cfg(test)]
+mod readers;
+#[cfg(test)]
+mod second_reader;

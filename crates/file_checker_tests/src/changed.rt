@@ -1,0 +1,121 @@
+//! Files of which one byte is changed: to 0, to 255 and to its complement.
+
+use crate::files::made;
+use crate::readers::records_of;
+use arrayvec::ArrayVec;
+use std::alloc::Global;
+use std::process::Abort;
+use std::test::Fail;
+
+/// The bytes of a page.
+const PAGE: usize = 4096;
+
+/// What a byte is changed to, each once.
+fn others(was: u8) -> ArrayVec<u8, 3> {
+    let mut others = ArrayVec::new();
+    for byte in [0, 255, !was] {
+        if byte != was && !others.contains(&byte) {
+            let _ = others.try_push(byte);
+        }
+    }
+    others
+}
+
+fn put(bytes: &mut [u8], at: usize, byte: u8) {
+    if let Some(place) = bytes.get_mut(at) {
+        *place = byte;
+    }
+}
+
+/// How many changed files stand, and how many do not.
+#[derive(Clone, Copy)]
+struct Counts {
+    stand: u32,
+    fall: u32,
+}
+
+/// Changes a byte of a file, and puts it back.
+fn changes(
+    rt: &impl Abort,
+    alloc: Global,
+    bytes: &mut [u8],
+    at: usize,
+    counts: &mut Counts,
+) -> Result<(), Fail> {
+    let was = bytes.get(at).copied().unwrap_or(0);
+    for byte in others(was) {
+        put(bytes, at, byte);
+        match records_of(rt, alloc, bytes)? {
+            Some(_) => counts.stand = counts.stand.saturating_add(1),
+            None => counts.fall = counts.fall.saturating_add(1),
+        }
+    }
+    put(bytes, at, was);
+    Ok(())
+}
+
+/// Changes each byte of a page of a file of three records. In each page there are bytes that have a meaning, and others.
+fn changes_page(rt: &impl Abort, alloc: Global, page: usize) -> Result<(), Fail> {
+    let mut bytes = made(rt, alloc, 3, 0)?;
+    assert_eq!(rt; bytes.len(), 5 * PAGE);
+    let mut counts = Counts { stand: 0, fall: 0 };
+    let start = page.saturating_mul(PAGE);
+    for at in start..start.saturating_add(PAGE) {
+        changes(rt, alloc, bytes.as_mut_slice(), at, &mut counts)?;
+    }
+    assert!(rt; counts.stand > 0 && counts.fall > 0);
+    assert_eq!(rt; records_of(rt, alloc, bytes.as_slice())?, Some(3));
+    Ok(())
+}
+
+#[test]
+fn a_changed_byte_of_the_header(rt: HostRuntime) -> Result<(), Fail> {
+    changes_page(&rt, rt.alloc(), 0)
+}
+
+#[test]
+fn a_changed_byte_of_the_prime_index(rt: HostRuntime) -> Result<(), Fail> {
+    changes_page(&rt, rt.alloc(), 1)
+}
+
+#[test]
+fn a_changed_byte_of_the_index_of_groups(rt: HostRuntime) -> Result<(), Fail> {
+    changes_page(&rt, rt.alloc(), 2)
+}
+
+#[test]
+fn a_changed_byte_of_the_index_of_codes(rt: HostRuntime) -> Result<(), Fail> {
+    changes_page(&rt, rt.alloc(), 3)
+}
+
+#[test]
+fn a_changed_byte_of_the_heap(rt: HostRuntime) -> Result<(), Fail> {
+    changes_page(&rt, rt.alloc(), 4)
+}
+
+/// How many pages begin with this byte.
+fn count_of(bytes: &[u8], kind: u8) -> usize {
+    bytes
+        .chunks(PAGE)
+        .filter(|page| page.first() == Some(&kind))
+        .count()
+}
+
+// Of a file with inner nodes, free pages and free slots the first bytes of each page are changed, and every 61st byte behind them.
+#[test]
+fn a_changed_byte_of_a_file_that_shrank(rt: HostRuntime) -> Result<(), Fail> {
+    let alloc = rt.alloc();
+    let mut bytes = made(&rt, alloc, 70, 30)?;
+    for kind in *b"LIHF" {
+        assert!(rt; count_of(bytes.as_slice(), kind) > 0, "{kind}");
+    }
+    let mut counts = Counts { stand: 0, fall: 0 };
+    for at in 0..bytes.len() {
+        if at % PAGE < 24 || at % 61 == 0 {
+            changes(&rt, alloc, bytes.as_mut_slice(), at, &mut counts)?;
+        }
+    }
+    assert!(rt; counts.stand > 0 && counts.fall > 0);
+    assert_eq!(rt; records_of(&rt, alloc, bytes.as_slice())?, Some(40));
+    Ok(())
+}
