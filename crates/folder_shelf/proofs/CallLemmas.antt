@@ -3,8 +3,8 @@ use Rattle.std.proofs.Common.{◌≡◌, Bool, IsTrue, is_some, not, ◌&&◌, �
 use Rattle.std.proofs.lemmas.Bool.{cases_Bool, and_parts, le-leb}
 use Rattle.std.proofs.Common.{eq-eqb}
 use Rattle.std.proofs.lemmas.Slice.Eq.{bytes_eq-Decides}
-use Rattle.page_store.specs.File.{File, IsWithin, IsThere, overlay, content, created, wrote}
-use Rattle.page_store.specs.Calls.{Reads, Created, CreateFails, Written, WriteFails, Synced, SyncFails}
+use Rattle.page_store.specs.DeviceFile.{DeviceFile, IsWithin, IsThere, overlay, content, created, wrote}
+use Rattle.page_store.specs.Calls.{ReadsBytes, Created, CreateFails, Written, WriteFails, Synced, SyncFails}
 use Rattle.page_store.specs.ShelfState.{ShelfState, unit_file, ChangesOnly}
 use Rattle.page_store.proofs.TornLemmas.{part_torn}
 use Rattle.folder_shelf.specs.Events.{Event, named, made, read, written, flushed, asked}
@@ -26,7 +26,7 @@ module _ (disk : Unseen) (names : List (List ℕ)) (events : List Event) (unit :
   abbrev old : ShelfState
   old = folder_state disk names events
 
-  abbrev f : File
+  abbrev f : DeviceFile
   f = (replay disk events).file name
 
   abbrev new : Event → ShelfState
@@ -60,10 +60,10 @@ module _ (disk : Unseen) (names : List (List ℕ)) (events : List Event) (unit :
       both false none = refl
 
   -- bytes came
-  pub read_true : (done : Bool) (at : ℕ) (bytes : List ℕ) → done ≡ true → IsTrue (new (read done at bytes)).is_honest → Reads f at bytes
+  pub read_true : (done : Bool) (at : ℕ) (bytes : List ℕ) → done ≡ true → IsTrue (new (read done at bytes)).is_honest → ReadsBytes f at bytes
   read_true done at bytes e honest = go done e honest
     where
-      go : (d : Bool) → d ≡ true → IsTrue (new (read d at bytes)).is_honest → Reads f at bytes
+      go : (d : Bool) → d ≡ true → IsTrue (new (read d at bytes)).is_honest → ReadsBytes f at bytes
       go true is h =
           let p = and_parts old.is_honest _ h in
           let q = and_parts (has f (at + length bytes)) _ p.1 in

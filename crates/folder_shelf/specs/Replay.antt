@@ -1,13 +1,13 @@
 -- What an honest folder holds after these calls and answers.
 use Rattle.std.specs.Prelude.{ℕ, ◌+◌, ◌==◌, nat_le, Bool, true, not, ◌&&◌, ◌||◌, if◌then◌else◌, List, [], ◌∷◌, ◌++◌, length, take, drop, bytes_eq, Some, None, is_some}
-use Rattle.page_store.specs.File.{File, created, wrote, synced, content, overlay}
+use Rattle.page_store.specs.DeviceFile.{DeviceFile, created, wrote, synced, content, overlay}
 use Rattle.page_store.specs.ShelfState.{ShelfState}
 use Rattle.folder_shelf.specs.Events.{Event, named, made, measured, read, written, flushed, looked}
 
 -- what no code can read of a disk
 pub record Unseen : Type 0 where
   -- the file of each name at first
-  pub first : List ℕ → File
+  pub first : List ℕ → DeviceFile
   -- after these calls, the newest in front, a file could not be made: whether it is there
   pub came : List Event → Bool
   -- after these calls a write failed: what it left in its range
@@ -17,28 +17,28 @@ pub record Unseen : Type 0 where
 pub record Folder : Type 0 where
   -- the name of the file that the next call is on
   pub current : List ℕ
-  pub file : List ℕ → File
+  pub file : List ℕ → DeviceFile
   -- each answer was that of the files
   pub is_honest : Bool
 
 -- another file under this name
-abbrev pub put : (List ℕ → File) → List ℕ → File → List ℕ → File
+abbrev pub put : (List ℕ → DeviceFile) → List ℕ → DeviceFile → List ℕ → DeviceFile
 put files name f other = if bytes_eq other name then f else files other
 
 -- the file that the next call is on
-abbrev pub now : Folder → File
+abbrev pub now : Folder → DeviceFile
 now m = m.file m.current
 
 -- the file is there and has at least n bytes
-abbrev pub has : File → ℕ → Bool
+abbrev pub has : DeviceFile → ℕ → Bool
 has f n = is_some f.seen && nat_le n (length (content f))
 
 -- these are the file's bytes at `at`
-abbrev pub gives : File → ℕ → List ℕ → Bool
+abbrev pub gives : DeviceFile → ℕ → List ℕ → Bool
 gives f at bytes = has f (at + length bytes) && bytes_eq bytes (take (length bytes) (drop at (content f)))
 
 -- the file is there, or it is not
-abbrev pub is_there : Bool → File → Bool
+abbrev pub is_there : Bool → DeviceFile → Bool
 is_there there f = if there then is_some f.seen else not (is_some f.seen)
 
 -- what now stands where these bytes were to be written, of which n were taken

@@ -2,7 +2,7 @@
 use Rattle.std.proofs.Common.{◌≡◌, ◌≤◌, ◌==◌, nat_le, ℕ, List, [], ◌∷◌, ◌++◌, Option, Some, None, true, false, IsTrue, is_some, not, ◌||◌, length, bytes_eq, subst, inl, inr, arith}
 use Rattle.std.proofs.lemmas.Bool.{cases_Bool, and_parts, leb-true}
 use Rattle.std.proofs.lemmas.List.{length-take}
-use Rattle.page_store.specs.File.{File, wrote, content, overlay}
+use Rattle.page_store.specs.DeviceFile.{DeviceFile, wrote, content, overlay}
 use Rattle.page_store.specs.Images.{Leaves}
 use Rattle.page_store.proofs.ImageLemmas.{leaves_written, leaves_synced}
 use Rattle.page_store.proofs.TornLemmas.{part_torn}
@@ -11,19 +11,19 @@ use Rattle.page_store.proofs.MadeLemmas.{made_image}
 use Rattle.folder_shelf.specs.Events.{Event, named, made, measured, read, written, flushed, looked}
 use Rattle.folder_shelf.specs.Replay.{Unseen, Folder, put, now, has, left_of, after, replay}
 
-abbrev Sound : File → Type 0
+abbrev Sound : DeviceFile → Type 0
 Sound f = Leaves f f.seen
 
-put_sound : (files : List ℕ → File) (name : List ℕ) (f : File) → ((other : List ℕ) → Sound (files other)) → Sound f → (other : List ℕ) → Sound (put files name f other)
+put_sound : (files : List ℕ → DeviceFile) (name : List ℕ) (f : DeviceFile) → ((other : List ℕ) → Sound (files other)) → Sound f → (other : List ℕ) → Sound (put files name f other)
 put_sound files name f all one other = elim (cases_Bool (bytes_eq other name)) [ inl e ↦ rw e one | inr e ↦ rw e (all other) ]
 
-there : (f : File) → is_some f.seen ≡ true → Sound f → Leaves f (Some (content f))
+there : (f : DeviceFile) → is_some f.seen ≡ true → Sound f → Leaves f (Some (content f))
 there f some sound = subst (λ (o : Option (List ℕ)). Leaves f o) (some_bytes f.seen some) sound
 
 pub length_left : (n : ℕ) (bytes torn : List ℕ) → length (left_of n bytes torn) ≤ length bytes
 length_left n bytes torn = elim (cases_Bool (n == length bytes)) [ inl e ↦ rw e (omega arith) | inr e ↦ rw e (omega (arith, length-take (length bytes) torn)) ]
 
-written_sound : (f : File) (at n : ℕ) (bytes torn : List ℕ) → has f at ≡ true → Sound f → Sound (record { seen = Some (overlay (content f) at (left_of n bytes torn)); log = f.log ++ wrote at (length bytes) ∷ [] })
+written_sound : (f : DeviceFile) (at n : ℕ) (bytes torn : List ℕ) → has f at ≡ true → Sound f → Sound (record { seen = Some (overlay (content f) at (left_of n bytes torn)); log = f.log ++ wrote at (length bytes) ∷ [] })
 written_sound f at n bytes torn fits sound =
     let parts = and_parts (is_some f.seen) (nat_le at (length (content f))) fits in
     let low = leb-true at (length (content f)) parts.1 in

@@ -1,6 +1,6 @@
 //! What no code can read of a disk.
 ghost use Rattle.std.specs.Prelude.{ℕ, List, true, [], refl};
-ghost use Rattle.page_store.specs.File.{absent};
+ghost use Rattle.page_store.specs.DeviceFile.{absent};
 ghost use Rattle.page_store.specs.Images.{Leaves};
 ghost use Rattle.folder_shelf.specs.Replay.{Unseen};
 

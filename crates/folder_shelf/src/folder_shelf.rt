@@ -1,7 +1,7 @@
 //! A shelf over a folder of the system: a unit is the file of that name in the folder.
 ghost use Rattle.std.specs.Prelude.{◌≡◌, ◌<◌, map, length, get_or, [], IsTrue, IsErrOf};
 ghost use Rattle.io_state.specs.declared.fault.Fault.TheVariants.{Device};
-ghost use Rattle.page_store.specs.ShelfState.{HasCause};
+ghost use Rattle.page_store.specs.ShelfState.{FaultHasCause};
 ghost use Rattle.folder_shelf.specs.Replay.{folder_state};
 
 use crate::disk::Disk;
@@ -131,7 +131,7 @@ fn name_of(units: &[FileName], unit: usize) -> &FileName
 // Counts a call that failed.
 fn fail<T>(faults: &mut u64) -> Result<T, Fault>
     ensures device { IsErrOf result Device }
-    ensures cause { HasCause faults.old faults.new result }
+    ensures cause { FaultHasCause faults.old faults.new result }
 {
     *faults = faults.saturating_add(1);
     Err(Fault::Device)

@@ -3,7 +3,7 @@ use Rattle.std.proofs.Common.{◌≡◌, ◌≢◌, inl, inr, ℕ, ◌<◌, ◌�
 use Rattle.std.proofs.lemmas.Bool.{and_from, lt-ltb, both_ways}
 use Rattle.io_state.specs.declared.fault.Fault.{Fault}
 use Rattle.io_state.specs.declared.fault.Fault.TheVariants.{Device, Memory, Full, Damage, Broken}
-use Rattle.page_store.specs.ShelfState.{ShelfState, HasCause}
+use Rattle.page_store.specs.ShelfState.{ShelfState, FaultHasCause}
 use Rattle.page_cache.specs.declared.cache.Cache.{Cache}
 use Rattle.page_cache.specs.Cached.{frame_of, is_counted, pages_of, IsOver}
 use Rattle.page_cache.specs.Calls.{Keeps, Looks, KeepsPages}
@@ -11,7 +11,7 @@ use Rattle.page_cache.specs.Quietly.{GoesQuietly}
 use Rattle.page_cache.specs.Lending.{FrameSet, SameFrames}
 use Rattle.page_cache.proofs.OverLemmas.{over_same, pages_same, clean_same, held_page, set_page, set_others}
 use Rattle.page_alloc.specs.declared.pager.Pager.{Pager}
-use Rattle.pages.specs.PagesState.{Shows, Rests, Leaves}
+use Rattle.pages.specs.PagesState.{Shows, Rests, LeavesPage}
 use Rattle.page_alloc.specs.Chain.{chain, used}
 use Rattle.page_alloc.specs.Joining.{free_pages, pages_state, IsJoined, PartsGo, HasFailed}
 use Rattle.page_alloc.specs.Taking.{CallFails}
@@ -21,7 +21,7 @@ use Rattle.page_store.specs.ShelfState.{unit_file}
 use Rattle.page_store.specs.Gate.{AllOpen}
 use Rattle.page_alloc.specs.declared.paged_file.PagedFile.{PagedFile}
 use Rattle.page_alloc.specs.PagedFile.{IsOpenOver}
-use Rattle.page_alloc.specs.Steps.{Goes, Reads, state_of}
+use Rattle.page_alloc.specs.Steps.{Goes, ReadsPages, state_of}
 use Rattle.page_alloc.proofs.ChainLemmas.{in_use, use_kept, same_chain}
 
 pub counted_page : (c : Cache) (p : Pager) (s : ShelfState) (n : ℕ) → IsJoined c p s → (n ≡ 0 → ⊥) → n < p.count → IsTrue (is_counted c n)
@@ -42,7 +42,7 @@ rested c d p s t same honest = record {
 }
 
 pub left : (n : ℕ) (w : List ℕ) (c d e : Cache) (p : Pager) (s t : ShelfState) → FrameSet n w d e → (IsTrue t.is_honest → pages_of d t ≡ pages_of c s) → (IsTrue t.is_honest → IsTrue s.is_honest)
-    → Leaves n w (pages_state c p s) (pages_state e p t)
+    → LeavesPage n w (pages_state c p s) (pages_state e p t)
 left n w c d e p s t set same honest = record {
   live = λ h there. use_kept (pages_of c s) (pages_of e t) p.count n p.first p.free (others h) there w (set_page n w d e set t);
   sound = λ h there. ap is_some (same_chain (pages_of c s) (pages_of e t) p.count n p.first p.free (others h) there);
@@ -90,7 +90,7 @@ pub over_after : (d e : Cache) (t : ShelfState) → SameFrames d e → IsOver d 
 over_after d e t same over = over_same d e t same.store same.frames over
 
 -- a page of the cache is lent, or could not be loaded
-pub reads_after : (a b : PagedFile) (s t : ShelfState) (i j : ℕ) → b.pager ≡ a.pager → b.changed ≡ a.changed → KeepsPages a.cache b.cache s t → Looks a.cache b.cache s t → i ≤ j → Reads a b s t i j
+pub reads_after : (a b : PagedFile) (s t : ShelfState) (i j : ℕ) → b.pager ≡ a.pager → b.changed ≡ a.changed → KeepsPages a.cache b.cache s t → Looks a.cache b.cache s t → i ≤ j → ReadsPages a b s t i j
 reads_after a b s t i j pager gate kept looks faults = record {
   goes = record {
     parts = parts_after a.cache b.cache s t i j kept.keeps kept.goes faults;
@@ -136,7 +136,7 @@ pub damaged : (failed full : Type 0) → IsCaused failed full Damage
 damaged failed full = record { device = λ e. absurd (cc); full = λ e. absurd (cc); not_broken = λ e. cc }
 
 -- a fault of the cache
-pub fails_as : (x : Fault) (i j : ℕ) (P full : Type 0) → HasCause {T = Unit {0}} i j (Err x) → CallFails P (HasFailed i j) full x
+pub fails_as : (x : Fault) (i j : ℕ) (P full : Type 0) → FaultHasCause {T = Unit {0}} i j (Err x) → CallFails P (HasFailed i j) full x
 fails_as x i j P full cause = record {
   caused = record {
     device = λ is. cause.device (ap Err is);

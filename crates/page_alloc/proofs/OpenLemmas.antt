@@ -2,7 +2,7 @@
 use Rattle.std.proofs.Common.{suc, ◌≡◌, ◌⊎◌, inl, inr, ℕ, ◌*◌, ◌≤◌, ltb, List, [], ◌∷◌, ◌++◌, length, take, drop, Option, Some, None, refl, sym, ◌∙◌, ap, subst, arith, IsTrue}
 use Rattle.std.proofs.lemmas.Bool.{and_parts, ltb-true}
 use Rattle.std.proofs.lemmas.List.{length-drop}
-use Rattle.page_store.specs.File.{File, content}
+use Rattle.page_store.specs.DeviceFile.{DeviceFile, content}
 use Rattle.page_store.specs.Images.{IsSettled}
 use Rattle.page_store.specs.Moments.{Throughout, Quiet}
 use Rattle.page_store.proofs.MomentLemmas.{throughout_weaker, throughout_then, quiet_then}
@@ -15,13 +15,13 @@ use Rattle.page_cache.specs.declared.frame.Frame.{Frame}
 use Rattle.page_cache.specs.declared.cache.Cache.{Cache}
 use Rattle.page_cache.specs.Cached.{frame_of, pages_of, is_counted, IsOver, IsClean}
 use Rattle.page_cache.proofs.HeaderLemmas.{gate_page}
-use Rattle.page_alloc.specs.PagedFile.{IsClosedWith, ClosedWith, Closes}
+use Rattle.page_alloc.specs.PagedFile.{IsClosedWith, ClosedWith, ClosesPages}
 
 abbrev Ends : List ℕ → Cache → ShelfState → Option (List ℕ) → Type 0
 Ends header cache shelf c = IsRefused c ⊎ ((bytes : List ℕ) × (c ≡ Some bytes) × IsClosedWith header cache shelf bytes)
 
 -- while the gate is open, each image is refused
-pub quiet_closes : (header : List ℕ) (cache : Cache) (shelf : ShelfState) (f g : File) → AllOpen f → Quiet f g → Closes header cache shelf f g
+pub quiet_closes : (header : List ℕ) (cache : Cache) (shelf : ShelfState) (f g : DeviceFile) → AllOpen f → Quiet f g → ClosesPages header cache shelf f g
 quiet_closes header cache shelf f g all quiet = throughout_weaker IsOpen (Ends header cache shelf) f g (λ c o. inl (refused_open c o)) (quiet_open f g all quiet)
 
 -- the header as it was written, behind a closed gate
@@ -38,7 +38,7 @@ clean_shows c s k over clean honest counted = go (frame_of c k) refl
     go None is = rw (is, counted) refl
     go (Some frame) is = rw is (over.clean honest k frame is (clean.clean k frame is))
 
-module _ (header : List ℕ) (c d : Cache) (s t : ShelfState) (f before g h : File) (whole : 1 ≤ length (content before)) (written : page_of (content g) 0 ≡ page_over 0 (content before) header)
+module _ (header : List ℕ) (c d : Cache) (s t : ShelfState) (f before g h : DeviceFile) (whole : 1 ≤ length (content before)) (written : page_of (content g) 0 ≡ page_over 0 (content before) header)
     (pages : (k : ℕ) → IsTrue (is_counted c k) → page_of (content g) k ≡ pages_of c s k) (long : 4096 * c.store.pages ≤ length (content g)) where
   pub closed_with : IsClosedWith header c s (with_gate 67 (content g))
   closed_with = record {
@@ -48,14 +48,14 @@ module _ (header : List ℕ) (c d : Cache) (s t : ShelfState) (f before g h : Fi
     pages = λ k counted. let low = and_parts (ltb 0 k) (ltb k c.store.pages) counted in gate_page 67 (content g) k (ltb-true 0 k low.0) ∙ pages k counted;
   }
 
-  pub finish_closes : Throughout (ClosedOrRefused g) g h → Closes header c s g h
+  pub finish_closes : Throughout (ClosedOrRefused g) g h → ClosesPages header c s g h
   finish_closes images = throughout_weaker (ClosedOrRefused g) (Ends header c s) g h ends images
     where
       ends : (i : Option (List ℕ)) → ClosedOrRefused g i → Ends header c s i
       ends i (inl is) = inr (with_gate 67 (content g), is, closed_with)
       ends i (inr refused) = inl refused
 
-  pub closes : AllOpen f → Quiet f g → Throughout (ClosedOrRefused g) g h → Closes header c s f h
+  pub closes : AllOpen f → Quiet f g → Throughout (ClosedOrRefused g) g h → ClosesPages header c s f h
   closes all quiet images = throughout_then (Ends header c s) f g h (quiet_closes header c s f g all quiet) (finish_closes images)
 
   pub is_closed : content h ≡ with_gate 67 (content g) → IsSettled h → ClosedWith header c s h
@@ -88,7 +88,7 @@ module _ (header : List ℕ) (c d : Cache) (s t u v : ShelfState) (store : d.sto
   quiet : Quiet (unit_file s c.store.unit) (unit_file u c.store.unit)
   quiet = quiet_then (unit_file s c.store.unit) (unit_file t c.store.unit) (unit_file u c.store.unit) q1 (subst (λ n. Quiet (unit_file t n) (unit_file u n)) unit q2)
 
-  pub all_closes : (AllRefused (unit_file u d.store.unit) → Throughout (ClosedOrRefused (unit_file u d.store.unit)) (unit_file u d.store.unit) (unit_file v d.store.unit)) → Closes header c s (unit_file s c.store.unit) (unit_file v c.store.unit)
+  pub all_closes : (AllRefused (unit_file u d.store.unit) → Throughout (ClosedOrRefused (unit_file u d.store.unit)) (unit_file u d.store.unit) (unit_file v d.store.unit)) → ClosesPages header c s (unit_file s c.store.unit) (unit_file v c.store.unit)
   all_closes images =
       let refused : AllRefused (unit_file u c.store.unit) = all_refused (unit_file u c.store.unit) (open_kept (unit_file s c.store.unit) (unit_file u c.store.unit) all quiet) in
       let images_here = subst (λ n. AllRefused (unit_file u n) → Throughout (ClosedOrRefused (unit_file u n)) (unit_file u n) (unit_file v n)) unit images in
@@ -100,5 +100,5 @@ module _ (header : List ℕ) (c d : Cache) (s t u v : ShelfState) (store : d.sto
       is_closed header c d s t (unit_file s c.store.unit) (unit_file t c.store.unit) (unit_file u c.store.unit) (unit_file v c.store.unit) whole here pages long there.0 there.1
 
 -- a quiet step behind a gate that was opened
-pub made_quietly : (f g h : File) → Throughout (WasOrRefused f) f g → AllOpen g → Quiet g h → Throughout (WasOrRefused f) f h
+pub made_quietly : (f g h : DeviceFile) → Throughout (WasOrRefused f) f g → AllOpen g → Quiet g h → Throughout (WasOrRefused f) f h
 made_quietly f g h made all quiet = throughout_then (WasOrRefused f) f g h made (throughout_weaker IsOpen (WasOrRefused f) g h (λ c o. inr (refused_open c o)) (quiet_open g h all quiet))

@@ -1,6 +1,6 @@
 -- A file that is open, and what its making and its closing leave.
 use Rattle.std.specs.Prelude.{◌≡◌, ◌⊎◌, ℕ, ◌*◌, ◌≤◌, List, ◌∷◌, length, drop, true, false, IsTrue, Some}
-use Rattle.page_store.specs.File.{File, content}
+use Rattle.page_store.specs.DeviceFile.{DeviceFile, content}
 use Rattle.page_store.specs.Images.{IsSettled}
 use Rattle.page_store.specs.Moments.{Throughout}
 use Rattle.page_store.specs.Gate.{IsClosed, IsRefused, AllOpen, AllRefused, SameOrRefused}
@@ -18,14 +18,14 @@ pub record IsOpenOver (held : PagedFile) (shelf : ShelfState) : Type 0 where
   pub gate : held.changed ≡ true → IsTrue shelf.is_honest → AllOpen (unit_file shelf held.cache.store.unit)
 
 -- the pages of this unit, of which none but the header is counted, behind an open gate
-pub record IsMade (held : PagedFile) (unit limit : ℕ) : Type 0 where
+pub record IsNewPagedFile (held : PagedFile) (unit limit : ℕ) : Type 0 where
   pub unit_is : held.cache.store.unit ≡ unit
   pub pager : held.pager ≡ record { count = 1; first = 0; free = 0; limit = limit }
   pub asked : held.cache.asked ≡ 0
   pub changed : held.changed ≡ true
 
 -- what reads give is as it was, or is refused, or the file is refused after every crash
-abbrev pub StandsOrRefused : File → File → Type 0
+abbrev pub StandsOrRefused : DeviceFile → DeviceFile → Type 0
 StandsOrRefused old new = SameOrRefused old new ⊎ AllRefused new
 
 -- these bytes have a closed gate, this header, and the pages that the cache showed, each of them whole
@@ -36,10 +36,10 @@ pub record IsClosedWith (page : List ℕ) (cache : Cache) (shelf : ShelfState) (
   pub pages : (k : ℕ) → IsTrue (is_counted cache k) → page_of bytes k ≡ pages_of cache shelf k
 
 -- the file has them, and a crash leaves nothing else
-pub record ClosedWith (header : List ℕ) (cache : Cache) (shelf : ShelfState) (file : File) : Type 0 where
+pub record ClosedWith (header : List ℕ) (cache : Cache) (shelf : ShelfState) (file : DeviceFile) : Type 0 where
   pub bytes : IsClosedWith header cache shelf (content file)
   pub settled : IsSettled file
 
 -- at each moment a crash leaves a refused file, or such bytes
-abbrev pub Closes : List ℕ → Cache → ShelfState → File → File → Type 0
-Closes header cache shelf old new = Throughout (λ c. IsRefused c ⊎ ((bytes : List ℕ) × (c ≡ Some bytes) × IsClosedWith header cache shelf bytes)) old new
+abbrev pub ClosesPages : List ℕ → Cache → ShelfState → DeviceFile → DeviceFile → Type 0
+ClosesPages header cache shelf old new = Throughout (λ c. IsRefused c ⊎ ((bytes : List ℕ) × (c ≡ Some bytes) × IsClosedWith header cache shelf bytes)) old new

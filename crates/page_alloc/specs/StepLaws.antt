@@ -1,7 +1,7 @@
 -- Steps of calls, one after the other: what the pages of an open file promise as a trait.
 use Rattle.std.proofs.Common.{◌≡◌, inl, inr, ℕ, ◌≤◌, false, IsTrue, refl, sym, ◌∙◌, ap, subst, arith}
 use Rattle.std.proofs.lemmas.Bool.{cases_Bool}
-use Rattle.page_store.specs.File.{File}
+use Rattle.page_store.specs.DeviceFile.{DeviceFile}
 use Rattle.page_store.specs.Moments.{Throughout}
 use Rattle.page_store.proofs.MomentLemmas.{throughout_none, throughout_weaker}
 use Rattle.page_store.proofs.OpenLemmas.{quiet_open, open_kept, refused_open, all_refused}
@@ -15,7 +15,7 @@ use Rattle.page_cache.proofs.QuietLemmas.{goes_nowhere, goes_then}
 use Rattle.page_alloc.specs.declared.paged_file.PagedFile.{PagedFile}
 use Rattle.page_alloc.specs.Joining.{PartsGo, HasFailed}
 use Rattle.page_alloc.specs.PagedFile.{IsOpenOver, StandsOrRefused}
-use Rattle.page_alloc.specs.Steps.{Goes, Reads, Moves}
+use Rattle.page_alloc.specs.Steps.{Goes, ReadsPages, Moves}
 
 pub parts_stay : (c : Cache) (s : ShelfState) (n : ℕ) → PartsGo c c s s n n
 parts_stay c s n = record { unit = refl; cap = refl; pages = omega arith; quietly = goes_nowhere c.store.unit s; faults = omega arith }
@@ -46,10 +46,10 @@ goes_on a b c x y z i j k ab bc = record {
   still = λ r shut. bc.still (ab.ready r) (ab.gate ∙ shut) ∙ ab.still r shut;
 }
 
-pub reads_nothing : (a : PagedFile) (s : ShelfState) (n : ℕ) → Reads a a s s n n
+pub reads_nothing : (a : PagedFile) (s : ShelfState) (n : ℕ) → ReadsPages a a s s n n
 reads_nothing a s n = record { goes = goes_nothing a s n; rests = record { live = λ h. refl; sound = λ h. refl; available = refl; honest = λ h. h } }
 
-pub reads_on : (a b c : PagedFile) (x y z : ShelfState) (i j k : ℕ) → Reads a b x y i j → Reads b c y z j k → Reads a c x z i k
+pub reads_on : (a b c : PagedFile) (x y z : ShelfState) (i j k : ℕ) → ReadsPages a b x y i j → ReadsPages b c y z j k → ReadsPages a c x z i k
 reads_on a b c x y z i j k ab bc = record {
   goes = goes_on a b c x y z i j k ab.goes bc.goes;
   rests = record {
@@ -70,24 +70,24 @@ goes_moves a b x y i j goes = record {
     | inl begun ↦
         let all = r.gate begun (goes.parts.quietly.others.honest honest) in
         throughout_weaker IsOpen (WasOrRefused f) f g (λ c o. inr (refused_open c o)) (quiet_open f g all goes.parts.quietly.quiet)
-    | inr shut ↦ throughout_none (WasOrRefused f) f g (ap (λ (h : File). h.log) (same r shut)) (λ c may. inl may)
+    | inr shut ↦ throughout_none (WasOrRefused f) f g (ap (λ (h : DeviceFile). h.log) (same r shut)) (λ c may. inl may)
   ];
   stands = λ r honest. elim (cases_Bool a.changed) [
     | inl begun ↦ inr (all_refused g (open_kept f g (r.gate begun (goes.parts.quietly.others.honest honest)) goes.parts.quietly.quiet))
-    | inr shut ↦ inl (inl (ap (λ (h : File). h.seen) (same r shut)))
+    | inr shut ↦ inl (inl (ap (λ (h : DeviceFile). h.seen) (same r shut)))
   ];
 }
   where
-    f : File
+    f : DeviceFile
     f = unit_file x a.cache.store.unit
 
-    g : File
+    g : DeviceFile
     g = unit_file y a.cache.store.unit
 
     same : IsOpenOver a x → a.changed ≡ false → g ≡ f
     same r shut = same_place x y a.cache.store.unit (goes.still r shut) goes.parts.quietly.others.names
 
-stands_then : (f g h : File) → Throughout (WasOrRefused g) g h → StandsOrRefused f g → StandsOrRefused g h → StandsOrRefused f h
+stands_then : (f g h : DeviceFile) → Throughout (WasOrRefused g) g h → StandsOrRefused f g → StandsOrRefused g h → StandsOrRefused f h
 stands_then f g h gh (inr all) next = inr (refused_after g h all gh)
 stands_then f g h gh (inl was) (inr all) = inr all
 stands_then f g h gh (inl was) (inl (inr refused)) = inl (inr refused)

@@ -20,7 +20,7 @@ pub record Goes (old new : PagedFile) (before after : ShelfState) (failed fails 
   pub still : IsOpenOver old before → old.changed ≡ false → after.file ≡ before.file
 
 -- a call that only reads
-pub record Reads (old new : PagedFile) (before after : ShelfState) (failed fails : ℕ) : Type 0 where
+pub record ReadsPages (old new : PagedFile) (before after : ShelfState) (failed fails : ℕ) : Type 0 where
   pub goes : Goes old new before after failed fails
   pub rests : Rests (state_of old before) (state_of new after)
 

@@ -17,7 +17,7 @@ impl<'a, S: Shelf> Pages for FilePages<'a, S> {
     ghost use Rattle.std.proofs.Common.{◌∙◌};
     ghost use Rattle.page_alloc.specs.Joining.{HasFailed as Failed};
     ghost use Rattle.page_alloc.specs.PagedFile.{IsOpenOver};
-    ghost use Rattle.page_alloc.specs.Steps.{state_of, Reads as ReadsOnly, Goes as GoesOn, Moves as MovesOn};
+    ghost use Rattle.page_alloc.specs.Steps.{state_of, ReadsPages, Goes as GoesOn, Moves as MovesOn};
     ghost use Rattle.page_alloc.specs.StepLaws.{goes_nothing, goes_on, goes_moves, reads_nothing, reads_on, moves_on, failed_before, failed_after};
 
     ghost state = { λ p. state_of p.file.now (S.Shelf.state p.shelf.now) };
@@ -27,7 +27,7 @@ impl<'a, S: Shelf> Pages for FilePages<'a, S> {
     ghost CanChange = { λ p. p.file.now.changed ≡ true };
 
     ghost Reads = { λ a b. (b.file.ghost_name ≡ a.file.ghost_name) × (b.shelf.ghost_name ≡ a.shelf.ghost_name)
-        × ReadsOnly a.file.now b.file.now (S.Shelf.state a.shelf.now) (S.Shelf.state b.shelf.now)
+        × ReadsPages a.file.now b.file.now (S.Shelf.state a.shelf.now) (S.Shelf.state b.shelf.now)
         (S.Shelf.fault_count a.shelf.now) (S.Shelf.fault_count b.shelf.now) };
 
     ghost Goes = { λ a b. (b.file.ghost_name ≡ a.file.ghost_name) × (b.shelf.ghost_name ≡ a.shelf.ghost_name)

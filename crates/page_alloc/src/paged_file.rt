@@ -1,13 +1,13 @@
 //! A file that is open: its cache, its free pages, and its gate.
 ghost use Rattle.std.specs.Prelude.{◌≡◌, ℕ, ◌<◌, ◌≤◌, [], true, false, IsTrue, IfOk, OnOk, OnErr, if◌then◌else◌};
-ghost use Rattle.page_store.specs.File.{content};
+ghost use Rattle.page_store.specs.DeviceFile.{content};
 ghost use Rattle.page_store.specs.Moments.{Throughout};
 ghost use Rattle.page_store.specs.Gate.{WasOrRefused};
 ghost use Rattle.page_store.specs.Pages.{page_of, HasPages};
-ghost use Rattle.page_store.specs.ShelfState.{ShelfState, WhereHonest, FileGoes, HasUnit, unit_file, KeepsOthers, HasCause};
+ghost use Rattle.page_store.specs.ShelfState.{ShelfState, WhereHonest, FileGoes, HasUnit, unit_file, KeepsOthers, FaultHasCause};
 ghost use Rattle.page_cache.specs.Cached.{pages_of, is_counted};
 ghost use Rattle.page_cache.specs.Calls.{ShowsSame};
-ghost use Rattle.page_alloc.specs.PagedFile.{IsOpenOver, IsMade, StandsOrRefused, Closes, ClosedWith};
+ghost use Rattle.page_alloc.specs.PagedFile.{IsOpenOver, IsNewPagedFile, StandsOrRefused, ClosesPages, ClosedWith};
 ghost use Rattle.page_alloc.specs.Steps.{Moves};
 
 use crate::pager::Pager;
@@ -37,7 +37,7 @@ impl PagedFile {
         header: &[u8; 4096],
     ) -> Result<PagedFile, Fault>
         requires unit { HasUnit (S.state shelf.old) unit }
-        ensures made { IfOk result (λ held. IsMade held unit limit) }
+        ensures made { IfOk result (λ held. IsNewPagedFile held unit limit) }
         ensures ready { IfOk result (λ held. IsOpenOver held (S.state shelf.new)) }
         // At each moment a crash leaves what it could leave before, or a refused file.
         ensures images { let old = unit_file (S.state shelf.old) unit in
@@ -46,7 +46,7 @@ impl PagedFile {
         ensures failed { OnErr result (IsTrue (S.state shelf.new).is_honest →
             FileGoes unit (S.state shelf.old) (S.state shelf.new) StandsOrRefused) }
         ensures others { KeepsOthers unit (S.state shelf.old) (S.state shelf.new) }
-        ensures cause { HasCause (S.fault_count shelf.old) (S.fault_count shelf.new) result }
+        ensures cause { FaultHasCause (S.fault_count shelf.old) (S.fault_count shelf.new) result }
     {
         let mut store = Store::make(shelf, unit)?;
         store.write_page(shelf, 0, header)?;
@@ -96,7 +96,7 @@ impl PagedFile {
         ensures nothing { self.old.changed ≡ true → (S.state shelf.new).file ≡ (S.state shelf.old).file }
         ensures moves { Moves self.old self.new (S.state shelf.old) (S.state shelf.new)
             (S.fault_count shelf.old) (S.fault_count shelf.new) }
-        ensures cause { HasCause (S.fault_count shelf.old) (S.fault_count shelf.new) result }
+        ensures cause { FaultHasCause (S.fault_count shelf.old) (S.fault_count shelf.new) result }
     {
         if self.changed {
             return Ok(());
@@ -117,10 +117,10 @@ impl PagedFile {
         // At each moment a crash leaves a refused file, or that which is closed at the end.
         ensures images { let old = unit_file (S.state shelf.old) self.old.cache.store.unit in
             IsTrue (S.state shelf.new).is_honest → self.old.changed ≡ true →
-            Closes header.now self.old.cache (S.state shelf.old) old
+            ClosesPages header.now self.old.cache (S.state shelf.old) old
             (unit_file (S.state shelf.new) self.old.cache.store.unit) }
         ensures others { KeepsOthers self.old.cache.store.unit (S.state shelf.old) (S.state shelf.new) }
-        ensures cause { HasCause (S.fault_count shelf.old) (S.fault_count shelf.new) result }
+        ensures cause { FaultHasCause (S.fault_count shelf.old) (S.fault_count shelf.new) result }
     {
         if !self.changed {
             return Ok(());

@@ -2,7 +2,7 @@
 use Rattle.std.proofs.Common.{◌-◌, ◌≤◌, zero, suc, ◌≡◌, ◌≢◌, inl, inr, ℕ, ◌+◌, ◌<◌, max, ltb, ◌&&◌, true, false, if◌then◌else◌, List, [], length, get_or, replicate, Option, Some, None, refl, sym, ◌∙◌, ap, subst, arith, IsTrue, Result, Ok, Err, OnOk, OnErr, nat_eq, slice_get}
 use Rattle.std.specs.Option.{option_map_or}
 use Rattle.std.proofs.lemmas.Bool.{cases_Bool, and_parts, and_from, ltb-true, ltb-false, lt-ltb, le-ltb, both_ways, and_right}
-use Rattle.page_store.specs.File.{File, content}
+use Rattle.page_store.specs.DeviceFile.{DeviceFile, content}
 use Rattle.page_store.specs.Pages.{page_of, HasPages, PageWritten, PageFails}
 use Rattle.page_store.proofs.PageLemmas.{written_is_read, others_read, others_kept}
 use Rattle.io_state.specs.declared.fault.Fault.{Fault}
@@ -69,7 +69,7 @@ zeros_get (suc n) (suc i) = zeros_get n i
 pub zeros_page : (page : List ℕ) (n : ℕ) → ◌≡◌ {A = List ℕ} page (replicate n 0) → length page ≡ 4096 → IsZeros page
 zeros_page page n is whole = record { whole = whole; each = λ i. ap (λ l. get_or l i 0) is ∙ zeros_get n i }
 
-pub page_written : (f g : File) (n : ℕ) (page : List ℕ) → 0 < n → HasPages n f → PageWritten n page f g → length page ≡ 4096 → page_of (content g) n ≡ page
+pub page_written : (f g : DeviceFile) (n : ℕ) (page : List ℕ) → 0 < n → HasPages n f → PageWritten n page f g → length page ≡ 4096 → page_of (content g) n ≡ page
 page_written f g n page low has w whole = written_is_read f g n page has whole w ∙ over_positive n (content f) page low
 
 pub adds : (old new : Store) (n : ℕ) (page : List ℕ) (t : ShelfState) (r : Result (Unit {0}) Fault) → max old.pages (n + 1) ≡ n + 1 → OnOk r (new ≡ record old { pages = max old.pages (n + 1) })
@@ -93,6 +93,14 @@ extended old new n s t page unit last has whole only (Err x) added kept pages wr
   pages = λ honest. subst (λ u. HasPages new.pages (unit_file t u)) (ap (λ x. x.unit) kept) (pages honest);
   others = λ honest m below. others_kept (unit_file s old.unit) (unit_file t old.unit) old.pages n m (has (sym only.honest ∙ honest)) below (λ same. omega arith) failed;
 }
+
+-- a page past the last one is not held
+pub absent_past : (c : Cache) (s : ShelfState) (n : ℕ) → IsOver c s → n ≡ c.store.pages → frame_of c n ≡ None
+absent_past c s n over last = go (frame_of c n) refl
+  where
+    go : (o : Option Frame) → frame_of c n ≡ o → frame_of c n ≡ None
+    go None is = is
+    go (Some other) is = let below = (parts c n (over.counted n other is)).1 in absurd (omega arith)
 
 pub record Added (n : ℕ) (r : Result (Unit {0}) Fault) (c d : Cache) (s t : ShelfState) : Type 0 where
   pub zeroed : OnOk r (Zeroed n c d s t)

@@ -1,11 +1,11 @@
 -- What the order of the entries, and a value set in one of them, are to a look-up.
-use Rattle.std.proofs.Common.{◌≡◌, ◌≢◌, inl, inr, ℕ, Bool, List, [], ◌∷◌, Option, Some, None, IsSome, true, slice_get, nat_eq, option_map, refl, sym, ◌∙◌, ap, subst, if◌then◌else◌}
+use Rattle.std.proofs.Common.{◌≡◌, ◌≢◌, ◌-◌, inl, inr, ℕ, Bool, List, [], ◌∷◌, Option, Some, None, IsSome, is_some, true, false, slice_get, take, nat_eq, option_map, refl, sym, ◌∙◌, ap, subst, if◌then◌else◌}
 use Rattle.std.specs.Option.{option_map_or}
 use Rattle.std.specs.Cmp.{nat_eq_equiv}
 use Rattle.std.specs.Map.{lookup, lookup_entry, remove_entry, set_value, AreApart}
-use Rattle.std.proofs.lemmas.Bool.{cases_Bool, eqb-true, eq-eqb, ne_eqb, cases_eq, cond-true, cond-false}
+use Rattle.std.proofs.lemmas.Bool.{cases_Bool, eqb-true, eq-eqb, ne_eqb, cases_eq, both_ways, cond-true, cond-false}
 use Rattle.std.proofs.lemmas.Map.{lookup-set_value}
-use Rattle.lru.specs.LruCache.{promoted}
+use Rattle.lru.specs.LruCache.{LruCache, put_entries, promoted}
 use Rattle.lru.proofs.CallerLemmas.{Contains-lookup_entry}
 
 pub apart_keys : (n k : ℕ) → k ≢ n → AreApart (nat_eq n) (nat_eq k)
@@ -15,6 +15,13 @@ module _ {X : Type 0} where
   pub lookup-lookup_entry : (test : ℕ → Bool) (es : List (ℕ × X)) → lookup test es ≡ option_map (λ e. e.1) (lookup_entry test es)
   lookup-lookup_entry test [] = refl
   lookup-lookup_entry test (e ∷ es) = elim (cases_Bool (test e.0)) [ inl hit ↦ rw hit refl | inr miss ↦ rw miss (lookup-lookup_entry test es) ]
+
+  pub entry_none : (o : Option (ℕ × X)) → option_map (λ e. e.1) o ≡ None → o ≡ None
+  entry_none None is = refl
+  entry_none (Some e) is = absurd (cc)
+
+  pub put_front : (c : LruCache ℕ X) (n : ℕ) (value : X) → lookup (nat_eq n) c.entries ≡ None → put_entries nat_eq c n value ≡ (n, value) ∷ take (c.cap - 1) c.entries
+  put_front c n value absent = rw (entry_none (lookup_entry (nat_eq n) c.entries) (sym (lookup-lookup_entry (nat_eq n) c.entries) ∙ absent)) refl
 
   pub lookup-removed : (test other : ℕ → Bool) → AreApart test other → (es : List (ℕ × X)) → lookup other (remove_entry test es) ≡ lookup other es
   lookup-removed test other apart [] = refl
@@ -65,3 +72,28 @@ module _ {X : Type 0} where
       let pair : e ≡ (first, value) = ap (λ (o : Option (ℕ × X)). option_map_or (λ p. p) o e) is in
       let hit : nat_eq n e.0 ≡ true = eq-eqb n e.0 (sym (ap (λ p. p.0) pair ∙ same)) in
       rw hit (ap (λ p. Some p.1) pair)
+
+  -- a page that is held and promoted is the first
+  pub promoted_first : (n : ℕ) (es : List (ℕ × X)) → is_some (lookup (nat_eq n) es) ≡ true → option_map (λ e. e.0) (slice_get (promoted (nat_eq n) es) 0) ≡ Some n
+  promoted_first n es held = go (lookup_entry (nat_eq n) es) refl
+    where
+      go : (o : Option (ℕ × X)) → lookup_entry (nat_eq n) es ≡ o → option_map (λ e. e.0) (slice_get (option_map_or (λ e. e ∷ remove_entry (nat_eq n) es) o es) 0) ≡ Some n
+      go None is = let none : is_some (lookup (nat_eq n) es) ≡ false = ap is_some (lookup-lookup_entry (nat_eq n) es ∙ ap (option_map (λ e. e.1)) is) in absurd (both_ways (is_some (lookup (nat_eq n) es)) none held)
+      go (Some e) is = ap Some (sym (eqb-true n e.0 (Contains-lookup_entry (nat_eq n) es e is).1))
+
+  -- a value set in the first entry
+  pub first_here : (n : ℕ) (es : List (ℕ × X)) (w : X) → option_map (λ e. e.0) (slice_get es 0) ≡ Some n → lookup (nat_eq n) (set_value (λ _. true) es w) ≡ Some w
+  first_here n [] w first = absurd (cc)
+  first_here n (e ∷ es) w first = let same : e.0 ≡ n = ap (λ (o : Option ℕ). option_map_or (λ k. k) o n) first in rw (eq-eqb n e.0 (sym same)) refl
+
+  pub first_apart : (n k : ℕ) (es : List (ℕ × X)) (w : X) → option_map (λ e. e.0) (slice_get es 0) ≡ Some n → k ≢ n → lookup (nat_eq k) (set_value (λ _. true) es w) ≡ lookup (nat_eq k) es
+  first_apart n k [] w first differs = absurd (cc)
+  first_apart n k (e ∷ es) w first differs = let same : e.0 ≡ n = ap (λ (o : Option ℕ). option_map_or (λ q. q) o n) first in rw (ne_eqb k e.0 (λ is. differs (is ∙ same))) refl
+
+  pub first_value : (n : ℕ) (es : List (ℕ × X)) (value : X) → option_map (λ e. e.0) (slice_get es 0) ≡ Some n → option_map (λ e. e.1) (slice_get es 0) ≡ Some value → lookup (nat_eq n) es ≡ Some value
+  first_value n [] value first is = absurd (cc)
+  first_value n (e ∷ es) value first is = let same : e.0 ≡ n = ap (λ (o : Option ℕ). option_map_or (λ k. k) o n) first in rw (eq-eqb n e.0 (sym same)) is
+
+  pub no_first : (n : ℕ) (o : Option (ℕ × X)) → option_map (λ e. e.1) o ≡ None → option_map (λ e. e.0) o ≡ Some n → ⊥
+  no_first n None none first = cc
+  no_first n (Some e) none first = cc

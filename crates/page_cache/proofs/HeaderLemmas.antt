@@ -3,7 +3,7 @@ use Rattle.std.proofs.Common.{zero, suc, ◌≡◌, ◌⊎◌, inl, inr, ℕ, �
 use Rattle.std.specs.Option.{option_map_or}
 use Rattle.std.proofs.lemmas.Bool.{cases_Bool, and_parts, ltb-true}
 use Rattle.std.proofs.lemmas.List.{length-drop}
-use Rattle.page_store.specs.File.{File, content, bytes_or_none}
+use Rattle.page_store.specs.DeviceFile.{DeviceFile, content, bytes_or_none}
 use Rattle.page_store.specs.Gate.{OnlyGate, with_gate}
 use Rattle.page_store.specs.Pages.{page_of, HasPages, PageWritten, PageFails}
 use Rattle.page_store.proofs.PageLemmas.{others_read, others_kept}
@@ -78,7 +78,7 @@ seen_there : (o : Option (List ℕ)) (x : ℕ) (rest : List ℕ) → bytes_or_no
 seen_there None x rest is = absurd (cc)
 seen_there (Some bytes) x rest is = refl
 
-pub gate_has : (f g : File) (x pages : ℕ) → content g ≡ with_gate x (content f) → HasPages pages f → HasPages pages g
+pub gate_has : (f g : DeviceFile) (x pages : ℕ) → content g ≡ with_gate x (content f) → HasPages pages f → HasPages pages g
 gate_has f g x pages is has = record {
   there = seen_there g.seen x (drop 1 (content f)) is;
   long = let l = has.long in let e : length (content g) ≡ length (with_gate x (content f)) = ap length is in omega (arith, length-drop 1 (content f));

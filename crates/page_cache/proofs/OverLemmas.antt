@@ -2,9 +2,9 @@
 use Rattle.std.proofs.Common.{◌≡◌, ◌≢◌, inl, inr, ℕ, ltb, ◌&&◌, true, if◌then◌else◌, ◌<◌, length, Option, Some, None, List, [], sym, ◌∙◌, ap, subst, IsTrue, option_map}
 use Rattle.std.specs.Option.{option_map_or}
 use Rattle.std.proofs.lemmas.Bool.{cases_eq, both_ways}
-use Rattle.page_store.specs.File.{content}
+use Rattle.page_store.specs.DeviceFile.{content}
 use Rattle.page_store.specs.Pages.{page_of, HasPages}
-use Rattle.page_store.specs.ShelfState.{ShelfState, HasUnit, unit_name, unit_file, OnlyReads}
+use Rattle.page_store.specs.ShelfState.{ShelfState, HasUnit, unit_name, unit_file, OnlyAnswers}
 use Rattle.page_cache.specs.declared.frame.Frame.{Frame}
 use Rattle.page_cache.specs.declared.cache.Cache.{Cache}
 use Rattle.page_cache.specs.Lending.{FrameSet}
@@ -64,7 +64,7 @@ module _ (n : ℕ) (w : List ℕ) (c d : Cache) (set : FrameSet n w c d) where
   }
 
 -- the shelf only answered
-module _ (c : Cache) (t u : ShelfState) (only : OnlyReads t u) where
+module _ (c : Cache) (t u : ShelfState) (only : OnlyAnswers t u) where
   pub file_read : unit_file u c.store.unit ≡ unit_file t c.store.unit
   file_read = ap (λ file. file (unit_name u c.store.unit)) only.file ∙ ap (λ names. t.file (unit_name (record t { names = names }) c.store.unit)) only.names
 

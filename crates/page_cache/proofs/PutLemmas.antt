@@ -1,5 +1,5 @@
 -- What a frame that is put in front leaves of the list of pages.
-use Rattle.std.proofs.Common.{zero, suc, ◌≡◌, ◌≢◌, ◌⊎◌, inl, inr, ℕ, ◌+◌, ◌-◌, ◌<◌, ◌≤◌, max, false, true, if◌then◌else◌, nat_eq, Option, Some, None, option_map, List, [], ◌∷◌, length, take, slice_get, refl, sym, ◌∙◌, ap, subst, arith, IsTrue, IsSome, is_some, Result, Ok, Err, OnOk, OnErr}
+use Rattle.std.proofs.Common.{zero, suc, ◌≡◌, ◌≢◌, ◌⊎◌, inl, inr, ℕ, ◌+◌, ◌-◌, ◌<◌, ◌≤◌, max, false, true, if◌then◌else◌, nat_eq, Option, Some, None, List, [], ◌∷◌, length, take, slice_get, refl, sym, ◌∙◌, ap, subst, arith, IsTrue, IsSome, is_some, Result, Ok, Err, OnOk, OnErr}
 use Rattle.io_state.specs.declared.fault.Fault.{Fault}
 use Rattle.page_cache.proofs.OverLemmas.{over_same, pages_same, clean_same, over_read, pages_read, keeps_same}
 use Rattle.page_cache.proofs.WriteLemmas.{counted_low}
@@ -7,17 +7,17 @@ use Rattle.page_cache.specs.Calls.{Zeroed, KeepsPages}
 use Rattle.page_cache.specs.Rewrites.{IsZeros}
 use Rattle.std.specs.Option.{option_map_or}
 use Rattle.std.specs.Cmp.{nat_eq_equiv}
-use Rattle.std.specs.Map.{lookup, lookup_entry}
+use Rattle.std.specs.Map.{lookup}
 use Rattle.std.proofs.lemmas.Bool.{cases_Bool, cases_eq, both_ways, eqb-true, ne_eqb}
 use Rattle.lru.specs.LruCache.{LruCache, lru_cache, put_entries}
-use Rattle.page_store.specs.File.{content}
+use Rattle.page_store.specs.DeviceFile.{content}
 use Rattle.page_store.specs.Pages.{page_of, HasPages}
-use Rattle.page_store.specs.ShelfState.{ShelfState, unit_name, unit_file, OnlyReads}
+use Rattle.page_store.specs.ShelfState.{ShelfState, unit_name, unit_file, OnlyAnswers}
 use Rattle.page_cache.specs.declared.frame.Frame.{Frame}
 use Rattle.page_cache.specs.declared.cache.Cache.{Cache}
 use Rattle.page_cache.specs.Cached.{frame_of, is_counted, pages_of, IsOver, IsClean}
 use Rattle.page_cache.specs.Turning.{HasRoom}
-use Rattle.page_cache.proofs.FrameLemmas.{lookup-lookup_entry}
+use Rattle.page_cache.proofs.FrameLemmas.{put_front}
 
 module _ {X : Type 0} where
   -- what a list without its last entry finds
@@ -40,16 +40,9 @@ module _ {X : Type 0} where
     ]
   ]
 
-  entry_none : (o : Option (ℕ × X)) → option_map (λ e. e.1) o ≡ None → o ≡ None
-  entry_none None is = refl
-  entry_none (Some e) is = absurd (cc)
-
-  pub put_front : (c : LruCache ℕ X) (n : ℕ) (value : X) → lookup (nat_eq n) c.entries ≡ None → put_entries nat_eq c n value ≡ (n, value) ∷ take (c.cap - 1) c.entries
-  put_front c n value absent = rw (entry_none (lookup_entry (nat_eq n) c.entries) (sym (lookup-lookup_entry (nat_eq n) c.entries) ∙ absent)) refl
-
 -- the frame stands in front of the others, of which the last may be gone
 module _ (c d : Cache) (t u : ShelfState) (n : ℕ) (frame : Frame) (over : IsOver c t) (room : HasRoom c t) (fits : length c.frames.entries ≤ c.frames.cap) (counted : IsTrue (is_counted c n))
-    (absent : frame_of c n ≡ None) (store : d.store ≡ c.store) (put : d.frames ≡ lru_cache (put_entries nat_eq c.frames n frame) c.frames.cap) (only : OnlyReads t u) where
+    (absent : frame_of c n ≡ None) (store : d.store ≡ c.store) (put : d.frames ≡ lru_cache (put_entries nat_eq c.frames n frame) c.frames.cap) (only : OnlyAnswers t u) where
   entries : d.frames.entries ≡ (n, frame) ∷ take (c.frames.cap - 1) c.frames.entries
   entries = ap (λ frames. frames.entries) put ∙ put_front c.frames n frame absent
 
@@ -138,7 +131,7 @@ pub record Brought (n : ℕ) (r : Result (Unit {0}) Fault) (c d : Cache) (t u : 
   pub clean : IsClean c → IsClean d
 
 pub brought : (c d : Cache) (t u : ShelfState) (n : ℕ) (frame : Frame) → IsOver c t → HasRoom c t → length c.frames.entries ≤ c.frames.cap → IsTrue (is_counted c n) → frame_of c n ≡ None → d.store ≡ c.store
-    → OnlyReads t u → frame.changed ≡ false → (IsTrue u.is_honest → frame.page.value ≡ page_of (content (unit_file t c.store.unit)) n)
+    → OnlyAnswers t u → frame.changed ≡ false → (IsTrue u.is_honest → frame.page.value ≡ page_of (content (unit_file t c.store.unit)) n)
     → (r : Result (Unit {0}) Fault) → OnOk r (d.frames ≡ lru_cache (put_entries nat_eq c.frames n frame) c.frames.cap) → OnErr r (d.frames ≡ c.frames) → Brought n r c d t u
 brought c d t u n frame over room fits counted absent store only unchanged bytes (Ok x) put kept = record {
   held = ap is_some (put_here c d t u n frame over room fits counted absent store put only);
@@ -169,7 +162,7 @@ pub blanked : (c d : Cache) (t : ShelfState) (n : ℕ) (frame : Frame) → IsOve
     → frame.changed ≡ true → IsZeros frame.page.value
     → (r : Result (Unit {0}) Fault) → OnOk r (d.frames ≡ lru_cache (put_entries nat_eq c.frames n frame) c.frames.cap) → OnErr r (d.frames ≡ c.frames) → Blanked n r c d t
 blanked c d t n frame over room fits counted absent store changed zeros (Ok x) put kept =
-    let only : OnlyReads t t = record { names = refl; file = refl; honest = λ h. h } in
+    let only : OnlyAnswers t t = record { names = refl; file = refl; honest = λ h. h } in
     let low = (counted_low c n counted).1 in
     let most : c.store.pages ≡ max c.store.pages (n + 1) = omega arith in
     record {

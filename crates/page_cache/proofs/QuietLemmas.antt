@@ -1,17 +1,17 @@
 -- Doing nothing goes quietly, and so do two steps in a row.
 use Rattle.std.proofs.Common.{◌≡◌, ℕ, refl, sym, ◌∙◌, ap, subst}
-use Rattle.page_store.specs.File.{File}
+use Rattle.page_store.specs.DeviceFile.{DeviceFile}
 use Rattle.page_store.proofs.MomentLemmas.{quiet_none, quiet_then}
-use Rattle.page_store.specs.ShelfState.{ShelfState, unit_name, unit_file, OnlyReads, ChangesOnly, IsQuiet}
+use Rattle.page_store.specs.ShelfState.{ShelfState, unit_name, unit_file, OnlyAnswers, ChangesOnly, IsQuiet}
 use Rattle.page_cache.specs.Quietly.{GoesQuietly}
 use Rattle.page_cache.specs.Cached.{IsOver}
 use Rattle.page_cache.specs.Calls.{Looks, KeepsPages}
 use Rattle.page_cache.specs.declared.cache.Cache.{Cache}
 
-pub reads_quietly : (unit : ℕ) (a b : ShelfState) → OnlyReads a b → GoesQuietly unit a b
+pub reads_quietly : (unit : ℕ) (a b : ShelfState) → OnlyAnswers a b → GoesQuietly unit a b
 reads_quietly unit a b only = record {
   others = record { names = only.names; others = λ name _. ap (λ file. file name) only.file; honest = only.honest };
-  quiet = quiet_none (unit_file a unit) (unit_file b unit) (ap (λ (f : File). f.log) same);
+  quiet = quiet_none (unit_file a unit) (unit_file b unit) (ap (λ (f : DeviceFile). f.log) same);
 }
   where
     same : unit_file b unit ≡ unit_file a unit

@@ -3,18 +3,19 @@ use Rattle.std.proofs.Common.{zero, suc, ◌≡◌, ◌≢◌, inl, inr, ℕ, �
 use Rattle.std.specs.List.{IsDistinct, AllByRecursion}
 use Rattle.std.specs.Map.{keys_of, lookup, lookup_entry, remove_entry, set_value}
 use Rattle.std.specs.Option.{option_map_or}
-use Rattle.std.proofs.lemmas.Bool.{eq-eqb, eqb-false, ne_eqb, cases_eq}
+use Rattle.std.proofs.lemmas.Bool.{eq-eqb, eqb-false, ne_eqb, cases_eq, both_ways}
 use Rattle.lru.specs.LruCache.{promoted}
+use Rattle.lru.proofs.CallerLemmas.{Contains-lookup_entry}
 use Rattle.page_cache.specs.declared.frame.Frame.{Frame}
 use Rattle.std.proofs.lemmas.List.{length-take}
 use Rattle.lru.specs.LruCache.{lru_cache}
-use Rattle.page_store.specs.File.{content}
+use Rattle.page_store.specs.DeviceFile.{content}
 use Rattle.page_store.specs.Pages.{page_of, HasPages}
 use Rattle.page_store.specs.ShelfState.{ShelfState, HasUnit, unit_file}
 use Rattle.page_cache.specs.declared.cache.Cache.{Cache}
 use Rattle.page_cache.specs.Cached.{frame_of, is_counted, pages_of, IsOver, IsClean}
 use Rattle.std.proofs.lemmas.Map.Entries.{place_from_lookup}
-use Rattle.page_cache.proofs.FrameLemmas.{set_here, set_apart}
+use Rattle.page_cache.proofs.FrameLemmas.{set_here, set_apart, lookup-lookup_entry, entry_none}
 use Rattle.page_cache.specs.Turning.{settled, settle_found, Turned}
 
 distinct_parts : (k : ℕ) (ks : List ℕ) → IsDistinct nat_eq (k ∷ ks) → AllByRecursion (λ y. nat_eq k y ≡ false) ks × IsDistinct nat_eq ks
@@ -49,6 +50,36 @@ pub settled_last : (es : List (ℕ × Frame)) (n : ℕ) (frame : Frame) → IsDi
 settled_last es n frame distinct is found =
     let last = remove_last es n frame distinct is in
     rw (found, last.1, eq-eqb n n refl) (ap (λ l. (n, record frame { changed = false }) ∷ l) last.0)
+
+-- a page that is held, put in front and marked
+pub settled_found : (n : ℕ) (es : List (ℕ × Frame)) (frame : Frame) → is_some (lookup (nat_eq n) es) ≡ true → option_map (λ e. e.1) (slice_get (promoted (nat_eq n) es) 0) ≡ Some frame
+    → set_value (λ _. true) (promoted (nat_eq n) es) (record frame { changed = false }) ≡ settled n es
+settled_found n es frame held first = go (lookup_entry (nat_eq n) es) refl
+  where
+    go : (o : Option (ℕ × Frame)) → lookup_entry (nat_eq n) es ≡ o → set_value (λ _. true) (promoted (nat_eq n) es) (record frame { changed = false }) ≡ settled n es
+    go None is =
+        let none : is_some (lookup (nat_eq n) es) ≡ false = ap is_some (lookup-lookup_entry (nat_eq n) es ∙ ap (option_map (λ e. e.1)) is) in
+        absurd (both_ways (is_some (lookup (nat_eq n) es)) none held)
+    go (Some e) is =
+        let rest = remove_entry (nat_eq n) es in
+        let front : promoted (nat_eq n) es ≡ e ∷ rest = ap (λ (o : Option (ℕ × Frame)). option_map_or (λ e. e ∷ remove_entry (nat_eq n) es) o es) is in
+        let found : lookup (nat_eq n) es ≡ Some e.1 = lookup-lookup_entry (nat_eq n) es ∙ ap (option_map (λ e. e.1)) is in
+        let value : Some e.1 ≡ Some frame = sym (ap (λ (l : List (ℕ × Frame)). option_map (λ e. e.1) (slice_get l 0)) front) ∙ first in
+        let same : e.1 ≡ frame = ap (λ (o : Option Frame). option_map_or (λ f. f) o frame) value in
+        let w : Frame = record frame { changed = false } in
+        let here : set_value (nat_eq n) (e ∷ rest) w ≡ (e.0, w) ∷ rest = rw (Contains-lookup_entry (nat_eq n) es e is).1 refl in
+        ap (λ l. set_value (λ _. true) l w) front ∙ sym here ∙ ap (λ l. set_value (nat_eq n) l w) (sym front)
+        ∙ ap (λ (f : Frame). set_value (nat_eq n) (promoted (nat_eq n) es) (record f { changed = false })) (sym same) ∙ ap (settle_found n es) (sym found)
+
+-- a page that is not held
+pub settled_absent : (n : ℕ) (es : List (ℕ × Frame)) → is_some (lookup (nat_eq n) es) ≡ false → promoted (nat_eq n) es ≡ settled n es
+settled_absent n es absent =
+    let none = none_of (lookup (nat_eq n) es) absent in
+    ap (λ (o : Option (ℕ × Frame)). option_map_or (λ e. e ∷ remove_entry (nat_eq n) es) o es) (entry_none (lookup_entry (nat_eq n) es) (sym (lookup-lookup_entry (nat_eq n) es) ∙ none)) ∙ ap (settle_found n es) (sym none)
+  where
+    none_of : (o : Option Frame) → is_some o ≡ false → o ≡ None
+    none_of None is = refl
+    none_of (Some f) is = absurd (cc)
 
 -- what a turn of the frames leaves
 pub turned : (c d : Cache) (n : ℕ) (frame : Frame) → IsDistinct nat_eq (keys_of c.frames.entries) → slice_get c.frames.entries (length c.frames.entries - 1) ≡ Some (n, frame) → frame_of c n ≡ Some frame

@@ -6,7 +6,7 @@ use Rattle.std.specs.Cmp.{nat_eq_equiv}
 use Rattle.std.proofs.lemmas.Map.Entries.{lookup_from_place}
 use Rattle.std.proofs.lemmas.Bool.{cases_Bool, both_ways, and_parts, ltb-true}
 use Rattle.lru.specs.LruCache.{IsValid, last_entry}
-use Rattle.page_store.specs.File.{File, content}
+use Rattle.page_store.specs.DeviceFile.{DeviceFile, content}
 use Rattle.page_store.specs.Pages.{page_of, HasPages, PageWritten, PageFails}
 use Rattle.page_store.specs.PageFacts.{page_over}
 use Rattle.page_store.proofs.PageLemmas.{written_is_read, others_read, others_kept}
@@ -19,14 +19,14 @@ use Rattle.page_cache.specs.Turning.{HasRoom, IsLastWritten}
 use Rattle.page_cache.specs.Calls.{Looks}
 use Rattle.page_cache.specs.Rewrites.{Rewrites}
 
-pub fewer : (n pages : ℕ) (f : File) → n ≤ pages → HasPages pages f → HasPages n f
+pub fewer : (n pages : ℕ) (f : DeviceFile) → n ≤ pages → HasPages pages f → HasPages n f
 fewer n pages f le has = record { there = has.there; long = let l = has.long in omega arith }
 
 pub over_positive : (n : ℕ) (old page : List ℕ) → 0 < n → page_over n old page ≡ page
 over_positive zero old page low = absurd (omega arith)
 over_positive (suc n) old page low = refl
 
-pub written_here : (f g : File) (n pages : ℕ) (page : List ℕ) → 0 < n → n < pages → HasPages pages f → length page ≡ 4096 → PageWritten n page f g → page_of (content g) n ≡ page
+pub written_here : (f g : DeviceFile) (n pages : ℕ) (page : List ℕ) → 0 < n → n < pages → HasPages pages f → length page ≡ 4096 → PageWritten n page f g → page_of (content g) n ≡ page
 written_here f g n pages page low within has whole w = written_is_read f g n page (fewer n pages f (omega arith) has) whole w ∙ over_positive n (content f) page low
 
 pub same_unit : (unit : ℕ) (s t : ShelfState) → ChangesOnly unit s t → HasUnit s unit → HasUnit t unit

@@ -2,7 +2,7 @@
 use Rattle.std.specs.Prelude.{◌≡◌, ℕ, ltb, ◌&&◌, if◌then◌else◌, Bool, false, IsTrue, nat_eq, List, [], Option, Some}
 use Rattle.std.specs.Option.{option_map_or}
 use Rattle.std.specs.Map.{lookup}
-use Rattle.page_store.specs.File.{File, content}
+use Rattle.page_store.specs.DeviceFile.{DeviceFile, content}
 use Rattle.page_store.specs.Pages.{page_of, HasPages}
 use Rattle.page_store.specs.ShelfState.{ShelfState, HasUnit, unit_file, WhereHonest}
 use Rattle.page_cache.specs.declared.frame.Frame.{Frame}
@@ -17,7 +17,7 @@ abbrev pub is_counted : Cache → ℕ → Bool
 is_counted cache n = ltb 0 n && ltb n cache.store.pages
 
 -- each page of the store as the cache shows it over a file; the header and what is past the last page have no bytes here
-abbrev pub pages_in : Cache → File → ℕ → List ℕ
+abbrev pub pages_in : Cache → DeviceFile → ℕ → List ℕ
 pages_in cache file n = option_map_or (λ frame. frame.page.value) (frame_of cache n) (if is_counted cache n then page_of (content file) n else [])
 
 -- the pages over the unit's file

@@ -2,7 +2,7 @@
 use Rattle.std.specs.Prelude.{◌≡◌, ℕ, ◌+◌, ◌-◌, false, nat_eq, IsTrue, List, length, take, slice_get, Option, Some, None}
 use Rattle.std.specs.Map.{lookup, set_value}
 use Rattle.lru.specs.LruCache.{last_entry, promoted}
-use Rattle.page_store.specs.File.{content}
+use Rattle.page_store.specs.DeviceFile.{content}
 use Rattle.page_store.specs.Pages.{page_of}
 use Rattle.page_store.specs.ShelfState.{ShelfState, unit_file}
 use Rattle.page_cache.specs.declared.frame.Frame.{Frame}

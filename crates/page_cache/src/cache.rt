@@ -2,17 +2,17 @@
 ghost use Rattle.std.specs.Prelude.{◌≡◌, ◌≢◌, ℕ, ◌+◌, ◌-◌, ◌^◌, ◌<◌, ◌≤◌, max, [], length, min, nat_eq, slice_get, option_map, None, Some, IsSome, is_some, IsTrue, IfOk, OnOk, OnErr, if◌then◌else◌};
 ghost use Rattle.std.specs.NonZero.{non_zero_usize_get};
 ghost use Rattle.lru.specs.LruCache.{lru_cache, put_entries};
-ghost use Rattle.page_store.specs.File.{content};
+ghost use Rattle.page_store.specs.DeviceFile.{content};
 ghost use Rattle.page_store.specs.Pages.{page_of, HasPages};
-ghost use Rattle.page_store.specs.ShelfState.{ShelfState, HasUnit, unit_file, WhereHonest, OnlyReads, HasCause};
+ghost use Rattle.page_store.specs.ShelfState.{ShelfState, HasUnit, unit_file, WhereHonest, OnlyAnswers, FaultHasCause};
 ghost use Rattle.page_cache.specs.Cached.{frame_of, is_counted, pages_of, IsOver, IsClean};
 ghost use Rattle.page_cache.specs.Calls.{KeepsPages, Zeroed, GoesOn, Looks};
 ghost use Rattle.page_cache.specs.Lending.{SameFrames};
 ghost use Rattle.page_cache.specs.Turning.{HasRoom, IsLastWritten, settled, Turned};
 
 use crate::frame::{self, Frame};
+use crate::frames::Frames;
 use io_state::Fault;
-use lru::LruCache;
 use page_store::{Shelf, Store};
 use std::alloc::Global;
 use std::num::NonZeroUsize;
@@ -21,7 +21,7 @@ use std::num::NonZeroUsize;
 #[derive(Drop)]
 pub struct Cache {
     pub store: Store,
-    pub frames: LruCache<u32, Frame>,
+    pub frames: Frames,
     pub spare: Option<Box<[u8; 4096]>>,
     pub asked: u64,
     pub alloc: Global,
@@ -43,7 +43,7 @@ impl Cache {
     {
         Ok(Cache {
             store,
-            frames: LruCache::sparse(alloc, frames).map_err(|_| Fault::Memory)?,
+            frames: Frames::new(alloc, frames).map_err(|_| Fault::Memory)?,
             spare: None,
             asked: 0,
             alloc,
@@ -75,6 +75,7 @@ impl Cache {
     /// Sees to it that page `n` is held, and counts one page asked. Where all frames are taken, the page used last
     /// longest ago is pushed out, and written first where it was changed. A fault loses no page, and leaves the list
     /// of pages as it was.
+    #[inline(always)]
     pub fn load<S: Shelf>(&mut self, shelf: &mut S, n: u32) -> Result<(), Fault>
         requires over { IsOver self.old (S.state shelf.old) }
         requires page { IsTrue (is_counted self.old n) }
@@ -82,7 +83,7 @@ impl Cache {
         ensures kept { KeepsPages self.old self.new (S.state shelf.old) (S.state shelf.new) }
         ensures asked { self.new.asked ≡ min (self.old.asked + 1) (2 ^ 64 - 1) }
         ensures looks { Looks self.old self.new (S.state shelf.old) (S.state shelf.new) }
-        ensures cause { HasCause (S.fault_count shelf.old) (S.fault_count shelf.new) result }
+        ensures cause { FaultHasCause (S.fault_count shelf.old) (S.fault_count shelf.new) result }
     {
         self.asked = self.asked.saturating_add(1);
         if self.promote(n) {
@@ -92,17 +93,20 @@ impl Cache {
     }
 
     // Puts page n in front, where it is held.
-    fn promote(&mut self, n: u32) -> bool
+    #[inline(always)]
+    pub(crate) fn promote(&mut self, n: u32) -> bool
         ensures held { result ≡ is_some (frame_of self.old n) }
+        ensures first { IsTrue result → option_map (λ e. e.0) (slice_get self.new.frames.entries 0) ≡ Some n }
         ensures same { SameFrames self.old self.new }
     {
         if self.is_first(n) {
             return true;
         }
-        self.frames.promote(&n)
+        self.frames.promote(n)
     }
 
     // Whether page n is the one used last.
+    #[inline(always)]
     pub(crate) fn is_first(&self, n: u32) -> bool
         ensures held { IsTrue result → IsSome (frame_of self.now n) }
         ensures first { IsTrue result → option_map (λ e. e.0) (slice_get self.now.frames.entries 0) ≡ Some n }
@@ -122,7 +126,7 @@ impl Cache {
         ensures kept { OnErr result (KeepsPages self.old self.new (S.state shelf.old) (S.state shelf.new)) }
         ensures goes_on { GoesOn self.old self.new (S.state shelf.old) (S.state shelf.new) }
         ensures asked { self.new.asked ≡ min (self.old.asked + 1) (2 ^ 64 - 1) }
-        ensures cause { HasCause (S.fault_count shelf.old) (S.fault_count shelf.new) result }
+        ensures cause { FaultHasCause (S.fault_count shelf.old) (S.fault_count shelf.new) result }
     {
         if n < self.store.pages {
             return self.clear(shelf, n);
@@ -138,7 +142,7 @@ impl Cache {
         ensures kept { OnErr result (KeepsPages self.old self.new (S.state shelf.old) (S.state shelf.new)) }
         ensures goes_on { GoesOn self.old self.new (S.state shelf.old) (S.state shelf.new) }
         ensures asked { self.new.asked ≡ min (self.old.asked + 1) (2 ^ 64 - 1) }
-        ensures cause { HasCause (S.fault_count shelf.old) (S.fault_count shelf.new) result }
+        ensures cause { FaultHasCause (S.fault_count shelf.old) (S.fault_count shelf.new) result }
     {
         self.asked = self.asked.saturating_add(1);
         let _held = self.promote(n);
@@ -160,7 +164,7 @@ impl Cache {
         ensures kept { OnErr result (KeepsPages self.old self.new (S.state shelf.old) (S.state shelf.new)) }
         ensures goes_on { GoesOn self.old self.new (S.state shelf.old) (S.state shelf.new) }
         ensures asked { self.new.asked ≡ self.old.asked }
-        ensures cause { HasCause (S.fault_count shelf.old) (S.fault_count shelf.new) result }
+        ensures cause { FaultHasCause (S.fault_count shelf.old) (S.fault_count shelf.new) result }
     {
         self.make_room(shelf)?;
         let mut page = self.box_for_page()?;
@@ -182,7 +186,7 @@ impl Cache {
         ensures kept { OnErr result (KeepsPages self.old self.new (S.state shelf.old) (S.state shelf.new)) }
         ensures goes_on { GoesOn self.old self.new (S.state shelf.old) (S.state shelf.new) }
         ensures asked { self.new.asked ≡ min (self.old.asked + 1) (2 ^ 64 - 1) }
-        ensures cause { HasCause (S.fault_count shelf.old) (S.fault_count shelf.new) result }
+        ensures cause { FaultHasCause (S.fault_count shelf.old) (S.fault_count shelf.new) result }
     {
         self.asked = self.asked.saturating_add(1);
         self.make_room(shelf)?;
@@ -213,7 +217,7 @@ impl Cache {
         ensures clean { OnOk result (IsClean self.new) }
         ensures kept { KeepsPages self.old self.new (S.state shelf.old) (S.state shelf.new) }
         ensures asked { self.new.asked ≡ self.old.asked }
-        ensures cause { HasCause (S.fault_count shelf.old) (S.fault_count shelf.new) result }
+        ensures cause { FaultHasCause (S.fault_count shelf.old) (S.fault_count shelf.new) result }
     {
         for turn in 0..self.frames.len() {
             self.settle_last(shelf)?;
@@ -228,7 +232,7 @@ impl Cache {
         ensures turned { OnOk result (Turned self.old self.new) }
         ensures kept { KeepsPages self.old self.new (S.state shelf.old) (S.state shelf.new) }
         ensures asked { self.new.asked ≡ self.old.asked }
-        ensures cause { HasCause (S.fault_count shelf.old) (S.fault_count shelf.new) result }
+        ensures cause { FaultHasCause (S.fault_count shelf.old) (S.fault_count shelf.new) result }
     {
         self.write_last(shelf)?;
         let _held = self.frames.len();
@@ -248,13 +252,17 @@ impl Cache {
         ensures store { self.new.store ≡ self.old.store }
         ensures asked { self.new.asked ≡ self.old.asked }
     {
-        match self.frames.get_mut(&n) {
+        if !self.frames.promote(n) {
+            return;
+        }
+        match self.frames.first_mut() {
             Some(frame) => frame.changed = false,
             None => {}
         }
     }
 
     // Reads a page that is not held.
+    #[inline(never)]
     fn bring<S: Shelf>(&mut self, shelf: &mut S, n: u32) -> Result<(), Fault>
         requires over { IsOver self.old (S.state shelf.old) }
         requires page { IsTrue (is_counted self.old n) }
@@ -263,7 +271,7 @@ impl Cache {
         ensures kept { KeepsPages self.old self.new (S.state shelf.old) (S.state shelf.new) }
         ensures asked { self.new.asked ≡ self.old.asked }
         ensures looks { Looks self.old self.new (S.state shelf.old) (S.state shelf.new) }
-        ensures cause { HasCause (S.fault_count shelf.old) (S.fault_count shelf.new) result }
+        ensures cause { FaultHasCause (S.fault_count shelf.old) (S.fault_count shelf.new) result }
     {
         self.make_room(shelf)?;
         let page = self.read(shelf, n)?;
@@ -283,7 +291,7 @@ impl Cache {
         ensures kept { KeepsPages self.old self.new (S.state shelf.old) (S.state shelf.new) }
         ensures same { self.new ≡ self.old }
         ensures looks { Looks self.old self.new (S.state shelf.old) (S.state shelf.new) }
-        ensures cause { HasCause (S.fault_count shelf.old) (S.fault_count shelf.new) result }
+        ensures cause { FaultHasCause (S.fault_count shelf.old) (S.fault_count shelf.new) result }
     {
         if self.frames.len() < self.frames.cap().get() {
             return Ok(());
@@ -298,7 +306,7 @@ impl Cache {
         ensures kept { KeepsPages self.old self.new (S.state shelf.old) (S.state shelf.new) }
         ensures same { self.new ≡ self.old }
         ensures looks { Looks self.old self.new (S.state shelf.old) (S.state shelf.new) }
-        ensures cause { HasCause (S.fault_count shelf.old) (S.fault_count shelf.new) result }
+        ensures cause { FaultHasCause (S.fault_count shelf.old) (S.fault_count shelf.new) result }
     {
         let _held = self.frames.len();
         let Some((n, frame)) = self.frames.peek_lru() else {
@@ -319,8 +327,8 @@ impl Cache {
         ensures frames { self.new.frames ≡ self.old.frames }
         ensures store { self.new.store ≡ self.old.store }
         ensures asked { self.new.asked ≡ self.old.asked }
-        ensures only { OnlyReads (S.state shelf.old) (S.state shelf.new) }
-        ensures cause { HasCause (S.fault_count shelf.old) (S.fault_count shelf.new) result }
+        ensures only { OnlyAnswers (S.state shelf.old) (S.state shelf.new) }
+        ensures cause { FaultHasCause (S.fault_count shelf.old) (S.fault_count shelf.new) result }
     {
         let mut page = self.box_for_page()?;
         match self.store.read_page(shelf, n, &mut *page) {
@@ -347,6 +355,7 @@ impl Cache {
 
     // Puts a frame in front, and keeps the box that it pushes out.
     fn put(&mut self, n: u32, frame: Frame) -> Result<(), Fault>
+        requires { frame_of self.old n ≡ None }
         ensures put { OnOk result (self.new.frames ≡ lru_cache (put_entries nat_eq self.old.frames n frame) self.old.frames.cap) }
         ensures kept { OnErr result (self.new.frames ≡ self.old.frames) }
         ensures fits { length self.old.frames.entries ≤ self.old.frames.cap }
@@ -356,14 +365,12 @@ impl Cache {
     {
         let _held = self.frames.len();
         match self.frames.push(n, frame) {
-            Ok(Some((_, Frame { page, .. }))) => {
-                self.spare = Some(page);
+            Ok(left) => {
+                self.spare = left.map(|Frame { page, .. }| page);
                 Ok(())
             }
-            Ok(None) => Ok(()),
-            Err(failed) => {
-                let (_, Frame { page, .. }) = failed.value;
-                self.spare = Some(page);
+            Err(left) => {
+                self.spare = left.map(|Frame { page, .. }| page);
                 Err(Fault::Memory)
             }
         }

@@ -1,12 +1,12 @@
 //! The header page and the gate, which are not asked through the frames.
 ghost use Rattle.std.specs.Prelude.{◌≡◌, ◌<◌, IsTrue, OnOk, OnErr};
-ghost use Rattle.page_store.specs.File.{content};
+ghost use Rattle.page_store.specs.DeviceFile.{content};
 ghost use Rattle.page_store.specs.Images.{IsSettled};
 ghost use Rattle.page_store.specs.Moments.{Throughout};
 ghost use Rattle.page_store.specs.Gate.{AllRefused, AllOpen, with_gate, WasOrRefused, SameOrRefused, ClosedOrRefused};
 ghost use Rattle.page_store.specs.Pages.{page_of};
 ghost use Rattle.page_store.specs.PageFacts.{page_over};
-ghost use Rattle.page_store.specs.ShelfState.{unit_file, FileGoes, KeepsOthers, OnlyReads, ChangesOnly, HasCause};
+ghost use Rattle.page_store.specs.ShelfState.{unit_file, FileGoes, KeepsOthers, OnlyAnswers, ChangesOnly, FaultHasCause};
 ghost use Rattle.page_cache.specs.Cached.{IsOver};
 ghost use Rattle.page_cache.specs.Calls.{KeepsPages, ShowsSame};
 
@@ -22,8 +22,8 @@ impl Cache {
         ensures answer { let file = unit_file (S.state shelf.old) self.now.store.unit in
             OnOk result (IsTrue (S.state shelf.new).is_honest → page.new ≡ page_of (content file) 0) }
         ensures over { IsOver self.now (S.state shelf.new) }
-        ensures only { OnlyReads (S.state shelf.old) (S.state shelf.new) }
-        ensures cause { HasCause (S.fault_count shelf.old) (S.fault_count shelf.new) result }
+        ensures only { OnlyAnswers (S.state shelf.old) (S.state shelf.new) }
+        ensures cause { FaultHasCause (S.fault_count shelf.old) (S.fault_count shelf.new) result }
     {
         self.store.read_page(shelf, 0, page)
     }
@@ -37,7 +37,7 @@ impl Cache {
             ≡ page_over 0 (content (unit_file (S.state shelf.old) self.old.store.unit)) page.now) }
         ensures kept { KeepsPages self.old self.new (S.state shelf.old) (S.state shelf.new) }
         ensures same { self.new ≡ self.old }
-        ensures cause { HasCause (S.fault_count shelf.old) (S.fault_count shelf.new) result }
+        ensures cause { FaultHasCause (S.fault_count shelf.old) (S.fault_count shelf.new) result }
     {
         let _pages = self.store.pages;
         self.store.write_page(shelf, 0, page)
@@ -57,7 +57,7 @@ impl Cache {
             FileGoes self.now.store.unit (S.state shelf.old) (S.state shelf.new) SameOrRefused) }
         ensures same { ShowsSame self.now self.now (S.state shelf.old) (S.state shelf.new) }
         ensures only { KeepsOthers self.now.store.unit (S.state shelf.old) (S.state shelf.new) }
-        ensures cause { HasCause (S.fault_count shelf.old) (S.fault_count shelf.new) result }
+        ensures cause { FaultHasCause (S.fault_count shelf.old) (S.fault_count shelf.new) result }
     {
         self.store.begin_change(shelf)
     }
@@ -73,7 +73,7 @@ impl Cache {
             OnOk result ((content new ≡ with_gate 67 (content old)) × IsSettled new) }
         ensures same { OnOk result (ShowsSame self.now self.now (S.state shelf.old) (S.state shelf.new)) }
         ensures only { ChangesOnly self.now.store.unit (S.state shelf.old) (S.state shelf.new) }
-        ensures cause { HasCause (S.fault_count shelf.old) (S.fault_count shelf.new) result }
+        ensures cause { FaultHasCause (S.fault_count shelf.old) (S.fault_count shelf.new) result }
     {
         self.store.finish(shelf)
     }

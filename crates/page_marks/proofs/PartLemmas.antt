@@ -2,7 +2,8 @@
 use Rattle.std.proofs.Common.{◌≡◌, ◌≢◌, ◌⊎◌, ℕ, zero, suc, ◌<◌, ◌≤◌, List, [], ◌∷◌, None, refl, ap, sym, ◌∙◌, arith, inl, inr}
 use Rattle.page_bytes.specs.Each.{Each}
 use Rattle.pages.specs.Owners.{IsOutside, AreApart}
-use Rattle.page_marks.specs.Parted.{own_at, all_of, MarksPartThePages}
+use Rattle.page_marks.specs.Parted.{own_at, all_of}
+use Rattle.page_marks.specs.PartLaw.{MarksPartThePages}
 use Rattle.page_marks.proofs.EachLemmas.{each_weaker, each_join, each_left, each_right, outside_symm, apart_right, apart_across}
 
 pub each_part : (P : ℕ → Type 0) (owns : List (List ℕ)) (i : ℕ) → Each P (all_of owns) → Each P (own_at owns i)

@@ -1,3 +1,4 @@
 pub mod Marks
 pub mod PageList
 pub mod Parted
+pub mod PartLaw

@@ -1,9 +1,8 @@
 -- The parts of a file: no page belongs to two of them, and each page in use to one.
-use Rattle.std.specs.Prelude.{◌≡◌, ◌≢◌, ℕ, ◌<◌, ◌≤◌, Bool, true, List, [], flat_map, None, slice_index_or}
+use Rattle.std.specs.Prelude.{◌≡◌, ◌≢◌, ℕ, List, [], flat_map, None, slice_index_or}
 use Rattle.page_bytes.specs.Each.{Each}
 use Rattle.pages.specs.PageMap.{PageMap}
 use Rattle.pages.specs.Owners.{IsOutside}
-use Rattle.page_marks.specs.Marks.{Marks}
 
 -- the pages of part i
 abbrev pub own_at : List (List ℕ) → ℕ → List ℕ
@@ -17,8 +16,3 @@ pub record Parted (pages : PageMap) (owns : List (List ℕ)) : Type 0 where
 -- the pages of all parts, one part after another
 abbrev pub all_of : List (List ℕ) → List ℕ
 all_of owns = flat_map (λ own. own) owns
-
--- At the start those are marked that are not in use below the count; then the parts were walked, and in the end every page below it is marked.
-abbrev pub MarksPartThePages : Type 0
-MarksPartThePages = (pages : PageMap) (count : ℕ) (start final : ℕ → Bool) (owns : List (List ℕ)) → Marks start final (all_of owns)
-    → ((n : ℕ) → n < count → final n ≡ true) → ((n : ℕ) → start n ≡ true → pages n ≡ None) → ((n : ℕ) → count ≤ n → pages n ≡ None) → Parted pages owns

@@ -1,6 +1,6 @@
 -- Each crash of a shelf in memory leaves one of the images.
 use Rattle.std.proofs.Common.{zero, suc, ◌≡◌, ℕ, ◌+◌, ◌<◌, List, [], ◌∷◌, Option, Some, None, option_map, true, false, is_some, ◌||◌, length, slice_index, refl, sym, ◌∙◌, ap, subst, arith, add-zero}
-use Rattle.page_store.specs.File.{File, bytes_or_none, absent}
+use Rattle.page_store.specs.DeviceFile.{DeviceFile, bytes_or_none, absent}
 use Rattle.page_store.specs.Images.{Durable, durable, covered, IsImage, MayLeave, Leaves}
 use Rattle.page_store.specs.CrashImages.{filled, image_of}
 use Rattle.page_store.specs.declared.crash.Image.{Image}
@@ -46,7 +46,7 @@ base_image d = go d.base refl
         some (Some c) bytes e = refl
 
 -- what a crash leaves is one of the images
-pub crash_image : (image : Image) (f : File) → Leaves f f.seen → Leaves f (image_of image f)
+pub crash_image : (image : Image) (f : DeviceFile) → Leaves f f.seen → Leaves f (image_of image f)
 crash_image AsRead f may = may
 crash_image Synced f may = base_image (durable f.log)
 crash_image (Filled byte) f may = go f.seen may

@@ -1,7 +1,7 @@
 -- What a change of the gate does to the images.
 use Rattle.std.proofs.Common.{zero, suc, ◌≡◌, ◌⊎◌, inl, inr, ℕ, ◌+◌, ◌<◌, ◌==◌, List, [], ◌∷◌, ◌++◌, Option, Some, None, false, ◌&&◌, leb, ltb, refl, sym, ◌∙◌, ap, subst, arith, drop, length, slice_index}
 use Rattle.std.proofs.lemmas.Bool.{cases_Bool, or_from, and_right, le-ltb, eqb-true, eqb-false}
-use Rattle.page_store.specs.File.{Step, wrote, synced, File, bytes_or_none, content, overlay}
+use Rattle.page_store.specs.DeviceFile.{FileStep, wrote, synced, DeviceFile, bytes_or_none, content, overlay}
 use Rattle.page_store.specs.Images.{Durable, after, durable, covered, IsImage, MayLeave, Leaves, IsSettled}
 use Rattle.page_store.specs.Calls.{Written, Synced, SyncFails}
 use Rattle.page_store.proofs.ImageLemmas.{durable_push, only_synced, image_only}
@@ -17,60 +17,60 @@ behind : (rs : List (ℕ × ℕ)) (i : ℕ) → 0 < i → covered rs i ≡ false
 behind rs i low out = or_from (leb 0 i && ltb i (0 + 1)) (covered rs i) (and_right (leb 0 i) (ltb i 1) (le-ltb i 1 low)) out
 
 -- after a sync the file is settled
-pub settled_synced : (g h : File) → Synced g h → IsSettled h
+pub settled_synced : (g h : DeviceFile) → Synced g h → IsSettled h
 settled_synced g h so c may =
-    only_synced g.log (content g) c (subst (λ (l : List Step). MayLeave (durable l) c) (ap (λ (x : File). x.log) so.is) may) ∙ ap Some (sym (ap content so.is))
+    only_synced g.log (content g) c (subst (λ (l : List FileStep). MayLeave (durable l) c) (ap (λ (x : DeviceFile). x.log) so.is) may) ∙ ap Some (sym (ap content so.is))
 
-pub content_synced : (g h : File) → Synced g h → content h ≡ content g
+pub content_synced : (g h : DeviceFile) → Synced g h → content h ≡ content g
 content_synced g h so = ap content so.is
 
-pub content_written : (at : ℕ) (bytes : List ℕ) (f g : File) → Written at bytes f g → content g ≡ overlay (content f) at bytes
+pub content_written : (at : ℕ) (bytes : List ℕ) (f g : DeviceFile) → Written at bytes f g → content g ≡ overlay (content f) at bytes
 content_written at bytes f g so = ap content so.is
 
-log_synced : (g h : File) → Synced g h → h.log ≡ g.log ++ synced (content g) ∷ []
-log_synced g h so = ap (λ (x : File). x.log) so.is
+log_synced : (g h : DeviceFile) → Synced g h → h.log ≡ g.log ++ synced (content g) ∷ []
+log_synced g h so = ap (λ (x : DeviceFile). x.log) so.is
 
-pub log_written : (at : ℕ) (bytes : List ℕ) (f g : File) → Written at bytes f g → g.log ≡ f.log ++ wrote at (length bytes) ∷ []
-log_written at bytes f g so = ap (λ (x : File). x.log) so.is
+pub log_written : (at : ℕ) (bytes : List ℕ) (f g : DeviceFile) → Written at bytes f g → g.log ≡ f.log ++ wrote at (length bytes) ∷ []
+log_written at bytes f g so = ap (λ (x : DeviceFile). x.log) so.is
 
 -- a sync: what it leaves is what reads gave
-pub sync_done : (P : Claim) (f g : File) → ((c : Option (List ℕ)) → Leaves f c → P c) → P (Some (content f)) → Synced f g → Throughout P f g
+pub sync_done : (P : Claim) (f g : DeviceFile) → ((c : Option (List ℕ)) → Leaves f c → P c) → P (Some (content f)) → Synced f g → Throughout P f g
 sync_done P f g before now so =
     throughout_one P f g (synced (content f)) (log_synced f g so) before
-    (λ c may. subst P (sym (only_synced f.log (content f) c (subst (λ (l : List Step). MayLeave (durable l) c) (log_synced f g so) may))) now)
+    (λ c may. subst P (sym (only_synced f.log (content f) c (subst (λ (l : List FileStep). MayLeave (durable l) c) (log_synced f g so) may))) now)
 
-pub sync_failed : (P : Claim) (f g : File) → ((c : Option (List ℕ)) → Leaves f c → P c) → P (Some (content f)) → SyncFails f g → Throughout P f g
-sync_failed P f g before now (inl same) = throughout_none P f g (ap (λ (x : File). x.log) same) before
+pub sync_failed : (P : Claim) (f g : DeviceFile) → ((c : Option (List ℕ)) → Leaves f c → P c) → P (Some (content f)) → SyncFails f g → Throughout P f g
+sync_failed P f g before now (inl same) = throughout_none P f g (ap (λ (x : DeviceFile). x.log) same) before
 sync_failed P f g before now (inr so) = sync_done P f g before now so
 
 -- the first byte is written and synced, where each image before, while the byte is not synced, and after has P
-module _ (P : Claim) (gate : ℕ) (f : File) (before : (c : Option (List ℕ)) → Leaves f c → P c) (during : (c : Option (List ℕ)) → MayLeave (after (durable f.log) (wrote 0 1)) c → P c) (now : P (Some (with_gate gate (content f)))) where
-  noted : (g : File) → g.log ≡ f.log ++ wrote 0 1 ∷ [] → Throughout P f g
+module _ (P : Claim) (gate : ℕ) (f : DeviceFile) (before : (c : Option (List ℕ)) → Leaves f c → P c) (during : (c : Option (List ℕ)) → MayLeave (after (durable f.log) (wrote 0 1)) c → P c) (now : P (Some (with_gate gate (content f)))) where
+  noted : (g : DeviceFile) → g.log ≡ f.log ++ wrote 0 1 ∷ [] → Throughout P f g
   noted g same = throughout_one P f g (wrote 0 1) same before (λ c may. during c (subst (λ (d : Durable). MayLeave d c) (ap durable same ∙ durable_push f.log (wrote 0 1)) may))
 
-  wrote_gate : (g : File) → Written 0 (gate ∷ []) f g → Throughout P f g
+  wrote_gate : (g : DeviceFile) → Written 0 (gate ∷ []) f g → Throughout P f g
   wrote_gate g written = noted g (log_written 0 (gate ∷ []) f g written)
 
-  now_seen : (g : File) → Written 0 (gate ∷ []) f g → P (Some (content g))
+  now_seen : (g : DeviceFile) → Written 0 (gate ∷ []) f g → P (Some (content g))
   now_seen g written = subst (λ (bytes : List ℕ). P (Some bytes)) (sym (content_written 0 (gate ∷ []) f g written)) now
 
-  pub gate_done : (g : File) → GateWritten gate f g → Throughout P f g
+  pub gate_done : (g : DeviceFile) → GateWritten gate f g → Throughout P f g
   gate_done g w =
       let first = wrote_gate w.unsynced w.written in
       throughout_then P f w.unsynced g first (sync_done P w.unsynced g (throughout_last P f w.unsynced first) (now_seen w.unsynced w.written) w.synced)
 
-  pub gate_failed : (g : File) → GateFails gate f g → Throughout P f g
-  gate_failed g (inl (inl same)) = throughout_none P f g (ap (λ (x : File). x.log) same) before
-  gate_failed g (inl (inr torn)) = noted g (ap (λ (x : File). x.log) torn.2)
+  pub gate_failed : (g : DeviceFile) → GateFails gate f g → Throughout P f g
+  gate_failed g (inl (inl same)) = throughout_none P f g (ap (λ (x : DeviceFile). x.log) same) before
+  gate_failed g (inl (inr torn)) = noted g (ap (λ (x : DeviceFile). x.log) torn.2)
   gate_failed g (inr w) =
       let first = wrote_gate w.0 w.1 in
       throughout_then P f w.0 g first (sync_failed P w.0 g (throughout_last P f w.0 first) (now_seen w.0 w.1) w.2)
 
 -- what the file is then
-pub gate_content : (gate : ℕ) (f g : File) → GateWritten gate f g → content g ≡ with_gate gate (content f)
+pub gate_content : (gate : ℕ) (f g : DeviceFile) → GateWritten gate f g → content g ≡ with_gate gate (content f)
 gate_content gate f g w = content_synced w.unsynced g w.synced ∙ content_written 0 (gate ∷ []) f w.unsynced w.written
 
-pub gate_settled : (gate : ℕ) (f g : File) → GateWritten gate f g → IsSettled g
+pub gate_settled : (gate : ℕ) (f g : DeviceFile) → GateWritten gate f g → IsSettled g
 gate_settled gate f g w = settled_synced w.unsynced g w.synced
 
 -- an image whose first byte may be any, where reads give a closed gate: it was an image before, or is refused
@@ -99,14 +99,14 @@ pub refused_68 : (bytes : List ℕ) → IsRefused (Some (with_gate 68 bytes))
 refused_68 bytes = inr apart
 
 -- the gate of a closed file is opened
-module _ (f : File) (closed : IsClosed (content f)) (read : Leaves f (Some (content f))) where
+module _ (f : DeviceFile) (closed : IsClosed (content f)) (read : Leaves f (Some (content f))) where
   during : (c : Option (List ℕ)) → MayLeave (after (durable f.log) (wrote 0 1)) c → WasOrRefused f c
   during = opened_image (durable f.log) (content f) closed read
 
-  pub opening_done : (g : File) → GateWritten 68 f g → Throughout (WasOrRefused f) f g
+  pub opening_done : (g : DeviceFile) → GateWritten 68 f g → Throughout (WasOrRefused f) f g
   opening_done = gate_done (WasOrRefused f) 68 f (λ c may. inl may) during (inr (refused_68 (content f)))
 
-  pub opening_failed : (g : File) → GateFails 68 f g → Throughout (WasOrRefused f) f g
+  pub opening_failed : (g : DeviceFile) → GateFails 68 f g → Throughout (WasOrRefused f) f g
   opening_failed = gate_failed (WasOrRefused f) 68 f (λ c may. inl may) during (inr (refused_68 (content f)))
 
 -- after a sync of these bytes and a write of the first one, an image is empty or has another first byte
@@ -125,7 +125,7 @@ byte_image (y ∷ s) (x ∷ c) image = inr (x, let e : y ∷ c ≡ y ∷ s = ima
     each (suc i) within out = image.each (suc i) within (behind [] (suc i) (omega arith) refl)
 
 -- so after a sync
-pub synced_byte : (f g : File) → Synced f g → (c : Option (List ℕ)) → MayLeave (after (durable g.log) (wrote 0 1)) c → (c ≡ Some []) ⊎ ((x : ℕ) × (c ≡ Some (with_gate x (content f))))
+pub synced_byte : (f g : DeviceFile) → Synced f g → (c : Option (List ℕ)) → MayLeave (after (durable g.log) (wrote 0 1)) c → (c ≡ Some []) ⊎ ((x : ℕ) × (c ≡ Some (with_gate x (content f))))
 synced_byte f g so c may = go c (subst (λ (d : Durable). MayLeave (after d (wrote 0 1)) c) (ap durable (log_synced f g so) ∙ durable_push f.log (synced (content f))) may)
   where
     some : (c : List ℕ) → (c ≡ []) ⊎ ((x : ℕ) × (c ≡ with_gate x (content f))) → (Some c ≡ Some []) ⊎ ((x : ℕ) × (Some c ≡ Some (with_gate x (content f))))
@@ -137,7 +137,7 @@ synced_byte f g so c may = go c (subst (λ (d : Durable). MayLeave (after d (wro
     go (Some c) may = some c (byte_image (content f) c may.1)
 
 -- the gate is closed: a sync, the byte, a sync
-module _ (f : File) (shut : AllRefused f) (read : Leaves f (Some (content f))) where
+module _ (f : DeviceFile) (shut : AllRefused f) (read : Leaves f (Some (content f))) where
   before : (c : Option (List ℕ)) → Leaves f c → ClosedOrRefused f c
   before c may = inr (shut c may)
 
@@ -147,28 +147,28 @@ module _ (f : File) (shut : AllRefused f) (read : Leaves f (Some (content f))) w
     | inr isnt ↦ inr (inr (λ same. eqb-false x 67 isnt same))
   ]
 
-  pub closing_synced : (g : File) → Synced f g → Throughout (ClosedOrRefused f) f g
+  pub closing_synced : (g : DeviceFile) → Synced f g → Throughout (ClosedOrRefused f) f g
   closing_synced g = sync_done (ClosedOrRefused f) f g before (inr (shut (Some (content f)) read))
 
-  pub closing_sync_failed : (g : File) → SyncFails f g → Throughout (ClosedOrRefused f) f g
+  pub closing_sync_failed : (g : DeviceFile) → SyncFails f g → Throughout (ClosedOrRefused f) f g
   closing_sync_failed g = sync_failed (ClosedOrRefused f) f g before (inr (shut (Some (content f)) read))
 
-  closing : (g : File) → Synced f g → (c : Option (List ℕ)) → MayLeave (after (durable g.log) (wrote 0 1)) c → ClosedOrRefused f c
+  closing : (g : DeviceFile) → Synced f g → (c : Option (List ℕ)) → MayLeave (after (durable g.log) (wrote 0 1)) c → ClosedOrRefused f c
   closing g so c may = cases (synced_byte f g so c may)
     where
       cases : (c ≡ Some []) ⊎ ((x : ℕ) × (c ≡ Some (with_gate x (content f)))) → ClosedOrRefused f c
       cases (inl empty) = subst (ClosedOrRefused f) (sym empty) (inr (inl (omega arith)))
       cases (inr e) = subst (ClosedOrRefused f) (sym e.1) (either e.0)
 
-  closed_now : (g : File) → Synced f g → ClosedOrRefused f (Some (with_gate 67 (content g)))
+  closed_now : (g : DeviceFile) → Synced f g → ClosedOrRefused f (Some (with_gate 67 (content g)))
   closed_now g so = inl (ap (λ (bytes : List ℕ). Some (with_gate 67 bytes)) (content_synced f g so))
 
-  pub closing_done : (g h : File) → Synced f g → GateWritten 67 g h → Throughout (ClosedOrRefused f) f h
+  pub closing_done : (g h : DeviceFile) → Synced f g → GateWritten 67 g h → Throughout (ClosedOrRefused f) f h
   closing_done g h so w =
       let first = closing_synced g so in
       throughout_then (ClosedOrRefused f) f g h first (gate_done (ClosedOrRefused f) 67 g (throughout_last (ClosedOrRefused f) f g first) (closing g so) (closed_now g so) h w)
 
-  pub closing_failed : (g h : File) → Synced f g → GateFails 67 g h → Throughout (ClosedOrRefused f) f h
+  pub closing_failed : (g h : DeviceFile) → Synced f g → GateFails 67 g h → Throughout (ClosedOrRefused f) f h
   closing_failed g h so w =
       let first = closing_synced g so in
       throughout_then (ClosedOrRefused f) f g h first (gate_failed (ClosedOrRefused f) 67 g (throughout_last (ClosedOrRefused f) f g first) (closing g so) (closed_now g so) h w)

@@ -2,14 +2,14 @@
 use Rattle.std.proofs.Common.{zero, suc, ◌≡◌, ◌⊎◌, inl, inr, ⊎_elim, ℕ, ◌+◌, ◌-◌, ◌<◌, ◌≤◌, leb, ltb, false, ◌&&◌, List, [], ◌∷◌, ◌++◌, length, take, drop, slice_index, Option, Some, None, refl, sym, ◌∙◌, ap, subst, arith, length-append}
 use Rattle.std.proofs.lemmas.Bool.{or_parts, and_cases, leb-false, ltb-false}
 use Rattle.std.proofs.lemmas.List.{get_or_append_left, get_or-append_right, get_or-take, get_or-drop, length-drop, same_lists, get_or_default, length-take-le}
-use Rattle.page_store.specs.File.{Step, wrote, synced, overlay, Torn}
+use Rattle.page_store.specs.DeviceFile.{FileStep, wrote, synced, overlay, Torn}
 use Rattle.page_store.specs.Images.{Durable, nothing, after, durable_from, durable, covered, IsImage, MayLeave}
 
-pub durable_from-append : (d : Durable) (xs ys : List Step) → durable_from d (xs ++ ys) ≡ durable_from (durable_from d xs) ys
+pub durable_from-append : (d : Durable) (xs ys : List FileStep) → durable_from d (xs ++ ys) ≡ durable_from (durable_from d xs) ys
 durable_from-append d [] ys = refl
 durable_from-append d (x ∷ xs) ys = durable_from-append (after d x) xs ys
 
-pub durable_push : (log : List Step) (s : Step) → durable (log ++ s ∷ []) ≡ after (durable log) s
+pub durable_push : (log : List FileStep) (s : FileStep) → durable (log ++ s ∷ []) ≡ after (durable log) s
 durable_push log s = durable_from-append nothing log (s ∷ [])
 
 -- outside one more range
@@ -69,13 +69,13 @@ overlay_torn old at bytes le =
           get_or-append_right (take at old ++ bytes) _ end i 0 front high ∙ get_or-drop end old (i - end) 0 ∙ ap (slice_index old) back;
     }
 
-pub leaves_written : (log : List Step) (was now : List ℕ) (at n : ℕ) → at ≤ length was → Torn at n was now → MayLeave (durable log) (Some was) → MayLeave (durable (log ++ wrote at n ∷ [])) (Some now)
+pub leaves_written : (log : List FileStep) (was now : List ℕ) (at n : ℕ) → at ≤ length was → Torn at n was now → MayLeave (durable log) (Some was) → MayLeave (durable (log ++ wrote at n ∷ [])) (Some now)
 leaves_written log was now at n le torn may = subst (λ (d : Durable). MayLeave d (Some now)) (sym (durable_push log (wrote at n))) (may.0, image_torn _ _ at n was now le torn may.1)
 
-pub leaves_synced : (log : List Step) (bytes : List ℕ) → MayLeave (durable (log ++ synced bytes ∷ [])) (Some bytes)
+pub leaves_synced : (log : List FileStep) (bytes : List ℕ) → MayLeave (durable (log ++ synced bytes ∷ [])) (Some bytes)
 leaves_synced log bytes = subst (λ (d : Durable). MayLeave d (Some bytes)) (sym (durable_push log (synced bytes))) (refl, image_self bytes)
 
-pub only_synced : (log : List Step) (bytes : List ℕ) (c : Option (List ℕ)) → MayLeave (durable (log ++ synced bytes ∷ [])) c → c ≡ Some bytes
+pub only_synced : (log : List FileStep) (bytes : List ℕ) (c : Option (List ℕ)) → MayLeave (durable (log ++ synced bytes ∷ [])) c → c ≡ Some bytes
 only_synced log bytes c may = only c (subst (λ (d : Durable). MayLeave d c) (durable_push log (synced bytes)) may)
   where
     only : (c : Option (List ℕ)) → MayLeave (after (durable log) (synced bytes)) c → c ≡ Some bytes

@@ -3,7 +3,7 @@ use Rattle.std.proofs.Common.{map, inl, inr, zero, suc, ◌≡◌, ℕ, ◌+◌,
 use Rattle.std.proofs.lemmas.List.{get_or-map}
 use Rattle.std.proofs.lemmas.Bool.{cases_Bool, false_from_ne_true}
 use Rattle.std.proofs.lemmas.Slice.Eq.{bytes_eq-Decides}
-use Rattle.page_store.specs.File.{Step, File, absent, IsWithin}
+use Rattle.page_store.specs.DeviceFile.{FileStep, DeviceFile, absent, IsWithin}
 use Rattle.page_store.specs.Events.{steps}
 use Rattle.page_store.specs.MemFiles.{has_name, file_of, file_in, index_of, IsAt, Found, Changed}
 use Rattle.page_store.specs.declared.memory_file.MemFile.{MemFile}
@@ -60,7 +60,7 @@ pub file_push : (fs : List MemFile) (g : MemFile) (name : List ℕ) → file_in 
 file_push [] g name none is = rw is refl
 file_push (f ∷ fs) g name none is =
     elim (cases_Bool (has_name f name)) [
-      | inl e ↦ let same : file_of f ≡ absent = rw e at none in let there : Some f.bytes.items ≡ None = ap (λ (x : File). x.seen) same in absurd (cc)
+      | inl e ↦ let same : file_of f ≡ absent = rw e at none in let there : Some f.bytes.items ≡ None = ap (λ (x : DeviceFile). x.seen) same in absurd (cc)
       | inr e ↦ rw e (file_push fs g name (rw e at none) is)
     ]
 
@@ -94,7 +94,7 @@ none_from (f ∷ fs) name none =
     ]
 
 -- a file that is there is found
-pub not_none : (file : File) (n : ℕ) → IsWithin n file → file.seen ≡ None → ⊥
+pub not_none : (file : DeviceFile) (n : ℕ) → IsWithin n file → file.seen ≡ None → ⊥
 not_none file n within none = let e : true ≡ false = sym within.there ∙ ap is_some none in absurd (cc)
 
 pub found_from : (fs : List MemFile) (name : List ℕ) (i : ℕ) → index_of fs name ≡ Some i → Found fs name i
@@ -104,7 +104,7 @@ found_from fs name i is =
       at = at;
       file = λ d. file_at fs name i d at;
       named = λ d. named_at fs name i d at;
-      within = λ d n h. let e = (subst (λ (f : File). IsWithin n f) (file_at fs name i d at) h).long in e;
+      within = λ d n h. let e = (subst (λ (f : DeviceFile). IsWithin n f) (file_at fs name i d at) h).long in e;
     }
 
 -- the name of a unit
@@ -115,8 +115,8 @@ pub placed : (fs : List MemFile) (name : List ℕ) (r : Option ℕ) → r ≡ in
 placed fs name None is = none_from fs name (sym is)
 placed fs name (Some i) is = found_from fs name i (sym is)
 
-pub file_is : (f : MemFile) (seen : List ℕ) (log : List Step) → f.bytes.items ≡ seen → steps f.log.items ≡ log → file_of f ≡ record { seen = Some seen; log = log }
-file_is f seen log a b = ap (λ (s : List ℕ). record { seen = Some s; log = steps f.log.items }) a ∙ ap (λ (l : List Step). record { seen = Some seen; log = l }) b
+pub file_is : (f : MemFile) (seen : List ℕ) (log : List FileStep) → f.bytes.items ≡ seen → steps f.log.items ≡ log → file_of f ≡ record { seen = Some seen; log = log }
+file_is f seen log a b = ap (λ (s : List ℕ). record { seen = Some s; log = steps f.log.items }) a ∙ ap (λ (l : List FileStep). record { seen = Some seen; log = l }) b
 
 pub changed : (fs : List MemFile) (name : List ℕ) (i : ℕ) (f g : MemFile) → Found fs name i → f ≡ get_or fs i f → g.name ≡ f.name → Changed fs name i f g
 changed fs name i f g found is same =

@@ -2,7 +2,7 @@
 use Rattle.std.proofs.Common.{zero, suc, is_some, ◌≡◌, ℕ, List, [], ◌∷◌, ◌++◌, Option, Some, None, true, false, refl, sym, ◌∙◌, ap, subst, inl, inr}
 use Rattle.std.proofs.lemmas.Bool.{cases_Bool}
 use Rattle.std.proofs.lemmas.Slice.Eq.{bytes_eq-Decides}
-use Rattle.page_store.specs.File.{File, absent, synced}
+use Rattle.page_store.specs.DeviceFile.{DeviceFile, absent, synced}
 use Rattle.page_store.specs.Images.{Leaves}
 use Rattle.page_store.proofs.ImageLemmas.{only_synced}
 use Rattle.page_store.specs.CrashImages.{Crashed, image_of}
@@ -15,9 +15,9 @@ use Rattle.page_store.specs.declared.crash.Image.{Image}
 -- a file that was kept
 pub crashed_some : (image : Image) (f g : MemFile) (bytes : List ℕ) → Some bytes ≡ image_of image (file_of f) → file_of g ≡ record { seen = Some bytes; log = synced bytes ∷ [] } → Crashed image (file_of f) (file_of g)
 crashed_some image f g bytes left is = record {
-  left = ap (λ (x : File). x.seen) is ∙ left;
-  may = subst (Leaves (file_of f)) (sym (ap (λ (x : File). x.seen) is ∙ left)) (crash_image image (file_of f) f.sound);
-  settled = λ c may. only_synced [] bytes c (subst (λ (x : File). Leaves x c) is may) ∙ sym (ap (λ (x : File). x.seen) is);
+  left = ap (λ (x : DeviceFile). x.seen) is ∙ left;
+  may = subst (Leaves (file_of f)) (sym (ap (λ (x : DeviceFile). x.seen) is ∙ left)) (crash_image image (file_of f) f.sound);
+  settled = λ c may. only_synced [] bytes c (subst (λ (x : DeviceFile). Leaves x c) is may) ∙ sym (ap (λ (x : DeviceFile). x.seen) is);
 }
 
 -- a file that was not

@@ -4,7 +4,7 @@ use Rattle.std.proofs.lemmas.Bool.{cases_Bool, ltb-true, ltb-false}
 use Rattle.std.proofs.lemmas.Grind.{same_number_lists}
 use Rattle.std.proofs.lemmas.List.{get_or-take, get_or-drop, length-take, length-drop}
 use Rattle.std.proofs.Math.Seq.{take-append_seam, drop-append_seam}
-use Rattle.page_store.specs.File.{File, Torn, overlay, content}
+use Rattle.page_store.specs.DeviceFile.{DeviceFile, Torn, overlay, content}
 use Rattle.page_store.proofs.ImageLemmas.{overlay_torn}
 use Rattle.page_store.specs.Pages.{page_of, offset_of, length_of, part_of, PageWritten, PageFails, HasPages}
 use Rattle.page_store.specs.PageFacts.{page_over}
@@ -30,12 +30,12 @@ written_read zero old page within whole =
 written_read (suc n) old page within whole =
     between (take (offset_of (suc n)) old) page (drop (offset_of (suc n) + length page) old) (offset_of (suc n)) 4096 (omega (arith, length-take (offset_of (suc n)) old)) whole
 
-offset_within : (pages n : ℕ) (f : File) → HasPages pages f → n ≤ pages → offset_of n ≤ length (content f)
+offset_within : (pages n : ℕ) (f : DeviceFile) → HasPages pages f → n ≤ pages → offset_of n ≤ length (content f)
 offset_within pages zero f has le = let long = has.long in omega arith
 offset_within pages (suc n) f has le = let long = has.long in omega arith
 
-pub written_is_read : (f g : File) (n : ℕ) (page : List ℕ) → HasPages n f → length page ≡ 4096 → PageWritten n page f g → page_of (content g) n ≡ page_over n (content f) page
-written_is_read f g n page has whole w = ap (λ (x : File). page_of (content x) n) w.is ∙ written_read n (content f) page (offset_within n n f has (omega arith)) whole
+pub written_is_read : (f g : DeviceFile) (n : ℕ) (page : List ℕ) → HasPages n f → length page ≡ 4096 → PageWritten n page f g → page_of (content g) n ≡ page_over n (content f) page
+written_is_read f g n page has whole w = ap (λ (x : DeviceFile). page_of (content x) n) w.is ∙ written_read n (content f) page (offset_within n n f has (omega arith)) whole
 
 -- a page outside the range of a write
 page_outside : (at k m : ℕ) (was now : List ℕ) → Torn at k was now → 4096 * m + 4096 ≤ length was → (4096 * m + 4096 ≤ at) ⊎ (at + k ≤ 4096 * m) → page_of now m ≡ page_of was m
@@ -71,19 +71,19 @@ length_part : (n : ℕ) (page : List ℕ) → length page ≡ 4096 → length (p
 length_part zero page whole = omega (arith, length-drop 1 page)
 length_part (suc n) page whole = whole
 
-in_pages : (pages m : ℕ) (f : File) → HasPages pages f → m < pages → 4096 * m + 4096 ≤ length (content f)
+in_pages : (pages m : ℕ) (f : DeviceFile) → HasPages pages f → m < pages → 4096 * m + 4096 ≤ length (content f)
 in_pages pages m f has low = let long = has.long in omega arith
 
-pub others_read : (f g : File) (pages n m : ℕ) (page : List ℕ) → HasPages pages f → n ≤ pages → m < pages → ¬ (m ≡ n) → length page ≡ 4096
+pub others_read : (f g : DeviceFile) (pages n m : ℕ) (page : List ℕ) → HasPages pages f → n ≤ pages → m < pages → ¬ (m ≡ n) → length page ≡ 4096
     → PageWritten n page f g → page_of (content g) m ≡ page_of (content f) m
 others_read f g pages n m page has le low differs whole w =
     let at = offset_of n in
     let now = overlay (content f) at (part_of n page) in
     let torn : Torn at (length_of n) (content f) now =
     subst (λ (k : ℕ). Torn at k (content f) now) (length_part n page whole) (overlay_torn (content f) at (part_of n page) (offset_within pages n f has le)) in
-    ap (λ (x : File). page_of (content x) m) w.is ∙ page_outside at (length_of n) m (content f) now torn (in_pages pages m f has low) (other_page n m differs)
+    ap (λ (x : DeviceFile). page_of (content x) m) w.is ∙ page_outside at (length_of n) m (content f) now torn (in_pages pages m f has low) (other_page n m differs)
 
-pub others_kept : (f g : File) (pages n m : ℕ) → HasPages pages f → m < pages → ¬ (m ≡ n) → PageFails n f g → page_of (content g) m ≡ page_of (content f) m
-others_kept f g pages n m has low differs (inl same) = ap (λ (x : File). page_of (content x) m) same
+pub others_kept : (f g : DeviceFile) (pages n m : ℕ) → HasPages pages f → m < pages → ¬ (m ≡ n) → PageFails n f g → page_of (content g) m ≡ page_of (content f) m
+others_kept f g pages n m has low differs (inl same) = ap (λ (x : DeviceFile). page_of (content x) m) same
 others_kept f g pages n m has low differs (inr torn) =
-    ap (λ (x : File). page_of (content x) m) torn.2 ∙ page_outside (offset_of n) (length_of n) m (content f) torn.0 torn.1 (in_pages pages m f has low) (other_page n m differs)
+    ap (λ (x : DeviceFile). page_of (content x) m) torn.2 ∙ page_outside (offset_of n) (length_of n) m (content f) torn.0 torn.1 (in_pages pages m f has low) (other_page n m differs)

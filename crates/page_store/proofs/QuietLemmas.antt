@@ -2,7 +2,7 @@
 use Rattle.std.proofs.Common.{zero, suc, ◌≡◌, ℕ, ◌+◌, ◌<◌, List, [], ◌∷◌, ◌++◌, Option, Some, None, true, false, ◌&&◌, leb, ltb, refl, sym, ◌∙◌, ap, subst, arith, drop, length, slice_index, inl, inr}
 use Rattle.std.proofs.lemmas.Bool.{cases_Bool, or_from, and_left, lt-leb, both_ways}
 use Rattle.std.proofs.lemmas.List.{get_or-drop, length-drop}
-use Rattle.page_store.specs.File.{Step, wrote, synced, File, bytes_or_none}
+use Rattle.page_store.specs.DeviceFile.{FileStep, wrote, synced, DeviceFile, bytes_or_none}
 use Rattle.page_store.specs.Images.{Durable, after, durable, covered, IsImage, MayLeave, Leaves}
 use Rattle.page_store.proofs.ImageLemmas.{durable_push, only_synced}
 use Rattle.page_store.specs.Moments.{Begins, Quiet}
@@ -39,13 +39,13 @@ begins_written d at n (Some (x ∷ c)) low may =
     ]
 
 -- a write behind the first byte
-pub quiet_written : (f g : File) (at n : ℕ) → 0 < at → g.log ≡ f.log ++ wrote at n ∷ [] → Quiet f g
+pub quiet_written : (f g : DeviceFile) (at n : ℕ) → 0 < at → g.log ≡ f.log ++ wrote at n ∷ [] → Quiet f g
 quiet_written f g at n low same =
     throughout_one _ f g (wrote at n) same (λ c may. (c, may, begins_self c))
     (λ c may. begins_written (durable f.log) at n c low (subst (λ (d : Durable). MayLeave d c) (ap durable same ∙ durable_push f.log (wrote at n)) may))
 
 -- a sync, since what a read gives is one of the images
-pub quiet_synced : (f g : File) (bytes : List ℕ) → Leaves f (Some bytes) → g.log ≡ f.log ++ synced bytes ∷ [] → Quiet f g
+pub quiet_synced : (f g : DeviceFile) (bytes : List ℕ) → Leaves f (Some bytes) → g.log ≡ f.log ++ synced bytes ∷ [] → Quiet f g
 quiet_synced f g bytes was same =
     throughout_one _ f g (synced bytes) same (λ c may. (c, may, begins_self c))
-    (λ c may. let e = only_synced f.log bytes c (subst (λ (l : List Step). MayLeave (durable l) c) same may) in (Some bytes, was, subst (λ (v : Option (List ℕ)). Begins v (Some bytes)) (sym e) (begins_self (Some bytes))))
+    (λ c may. let e = only_synced f.log bytes c (subst (λ (l : List FileStep). MayLeave (durable l) c) same may) in (Some bytes, was, subst (λ (v : Option (List ℕ)). Begins v (Some bytes)) (sym e) (begins_self (Some bytes))))

@@ -2,7 +2,7 @@
 use Rattle.std.proofs.Common.{ℕ, ◌+◌, ◌<◌, ◌≤◌, leb, List, ◌++◌, length, take, drop, ◌∙◌, inl, inr, arith, length-append}
 use Rattle.std.proofs.lemmas.Bool.{cases_Bool, leb-true, leb-false}
 use Rattle.std.proofs.lemmas.List.{length-take, length-drop, get_or_append_left, get_or-take}
-use Rattle.page_store.specs.File.{Torn, overlay}
+use Rattle.page_store.specs.DeviceFile.{Torn, overlay}
 use Rattle.page_store.proofs.ImageLemmas.{overlay_torn}
 
 -- behind the end of the file

@@ -1,6 +1,6 @@
 -- What a crash may leave of a file.
 use Rattle.std.specs.Prelude.{◌≡◌, ℕ, ◌+◌, ◌<◌, leb, ltb, Bool, true, false, ◌&&◌, ◌||◌, IsTrue, List, [], ◌∷◌, length, slice_index, Option, Some, None, is_some}
-use Rattle.page_store.specs.File.{Step, created, wrote, synced, File, bytes_or_none, content}
+use Rattle.page_store.specs.DeviceFile.{FileStep, created, wrote, synced, DeviceFile, bytes_or_none, content}
 
 -- what a crash cannot touch: the bytes at the last sync, if there was one; whether the file was made since; the ranges written since
 pub record Durable : Type 0 where
@@ -12,17 +12,17 @@ abbrev pub nothing : Durable
 nothing = record { base = None; made = false; ranges = [] }
 
 -- after one more step
-abbrev pub after : Durable → Step → Durable
+abbrev pub after : Durable → FileStep → Durable
 after d created = record { base = d.base; made = true; ranges = [] }
 after d (wrote at n) = record { base = d.base; made = d.made; ranges = (at, n) ∷ d.ranges }
 after d (synced bytes) = record { base = Some bytes; made = false; ranges = [] }
 
-abbrev pub durable_from : Durable → List Step → Durable
+abbrev pub durable_from : Durable → List FileStep → Durable
 durable_from d [] = d
 durable_from d (s ∷ log) = durable_from (after d s) log
 
 -- after these steps
-abbrev pub durable : List Step → Durable
+abbrev pub durable : List FileStep → Durable
 durable log = durable_from nothing log
 
 -- i lies in one of the ranges
@@ -41,9 +41,9 @@ MayLeave d None = d.base ≡ None
 MayLeave d (Some c) = IsTrue (is_some d.base || d.made) × IsImage (bytes_or_none d.base) d.ranges c
 
 -- the images that a crash now may leave
-abbrev pub Leaves : File → Option (List ℕ) → Type 0
+abbrev pub Leaves : DeviceFile → Option (List ℕ) → Type 0
 Leaves file c = MayLeave (durable file.log) c
 
 -- a crash now leaves what reads give, and nothing else
-abbrev pub IsSettled : File → Type 0
+abbrev pub IsSettled : DeviceFile → Type 0
 IsSettled file = (c : Option (List ℕ)) → Leaves file c → c ≡ Some (content file)

@@ -1,4 +1,4 @@
-pub mod File
+pub mod DeviceFile
 pub mod Images
 pub mod Calls
 pub mod Moments

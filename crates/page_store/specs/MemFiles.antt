@@ -1,6 +1,6 @@
 -- Files in memory, each under its name.
 use Rattle.std.specs.Prelude.{ℕ, zero, suc, List, [], ◌∷◌, Option, Some, None, option_map, if◌then◌else◌, bytes_eq, ◌+◌, ◌≤◌, Bool, true, false, ◌≡◌, length, get_or, set}
-use Rattle.page_store.specs.File.{File, absent, IsWithin}
+use Rattle.page_store.specs.DeviceFile.{DeviceFile, absent, IsWithin}
 use Rattle.page_store.specs.Events.{steps}
 use Rattle.page_store.specs.declared.memory_file.MemFile.{MemFile}
 
@@ -8,11 +8,11 @@ abbrev pub has_name : MemFile → List ℕ → Bool
 has_name f name = bytes_eq f.name.bytes name
 
 -- what a file in memory stands for
-abbrev pub file_of : MemFile → File
+abbrev pub file_of : MemFile → DeviceFile
 file_of f = record { seen = Some f.bytes.items; log = steps f.log.items }
 
 -- the file of this name
-abbrev pub file_in : List MemFile → List ℕ → File
+abbrev pub file_in : List MemFile → List ℕ → DeviceFile
 file_in [] name = absent
 file_in (f ∷ fs) name = if has_name f name then file_of f else file_in fs name
 

@@ -1,6 +1,6 @@
 -- The pages of a file.
 use Rattle.std.specs.Prelude.{◌≡◌, ℕ, zero, suc, ◌-◌, ◌*◌, ◌/◌, ◌^◌, min, max, Bool, IsTrue, List, length, take, drop}
-use Rattle.page_store.specs.File.{File, content, IsWithin}
+use Rattle.page_store.specs.DeviceFile.{DeviceFile, content, IsWithin}
 use Rattle.page_store.specs.Calls.{Written, WriteFails}
 use Rattle.page_store.specs.declared.store.Store.{Store}
 
@@ -26,19 +26,19 @@ part_of zero page = drop 1 page
 part_of (suc n) page = page
 
 -- page n is written, and no other byte
-abbrev pub PageWritten : ℕ → List ℕ → File → File → Type 0
+abbrev pub PageWritten : ℕ → List ℕ → DeviceFile → DeviceFile → Type 0
 PageWritten n page old new = Written (offset_of n) (part_of n page) old new
 
 -- page n may hold anything, but for the first byte of the file, and no other byte has changed
-abbrev pub PageFails : ℕ → File → File → Type 0
+abbrev pub PageFails : ℕ → DeviceFile → DeviceFile → Type 0
 PageFails n old new = WriteFails (offset_of n) (length_of n) old new
 
 -- the file is there, with its gate and these pages
-abbrev pub HasPages : ℕ → File → Type 0
+abbrev pub HasPages : ℕ → DeviceFile → Type 0
 HasPages pages file = IsWithin (max 1 (4096 * pages)) file
 
 -- the store is of this unit and counts the pages of this file, where the shelf is honest
-pub record IsStoreOf (store : Store) (unit : ℕ) (honest : Bool) (file : File) : Type 0 where
+pub record IsStoreOf (store : Store) (unit : ℕ) (honest : Bool) (file : DeviceFile) : Type 0 where
   pub named : store.unit ≡ unit
   pub pages : IsTrue honest → store.pages ≡ whole_pages (content file)
   pub whole : IsTrue honest → IsWithin (4096 * store.pages) file

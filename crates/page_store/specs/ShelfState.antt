@@ -2,14 +2,14 @@
 use Rattle.std.specs.Prelude.{◌≡◌, ◌⊎◌, ℕ, ◌+◌, ◌-◌, ◌^◌, ◌<◌, ◌≤◌, min, Bool, IsTrue, List, [], length, get_or, Result, IsErrOf, OnErr}
 use Rattle.io_state.specs.declared.fault.Fault.{Fault}
 use Rattle.io_state.specs.declared.fault.Fault.TheVariants.{Device, Memory}
-use Rattle.page_store.specs.File.{File}
+use Rattle.page_store.specs.DeviceFile.{DeviceFile}
 use Rattle.page_store.specs.Moments.{Quiet}
 
 pub record ShelfState : Type 0 where
   -- the name of each unit
   pub names : List (List ℕ)
   -- the file of each name
-  pub file : List ℕ → File
+  pub file : List ℕ → DeviceFile
   -- no wrong answer was taken as true; it may fall at a call that answers, and no code can tell
   pub is_honest : Bool
 
@@ -21,19 +21,19 @@ abbrev pub unit_name : ShelfState → ℕ → List ℕ
 unit_name shelf unit = get_or shelf.names unit []
 
 -- the file of a unit
-abbrev pub unit_file : ShelfState → ℕ → File
+abbrev pub unit_file : ShelfState → ℕ → DeviceFile
 unit_file shelf unit = shelf.file (unit_name shelf unit)
 
 -- where the shelf is honest, this is true of the unit's file
-abbrev pub WhereHonest : ShelfState → ℕ → (File → Type 0) → Type 0
+abbrev pub WhereHonest : ShelfState → ℕ → (DeviceFile → Type 0) → Type 0
 WhereHonest shelf unit P = IsTrue shelf.is_honest → P (unit_file shelf unit)
 
 -- this is true of the unit's file before and after
-abbrev pub FileGoes : ℕ → ShelfState → ShelfState → (File → File → Type 0) → Type 0
+abbrev pub FileGoes : ℕ → ShelfState → ShelfState → (DeviceFile → DeviceFile → Type 0) → Type 0
 FileGoes unit old new P = P (unit_file old unit) (unit_file new unit)
 
 -- a call that only answers: the names and files stay, and honest after is honest before
-pub record OnlyReads (old new : ShelfState) : Type 0 where
+pub record OnlyAnswers (old new : ShelfState) : Type 0 where
   pub names : new.names ≡ old.names
   pub file : new.file ≡ old.file
   pub honest : IsTrue new.is_honest → IsTrue old.is_honest
@@ -55,7 +55,7 @@ abbrev pub IsQuiet : ℕ → ShelfState → ShelfState → Type 0
 IsQuiet unit old new = Quiet (unit_file old unit) (unit_file new unit)
 
 -- Device comes only where the count of faults rose, or stands at its greatest value; Memory is the only other fault
-pub record HasCause {T : Type 0} (old new : ℕ) (result : Result T Fault) : Type 0 where
+pub record FaultHasCause {T : Type 0} (old new : ℕ) (result : Result T Fault) : Type 0 where
   pub no_fewer : old ≤ new
   pub device : IsErrOf result Device → min (old + 1) (2 ^ 64 - 1) ≤ new
   pub kinds : OnErr result (IsErrOf result Device ⊎ IsErrOf result Memory)

@@ -5,10 +5,10 @@
 //! | `C` | closed: the file is as its last change left it |
 //! | any other | open: a change was begun and not finished |
 ghost use Rattle.std.specs.Prelude.{◌≡◌, ◌<◌, [], length, None, IsTrue, OnOk, OnErr};
-ghost use Rattle.page_store.specs.File.{content, IsWithin, IsThere};
+ghost use Rattle.page_store.specs.DeviceFile.{content, IsWithin, IsThere};
 ghost use Rattle.page_store.specs.Moments.{Throughout};
 ghost use Rattle.page_store.specs.Gate.{GateWritten, GateFails, WasOrRefused, SameOrRefused, OnlyGate, Opens};
-ghost use Rattle.page_store.specs.ShelfState.{HasUnit, unit_file, ChangesOnly, KeepsOthers, HasCause};
+ghost use Rattle.page_store.specs.ShelfState.{HasUnit, unit_file, ChangesOnly, KeepsOthers, FaultHasCause};
 
 use crate::shelf::Shelf;
 use io_state::Fault;
@@ -24,7 +24,7 @@ pub(crate) fn write<S: Shelf>(shelf: &mut S, unit: usize, gate: u8) -> Result<()
     ensures written { OnOk result (GateWritten gate (unit_file (S.state shelf.old) unit) (unit_file (S.state shelf.new) unit)) }
     ensures failed { OnErr result (GateFails gate (unit_file (S.state shelf.old) unit) (unit_file (S.state shelf.new) unit)) }
     ensures only { ChangesOnly unit (S.state shelf.old) (S.state shelf.new) }
-    ensures cause { HasCause (S.fault_count shelf.old) (S.fault_count shelf.new) result }
+    ensures cause { FaultHasCause (S.fault_count shelf.old) (S.fault_count shelf.new) result }
 {
     shelf.write_at(unit, 0, &[gate])?;
     shelf.sync(unit)?;
@@ -40,7 +40,7 @@ pub(crate) fn start<S: Shelf>(shelf: &mut S, unit: usize) -> Result<(), Fault>
     ensures opens { OnOk result (IsTrue (S.state shelf.new).is_honest → Opens (unit_file (S.state shelf.old) unit) (unit_file (S.state shelf.new) unit)) }
     ensures failed { OnErr result (IsTrue (S.state shelf.new).is_honest → SameOrRefused (unit_file (S.state shelf.old) unit) (unit_file (S.state shelf.new) unit)) }
     ensures only { ChangesOnly unit (S.state shelf.old) (S.state shelf.new) }
-    ensures cause { HasCause (S.fault_count shelf.old) (S.fault_count shelf.new) result }
+    ensures cause { FaultHasCause (S.fault_count shelf.old) (S.fault_count shelf.new) result }
 {
     shelf.create(unit)?;
     write(shelf, unit, OPEN)?;
@@ -58,7 +58,7 @@ pub(crate) fn begin<S: Shelf>(shelf: &mut S, unit: usize) -> Result<(), Fault>
     ensures opens { OnOk result (IsTrue (S.state shelf.new).is_honest → Opens (unit_file (S.state shelf.old) unit) (unit_file (S.state shelf.new) unit)) }
     ensures failed { OnErr result (IsTrue (S.state shelf.new).is_honest → SameOrRefused (unit_file (S.state shelf.old) unit) (unit_file (S.state shelf.new) unit)) }
     ensures only { ChangesOnly unit (S.state shelf.old) (S.state shelf.new) }
-    ensures cause { HasCause (S.fault_count shelf.old) (S.fault_count shelf.new) result }
+    ensures cause { FaultHasCause (S.fault_count shelf.old) (S.fault_count shelf.new) result }
 {
     shelf.sync(unit)?;
     write(shelf, unit, OPEN)?;
@@ -75,7 +75,7 @@ pub(crate) fn reopen<S: Shelf>(shelf: &mut S, unit: usize) -> Result<(), Fault>
     ensures failed { OnErr result (IsTrue (S.state shelf.new).is_honest → SameOrRefused (unit_file (S.state shelf.old) unit) (unit_file (S.state shelf.new) unit)) }
     ensures gate { IsTrue (S.state shelf.new).is_honest → OnlyGate (unit_file (S.state shelf.old) unit) (unit_file (S.state shelf.new) unit) }
     ensures only { KeepsOthers unit (S.state shelf.old) (S.state shelf.new) }
-    ensures cause { HasCause (S.fault_count shelf.old) (S.fault_count shelf.new) result }
+    ensures cause { FaultHasCause (S.fault_count shelf.old) (S.fault_count shelf.new) result }
 {
     let mut first = [0];
     shelf.read_at(unit, 0, &mut first)?;

@@ -2,7 +2,7 @@
 ghost use Rattle.std.specs.Prelude.{◌≡◌, ◌≤◌, length, Some, OnOk, OnErr, IsOkUnless};
 ghost use Rattle.std.proofs.Props.{props};
 ghost use Rattle.io_state.specs.declared.fault.Fault.TheVariants.{Memory};
-ghost use Rattle.page_store.specs.File.{overlay};
+ghost use Rattle.page_store.specs.DeviceFile.{overlay};
 ghost use Rattle.page_store.specs.Images.{MayLeave, durable};
 ghost use Rattle.page_store.specs.Events.{steps};
 
@@ -21,7 +21,7 @@ pub(crate) struct MemFile {
 impl MemFile {
     ghost use Rattle.std.specs.Prelude.{◌≡◌, ◌≤◌, [], ◌∷◌, length, Some, OnOk, OnErr, IfOk, IsOkUnless};
     ghost use Rattle.io_state.specs.declared.fault.Fault.TheVariants.{Memory};
-    ghost use Rattle.page_store.specs.File.{absent, synced};
+    ghost use Rattle.page_store.specs.DeviceFile.{absent, synced};
     ghost use Rattle.page_store.specs.Calls.{Created, Written, WriteFails, Synced};
     ghost use Rattle.page_store.specs.MemFiles.{file_of};
 

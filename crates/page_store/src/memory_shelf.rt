@@ -1,7 +1,7 @@
 //! A shelf in memory.
 ghost use Rattle.std.specs.Prelude.{◌≡◌, ◌+◌, ◌<◌, ◌≤◌, length, take, drop, Some, IfSome, IsTrue, true, false, ℕ, List, OnOk, IsOkUnless};
 ghost use Rattle.io_state.specs.declared.fault.Fault.TheVariants.{Memory};
-ghost use Rattle.page_store.specs.File.{absent};
+ghost use Rattle.page_store.specs.DeviceFile.{absent};
 ghost use Rattle.page_store.specs.CrashImages.{Crashed};
 ghost use Rattle.page_store.specs.MemFiles.{index_of, has_name, file_in, file_of};
 
@@ -22,7 +22,7 @@ pub struct MemShelf {
 impl MemShelf {
     ghost use Rattle.std.specs.Prelude.{◌≡◌, ◌<◌, [], length, map, None, MatchOption, IfSome, true, ℕ, List, IfOk, IsOkUnless};
     ghost use Rattle.io_state.specs.declared.fault.Fault.TheVariants.{Memory};
-    ghost use Rattle.page_store.specs.File.{absent};
+    ghost use Rattle.page_store.specs.DeviceFile.{absent};
     ghost use Rattle.page_store.specs.CrashImages.{Crashed};
     ghost use Rattle.page_store.specs.ShelfState.{HasUnit, unit_name};
     ghost use Rattle.page_store.specs.MemFiles.{file_in, Found};

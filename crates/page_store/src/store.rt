@@ -1,10 +1,10 @@
 //! The pages of one unit of a shelf.
 ghost use Rattle.std.specs.Prelude.{◌≡◌, ◌+◌, ◌*◌, ◌-◌, ◌/◌, ◌^◌, ◌<◌, ◌≤◌, min, max, length, IsTrue, IfOk, OnOk, OnErr};
-ghost use Rattle.page_store.specs.File.{content, IsWithin, IsThere};
+ghost use Rattle.page_store.specs.DeviceFile.{content, IsWithin, IsThere};
 ghost use Rattle.page_store.specs.Images.{IsSettled};
 ghost use Rattle.page_store.specs.Moments.{Throughout};
 ghost use Rattle.page_store.specs.Gate.{IsClosed, AllRefused, with_gate, WasOrRefused, SameOrRefused, ClosedOrRefused, OnlyGate, Opens};
-ghost use Rattle.page_store.specs.ShelfState.{HasUnit, unit_file, WhereHonest, FileGoes, OnlyReads, ChangesOnly, KeepsOthers, IsQuiet, HasCause};
+ghost use Rattle.page_store.specs.ShelfState.{HasUnit, unit_file, WhereHonest, FileGoes, OnlyAnswers, ChangesOnly, KeepsOthers, IsQuiet, FaultHasCause};
 ghost use Rattle.page_store.specs.Pages.{page_of, PageWritten, PageFails, HasPages, offset_of, length_of, IsStoreOf};
 
 use crate::gate::{self, CLOSED};
@@ -40,7 +40,7 @@ impl Store {
             IsTrue (S.state shelf.new).is_honest →
             Throughout (WasOrRefused old) old (unit_file (S.state shelf.new) unit) }
         ensures only { KeepsOthers unit (S.state shelf.old) (S.state shelf.new) }
-        ensures cause { HasCause (S.fault_count shelf.old) (S.fault_count shelf.new) result }
+        ensures cause { FaultHasCause (S.fault_count shelf.old) (S.fault_count shelf.new) result }
     {
         if !shelf.exists(unit)? {
             gate::start(shelf, unit)?;
@@ -64,8 +64,8 @@ impl Store {
         requires there { WhereHonest (S.state shelf.old) unit IsThere }
         ensures store { let file = unit_file (S.state shelf.old) unit in
             IfOk result (λ store. IsStoreOf store unit (S.state shelf.new).is_honest file) }
-        ensures only { OnlyReads (S.state shelf.old) (S.state shelf.new) }
-        ensures cause { HasCause (S.fault_count shelf.old) (S.fault_count shelf.new) result }
+        ensures only { OnlyAnswers (S.state shelf.old) (S.state shelf.new) }
+        ensures cause { FaultHasCause (S.fault_count shelf.old) (S.fault_count shelf.new) result }
     {
         let size = shelf.size(unit)?;
         Ok(Store {
@@ -90,7 +90,7 @@ impl Store {
         ensures gate { IsTrue (S.state shelf.new).is_honest →
             FileGoes self.now.unit (S.state shelf.old) (S.state shelf.new) OnlyGate }
         ensures only { KeepsOthers self.now.unit (S.state shelf.old) (S.state shelf.new) }
-        ensures cause { HasCause (S.fault_count shelf.old) (S.fault_count shelf.new) result }
+        ensures cause { FaultHasCause (S.fault_count shelf.old) (S.fault_count shelf.new) result }
     {
         gate::reopen(shelf, self.unit)
     }
@@ -107,7 +107,7 @@ impl Store {
             let old = unit_file (S.state shelf.old) self.now.unit in
             OnOk result ((content new ≡ with_gate 67 (content old)) × IsSettled new) }
         ensures only { ChangesOnly self.now.unit (S.state shelf.old) (S.state shelf.new) }
-        ensures cause { HasCause (S.fault_count shelf.old) (S.fault_count shelf.new) result }
+        ensures cause { FaultHasCause (S.fault_count shelf.old) (S.fault_count shelf.new) result }
     {
         shelf.sync(self.unit)?;
         gate::write(shelf, self.unit, CLOSED)
@@ -127,8 +127,8 @@ impl Store {
             OnOk result (IsTrue (S.state shelf.new).is_honest →
             page.new ≡ page_of (content old) n) }
         ensures quiet { IsQuiet self.now.unit (S.state shelf.old) (S.state shelf.new) }
-        ensures only { OnlyReads (S.state shelf.old) (S.state shelf.new) }
-        ensures cause { HasCause (S.fault_count shelf.old) (S.fault_count shelf.new) result }
+        ensures only { OnlyAnswers (S.state shelf.old) (S.state shelf.new) }
+        ensures cause { FaultHasCause (S.fault_count shelf.old) (S.fault_count shelf.new) result }
     {
         shelf.read_at(self.unit, n as u64 * PAGE, page)
     }
@@ -154,7 +154,7 @@ impl Store {
         ensures pages { WhereHonest (S.state shelf.new) self.new.unit (HasPages self.new.pages) }
         ensures quiet { IsQuiet self.old.unit (S.state shelf.old) (S.state shelf.new) }
         ensures only { ChangesOnly self.old.unit (S.state shelf.old) (S.state shelf.new) }
-        ensures cause { HasCause (S.fault_count shelf.old) (S.fault_count shelf.new) result }
+        ensures cause { FaultHasCause (S.fault_count shelf.old) (S.fault_count shelf.new) result }
     {
         write_at_page(shelf, self.unit, n, page)?;
         self.pages = self.pages.max(n + 1);
@@ -182,7 +182,7 @@ fn write_at_page<S: Shelf>(
         length (content old) ≤ length (content (unit_file (S.state shelf.new) unit)) }
     ensures quiet { IsQuiet unit (S.state shelf.old) (S.state shelf.new) }
     ensures only { ChangesOnly unit (S.state shelf.old) (S.state shelf.new) }
-    ensures cause { HasCause (S.fault_count shelf.old) (S.fault_count shelf.new) result }
+    ensures cause { FaultHasCause (S.fault_count shelf.old) (S.fault_count shelf.new) result }
 {
     if n == 0 {
         shelf.write_at(unit, 1, &page[1..])

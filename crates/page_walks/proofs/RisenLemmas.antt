@@ -4,8 +4,8 @@ use Rattle.std.proofs.Math.Seq.{drop-cons}
 use Rattle.tree_node.specs.Order.{less, Ascends}
 use Rattle.page_bytes.specs.Each.{Each}
 use Rattle.tree_node.proofs.OrderLemmas.{less-trans, less_itself, either, Each-weaker}
-use Rattle.bplus_tree.specs.Tree.{Bound, NotBelow, Above, Below}
-use Rattle.bplus_tree.proofs.RowLemmas.{NotBelow-trans, Below-trans}
+use Rattle.tree_search.specs.Tree.{Bound, NotBelow, Above, Below}
+use Rattle.tree_search.proofs.RowLemmas.{NotBelow-trans, Below-trans}
 use Rattle.page_walks.specs.Order.{Risen, key_ahead, AreBetween}
 
 abbrev pub BothOf : ℕ → Bound → List (List ℕ) → Type 0

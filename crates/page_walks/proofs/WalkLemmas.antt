@@ -10,8 +10,8 @@ use Rattle.tree_node.specs.declared.shape.Shape.{Shape}
 use Rattle.tree_node.specs.Leaf.{leaf_entries}
 use Rattle.tree_node.specs.Inner.{separators, children}
 use Rattle.node_balance.specs.Fill.{least}
-use Rattle.bplus_tree.specs.Tree.{TreeOf, page_of, pages_of, entries_of, size_of, Bound, IsRow, IsOrdered, IsFilled, IsRooted}
-use Rattle.bplus_tree.specs.Stored.{Holds}
+use Rattle.tree_search.specs.Tree.{TreeOf, page_of, pages_of, entries_of, size_of, Bound, IsRow, IsOrdered, IsHalfFull, IsRooted}
+use Rattle.tree_search.specs.Stored.{Holds}
 use Rattle.page_marks.specs.Marks.{Marks, marked_in}
 use Rattle.page_marks.specs.PageList.{pages_in}
 use Rattle.page_marks.proofs.EachLemmas.{each_join}
@@ -67,7 +67,7 @@ module _ (shape : Shape) (pages : PageMap) (k : ℕ) (low : Bound) (ss : List (L
     pub as_many : length trees ≡ suc i
     pub leads : map (page_of k) trees ≡ take (suc i) below
     pub holds : Each (Holds shape pages k) trees
-    pub filled : Each (λ c. (least shape k ≤ size_of k c) × IsFilled shape k c) trees
+    pub filled : Each (λ c. (least shape k ≤ size_of k c) × IsHalfFull shape k c) trees
     pub marks : Marks before.marks after.marks (flat_map (pages_of k) trees)
     pub adds : after.entries ≡ before.entries ++ flat_map (entries_of k) trees
 
@@ -81,7 +81,7 @@ module _ (shape : Shape) (pages : PageMap) (k : ℕ) (low : Bound) (ss : List (L
         leads = map-append (page_of k) ts (t ∷ []) ∙ ap (λ (l : List ℕ). l ++ page_of k t ∷ []) front.leads
             ∙ ap (λ (p : ℕ). take i below ++ p ∷ []) child.stands.root ∙ sym (take-suc below i 0 inside);
         holds = each_join (Holds shape pages k) ts (t ∷ []) front.holds (child.stands.holds, tt);
-        filled = each_join (λ c. (least shape k ≤ size_of k c) × IsFilled shape k c) ts (t ∷ []) front.filled ((child.large, child.filled), tt);
+        filled = each_join (λ c. (least shape k ≤ size_of k c) × IsHalfFull shape k c) ts (t ∷ []) front.filled ((child.large, child.filled), tt);
         marks = subst (Marks a.marks c.marks) (sym (flat_map-append (pages_of k) ts (t ∷ []) ∙ ap (λ (l : List ℕ). flat_map (pages_of k) ts ++ l) (append-nil (pages_of k t))))
             (marks_on a.marks b.marks c.marks (flat_map (pages_of k) ts) (pages_of k t) front.marks child.marks);
         adds = child.adds ∙ ap (λ (l : List (List ℕ)). l ++ entries_of k t) front.adds ∙ append_assoc a.entries (flat_map (entries_of k) ts) (entries_of k t)

@@ -2,7 +2,7 @@
 use Rattle.std.specs.Prelude.{◌≡◌, ℕ, List, [], ◌∷◌, take, drop, Some, ⊤}
 use Rattle.page_bytes.specs.Each.{Each}
 use Rattle.tree_node.specs.Order.{Ascends}
-use Rattle.bplus_tree.specs.Tree.{Bound, Above, Below}
+use Rattle.tree_search.specs.Tree.{Bound, Above, Below}
 
 -- separators rise, and lie above the low bound and below the high one
 abbrev pub AreBetween : Bound → List (List ℕ) → Bound → Type 0

@@ -8,10 +8,10 @@ use Rattle.tree_node.specs.Leaf.{IsLeaf, leaf_entries}
 use Rattle.tree_node.specs.Inner.{IsInner, separators}
 use Rattle.node_balance.specs.Fill.{least}
 use Rattle.bplus_tree.specs.declared.tree.Tree.{Tree}
-use Rattle.bplus_tree.specs.Tree.{TreeOf, page_of, pages_of, entries_of, size_of, Bound, Below, NotBelow, IsFilled, IsOrdered}
-use Rattle.bplus_tree.specs.Stored.{Holds}
-use Rattle.bplus_tree.specs.Calls.{IsTree}
-use Rattle.bplus_tree.specs.Standing.{Stands}
+use Rattle.tree_search.specs.Tree.{TreeOf, page_of, pages_of, entries_of, size_of, Bound, Below, NotBelow, IsHalfFull, IsOrdered}
+use Rattle.tree_search.specs.Stored.{Holds}
+use Rattle.tree_search.specs.Calls.{IsTree}
+use Rattle.bplus_tree.specs.Standing.{TreeStands}
 use Rattle.page_marks.specs.Marks.{Marks, marked_in}
 use Rattle.page_marks.specs.PageList.{pages_in}
 use Rattle.page_walks.specs.declared.spot.Spot.{Spot}
@@ -21,7 +21,7 @@ use Rattle.page_walks.specs.Spots.{entries_at}
 -- The tree stands in the pages that were reached now, each of which was not reached before, and these are the places of its entries.
 pub record TreeWalked (tree : Tree) (list : List (List ℕ)) (before after : ℕ → Bool) (spots : List Spot) : Type 0 where
   pub own : List ℕ
-  pub stands : Stands tree (pages_in list) (entries_at tree.shape list spots) own
+  pub stands : TreeStands tree (pages_in list) (entries_at tree.shape list spots) own
   pub marks : Marks before after own
 
 -- the page is a leaf with so many entries at least, whose keys rise within these bounds
@@ -51,7 +51,7 @@ reach_of shape list reached spots = record { marks = marked_in reached; entries 
 pub record Walked (shape : Shape) (pages : PageMap) (h page floor : ℕ) (low high : Bound) (before after : Reach) : Type 0 where
   pub tree : TreeOf h
   pub stands : IsTree shape pages h page low high tree
-  pub filled : IsFilled shape h tree
+  pub filled : IsHalfFull shape h tree
   pub large : floor ≤ size_of h tree
   pub marks : Marks before.marks after.marks (pages_of h tree)
   pub adds : after.entries ≡ before.entries ++ entries_of h tree
@@ -75,6 +75,6 @@ pub record WalkedFront (shape : Shape) (pages : PageMap) (k : ℕ) (low : Bound)
   pub leads : map (page_of k) trees ≡ take i below
   pub holds : Each (Holds shape pages k) trees
   pub ordered : IsFront (IsOrdered shape.width k) low ss trees
-  pub filled : Each (λ c. (least shape k ≤ size_of k c) × IsFilled shape k c) trees
+  pub filled : Each (λ c. (least shape k ≤ size_of k c) × IsHalfFull shape k c) trees
   pub marks : Marks before.marks after.marks (flat_map (pages_of k) trees)
   pub adds : after.entries ≡ before.entries ++ flat_map (entries_of k) trees

@@ -4,7 +4,7 @@ use Rattle.page_bytes.specs.Each.{Each}
 use Rattle.pages.specs.PageMap.{PageMap}
 use Rattle.page_alloc.specs.Chain.{chain, used}
 use Rattle.bplus_tree.specs.declared.tree.Tree.{Tree}
-use Rattle.bplus_tree.specs.Standing.{Stands}
+use Rattle.bplus_tree.specs.Standing.{TreeStands}
 use Rattle.page_marks.specs.Marks.{Marks}
 use Rattle.page_marks.specs.PageList.{pages_in}
 use Rattle.page_marks.specs.Parted.{Parted, own_at, all_of}
@@ -28,4 +28,4 @@ WalksPartTheFile = (list : List (List ℕ)) (first count : ℕ) (none header sta
 -- a tree stands while its own pages stay as they are
 abbrev pub TreesStay : Type 0
 TreesStay = (tree : Tree) (before after : PageMap) (entries : List (List ℕ)) (own : List ℕ)
-    → Each (λ n. after n ≡ before n) own → Stands tree before entries own → Stands tree after entries own
+    → Each (λ n. after n ≡ before n) own → TreeStands tree before entries own → TreeStands tree after entries own

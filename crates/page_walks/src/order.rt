@@ -6,7 +6,7 @@ ghost use Rattle.page_bytes.specs.Each.{Each};
 ghost use Rattle.tree_node.specs.Leaf.{IsLeaf, leaf_entries};
 ghost use Rattle.tree_node.specs.Inner.{IsInner, separators};
 ghost use Rattle.tree_node.specs.Order.{less, Ascends};
-ghost use Rattle.bplus_tree.specs.Tree.{NotBelow, Above, Below};
+ghost use Rattle.tree_search.specs.Tree.{NotBelow, Above, Below};
 ghost use Rattle.page_walks.specs.Order.{AreBetween};
 
 use tree_node::{InnerView, LeafView, PAGE_SIZE, Shape};

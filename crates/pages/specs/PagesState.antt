@@ -26,7 +26,7 @@ pub record Rests (old new : PagesState) : Type 0 where
   pub honest : IsTrue new.is_honest → IsTrue old.is_honest
 
 -- page n was lent for writing, and these bytes were left in it
-pub record Leaves (n : ℕ) (bytes : List ℕ) (old new : PagesState) : Type 0 where
+pub record LeavesPage (n : ℕ) (bytes : List ℕ) (old new : PagesState) : Type 0 where
   pub live : IsTrue new.is_honest → IsSome (old.live n) → Writes old.live new.live n bytes
   pub sound : IsTrue new.is_honest → IsSome (old.live n) → new.is_sound ≡ old.is_sound
   pub available : new.available ≡ old.available

@@ -4,7 +4,7 @@ ghost use Rattle.std.specs.Prelude.{◌≡◌, ◌≢◌, ℕ, ◌+◌, ◌≤�
 ghost use Rattle.std.specs.Borrow.{sem, LendsSoOk, follows_so, Array, u8 as byte};
 ghost use mathlib.Core.Option.{none};
 ghost use Rattle.pages.specs.PageMap.{Takes, Gives};
-ghost use Rattle.pages.specs.PagesState.{PagesState, Shows, Rests, Leaves};
+ghost use Rattle.pages.specs.PagesState.{PagesState, Shows, Rests, LeavesPage};
 ghost use Rattle.pages.specs.Cause.{IsCaused};
 
 use io_state::Fault;
@@ -50,7 +50,7 @@ pub trait Pages {
         requires ready { IsReady self.old }
         requires open { CanChange self.old }
         ensures* lends { sem 𝓛 (LendsSoOk Self.row (Array byte 4096) self.entry result
-            (λ after bytes. Leaves n bytes (state self.entry.now) (state after)
+            (λ after bytes. LeavesPage n bytes (state self.entry.now) (state after)
             × ((state after).asked ≤ (state self.entry.now).asked + 1)
             × Goes self.entry.now after
             × (IsTrue (state after).is_honest → IfOk result (λ page. Shows (state self.entry.now) n page.now)))

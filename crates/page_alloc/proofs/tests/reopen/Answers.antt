@@ -1,7 +1,7 @@
 use Rattle.std.proofs.Common.{◌≡◌, ◌<◌, ◌≤◌, ◌*◌, ◌∙◌, max, length, refl, sym, ap, subst, arith, IsTrue}
-use Rattle.page_store.specs.File.{content, IsWithin}
+use Rattle.page_store.specs.DeviceFile.{content, IsWithin}
 use Rattle.page_store.specs.Pages.{HasPages}
-use Rattle.page_store.specs.ShelfState.{ShelfState, HasUnit, OnlyReads, unit_file, unit_name, WhereHonest}
+use Rattle.page_store.specs.ShelfState.{ShelfState, HasUnit, OnlyAnswers, unit_file, unit_name, WhereHonest}
 use Rattle.page_store.proofs.ShelfLemmas.{same_place}
 use Rattle.page_alloc.proofs.tests.reopen.Goals as goal
 

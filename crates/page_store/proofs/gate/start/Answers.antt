@@ -1,7 +1,7 @@
 use Rattle.std.proofs.Common.{◌∙◌, sym, ap, inr}
 use Rattle.page_store.specs.ShelfState.{unit_file}
 use Rattle.page_store.proofs.StartLemmas.{starting_failed, starting_done, opens_started}
-use Rattle.page_store.specs.File.{File}
+use Rattle.page_store.specs.DeviceFile.{DeviceFile}
 use Rattle.page_store.proofs.FailedLemmas.{at_err, making_seen, beginning_seen}
 use Rattle.page_store.proofs.FileLemmas.{absent_image}
 use Rattle.page_store.proofs.gate.start.Goals as goal
@@ -31,4 +31,4 @@ returns-in_err-create-clause-failed g c = at_err _ _ _ (λ honest. making_seen _
 
 pub returns-in_err-write-clause-failed : goal.returns-in_err-write-clause-failed
 returns-in_err-write-clause-failed g c = at_err _ _ _ (λ honest.
-    inr (beginning_seen _ _ (ap (λ (f : File). f.seen) c.in_ok-create.ensures.made.is) c.in_err-write.ensures.failed))
+    inr (beginning_seen _ _ (ap (λ (f : DeviceFile). f.seen) c.in_ok-create.ensures.made.is) c.in_err-write.ensures.failed))

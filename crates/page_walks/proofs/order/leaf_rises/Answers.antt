@@ -1,6 +1,6 @@
 use Rattle.std.proofs.Common.{◌≡◌, ◌-◌, suc, length, refl, arith, subst}
 use Rattle.std.specs.Option.{option_copied}
-use Rattle.bplus_tree.specs.Tree.{Below, NotBelow}
+use Rattle.tree_search.specs.Tree.{Below, NotBelow}
 use Rattle.tree_node.specs.Leaf.{leaf_entries}
 use Rattle.page_walks.proofs.RisenLemmas.{risen_more, from_low}
 use Rattle.page_walks.proofs.order.leaf_rises.Goals as goal

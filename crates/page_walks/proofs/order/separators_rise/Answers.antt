@@ -1,11 +1,11 @@
 use Rattle.std.proofs.Common.{◌≡◌, ℕ, List, ◌-◌, suc, [], get_or, take, refl, arith, sym, subst, ◌∙◌}
 use Rattle.std.specs.Option.{option_copied}
-use Rattle.bplus_tree.specs.Tree.{Below}
+use Rattle.tree_search.specs.Tree.{Below}
 use Rattle.tree_node.specs.Inner.{separators}
 use Rattle.tree_node.proofs.OrderLemmas.{Each-get_or}
 use Rattle.page_walks.proofs.RisenLemmas.{risen_more, between_keys}
-use Rattle.bplus_tree.specs.Tree.{Above}
-use Rattle.bplus_tree.proofs.DescentLemmas.{whole_keys}
+use Rattle.tree_search.specs.Tree.{Above}
+use Rattle.tree_search.proofs.DescentLemmas.{whole_keys}
 use Rattle.tree_node.specs.Inner.{branches}
 use Rattle.page_walks.proofs.order.separators_rise.Goals as goal
 

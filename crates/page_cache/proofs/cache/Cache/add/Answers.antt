@@ -1,9 +1,10 @@
-use Rattle.std.proofs.Common.{◌∙◌, refl, sym, ap, false, Err}
+use Rattle.std.proofs.Common.{◌∙◌, refl, sym, ap, nat_eq, false, Err}
 use Rattle.std.specs.Box.{with_value}
 use Rattle.page_cache.proofs.QuietLemmas.{keeps_then}
-use Rattle.page_cache.proofs.AddLemmas.{all_added, zeroed_put, goes_on_put, zeroed_then, goes_on_then}
+use Rattle.page_cache.proofs.AddLemmas.{absent_past, all_added, zeroed_put, goes_on_put, zeroed_then, goes_on_then}
 use Rattle.page_cache.proofs.OverLemmas.{keeps_same}
 use Rattle.page_cache.proofs.WriteLemmas.{at_err}
+use Rattle.std.specs.Map.{lookup}
 use Rattle.page_cache.proofs.cache.Cache.add.Goals as goal
 
 pub returns-in_err-make_room-clause-kept : goal.returns-in_err-make_room-clause-kept
@@ -77,3 +78,9 @@ returns-in-Err-clause-goes_on g c =
     let w = c.write_zeros.ensures in
     goes_on_then c.args.self.now m _ (g.S.Shelf.state c.args.shelf.now) t u (record { over = room.over; pages = room.pages; keeps = record { store = room.keeps.store; cap = room.keeps.cap }; goes = room.goes })
     (all_added m _ t u c.args.n c.requires.page.0 (c.requires.page.1 ∙ sym (ap (λ x. x.pages) room.keeps.store)) box.frames (rw box.store at w.extends) room.over (rw box.store at w.goes) (Err c.in-Err.fault) tt (c.in-Err.ensures.kept ∙ box.store) tt).goes_on
+
+pub put-put-requires : goal.put-put-requires
+put-put-requires g c =
+    let room = c.make_room.ensures.kept in
+    ap (λ f. lookup (nat_eq c.args.n) f.entries) c.box_for_page.ensures.frames
+    ∙ absent_past c.make_room.new.self (g.S.Shelf.state c.make_room.new.shelf) c.args.n room.over (c.requires.page.1 ∙ sym (ap (λ x. x.pages) room.keeps.store))

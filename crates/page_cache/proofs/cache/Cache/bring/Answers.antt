@@ -51,3 +51,8 @@ returns-clause-kept g c =
 
 pub returns-clause-looks : goal.returns-clause-looks
 returns-clause-looks g c = record { clean = (all g c).clean; file = λ clean. c.read.ensures.only.file ∙ c.make_room.ensures.looks.file clean }
+
+pub put-requires : goal.put-requires
+put-requires g c =
+    let frames = c.read.ensures.frames ∙ ap (λ x. x.frames) c.make_room.ensures.same in
+    ap (λ f. lookup (nat_eq c.args.n) f.entries) frames ∙ c.requires.absent

@@ -1,8 +1,10 @@
 use Rattle.std.proofs.Common.{rules, ◌≡◌, ◌+◌, ◌∙◌, max, length, sym, ap, subst, arith, is_ok}
+use Rattle.std.specs.Prelude.{IsTrue}
+use Rattle.page_cache.specs.Cached.{is_counted}
 use Rattle.page_cache.specs.Rewrites.{IsZeros}
-use Rattle.page_cache.proofs.QuietLemmas.{keeps_then}
+use Rattle.page_cache.proofs.QuietLemmas.{keeps_then, goes_nowhere}
 use Rattle.page_cache.proofs.AddLemmas.{zeros_page}
-use Rattle.page_cache.proofs.OverLemmas.{set_page, set_others, keeps_frames, pages_same}
+use Rattle.page_cache.proofs.OverLemmas.{over_set, set_page, set_others, keeps_frames, pages_same}
 use Rattle.page_cache.proofs.WriteLemmas.{counted_low, if_err}
 use Rattle.page_cache.proofs.cache.Cache.clear.Goals as goal
 
@@ -35,3 +37,16 @@ returns-in-Err-clause-kept g c =
     let same = rw c.in-Err.is at c.held_mut.follows.holds-at-none in
     if_err c.hold_zeros.result (λ later. keeps_then old mid c.hold_zeros.new.self s s (g.S.Shelf.state c.hold_zeros.new.shelf) kept
     (keeps_then mid none c.hold_zeros.new.self s s (g.S.Shelf.state c.hold_zeros.new.shelf) (keeps_frames mid none s same.store same.frames same.cap kept.over) later)) c.hold_zeros.ensures.kept
+
+pub returns-in-Ok-clause-goes_on : goal.returns-in-Ok-clause-goes_on
+returns-in-Ok-clause-goes_on g c =
+    let old = c.args.self.now in
+    let mid = c.promote-held.new.self in
+    let same = c.promote-held.ensures.same in
+    let w = c.fill.new.self in
+    let e = c.held_mut.follows.lender w in
+    let set = c.held_mut.follows.holds w (ap is_ok c.in-Ok.is) in
+    let s = g.S.Shelf.state c.args.shelf.now in
+    let kept = keeps_frames old mid s same.store same.frames same.cap c.requires.over in
+    let counted = subst (λ x. IsTrue (is_counted (record old { store = x }) c.args.n)) (sym same.store) c.requires.page in
+    record { over = over_set c.args.n w mid e set s counted kept.over; cap = set.cap ∙ same.cap; goes = goes_nowhere old.store.unit s }

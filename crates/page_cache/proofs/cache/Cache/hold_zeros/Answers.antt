@@ -1,10 +1,11 @@
-use Rattle.std.proofs.Common.{rules, ◌≡◌, ◌∙◌, refl, sym, true, length}
+use Rattle.std.proofs.Common.{rules, ◌≡◌, ◌∙◌, refl, sym, ap, nat_eq, true, length}
 use Rattle.std.specs.Box.{with_value}
 use Rattle.page_cache.proofs.QuietLemmas.{keeps_then, goes_nowhere}
 use Rattle.page_cache.proofs.AddLemmas.{zeros_page, zeroed_then, goes_on_then}
 use Rattle.page_cache.proofs.OverLemmas.{keeps_same}
 use Rattle.page_cache.proofs.WriteLemmas.{at_err, if_ok, if_err}
 use Rattle.page_cache.proofs.PutLemmas.{Blanked, blanked, cap_kept}
+use Rattle.std.specs.Map.{lookup}
 use Rattle.page_cache.proofs.cache.Cache.hold_zeros.Goals as goal
 
 pub returns-in_err-page-clause-kept : goal.returns-in_err-page-clause-kept
@@ -47,3 +48,8 @@ returns-clause-goes_on g c =
       cap = cap_kept m.frames c.box_for_page.new.self.frames c.put.new.self.frames _ c.put.result box.frames c.put.ensures.put c.put.ensures.kept;
       goes = goes_nowhere m.store.unit t;
     })
+
+pub put-requires : goal.put-requires
+put-requires g c =
+    let frames = c.box_for_page.ensures.frames ∙ ap (λ x. x.frames) c.make_room.ensures.same in
+    ap (λ f. lookup (nat_eq c.args.n) f.entries) frames ∙ c.requires.absent

@@ -1,6 +1,7 @@
-use Rattle.std.proofs.Common.{◌∙◌, refl, ap, nat_eq}
+use Rattle.std.proofs.Common.{◌∙◌, refl, sym, ap, nat_eq, option_map, slice_get}
 use Rattle.std.specs.Map.{lookup}
 use Rattle.page_cache.proofs.FrameLemmas.{lookup-promoted}
+use Rattle.page_cache.proofs.FrameLemmas.{promoted_first}
 use Rattle.page_cache.proofs.cache.Cache.promote.Goals as goal
 
 pub returns-clause-same : goal.returns-clause-same
@@ -10,3 +11,7 @@ returns-clause-same c = record {
   store = refl;
   asked = refl;
 }
+
+pub returns-clause-first : goal.returns-clause-first
+returns-clause-first c is =
+    ap (λ frames. option_map (λ e. e.0) (slice_get frames.entries 0)) c.promote.ensures.entries ∙ promoted_first c.args.n c.args.self.now.frames.entries (sym c.promote.ensures.value ∙ is)

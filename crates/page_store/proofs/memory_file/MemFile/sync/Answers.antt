@@ -1,6 +1,6 @@
 use Rattle.std.proofs.Common.{rules, ◌≡◌, ◌∙◌, sym, ap, subst, List, [], ◌∷◌, ◌++◌, Some, Result, Ok, Err, is_ok, if◌then◌else◌, ℕ}
 use Rattle.std.proofs.lemmas.List.{map_push}
-use Rattle.page_store.specs.File.{Step, synced}
+use Rattle.page_store.specs.DeviceFile.{FileStep, synced}
 use Rattle.page_store.specs.Images.{MayLeave, durable}
 use Rattle.page_store.specs.Events.{steps, step_of}
 use Rattle.page_store.specs.declared.event.Event.{Event}
@@ -11,8 +11,8 @@ use Rattle.page_store.proofs.memory_file.MemFile.sync.Goals as goal
 either : {T E : Type 0} (r : Result T E) (log after : List Event) (e : Event) (bytes : List ℕ) → after ≡ (if is_ok r then log ++ e ∷ [] else log) → step_of e ≡ synced bytes
     → MayLeave (durable (steps log)) (Some bytes) → MayLeave (durable (steps after)) (Some bytes)
 either (Ok v) log after e bytes is step was =
-    let noted : steps after ≡ steps log ++ synced bytes ∷ [] = ap steps is ∙ map_push step_of log e ∙ ap (λ (s : Step). steps log ++ s ∷ []) step in
-    subst (λ (l : List Step). MayLeave (durable l) (Some bytes)) (sym noted) (leaves_synced (steps log) bytes)
+    let noted : steps after ≡ steps log ++ synced bytes ∷ [] = ap steps is ∙ map_push step_of log e ∙ ap (λ (s : FileStep). steps log ++ s ∷ []) step in
+    subst (λ (l : List FileStep). MayLeave (durable l) (Some bytes)) (sym noted) (leaves_synced (steps log) bytes)
 either (Err x) log after e bytes is step was = subst (λ (l : List Event). MayLeave (durable (steps l)) (Some bytes)) (sym is) was
 
 pub invariant_of-self : goal.invariant_of-self

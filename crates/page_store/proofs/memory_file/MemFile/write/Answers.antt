@@ -1,6 +1,6 @@
 use Rattle.std.proofs.Common.{rules, [], ◌∷◌, ◌++◌, ◌≡◌, ◌≤◌, ◌∙◌, sym, ap, subst, List, Some, Result, Ok, Err, OnOk, OnErr, length, ℕ}
 use Rattle.std.proofs.lemmas.List.{map_push}
-use Rattle.page_store.specs.File.{Step, Torn, overlay}
+use Rattle.page_store.specs.DeviceFile.{FileStep, Torn, overlay}
 use Rattle.page_store.specs.Images.{MayLeave, durable}
 use Rattle.page_store.specs.Events.{steps, step_of}
 use Rattle.page_store.specs.declared.event.Event.TheVariants.{Wrote}
@@ -17,4 +17,4 @@ invariant_of-self-2 c =
     let pushed : c.push.new.self.items ≡ c.args.self.now.log.items ++ Wrote c.args.at (length c.args.bytes.now) ∷ [] = search rules in
     let noted = ap steps pushed ∙ map_push step_of _ _ in
     let torn = torn_either c.overwrite.result c.args.at c.args.bytes.now c.args.self.now.bytes.items c.overwrite.new.file.items c.requires c.overwrite.ensures.written c.overwrite.ensures.failed in
-    record { sound = subst (λ (l : List Step). MayLeave (durable l) (Some c.overwrite.new.file.items)) (sym noted) (leaves_written (steps c.args.self.now.log.items) c.args.self.now.bytes.items c.overwrite.new.file.items c.args.at _ c.requires torn c.args.self.now.sound) }
+    record { sound = subst (λ (l : List FileStep). MayLeave (durable l) (Some c.overwrite.new.file.items)) (sym noted) (leaves_written (steps c.args.self.now.log.items) c.args.self.now.bytes.items c.overwrite.new.file.items c.args.at _ c.requires torn c.args.self.now.sound) }

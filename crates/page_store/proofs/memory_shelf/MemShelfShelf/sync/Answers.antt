@@ -1,5 +1,5 @@
 use Rattle.std.proofs.Common.{◌≡◌, refl, Result, Ok, Err, OnErr, inl}
-use Rattle.page_store.specs.File.{File}
+use Rattle.page_store.specs.DeviceFile.{DeviceFile}
 use Rattle.page_store.specs.Calls.{SyncFails}
 use Rattle.page_store.specs.MemFiles.{file_of}
 use Rattle.page_store.proofs.MemFilesLemmas.{changed, not_none}
@@ -15,7 +15,7 @@ returns-clause-synced c =
     rw (d.was, d.this) c.sync.ensures.synced
 
 -- the file is as it was
-unchanged : {T E : Type 0} (r : Result T E) (f g : File) → OnErr r (g ≡ f) → OnErr r (SyncFails f g)
+unchanged : {T E : Type 0} (r : Result T E) (f g : DeviceFile) → OnErr r (g ≡ f) → OnErr r (SyncFails f g)
 unchanged (Ok v) f g same = tt
 unchanged (Err e) f g same = inl same
 

@@ -1,5 +1,5 @@
 use Rattle.std.proofs.Common.{Some, ◌≡◌, ◌∙◌, sym, ap, Result, Ok, Err, OnOk, OnErr}
-use Rattle.page_store.specs.File.{File, content}
+use Rattle.page_store.specs.DeviceFile.{DeviceFile, content}
 use Rattle.page_store.specs.Images.{Leaves, IsSettled}
 use Rattle.page_store.specs.Calls.{Synced}
 use Rattle.page_store.specs.Moments.{Throughout}
@@ -10,11 +10,11 @@ use Rattle.page_store.proofs.FileLemmas.{there_image}
 use Rattle.page_store.proofs.store.Store.finish.Goals as goal
 
 -- done or failed
-either : {T E : Type 0} (r : Result T E) (f m h : File) → AllRefused f → Leaves f (Some (content f)) → Synced f m → OnOk r (GateWritten 67 m h) → OnErr r (GateFails 67 m h) → Throughout (ClosedOrRefused f) f h
+either : {T E : Type 0} (r : Result T E) (f m h : DeviceFile) → AllRefused f → Leaves f (Some (content f)) → Synced f m → OnOk r (GateWritten 67 m h) → OnErr r (GateFails 67 m h) → Throughout (ClosedOrRefused f) f h
 either (Ok v) f m h shut read so done failed = closing_done f shut read m h so done
 either (Err e) f m h shut read so done failed = closing_failed f shut read m h so failed
 
-after_close : {T E : Type 0} (r : Result T E) (f m h : File) → Synced f m → OnOk r (GateWritten 67 m h) → OnOk r ((content h ≡ with_gate 67 (content f)) × IsSettled h)
+after_close : {T E : Type 0} (r : Result T E) (f m h : DeviceFile) → Synced f m → OnOk r (GateWritten 67 m h) → OnOk r ((content h ≡ with_gate 67 (content f)) × IsSettled h)
 after_close (Ok v) f m h so w = (gate_content 67 m h w ∙ ap (with_gate 67) (content_synced f m so), gate_settled 67 m h w)
 after_close (Err e) f m h so w = tt
 

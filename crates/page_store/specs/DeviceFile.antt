@@ -2,19 +2,19 @@
 use Rattle.std.specs.Prelude.{◌≡◌, ℕ, ◌+◌, ◌<◌, ◌≤◌, max, List, [], ◌++◌, length, take, drop, slice_index, Option, Some, None, IsTrue, is_some}
 
 -- what matters to a crash: the file was made, n bytes were written (or tried) at `at`, or it was synced, and these were its bytes
-pub data Step : Type 0 where
-  created : Step
-  wrote : ℕ → ℕ → Step
-  synced : List ℕ → Step
+pub data FileStep : Type 0 where
+  created : FileStep
+  wrote : ℕ → ℕ → FileStep
+  synced : List ℕ → FileStep
 
-pub record File : Type 0 where
+pub record DeviceFile : Type 0 where
   -- what reads give, or nothing where the file is absent
   pub seen : Option (List ℕ)
   -- the oldest first
-  pub log : List Step
+  pub log : List FileStep
 
 -- a file that has never been there
-abbrev pub absent : File
+abbrev pub absent : DeviceFile
 absent = record { seen = None; log = [] }
 
 abbrev pub bytes_or_none : Option (List ℕ) → List ℕ
@@ -22,16 +22,16 @@ bytes_or_none None = []
 bytes_or_none (Some bytes) = bytes
 
 -- the bytes of a file, none where it is absent
-abbrev pub content : File → List ℕ
+abbrev pub content : DeviceFile → List ℕ
 content file = bytes_or_none file.seen
 
 -- the file is there and has at least n bytes
-pub record IsWithin (n : ℕ) (file : File) : Type 0 where
+pub record IsWithin (n : ℕ) (file : DeviceFile) : Type 0 where
   pub there : IsTrue (is_some file.seen)
   pub long : n ≤ length (content file)
 
 -- the file is there
-abbrev pub IsThere : File → Type 0
+abbrev pub IsThere : DeviceFile → Type 0
 IsThere file = IsWithin 0 file
 
 -- these bytes over those at `at`, and past the end
