@@ -8,13 +8,14 @@ use Rattle.page_bytes.specs.Each.{Each}
 use Rattle.pages.specs.PageMap.{PageMap}
 use Rattle.bplus_tree.specs.declared.crown.Base.{Base}
 use Rattle.node_balance.specs.Fill.{least}
-use Rattle.bplus_tree.specs.Tree.{TreeOf, page_of, entries_of, pages_of, size_of, IsFilled, IsRooted, Bound, IsRow, IsOrdered}
-use Rattle.bplus_tree.specs.Stored.{Holds, IsInnerAt}
-use Rattle.pages.specs.Owners.{IsOutside, AreApart, Changes}
-use Rattle.bplus_tree.specs.Calls.{IsTree}
+use Rattle.tree_search.specs.Tree.{TreeOf, page_of, entries_of, pages_of, size_of, IsHalfFull, IsRooted, Bound, IsRow, IsOrdered}
+use Rattle.tree_search.specs.Stored.{Holds, IsInnerAt}
+use Rattle.pages.specs.Owners.{IsOutside, AreApart, ChangesPages}
+use Rattle.tree_search.specs.Calls.{IsTree}
 use Rattle.bplus_tree.specs.Crown.{Crowns, HasCrown, Settles, IsSettled}
 use Rattle.bplus_tree.proofs.PageLemmas.{holds_still}
-use Rattle.bplus_tree.proofs.RemoveLemmas.{fails, full_rooted}
+use Rattle.tree_search.proofs.AnswerLemmas.{fails}
+use Rattle.bplus_tree.proofs.RemoveLemmas.{full_rooted}
 use Rattle.tree_node.proofs.OrderLemmas.{Each-weaker}
 
 pub node_there : (shape : Shape) (pages : PageMap) (page : ℕ) (ss : List (List ℕ)) (below : List ℕ) → IsInnerAt shape pages page ss below → IsSome (pages page)
@@ -35,12 +36,12 @@ only P (s ∷ ss) xs none row = absurd (omega arith)
 at_root : (shape : Shape) (before : PageMap) (k root : ℕ) (t : TreeOf (suc k)) → IsTree shape before (suc k) root None None t → IsInnerAt shape before root t.1 (map (page_of k) t.2)
 at_root shape before k root t tree = subst (λ (n : ℕ). IsInnerAt shape before n t.1 (map (page_of k) t.2)) tree.root tree.holds.0
 
-settled_child : (shape : Shape) (before after : PageMap) (is_sound : Type 0) (k root child : ℕ) (t : TreeOf (suc k)) → IsTree shape before (suc k) root None None t → AreApart (pages_of (suc k) t) → IsFilled shape (suc k) t
+settled_child : (shape : Shape) (before after : PageMap) (is_sound : Type 0) (k root child : ℕ) (t : TreeOf (suc k)) → IsTree shape before (suc k) root None None t → AreApart (pages_of (suc k) t) → IsHalfFull shape (suc k) t
     → HasCrown before after root t.1 (map (page_of k) t.2) (Some child) → IsSettled shape before after (suc k) t (record { root = child; levels = k })
 settled_child shape before after is_sound k root child t tree apart filled crown =
     let one = only (IsOrdered shape.width k) t.1 t.2 crown.0 tree.ordered.1 in
     let x = one.child in
-    let full = subst (Each (λ c. (least shape k ≤ size_of k c) × IsFilled shape k c)) one.is filled in
+    let full = subst (Each (λ c. (least shape k ≤ size_of k c) × IsHalfFull shape k c)) one.is filled in
     let kids : map (page_of k) t.2 ≡ page_of k x ∷ [] = ap (map (page_of k)) one.is in
     let is : page_of k x ≡ child = sym (crown.1 ∙ ap (λ (l : List ℕ). slice_index l 0) kids) in
     let own : flat_map (pages_of k) t.2 ≡ pages_of k x = ap (flat_map (pages_of k)) one.is ∙ append-nil (pages_of k x) in
@@ -66,14 +67,14 @@ settled_child shape before after is_sound k root child t tree apart filled crown
       };
     }
 
-changes_none : (before after : PageMap) (own : List ℕ) → after ≡ before → AreApart own → Changes before after own own
+changes_none : (before after : PageMap) (own : List ℕ) → after ≡ before → AreApart own → ChangesPages before after own own
 changes_none before after own same apart = record {
   others = λ n here out. (ap (λ (m : PageMap). m n) same, out);
   no_stray = λ n here out. (subst (λ (m : PageMap). IsSome (m n)) same here, out);
   apart = apart;
 }
 
-settled_same : (shape : Shape) (before after : PageMap) (h root : ℕ) (t : TreeOf h) → after ≡ before → IsTree shape before h root None None t → AreApart (pages_of h t) → IsFilled shape h t → IsRooted h t
+settled_same : (shape : Shape) (before after : PageMap) (h root : ℕ) (t : TreeOf h) → after ≡ before → IsTree shape before h root None None t → AreApart (pages_of h t) → IsHalfFull shape h t → IsRooted h t
     → IsSettled shape before after h t (record { root = root; levels = h })
 settled_same shape before after h root t same tree apart filled rooted =
     record {

@@ -1,23 +1,25 @@
 -- A cursor and its tree.
-use Rattle.std.proofs.Common.{◌≡◌, ◌≢◌, ℕ, zero, suc, ◌+◌, ◌<◌, true, false, List, [], ◌∷◌, ◌++◌, length, take, get_or, Some, None, Ok, Err, refl, ap, sym, subst, ◌∙◌, arith}
+use Rattle.std.proofs.Common.{◌≡◌, ◌≢◌, ℕ, zero, suc, ◌+◌, ◌<◌, Bool, true, false, List, [], ◌∷◌, ◌++◌, length, take, get_or, Option, Some, None, Result, Ok, Err, refl, ap, sym, subst, ◌∙◌, arith}
 use Rattle.std.proofs.lemmas.List.{length-append}
+use Rattle.std.specs.Option.{option_map_or}
 use Rattle.arrayvec.specs.ArrayVec.{ArrayVec}
 use Rattle.tree_node.specs.Order.{less, Ascends}
 use Rattle.tree_node.proofs.OrderLemmas.{less_itself, upto_through, above_through}
 use Rattle.pages.specs.PageMap.{PageMap}
 use Rattle.bplus_tree.specs.declared.tree.Tree.{Tree}
 use Rattle.bplus_tree.specs.declared.cursor.Cursor.{Cursor}
-use Rattle.bplus_tree.specs.declared.spot.Spot.{Spot}
-use Rattle.bplus_tree.specs.Calls.{first_after}
-use Rattle.bplus_tree.specs.Standing.{Stands, one_more}
+use Rattle.tree_search.specs.declared.spot.Spot.{Spot}
+use Rattle.tree_search.specs.Calls.{first_after}
+use Rattle.bplus_tree.specs.Standing.{TreeStands, one_more}
 use Rattle.io_state.specs.declared.fault.Fault.{Fault}
 use Rattle.io_state.specs.declared.fault.Fault.TheVariants.{Damage}
+use Rattle.pages.specs.Answer.{IsAnswer}
 use Rattle.pages.specs.Owners.{IsOutside}
-use Rattle.bplus_tree.specs.Stored.{IsLeafAt}
-use Rattle.bplus_tree.specs.Spot.{CopiesEntry, StandsAt}
+use Rattle.tree_search.specs.Stored.{IsLeafAt}
+use Rattle.tree_search.specs.Spot.{CopiesEntry, TellsStart, begins_with, StandsAt}
 use Rattle.bplus_tree.specs.Cursor.{IsAt, Belongs, HasNeighbour, IsBehind, HasMoved}
-use Rattle.bplus_tree.proofs.SearchLemmas.{after_at}
-use Rattle.bplus_tree.proofs.RemoveLemmas.{tree_ascends}
+use Rattle.tree_search.proofs.SearchLemmas.{after_at}
+use Rattle.tree_search.proofs.DescentLemmas.{tree_ascends}
 
 -- ---- the entry behind another one
 
@@ -49,7 +51,7 @@ after_entry width key es i inside rises is =
     (record { within = omega arith; upto = upto_through width key es i [] here rises not_above; above = above_through width key es (suc i) [] inside rises above }) inside
 
 -- the entry behind that of the cursor in its leaf is the one behind it in the tree
-pub neighbour : (cursor : Cursor) (tree : Tree) (pages : PageMap) (entries : List (List ℕ)) (own : List ℕ) → Stands tree pages entries own → (is : IsAt cursor tree pages entries own) → cursor.spot.place + 1 < cursor.spot.count
+pub neighbour : (cursor : Cursor) (tree : Tree) (pages : PageMap) (entries : List (List ℕ)) (own : List ℕ) → TreeStands tree pages entries own → (is : IsAt cursor tree pages entries own) → cursor.spot.place + 1 < cursor.spot.count
     → first_after tree.shape.width cursor.key.items entries ≡ Some (get_or is.stands.here (cursor.spot.place + 1) [])
 neighbour cursor tree pages entries own stands is more =
     let at = is.stands in
@@ -77,7 +79,7 @@ is_at cursor tree pages entries own belongs near =
     let some : 0 < cursor.spot.count = omega arith in
     belongs.at near.unchanged near.counted some
 
-module _ (cursor : Cursor) (tree : Tree) (pages : PageMap) (entries : List (List ℕ)) (own : List ℕ) (stands : Stands tree pages entries own) (belongs : Belongs cursor tree pages entries own) (near : HasNeighbour cursor tree)
+module _ (cursor : Cursor) (tree : Tree) (pages : PageMap) (entries : List (List ℕ)) (own : List ℕ) (stands : TreeStands tree pages entries own) (belongs : Belongs cursor tree pages entries own) (near : HasNeighbour cursor tree)
     (place : ℕ) (is_place : place ≡ cursor.spot.place + 1) (spot : Spot) where
   pub stepped : (e : ArrayVec ℕ) → spot.leaf ≡ cursor.spot.leaf → spot.place ≡ place → spot.count ≡ cursor.spot.count → CopiesEntry tree.shape pages cursor.spot.leaf place e.items (Ok true)
       → IsBehind cursor tree pages entries own spot (Some e)
@@ -114,6 +116,17 @@ module _ (cursor : Cursor) (tree : Tree) (pages : PageMap) (entries : List (List
   no_damage entry fault at =
       let is = is_at cursor tree pages entries own belongs near in
       (at is.stands.here is.stands.leaf).no_damage
+
+-- how the entry behind that of the cursor in its leaf begins, the next entry begins
+pub told_near : (cursor : Cursor) (tree : Tree) (pages : PageMap) (entries : List (List ℕ)) (own : List ℕ) → TreeStands tree pages entries own → Belongs cursor tree pages entries own → HasNeighbour cursor tree
+    → (start : List ℕ) (result : Result Bool Fault) → TellsStart tree.shape pages cursor.spot.leaf (cursor.spot.place + 1) start result
+    → IsAnswer result (λ told. told ≡ option_map_or (begins_with start) (first_after tree.shape.width cursor.key.items entries) false)
+told_near cursor tree pages entries own stands belongs near start result told =
+    let is = is_at cursor tree pages entries own belongs near in
+    let more = near.more in
+    let count = is.stands.count in
+    let within : cursor.spot.place + 1 < length is.stands.here = omega arith in
+    subst (λ (o : Option (List ℕ)). IsAnswer result (λ told. told ≡ option_map_or (begins_with start) o false)) (sym (neighbour cursor tree pages entries own stands is near.more)) (told is.stands.here is.stands.leaf within)
 
 -- ---- the cursor after a step
 

@@ -15,27 +15,30 @@ use Rattle.tree_node.proofs.LeafLemmas.{leaf_room_some}
 use Rattle.tree_node.proofs.InnerLemmas.{length_separators, length_children}
 use Rattle.tree_node.proofs.OrderLemmas.{Each-weaker}
 use Rattle.pages.specs.PageMap.{PageMap, Writes}
-use Rattle.pages.specs.Owners.{AreApart, Changes}
-use Rattle.bplus_tree.specs.declared.descent.Step.{Step}
-use Rattle.bplus_tree.specs.declared.descent.Look.{Look}
+use Rattle.pages.specs.Owners.{AreApart, ChangesPages}
+use Rattle.tree_search.specs.declared.descent.Step.{Step}
+use Rattle.tree_search.specs.declared.descent.Look.{Look}
 use Rattle.node_balance.specs.declared.separator.Separator.{Separator}
 use Rattle.bplus_tree.specs.declared.insert.Grown.{Grown}
 use Rattle.bplus_tree.specs.declared.insert.Grown.TheVariants.{Present, Added}
 use Rattle.node_balance.specs.Fill.{least}
-use Rattle.bplus_tree.specs.Tree.{TreeOf, page_of, entries_of, pages_of, size_of, Bound, NotBelow, Below, IsRow, IsOrdered}
-use Rattle.bplus_tree.specs.Stored.{Holds, IsLeafAt, IsInnerAt}
+use Rattle.tree_search.specs.Tree.{TreeOf, page_of, entries_of, pages_of, size_of, Bound, NotBelow, Below, IsRow, IsOrdered}
+use Rattle.tree_search.specs.Stored.{Holds, IsLeafAt, IsInnerAt}
 use Rattle.bplus_tree.specs.Edits.{with_entry}
 use Rattle.pages.specs.Answer.{IsAnswer}
-use Rattle.bplus_tree.specs.Calls.{entry_of, IsTree, IsWhole}
-use Rattle.bplus_tree.specs.Descent.{Steps, IsLook}
+use Rattle.tree_search.specs.Calls.{entry_of, IsTree, IsWhole}
+use Rattle.tree_search.specs.Descent.{Steps, IsLook}
 use Rattle.bplus_tree.specs.Remove.{Becomes, IsFull}
 use Rattle.bplus_tree.specs.Grow.{HasLeaf, HasLeaves, HasAddedToLeaf, AddsToLeaf, HasInner, HasInners, HasAddedToInner, AddsToInner}
-use Rattle.bplus_tree.specs.Insert.{BecomesTwo, HasInserted, Inserts, HasPutIf, PutsBelow, IsPutIf, HasPutInPlaceIf, PutsInPlace}
-use Rattle.bplus_tree.proofs.RowLemmas.{Inside, Each-append, row_split, row_rises}
-use Rattle.bplus_tree.proofs.PageLemmas.{written_same, each_left, each_right, each_both, each_pages, pages_live, rows_still, change_within, change_inside, change_parted}
-use Rattle.bplus_tree.proofs.DescentLemmas.{node_whole, each_take, each_drop, entry_below}
+use Rattle.bplus_tree.specs.Insert.{BecomesTwo, HasInsertedBelow, Inserts, HasPutIf, PutsBelow, IsPutIf, HasPutInPlaceIf, PutsInPlace}
+use Rattle.tree_search.proofs.RowLemmas.{Inside, Each-append, row_split, row_rises}
+use Rattle.bplus_tree.proofs.PageLemmas.{written_same, each_both, each_pages, pages_live, rows_still, change_within, change_inside, change_parted}
+use Rattle.tree_search.proofs.RowLemmas.{each_left, each_right}
+use Rattle.tree_search.proofs.DescentLemmas.{node_whole, each_take, each_drop, entry_below}
 use Rattle.bplus_tree.proofs.ShareLemmas.{parts}
-use Rattle.bplus_tree.proofs.RemoveLemmas.{fails, Child, child_of_whole, replaced, step_of}
+use Rattle.tree_search.proofs.AnswerLemmas.{fails}
+use Rattle.bplus_tree.proofs.RemoveLemmas.{Child, child_of_whole, replaced}
+use Rattle.tree_search.proofs.DescentLemmas.{step_of}
 use Rattle.bplus_tree.proofs.WithEntryLemmas.{with_entry_rises, each_with, one_more, insert_is_with, entry_within}
 use Rattle.bplus_tree.proofs.GrowLemmas.{answer_map}
 
@@ -74,7 +77,7 @@ module _ (shape : Shape) (before mid after : PageMap) (page : ℕ) (low high : B
       let free : before separator.child ≡ None = ap (λ (m : PageMap). m separator.child) (sym same) ∙ put.free in
       let there : before page ≡ Some tree.holds.bytes = ap before (sym tree.root) ∙ tree.holds.there in
       let alive : IsSome (before page) = rw there refl in
-      let still : Changes before before (page ∷ []) (page ∷ []) = record { others = λ n here out. (refl, out); no_stray = λ n here out. (here, out); apart = (tt, tt) } in
+      let still : ChangesPages before before (page ∷ []) (page ∷ []) = record { others = λ n here out. (refl, out); no_stray = λ n here out. (here, out); apart = (tt, tt) } in
       let room = leaf_room_some shape in
       let full = put.full in
       let cut = parts shape.width low high put.lower put.upper (omega arith) (omega arith) (subst (Ascends shape.width) (sym put.has) rises) (subst (Each (Inside shape.width low high)) (sym put.has) inside) in
@@ -89,23 +92,23 @@ module _ (shape : Shape) (before mid after : PageMap) (page : ℕ) (low high : B
         left_full = (put.full.0, tt);
         right_full = (put.full.1, tt);
         has = put.has;
-        changes = subst (λ (n : ℕ). Changes before after (n ∷ []) (page ∷ separator.child ∷ [])) (sym tree.root)
+        changes = subst (λ (n : ℕ). ChangesPages before after (n ∷ []) (page ∷ separator.child ∷ [])) (sym tree.root)
             (change_parted before before after page separator.child [] [] [] still (alive, tt) free frame);
       }
 
 pub leaf_grows : (shape : Shape) (before mid after : PageMap) (is_sound : Type 0) (page : ℕ) (low high : Bound) (e : List ℕ) (t : TreeOf zero) (look : Look) (result : Result (Option Separator) Fault)
     → mid ≡ before → IsTree shape before zero page low high t → NotBelow low (take shape.width e) → Below high (take shape.width e) → IsLook shape.width (take shape.width e) t.1 look → look.found ≡ None
-    → AddsToLeaf shape mid after is_sound page look.place e result → IsAnswer result (λ up. HasInserted shape before after zero page low high e t (Added up) × is_sound)
+    → AddsToLeaf shape mid after is_sound page look.place e result → IsAnswer result (λ up. HasInsertedBelow shape before after zero page low high e t (Added up) × is_sound)
 leaf_grows shape before mid after is_sound page low high e t look result same tree lo hi is missed adds =
     let none : entry_of shape.width (take shape.width e) t.1 ≡ None = sym is.found ∙ ap (option_map (λ (f : ArrayVec ℕ). f.items)) missed in
     let at : IsLeafAt shape mid page t.1 = subst (λ (m : PageMap). IsLeafAt shape m page t.1) (sym same) (subst (λ (n : ℕ). IsLeafAt shape before n t.1) tree.root tree.holds) in
     let with = insert_is_with shape.width e t.1 look.place is.rank none in
     let answer = subst (λ (l : List (List ℕ)). IsAnswer result (λ up. HasAddedToLeaf shape mid after page l up × is_sound)) with (adds t.1 at is.rank.within) in
-    answer_map result (λ up. HasAddedToLeaf shape mid after page (with_entry shape.width e t.1) up × is_sound) (λ up. HasInserted shape before after zero page low high e t (Added up) × is_sound)
+    answer_map result (λ up. HasAddedToLeaf shape mid after page (with_entry shape.width e t.1) up × is_sound) (λ up. HasInsertedBelow shape before after zero page low high e t (Added up) × is_sound)
     (λ up added. (grown none up added.0, added.1)) answer
   where
     grown : entry_of shape.width (take shape.width e) t.1 ≡ None → (up : Option Separator) → HasAddedToLeaf shape mid after page (with_entry shape.width e t.1) up
-        → HasInserted shape before after zero page low high e t (Added up)
+        → HasInsertedBelow shape before after zero page low high e t (Added up)
     grown none None put = (none, leaf_same shape before mid after page low high e t same tree lo hi none put)
     grown none (Some separator) put = (none, leaf_split shape before mid after page low high e t same tree lo hi none separator put)
 
@@ -137,7 +140,7 @@ pub record Parted (shape : Shape) (before after : PageMap) (k : ℕ) (low high :
   pub holds : Each (Holds shape after k) xs
   pub filled : Each (IsFull shape k) xs
   pub has : flat_map (entries_of k) xs ≡ entries
-  pub changes : Changes before after (page ∷ old) (page ∷ flat_map (pages_of k) xs)
+  pub changes : ChangesPages before after (page ∷ old) (page ∷ flat_map (pages_of k) xs)
   pub there : IsSome (after page)
 
 module _ (shape : Shape) (before after late : PageMap) (k : ℕ) (low high : Bound) (page : ℕ) (old : List ℕ) (entries : List (List ℕ)) (ss : List (List ℕ)) (xs : List (TreeOf k))
@@ -194,7 +197,7 @@ module _ (shape : Shape) (before after late : PageMap) (k : ℕ) (low high : Bou
       let fresh : (n : ℕ) → IsSome (after n) → n ≢ separator.child = λ n here e. let no : IsSome (after separator.child) = subst (λ x. IsSome (after x)) e here in cc (no, put.free) in
       let still = each_both (λ n. page ≢ n) (λ n. IsSome (after n)) (λ n. late n ≡ after n) (λ n ne here. put.others n (λ e. ne (sym e)) (fresh n here)) (flat_map (pages_of k) xs) parted.changes.apart.0 live in
       let hold = rows_still shape after late k xs parted.holds still in
-      let change = subst (λ (l : List ℕ). Changes before after (page ∷ old) (page ∷ l)) cut_pages parted.changes in
+      let change = subst (λ (l : List ℕ). ChangesPages before after (page ∷ old) (page ∷ l)) cut_pages parted.changes in
       record {
         left = (page, ls, first);
         right = (separator.child, rs, second);
@@ -264,8 +267,8 @@ child_split shape before after k page low high e t step separator whole child tw
         has = entry_within shape.width e (entries_of k) row.front row.here (two.left ∷ two.right ∷ []) row.back row.below row.above
             (ap (λ (l : List (List ℕ)). entries_of k two.left ++ l) (append-nil (entries_of k two.right)) ∙ two.has)
             ∙ ap (λ (l : List (TreeOf k)). with_entry shape.width e (flat_map (entries_of k) l)) (sym row.is);
-        changes = subst (λ (l : List ℕ). Changes before after l (page ∷ flat_map (pages_of k) xs)) (sym own ∙ own_t)
-            (subst (λ (l : List ℕ). Changes before after (ahead ++ (pages_of k row.here ++ behind)) l) (sym own') within.changes);
+        changes = subst (λ (l : List ℕ). ChangesPages before after l (page ∷ flat_map (pages_of k) xs)) (sym own ∙ own_t)
+            (subst (λ (l : List ℕ). ChangesPages before after (ahead ++ (pages_of k row.here ++ behind)) l) (sym own') within.changes);
         there = rw there refl;
       };
       node = record { bytes = node.bytes; there = there; inner = node.inner; rises = node.rises; leads = node.leads };
@@ -309,7 +312,7 @@ module _ (shape : Shape) (h k page : ℕ) (e : List ℕ) (one : h ≡ suc k) whe
       → Inserts shape before after is_sound h page e out
   down_fails before after is_sound fault out steps was = at_one before after is_sound out (λ t low high whole lo hi.
       let a = step_of shape before k page low high (take shape.width e) t (Err fault) whole.stands steps in
-      fails out fault (λ grown. HasInserted shape before after (suc k) page low high e t grown × is_sound) was a.no_damage)
+      fails out fault (λ grown. HasInsertedBelow shape before after (suc k) page low high e t grown × is_sound) was a.no_damage)
 
   pub put_fails : (before after : PageMap) (is_sound : Type 0) (fault : Fault) (out : Result Bool Fault) → Steps shape before page (take shape.width e) (Err fault) → IsErrAnd out (λ f. f ≡ fault)
       → PutsBelow shape before after is_sound h page e out
@@ -324,7 +327,7 @@ module _ (shape : Shape) (h k page : ℕ) (e : List ℕ) (one : h ≡ suc k) whe
 
     below_answer : (after : PageMap) (is_sound : Type 0) (out : Result Grown Fault) (low high : Bound) (t : TreeOf (suc k)) (whole : IsWhole shape before (suc k) page low high t)
         → NotBelow low (take shape.width e) → Below high (take shape.width e) → Inserts shape mid after is_sound k step.child e out
-        → (let child = child_at low high t whole in IsAnswer out (λ grown. HasInserted shape before after k step.child child.row.from child.row.to e child.row.here grown × is_sound))
+        → (let child = child_at low high t whole in IsAnswer out (λ grown. HasInsertedBelow shape before after k step.child child.row.from child.row.to e child.row.here grown × is_sound))
     below_answer after is_sound out low high t whole lo hi inserts =
         let child = child_at low high t whole in
         (subst (λ (m : PageMap). Inserts shape m after is_sound k step.child e out) same inserts) child.row.here child.row.from child.row.to child.whole (child.row.under lo) (child.row.over hi)
@@ -354,7 +357,7 @@ module _ (shape : Shape) (h k page : ℕ) (e : List ℕ) (one : h ≡ suc k) whe
         → Inserts shape before after is_sound h page e out
     child_fails after is_sound fault out inserts was = at_one before after is_sound out (λ t low high whole lo hi.
         let a = below_answer after is_sound (Err fault) low high t whole lo hi inserts in
-        fails out fault (λ grown. HasInserted shape before after (suc k) page low high e t grown × is_sound) was a.no_damage)
+        fails out fault (λ grown. HasInsertedBelow shape before after (suc k) page low high e t grown × is_sound) was a.no_damage)
 
     pub child_has : (after : PageMap) (is_sound : Type 0) (found : ArrayVec ℕ) → Inserts shape mid after is_sound k step.child e (Ok (Present found)) → Inserts shape before after is_sound h page e (Ok (Present found))
     child_has after is_sound found inserts = at_one before after is_sound (Ok (Present found)) (λ t low high whole lo hi.
@@ -370,7 +373,7 @@ module _ (shape : Shape) (h k page : ℕ) (e : List ℕ) (one : h ≡ suc k) whe
     -- the child was split, and its parent has a separator more
     split_answer : (after late : PageMap) (is_sound was_sound : Type 0) (separator : Separator) (result : Result (Option Separator) Fault) → Inserts shape mid after was_sound k step.child e (Ok (Added (Some separator)))
         → (was_sound → AddsToInner shape after late is_sound page step.place separator result) → (t : TreeOf (suc k)) (low high : Bound) → IsWhole shape before (suc k) page low high t
-        → NotBelow low (take shape.width e) → Below high (take shape.width e) → IsAnswer result (λ up. HasInserted shape before late (suc k) page low high e t (Added up) × is_sound)
+        → NotBelow low (take shape.width e) → Below high (take shape.width e) → IsAnswer result (λ up. HasInsertedBelow shape before late (suc k) page low high e t (Added up) × is_sound)
     split_answer after late is_sound was_sound separator result inserts adds t low high whole lo hi =
         let child = child_at low high t whole in
         let a = (below_answer after was_sound (Ok (Added (Some separator))) low high t whole lo hi inserts).answer in
@@ -382,12 +385,12 @@ module _ (shape : Shape) (h k page : ℕ) (e : List ℕ) (one : h ≡ suc k) whe
         let old = flat_map (pages_of k) t.2 in
         let entries = with_entry shape.width e (flat_map (entries_of k) t.2) in
         let answer = subst (λ (l : List ℕ). IsAnswer result (λ up. HasAddedToInner shape after late page ss l up × is_sound)) two.leads (adds a.1 t.1 (map (page_of k) t.2) two.node child.row.few) in
-        answer_map result (λ up. HasAddedToInner shape after late page ss (map (page_of k) two.xs) up × is_sound) (λ up. HasInserted shape before late (suc k) page low high e t (Added up) × is_sound)
+        answer_map result (λ up. HasAddedToInner shape after late page ss (map (page_of k) two.xs) up × is_sound) (λ up. HasInsertedBelow shape before late (suc k) page low high e t (Added up) × is_sound)
         (λ up added. (grown none two.xs ss old large two.parted up added.0, added.1)) answer
       where
         grown : entry_of shape.width (take shape.width e) (entries_of (suc k) t) ≡ None → (xs : List (TreeOf k)) (ss : List (List ℕ)) (old : List ℕ) → length t.1 ≤ length ss
             → Parted shape before after k low high page (flat_map (pages_of k) t.2) (with_entry shape.width e (flat_map (entries_of k) t.2)) ss xs
-            → (up : Option Separator) → HasAddedToInner shape after late page ss (map (page_of k) xs) up → HasInserted shape before late (suc k) page low high e t (Added up)
+            → (up : Option Separator) → HasAddedToInner shape after late page ss (map (page_of k) xs) up → HasInsertedBelow shape before late (suc k) page low high e t (Added up)
         grown none xs ss old large parted None put = (
           none,
           subst (λ (n : ℕ). Becomes shape before late (suc k) page low high (n ∷ flat_map (pages_of k) t.2) (length t.1) (with_entry shape.width e (flat_map (entries_of k) t.2))) (sym whole.stands.root)
@@ -407,5 +410,5 @@ module _ (shape : Shape) (h k page : ℕ) (e : List ℕ) (one : h ≡ suc k) whe
     pub split_fails : (after late : PageMap) (is_sound was_sound : Type 0) (separator : Separator) (fault : Fault) (out : Result Grown Fault) → Inserts shape mid after was_sound k step.child e (Ok (Added (Some separator)))
         → (was_sound → AddsToInner shape after late is_sound page step.place separator (Err fault)) → IsErrAnd out (λ f. f ≡ fault) → Inserts shape before late is_sound h page e out
     split_fails after late is_sound was_sound separator fault out inserts adds was = at_one before late is_sound out (λ t low high whole lo hi.
-        fails out fault (λ grown. HasInserted shape before late (suc k) page low high e t grown × is_sound) was
+        fails out fault (λ grown. HasInsertedBelow shape before late (suc k) page low high e t grown × is_sound) was
         (split_answer after late is_sound was_sound separator (Err fault) inserts adds t low high whole lo hi).no_damage)

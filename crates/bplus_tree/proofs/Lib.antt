@@ -1,8 +1,5 @@
-pub mod RowLemmas
 pub mod PageLemmas
-pub mod FindLemmas
 pub mod PairLemmas
-pub mod DescentLemmas
 pub mod SpreadLemmas
 pub mod ShareLemmas
 pub mod MendLemmas
@@ -11,14 +8,10 @@ pub mod ExitLemmas
 pub mod CrownLemmas
 pub mod TreeLemmas
 pub mod ReadOffLemmas
-pub mod SearchLemmas
 pub mod CountLemmas
-pub mod SpotLemmas
 pub mod CursorLemmas
 pub mod WithEntryLemmas
 pub mod GrowLemmas
 pub mod InsertLemmas
 pub mod RaiseLemmas
 pub mod RootLemmas
-pub mod RangeLemmas
-pub mod RangeRowLemmas

@@ -10,17 +10,18 @@ use Rattle.tree_node.specs.Inner.{separators, children}
 use Rattle.pages.specs.PageMap.{PageMap}
 use Rattle.bplus_tree.specs.declared.mend.Pair.{Pair}
 use Rattle.node_balance.specs.Fill.{least}
-use Rattle.bplus_tree.specs.Tree.{TreeOf, page_of, entries_of, pages_of, pages_below, size_of, IsFilled, Bound, IsRow, IsOrdered}
-use Rattle.bplus_tree.specs.Stored.{Holds, IsInnerAt}
-use Rattle.pages.specs.Owners.{AreApart, Changes}
-use Rattle.bplus_tree.specs.Calls.{IsTree}
+use Rattle.tree_search.specs.Tree.{TreeOf, page_of, entries_of, pages_of, pages_below, size_of, IsHalfFull, Bound, IsOrdered}
+use Rattle.tree_search.specs.Stored.{Holds, IsInnerAt}
+use Rattle.pages.specs.Owners.{AreApart, ChangesPages}
+use Rattle.tree_search.specs.Calls.{IsTree}
 use Rattle.node_balance.specs.Even.{IsNode, count_at, Joins, Shares, AreJoined, AreShared}
 use Rattle.bplus_tree.specs.Mend.{AreThree, HasJoined, HasShared, IsBeside, IsParent}
 use Rattle.bplus_tree.specs.Remove.{BecomesShort, AreFullBut, IsFull, LacksOne}
-use Rattle.bplus_tree.proofs.RowLemmas.{Each-append, row_rises}
-use Rattle.bplus_tree.proofs.PageLemmas.{each_left, each_right, rows_still}
+use Rattle.tree_search.proofs.RowLemmas.{Each-append, row_rises}
+use Rattle.tree_search.proofs.RowLemmas.{each_left, each_right, row_length}
+use Rattle.bplus_tree.proofs.PageLemmas.{rows_still}
 use Rattle.bplus_tree.proofs.PairLemmas.{PairAt, pair_at}
-use Rattle.bplus_tree.proofs.DescentLemmas.{node_whole, root_there}
+use Rattle.tree_search.proofs.DescentLemmas.{node_whole, root_there}
 use Rattle.bplus_tree.proofs.SpreadLemmas.{two, two_out, two_apart, spread_still, spread_shared, spread_joined}
 use Rattle.bplus_tree.proofs.ShareLemmas.{trees_joined, trees_shared}
 
@@ -44,8 +45,8 @@ module _ {X : Type 0} (F L : X → Type 0) where
 pub record Uneven (shape : Shape) (k : ℕ) (front : List (TreeOf k)) (left right : TreeOf k) (back : List (TreeOf k)) : Type 0 where
   pub in_front : Each (IsFull shape k) front
   pub behind : Each (IsFull shape k) back
-  pub filled_left : IsFilled shape k left
-  pub filled_right : IsFilled shape k right
+  pub filled_left : IsHalfFull shape k left
+  pub filled_right : IsHalfFull shape k right
   pub near_left : least shape k ≤ size_of k left + 1
   pub near_right : least shape k ≤ size_of k right + 1
   pub enough : least shape k ≤ size_of k left + size_of k right
@@ -93,13 +94,6 @@ full_within F L zero [] h = absurd h
 full_within F L (suc place) [] h = absurd h
 full_within F L zero (x ∷ xs) h = omega arith
 full_within F L (suc place) (x ∷ xs) h = let rec = full_within F L place xs h.1 in omega arith
-
-pub row_length : {X : Type 0} (P : Bound → Bound → X → Type 0) (low : Bound) (ss : List (List ℕ)) (xs : List X) (high : Bound) → IsRow P low ss xs high → length xs ≡ length ss + 1
-row_length P low [] [] high row = absurd row
-row_length P low [] (x ∷ []) high row = refl
-row_length P low [] (x ∷ y ∷ xs) high row = absurd row
-row_length P low (s ∷ ss) [] high row = absurd row
-row_length P low (s ∷ ss) (x ∷ xs) high row = let rec = row_length P (Some s) ss xs high row.3 in omega arith
 
 pages_split : (k : ℕ) (t : TreeOf k) → pages_of k t ≡ page_of k t ∷ pages_below k t
 pages_split zero t = refl
@@ -275,8 +269,8 @@ shared shape before late k page low high t pair node left right node_now left_no
         has = two_flat (entries_of k) row.front both.lower both.upper row.back
             ∙ ap (λ (x : List (List ℕ)). flat_map (entries_of k) row.front ++ (x ++ flat_map (entries_of k) row.back)) both.has
             ∙ sym (two_flat (entries_of k) row.front row.left row.right row.back) ∙ ap (flat_map (entries_of k)) (sym row.is);
-        changes = subst (λ (l : List ℕ). Changes before late l (page ∷ flat_map (pages_of k) xs)) (sym found.own)
-            (subst (λ (l : List ℕ). Changes before late (page ∷ two a pair.lower u pair.upper v b) (page ∷ l)) own change);
+        changes = subst (λ (l : List ℕ). ChangesPages before late l (page ∷ flat_map (pages_of k) xs)) (sym found.own)
+            (subst (λ (l : List ℕ). ChangesPages before late (page ∷ two a pair.lower u pair.upper v b) (page ∷ l)) own change);
       };
       short_is = subst (λ (l : List (List ℕ)). IsTrue short ↔ (length l < least shape 1)) seps short_is;
     }
@@ -351,8 +345,8 @@ joined shape before late k page low high t pair node left right node_now left_no
         has = flat_map-append (entries_of k) row.front (one.tree ∷ row.back)
             ∙ ap (λ (x : List (List ℕ)). flat_map (entries_of k) row.front ++ (x ++ flat_map (entries_of k) row.back)) one.has
             ∙ sym (two_flat (entries_of k) row.front row.left row.right row.back) ∙ ap (flat_map (entries_of k)) (sym row.is);
-        changes = subst (λ (l : List ℕ). Changes before late l (page ∷ flat_map (pages_of k) xs)) (sym found.own)
-            (subst (λ (l : List ℕ). Changes before late (page ∷ two a pair.lower u pair.upper v b) (page ∷ l)) own change);
+        changes = subst (λ (l : List ℕ). ChangesPages before late l (page ∷ flat_map (pages_of k) xs)) (sym found.own)
+            (subst (λ (l : List ℕ). ChangesPages before late (page ∷ two a pair.lower u pair.upper v b) (page ∷ l)) own change);
       };
       short_is = subst (λ (l : List (List ℕ)). IsTrue short ↔ (length l < least shape 1)) seps short_is;
     }

@@ -4,11 +4,11 @@ use mathlib.Core.Path.{fun_ext}
 use Rattle.tree_node.specs.declared.shape.Shape.{Shape}
 use Rattle.page_bytes.specs.Each.{Each}
 use Rattle.tree_node.proofs.OrderLemmas.{Each-weaker}
-use Rattle.bplus_tree.specs.Tree.{TreeOf, pages_of}
+use Rattle.tree_search.specs.Tree.{TreeOf, pages_of}
 use Rattle.pages.specs.PageMap.{PageMap, Writes}
-use Rattle.bplus_tree.specs.Stored.{Holds}
-use Rattle.pages.specs.Owners.{IsOutside, AreApart, Changes}
-use Rattle.bplus_tree.proofs.RowLemmas.{Each-append}
+use Rattle.tree_search.specs.Stored.{Holds}
+use Rattle.pages.specs.Owners.{IsOutside, AreApart, ChangesPages}
+use Rattle.tree_search.proofs.RowLemmas.{Each-append, each_left, each_right}
 
 same_or : (m n : ℕ) (Q : Type 0) → (m ≡ n → Q) → (m ≢ n → Q) → Q
 same_or zero zero Q f g = f refl
@@ -20,15 +20,6 @@ same_or (suc m) (suc n) Q f g = same_or m n Q (λ e. f (ap suc e)) (λ ne. g (λ
 pub written_same : (before after : PageMap) (page : ℕ) (bytes : List ℕ) → before page ≡ Some bytes → Writes before after page bytes → after ≡ before
 written_same before after page bytes there writes =
     fun_ext (λ m. same_or m page (after m ≡ before m) (λ e. ap after e ∙ writes.page ∙ sym there ∙ ap before (sym e)) (writes.others m))
-
-module _ {X : Type 0} (P : X → Type 0) where
-  pub each_left : (xs ys : List X) → Each P (xs ++ ys) → Each P xs
-  each_left [] ys h = tt
-  each_left (x ∷ xs) ys h = (h.0, each_left xs ys h.1)
-
-  pub each_right : (xs ys : List X) → Each P (xs ++ ys) → Each P ys
-  each_right [] ys h = h
-  each_right (x ∷ xs) ys h = each_right xs ys h.1
 
 pub each_both : {X : Type 0} (P Q R : X → Type 0) → ((x : X) → P x → Q x → R x) → (xs : List X) → Each P xs → Each Q xs → Each R xs
 each_both P Q R f [] h k = tt
@@ -88,12 +79,12 @@ rows_still shape before after h ts holds same =
 
 -- A change in the middle leaves both sides.
 pub record Within (before after : PageMap) (front old new back : List ℕ) : Type 0 where
-  pub changes : Changes before after (front ++ (old ++ back)) (front ++ (new ++ back))
+  pub changes : ChangesPages before after (front ++ (old ++ back)) (front ++ (new ++ back))
   pub same_front : Each (λ n. after n ≡ before n) front
   pub same_back : Each (λ n. after n ≡ before n) back
 
 pub change_within : (before after : PageMap) (front old new back : List ℕ) → AreApart (front ++ (old ++ back))
-    → Each (λ n. IsSome (before n)) front → Each (λ n. IsSome (before n)) back → Changes before after old new → Within before after front old new back
+    → Each (λ n. IsSome (before n)) front → Each (λ n. IsSome (before n)) back → ChangesPages before after old new → Within before after front old new back
 change_within before after front old new back apart live live' change =
     let across = apart_across front (old ++ back) apart in
     let off_old = Each-weaker (IsOutside (old ++ back)) (IsOutside old) (λ n k. each_left (λ m. n ≢ m) old back k) front across in
@@ -134,8 +125,8 @@ not_same : (p : ℕ) (ns : List ℕ) → IsOutside ns p → Each (λ n. n ≢ p)
 not_same p ns h = Each-weaker (λ n. p ≢ n) (λ n. n ≢ p) (λ n k e. k (sym e)) ns h
 
 -- the bytes of the first page changed once more
-pub change_inside : (before after late : PageMap) (p : ℕ) (old new : List ℕ) → Changes before after (p ∷ old) (p ∷ new) → ((n : ℕ) → n ≢ p → late n ≡ after n)
-    → Changes before late (p ∷ old) (p ∷ new)
+pub change_inside : (before after late : PageMap) (p : ℕ) (old new : List ℕ) → ChangesPages before after (p ∷ old) (p ∷ new) → ((n : ℕ) → n ≢ p → late n ≡ after n)
+    → ChangesPages before late (p ∷ old) (p ∷ new)
 change_inside before after late p old new change frame = record {
   others = λ n here out. let c = change.others n here out in (frame n out.0 ∙ c.0, c.1);
   no_stray = λ n here out. change.no_stray n (rw (← frame n out.0) here) out;
@@ -143,9 +134,9 @@ change_inside before after late p old new change frame = record {
 }
 
 -- the first page changed once more, and some pages behind it are headed by a page that was free
-pub change_parted : (before after late : PageMap) (p q : ℕ) (old left right : List ℕ) → Changes before after (p ∷ old) (p ∷ (left ++ right))
+pub change_parted : (before after late : PageMap) (p q : ℕ) (old left right : List ℕ) → ChangesPages before after (p ∷ old) (p ∷ (left ++ right))
     → Each (λ n. IsSome (after n)) (p ∷ (left ++ right)) → after q ≡ None
-    → ((n : ℕ) → n ≢ p → n ≢ q → late n ≡ after n) → Changes before late (p ∷ old) ((p ∷ left) ++ (q ∷ right))
+    → ((n : ℕ) → n ≢ p → n ≢ q → late n ≡ after n) → ChangesPages before late (p ∷ old) ((p ∷ left) ++ (q ∷ right))
 change_parted before after late p q old left right change live free frame =
     let fresh : (n : ℕ) → IsSome (after n) → n ≢ q = λ n here e. let no : IsSome (after q) = subst (λ m. IsSome (after m)) e here in cc (no, free) in
     let apart = change.apart in

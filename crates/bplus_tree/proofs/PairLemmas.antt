@@ -1,7 +1,7 @@
 -- Two neighbours in a row, which can share their entries anew or become one.
 use Rattle.std.proofs.Common.{◌≡◌, ℕ, zero, suc, ◌<◌, List, [], ◌∷◌, ◌++◌, length, get_or, set, Some, refl, ap, arith, remove}
-use Rattle.bplus_tree.specs.Tree.{Bound, Above, Below, IsRow}
-use Rattle.bplus_tree.proofs.RowLemmas.{Above-trans, Below-trans}
+use Rattle.tree_search.specs.Tree.{Bound, Above, Below, IsRow}
+use Rattle.tree_search.proofs.RowLemmas.{Above-trans, Below-trans}
 
 module _ {X : Type 0} (P : Bound → Bound → X → Type 0) where
   -- the members on both sides of separator j

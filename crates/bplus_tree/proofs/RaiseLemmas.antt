@@ -5,17 +5,17 @@ use Rattle.page_bytes.specs.Each.{Each}
 use Rattle.tree_node.specs.declared.shape.Shape.{Shape}
 use Rattle.tree_node.proofs.OrderLemmas.{Each-weaker}
 use Rattle.pages.specs.PageMap.{PageMap}
-use Rattle.pages.specs.Owners.{IsOutside, Changes}
+use Rattle.pages.specs.Owners.{IsOutside, ChangesPages}
 use Rattle.node_balance.specs.declared.separator.Separator.{Separator}
-use Rattle.bplus_tree.specs.Tree.{TreeOf, page_of, entries_of, pages_of, size_of, IsRooted}
-use Rattle.bplus_tree.specs.Stored.{Holds, IsInnerAt}
-use Rattle.bplus_tree.specs.Calls.{IsWhole}
+use Rattle.tree_search.specs.Tree.{TreeOf, page_of, entries_of, pages_of, size_of, IsRooted}
+use Rattle.tree_search.specs.Stored.{Holds, IsInnerAt}
+use Rattle.tree_search.specs.Calls.{IsWhole}
 use Rattle.bplus_tree.specs.Remove.{Becomes}
 use Rattle.bplus_tree.specs.Grow.{HasRoot, AddsRoot}
 use Rattle.bplus_tree.specs.Insert.{BecomesTwo}
 use Rattle.bplus_tree.specs.Raise.{IsRaised, Raises}
 use Rattle.bplus_tree.proofs.PageLemmas.{pages_live, holds_still}
-use Rattle.bplus_tree.proofs.RowLemmas.{Each-append}
+use Rattle.tree_search.proofs.RowLemmas.{Each-append}
 
 rooted_still : (h : ℕ) (t new : TreeOf h) → IsRooted h t → size_of h t ≤ size_of h new → IsRooted h new
 rooted_still zero t new rooted large = tt
@@ -48,8 +48,8 @@ module _ (shape : Shape) (before mid after : PageMap) (h root : ℕ) (own : List
   below_is : below ≡ pages_of h two.left ++ pages_of h two.right
   below_is = ap (λ (l : List ℕ). pages_of h two.left ++ l) (append-nil (pages_of h two.right))
 
-  changed : Changes before mid own below
-  changed = subst (Changes before mid own) (sym below_is) two.changes
+  changed : ChangesPages before mid own below
+  changed = subst (ChangesPages before mid own) (sym below_is) two.changes
 
   live : Each (λ n. IsSome (mid n)) below
   live = subst (Each (λ n. IsSome (mid n))) (sym below_is)
@@ -83,7 +83,7 @@ module _ (shape : Shape) (before mid after : PageMap) (h root : ℕ) (own : List
     rooted = omega arith;
   }
 
-  frame : Changes before after own (new ∷ below)
+  frame : ChangesPages before after own (new ∷ below)
   frame = record {
     others = λ n here out.
         let c = changed.others n here out in

@@ -6,8 +6,8 @@ use Rattle.page_bytes.specs.Each.{Each}
 use Rattle.tree_node.specs.Leaf.{leaf_entries}
 use Rattle.tree_node.specs.Inner.{children}
 use Rattle.pages.specs.PageMap.{PageMap}
-use Rattle.bplus_tree.specs.Tree.{TreeOf, page_of, entries_of}
-use Rattle.bplus_tree.specs.Stored.{Holds}
+use Rattle.tree_search.specs.Tree.{TreeOf, page_of, entries_of}
+use Rattle.tree_search.specs.Stored.{Holds}
 use Rattle.bplus_tree.specs.ReadOff.{entries_in, ReadsItsEntries}
 
 each_read : (shape : Shape) (pages : PageMap) (h : ℕ) → ((t : TreeOf h) → Holds shape pages h t → entries_in shape pages h (page_of h t) ≡ entries_of h t)

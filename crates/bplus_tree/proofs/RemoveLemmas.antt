@@ -2,19 +2,15 @@
 use Rattle.std.proofs.Common.{◌≡◌, ◌≢◌, ℕ, zero, suc, ◌+◌, ◌-◌, ◌<◌, ◌≤◌, ◌↔◌, Bool, true, false, not, List, [], ◌∷◌, ◌++◌, length, take, drop, get_or, map, Option, Some, None, Ok, Err, Result, cond, IsSome, IsTrue, refl, ap, sym, subst, ◌∙◌, arith, flat_map, bytes_eq, add-one}
 use Rattle.std.specs.Prelude.{IsErrAnd, IfOk, filter, option_map}
 use Rattle.std.specs.List.{remove}
-use Rattle.std.proofs.lemmas.Result.{err_from_is_err_and}
 use Rattle.std.proofs.Math.Seq.{drop-cons}
-use Rattle.std.proofs.lemmas.List.{map-append, take-append-drop, append-nil}
+use Rattle.std.proofs.lemmas.List.{map-append, take-append-drop}
 use Rattle.std.proofs.lemmas.Slice.Eq.{bytes_eq-Decides}
-use Rattle.bplus_tree.proofs.ShareLemmas.{ascends_join}
-use Rattle.bplus_tree.proofs.RowLemmas.{row_bounded}
-use Rattle.bplus_tree.proofs.DescentLemmas.{bounded}
+use Rattle.tree_search.proofs.AnswerLemmas.{fails}
 use Rattle.std.proofs.lemmas.List.Elements.{filter-append}
 use Rattle.std.proofs.lemmas.List.Edits.{length-remove}
 use Rattle.std.proofs.lemmas.Grind.{flat_map-append}
 use Rattle.arrayvec.specs.ArrayVec.{ArrayVec}
 use Rattle.io_state.specs.declared.fault.Fault.{Fault}
-use Rattle.io_state.specs.declared.fault.Fault.TheVariants.{Damage}
 use Rattle.tree_node.specs.declared.shape.Shape.{Shape}
 use Rattle.page_bytes.specs.Each.{Each}
 use Rattle.tree_node.specs.Leaf.{IsLeaf, leaf_entries}
@@ -22,29 +18,24 @@ use Rattle.tree_node.specs.Order.{less, Ascends, IsRank}
 use Rattle.tree_node.proofs.InnerLemmas.{inner_room_some}
 use Rattle.tree_node.proofs.OrderLemmas.{Each-weaker, either}
 use Rattle.pages.specs.PageMap.{PageMap, Writes}
-use Rattle.bplus_tree.specs.declared.descent.Step.{Step}
-use Rattle.bplus_tree.specs.declared.descent.Look.{Look}
+use Rattle.tree_search.specs.declared.descent.Step.{Step}
+use Rattle.tree_search.specs.declared.descent.Look.{Look}
 use Rattle.bplus_tree.specs.declared.remove.Shrunk.{Shrunk}
 use Rattle.bplus_tree.specs.declared.remove.Shrunk.TheVariants.{Absent, Taken}
 use Rattle.node_balance.specs.Fill.{least}
-use Rattle.bplus_tree.specs.Tree.{TreeOf, page_of, entries_of, pages_of, size_of, IsRooted, Bound, IsRow, IsOrdered}
-use Rattle.bplus_tree.specs.Stored.{Holds, IsLeafAt, IsInnerAt}
-use Rattle.pages.specs.Owners.{AreApart, Changes}
+use Rattle.tree_search.specs.Tree.{TreeOf, page_of, entries_of, pages_of, size_of, IsRooted, Bound, IsRow, IsOrdered}
+use Rattle.tree_search.specs.Stored.{Holds, IsLeafAt}
+use Rattle.pages.specs.Owners.{AreApart, ChangesPages}
 use Rattle.bplus_tree.specs.Edits.{without_key}
 use Rattle.pages.specs.Answer.{IsAnswer}
-use Rattle.bplus_tree.specs.Calls.{entry_of, IsTree, IsWhole}
-use Rattle.bplus_tree.specs.Descent.{IsStep, Steps, IsLook}
-use Rattle.bplus_tree.specs.Remove.{Becomes, BecomesShort, HasRemoved, Removes, HasTaken, HasTakenIf, TakesBelow, IsTakenIf, HasTakenInPlace, HasTakenInPlaceIf, TakesInPlace, AreFullBut, IsFull, LacksOne, Mends, TakesOut, OutOfLeaf}
-use Rattle.bplus_tree.proofs.FindLemmas.{differs, differs_back, found_past, missed_at, apart_behind}
-use Rattle.bplus_tree.proofs.RowLemmas.{RowAt, Inside, Each-append}
-use Rattle.bplus_tree.proofs.PageLemmas.{written_same, each_left, each_right, apart_left, apart_right, change_within, pages_live, rows_still}
-use Rattle.bplus_tree.proofs.DescentLemmas.{below, entry_below}
-
--- a fault that is no damage is handed on
-pub fails : {X : Type 0} (r : Result X Fault) (fault : Fault) (P : X → Type 0) → IsErrAnd r (λ e. e ≡ fault) → fault ≢ Damage → IsAnswer r P
-fails r fault P was sound =
-    let p = err_from_is_err_and r was in
-    rw (p.1, p.2) (record { answer = tt; no_damage = sound })
+use Rattle.tree_search.specs.Calls.{entry_of, IsTree, IsWhole}
+use Rattle.tree_search.specs.Descent.{IsStep, Steps, IsLook}
+use Rattle.bplus_tree.specs.Remove.{Becomes, BecomesShort, HasRemovedBelow, Removes, HasTaken, HasTakenIf, TakesBelow, IsTakenIf, HasTakenInPlace, HasTakenInPlaceIf, TakesInPlace, AreFullBut, IsFull, LacksOne, Mends, TakesOut, OutOfLeaf}
+use Rattle.tree_search.proofs.FindLemmas.{differs, differs_back, found_past, missed_at, apart_behind}
+use Rattle.tree_search.proofs.RowLemmas.{RowAt, Inside, Each-append}
+use Rattle.bplus_tree.proofs.PageLemmas.{written_same, apart_left, apart_right, change_within, pages_live, rows_still}
+use Rattle.tree_search.proofs.RowLemmas.{each_left, each_right}
+use Rattle.tree_search.proofs.DescentLemmas.{below, entry_below, step_of, tree_ascends}
 
 -- an answer says as much of what follows from it
 answers : {X : Type 0} (r : Result X Fault) (P Q : X → Type 0) → ((x : X) → P x → Q x) → IsAnswer r P → IsAnswer r Q
@@ -167,12 +158,12 @@ leaf_without shape before after page low high key t i e tree rank was leaf frame
 
 pub leaf_removes : (shape : Shape) (before mid after : PageMap) (is_sound : Type 0) (page : ℕ) (low high : Bound) (key : List ℕ) (t : TreeOf zero) (look : Look) (entry : ArrayVec ℕ) (result : Result Bool Fault)
     → mid ≡ before → IsTree shape before zero page low high t → IsLook shape.width key t.1 look → look.found ≡ Some entry → OutOfLeaf shape mid after is_sound page look.place result
-    → IsAnswer result (λ short. HasRemoved shape before after zero page low high key t (Taken entry short) × is_sound)
+    → IsAnswer result (λ short. HasRemovedBelow shape before after zero page low high key t (Taken entry short) × is_sound)
 leaf_removes shape before mid after is_sound page low high key t look entry result same tree is found out =
     let was : entry_of shape.width key t.1 ≡ Some entry.items = sym is.found ∙ ap (option_map (λ (e : ArrayVec ℕ). e.items)) found in
     let here = there shape.width key t.1 look.place entry.items is.rank tree.ordered.0 was in
     let at : IsLeafAt shape mid page t.1 = subst (λ (m : PageMap). IsLeafAt shape m page t.1) (sym same) (subst (λ (n : ℕ). IsLeafAt shape before n t.1) tree.root tree.holds) in
-    answers result (λ short. TakesOut shape mid after page (remove t.1 look.place) short × is_sound) (λ short. HasRemoved shape before after zero page low high key t (Taken entry short) × is_sound)
+    answers result (λ short. TakesOut shape mid after page (remove t.1 look.place) short × is_sound) (λ short. HasRemovedBelow shape before after zero page low high key t (Taken entry short) × is_sound)
     (λ short taken.
     let took = taken.0 in
     let left = leaf_without shape before after page low high key t look.place entry.items tree is.rank was took.leaf (λ n ne. took.others n ne ∙ ap (λ (m : PageMap). m n) same) in
@@ -209,7 +200,7 @@ take_leaf shape before after is_sound (suc h) page key entry out none takes t lo
 
 -- ---- a node
 
-pub changes_trans : (a b c : PageMap) (old mid new : List ℕ) → Changes a b old mid → Changes b c mid new → Changes a c old new
+pub changes_trans : (a b c : PageMap) (old mid new : List ℕ) → ChangesPages a b old mid → ChangesPages b c mid new → ChangesPages a c old new
 changes_trans a b c old mid new first second = record {
   others = λ n here out.
       let f = first.others n here out in
@@ -223,11 +214,11 @@ changes_trans a b c old mid new first second = record {
 -- a member of a row has a tree in its place that heads the same page
 pub record Replaced (shape : Shape) (before after : PageMap) (k : ℕ) (low high : Bound) (page : ℕ) (own : List ℕ) (ss : List (List ℕ)) (xs : List (TreeOf k)) : Type 0 where
   pub stands : IsTree shape after (suc k) page low high (page, ss, xs)
-  pub changes : Changes before after own (page ∷ flat_map (pages_of k) xs)
+  pub changes : ChangesPages before after own (page ∷ flat_map (pages_of k) xs)
 
 pub replaced : (shape : Shape) (before after : PageMap) (k : ℕ) (low high : Bound) (page : ℕ) (t : TreeOf (suc k)) (front : List (TreeOf k)) (here new : TreeOf k) (back : List (TreeOf k))
     → IsTree shape before (suc k) page low high t → AreApart (pages_of (suc k) t) → t.2 ≡ front ++ here ∷ back → Holds shape after k new → page_of k new ≡ page_of k here
-    → Changes before after (pages_of k here) (pages_of k new) → IsRow (IsOrdered shape.width k) low t.1 (front ++ new ∷ back) high
+    → ChangesPages before after (pages_of k here) (pages_of k new) → IsRow (IsOrdered shape.width k) low t.1 (front ++ new ∷ back) high
     → Replaced shape before after k low high page (pages_of (suc k) t) t.1 (front ++ new ∷ back)
 replaced shape before after k low high page t front here new back tree apart is holds root change row =
     let ahead = page ∷ flat_map (pages_of k) front in
@@ -254,8 +245,8 @@ replaced shape before after k low high page t front here new back tree apart is 
         root = refl;
         ordered = (tree.ordered.0, row);
       };
-      changes = subst (λ (l : List ℕ). Changes before after l (page ∷ flat_map (pages_of k) (front ++ new ∷ back))) (sym own)
-          (subst (λ (l : List ℕ). Changes before after (ahead ++ (pages_of k here ++ behind)) l) (sym own') within.changes);
+      changes = subst (λ (l : List ℕ). ChangesPages before after l (page ∷ flat_map (pages_of k) (front ++ new ∷ back))) (sym own)
+          (subst (λ (l : List ℕ). ChangesPages before after (ahead ++ (pages_of k here ++ behind)) l) (sym own') within.changes);
     }
 
 -- the child below which a key belongs, as a tree of its own
@@ -315,11 +306,6 @@ but_here F L [] x back (suc place) is a l b = absurd (omega arith)
 but_here F L (y ∷ front) x back zero is a l b = absurd (omega arith)
 but_here F L (y ∷ front) x back (suc place) is a l b = (a.0, but_here F L front x back place (omega arith) a.1 l b)
 
-pub step_of : (shape : Shape) (before : PageMap) (k page : ℕ) (low high : Bound) (key : List ℕ) (t : TreeOf (suc k)) (r : Result Step Fault) → IsTree shape before (suc k) page low high t → Steps shape before page key r
-    → IsAnswer r (IsStep shape.width key t.1 (map (page_of k) t.2))
-step_of shape before k page low high key t r tree steps =
-    steps t.1 (map (page_of k) t.2) (subst (λ (n : ℕ). IsInnerAt shape before n t.1 (map (page_of k) t.2)) tree.root tree.holds.0)
-
 module _ (shape : Shape) (h k page : ℕ) (key : List ℕ) (one : h ≡ suc k) where
   at_one : (before after : PageMap) (is_sound : Type 0) (out : Result Shrunk Fault) → Removes shape before after is_sound (suc k) page key out → Removes shape before after is_sound h page key out
   at_one before after is_sound out r = subst (λ (n : ℕ). Removes shape before after is_sound n page key out) (sym one) r
@@ -328,7 +314,7 @@ module _ (shape : Shape) (h k page : ℕ) (key : List ℕ) (one : h ≡ suc k) w
       → Removes shape before after is_sound h page key out
   down_fails before after is_sound fault out steps was = at_one before after is_sound out (λ t low high whole.
       let a = step_of shape before k page low high key t (Err fault) whole.stands steps in
-      fails out fault (λ shrunk. HasRemoved shape before after (suc k) page low high key t shrunk × is_sound) was a.no_damage)
+      fails out fault (λ shrunk. HasRemovedBelow shape before after (suc k) page low high key t shrunk × is_sound) was a.no_damage)
 
   pub take_fails : (before after : PageMap) (is_sound : Type 0) (entry : ArrayVec ℕ) (fault : Fault) (out : Result Bool Fault) → Steps shape before page key (Err fault) → IsErrAnd out (λ e. e ≡ fault)
       → TakesBelow shape before after is_sound h page key entry out
@@ -341,7 +327,7 @@ module _ (shape : Shape) (h k page : ℕ) (key : List ℕ) (one : h ≡ suc k) w
     child_at low high t whole = child_of_whole shape before k page low high key t step whole (step_of shape before k page low high key t (Ok step) whole.stands steps).answer
 
     below_answer : (after : PageMap) (is_sound : Type 0) (out : Result Shrunk Fault) (low high : Bound) (t : TreeOf (suc k)) (whole : IsWhole shape before (suc k) page low high t) → Removes shape mid after is_sound k step.child key out
-        → (let child = child_at low high t whole in IsAnswer out (λ shrunk. HasRemoved shape before after k step.child child.row.from child.row.to key child.row.here shrunk × is_sound))
+        → (let child = child_at low high t whole in IsAnswer out (λ shrunk. HasRemovedBelow shape before after k step.child child.row.from child.row.to key child.row.here shrunk × is_sound))
     below_answer after is_sound out low high t whole removes =
         let child = child_at low high t whole in
         (subst (λ (m : PageMap). Removes shape m after is_sound k step.child key out) same removes) child.row.here child.row.from child.row.to child.whole
@@ -381,7 +367,7 @@ module _ (shape : Shape) (h k page : ℕ) (key : List ℕ) (one : h ≡ suc k) w
         → Removes shape before after is_sound h page key out
     child_fails after is_sound fault out removes was = at_one before after is_sound out (λ t low high whole.
         let a = below_answer after is_sound (Err fault) low high t whole removes in
-        fails out fault (λ shrunk. HasRemoved shape before after (suc k) page low high key t shrunk × is_sound) was a.no_damage)
+        fails out fault (λ shrunk. HasRemovedBelow shape before after (suc k) page low high key t shrunk × is_sound) was a.no_damage)
 
     pub child_absent : (after : PageMap) (is_sound : Type 0) → Removes shape mid after is_sound k step.child key (Ok Absent) → Removes shape before after is_sound h page key (Ok Absent)
     child_absent after is_sound removes = at_one before after is_sound (Ok Absent) (λ t low high whole.
@@ -427,7 +413,7 @@ module _ (shape : Shape) (h k page : ℕ) (key : List ℕ) (one : h ≡ suc k) w
     pub child_mended : (after late : PageMap) (is_sound : Type 0) (was_sound : Type 0) (entry : ArrayVec ℕ) (short : Bool) (mended : Result Bool Fault) → short ≡ true
         → Removes shape mid after was_sound k step.child key (Ok (Taken entry short)) → (was_sound → Mends shape after late is_sound k page step.place mended)
         → (t : TreeOf (suc k)) (low high : Bound) → IsWhole shape before (suc k) page low high t
-        → IsAnswer mended (λ few. HasRemoved shape before late (suc k) page low high key t (Taken entry few) × is_sound)
+        → IsAnswer mended (λ few. HasRemovedBelow shape before late (suc k) page low high key t (Taken entry few) × is_sound)
     child_mended after late is_sound was_sound entry short mended lacks removes mends t low high whole =
         let child = child_at low high t whole in
         let a = (below_answer after was_sound (Ok (Taken entry short)) low high t whole removes).answer in
@@ -443,7 +429,7 @@ module _ (shape : Shape) (h k page : ℕ) (key : List ℕ) (one : h ≡ suc k) w
         record {
           no_damage = m.no_damage;
           answer = if_ok mended (λ few. BecomesShort shape after late (suc k) page low high (page ∷ flat_map (pages_of k) xs) (length t.1 - 1) (flat_map (entries_of k) xs) few × is_sound)
-              (λ few. HasRemoved shape before late (suc k) page low high key t (Taken entry few) × is_sound)
+              (λ few. HasRemovedBelow shape before late (suc k) page low high key t (Taken entry few) × is_sound)
               (λ few done.
               let b = done.0.becomes in (
                 (
@@ -479,26 +465,10 @@ module _ (shape : Shape) (h k page : ℕ) (key : List ℕ) (one : h ≡ suc k) w
         → Removes shape mid after was_sound k step.child key (Ok (Taken entry short)) → (was_sound → Mends shape after late is_sound k page step.place (Err fault)) → IsErrAnd out (λ e. e ≡ fault)
         → Removes shape before late is_sound h page key out
     mend_fails after late is_sound was_sound entry short fault out lacks removes mends was = at_one before late is_sound out (λ t low high whole.
-        fails out fault (λ shrunk. HasRemoved shape before late (suc k) page low high key t shrunk × is_sound) was
+        fails out fault (λ shrunk. HasRemovedBelow shape before late (suc k) page low high key t shrunk × is_sound) was
         (child_mended after late is_sound was_sound entry short (Err fault) lacks removes mends t low high whole).no_damage)
 
 -- ---- one entry less
-
--- keys rise through a whole tree
-row_ascends : (width k : ℕ) → ((low high : Bound) (t : TreeOf k) → IsOrdered width k low high t → Ascends width (entries_of k t))
-    → (low : Bound) (ss : List (List ℕ)) (xs : List (TreeOf k)) (high : Bound) → IsRow (IsOrdered width k) low ss xs high → Ascends width (flat_map (entries_of k) xs)
-row_ascends width k each low [] [] high row = absurd row
-row_ascends width k each low [] (x ∷ []) high row = subst (Ascends width) (sym (append-nil (entries_of k x))) (each low high x row)
-row_ascends width k each low [] (x ∷ y ∷ xs) high row = absurd row
-row_ascends width k each low (s ∷ ss) [] high row = absurd row
-row_ascends width k each low (s ∷ ss) (x ∷ xs) high row =
-    ascends_join width s (entries_of k x) (flat_map (entries_of k) xs) (each low (Some s) x row.2) (row_ascends width k each (Some s) ss xs high row.3)
-    (Each-weaker (Inside width low (Some s)) (λ e. less (take width e) s ≡ true) (λ e i. i.1) (entries_of k x) (bounded width k low (Some s) x row.2))
-    (Each-weaker (Inside width (Some s) high) (λ e. less (take width e) s ≡ false) (λ e i. i.0) (flat_map (entries_of k) xs) (row_bounded width (IsOrdered width k) (entries_of k) (bounded width k) (Some s) ss xs high row.3))
-
-pub tree_ascends : (width h : ℕ) (low high : Bound) (t : TreeOf h) → IsOrdered width h low high t → Ascends width (entries_of h t)
-tree_ascends width zero low high t ordered = ordered.0
-tree_ascends width (suc h) low high t ordered = row_ascends width h (tree_ascends width h) low t.1 t.2 high ordered.1
 
 differ_behind : (width : ℕ) (key x : List ℕ) (xs : List (List ℕ)) → bytes_eq (take width x) key ≡ true → Each (λ y. less (take width x) (take width y) ≡ true) xs → Each (λ y. not (bytes_eq (take width y) key) ≡ true) xs
 differ_behind width key x xs hit h =

@@ -2,20 +2,20 @@
 use Rattle.std.proofs.Common.{◌≡◌, ℕ, ◌+◌, ◌<◌, List, take, Option, Some, None, Ok, refl, ap, subst, ◌∙◌, arith}
 use Rattle.arrayvec.specs.ArrayVec.{ArrayVec}
 use Rattle.pages.specs.PageMap.{PageMap}
-use Rattle.pages.specs.Owners.{Changes}
+use Rattle.pages.specs.Owners.{ChangesPages}
 use Rattle.bplus_tree.specs.declared.tree.Tree.{Tree}
 use Rattle.bplus_tree.specs.declared.crown.Base.{Base}
 use Rattle.node_balance.specs.declared.separator.Separator.{Separator}
 use Rattle.bplus_tree.specs.declared.insert.Grown.TheVariants.{Present, Added}
-use Rattle.bplus_tree.specs.Tree.{entries_of, pages_of}
+use Rattle.tree_search.specs.Tree.{entries_of, pages_of}
 use Rattle.bplus_tree.specs.Edits.{with_entry}
-use Rattle.bplus_tree.specs.Calls.{entry_of}
-use Rattle.bplus_tree.specs.Insert.{HasInserted as HasInsertedBelow}
+use Rattle.tree_search.specs.Calls.{entry_of}
+use Rattle.bplus_tree.specs.Insert.{HasInsertedBelow}
 use Rattle.bplus_tree.specs.Raise.{Raises}
-use Rattle.bplus_tree.specs.Standing.{Stands, HasInserted}
+use Rattle.bplus_tree.specs.Standing.{TreeStands, HasInserted}
 use Rattle.bplus_tree.proofs.WithEntryLemmas.{one_more}
 
-module _ (old : Tree) (e : List ℕ) (before : PageMap) (entries : List (List ℕ)) (own : List ℕ) (stands : Stands old before entries own) where
+module _ (old : Tree) (e : List ℕ) (before : PageMap) (entries : List (List ℕ)) (own : List ℕ) (stands : TreeStands old before entries own) where
   pub inserted_none : (after : PageMap) (found : ArrayVec ℕ) → HasInsertedBelow old.shape before after old.levels old.root None None e stands.value (Present found)
       → HasInserted before after old old e entries own (Some found)
   inserted_none after found h =
@@ -34,7 +34,7 @@ module _ (old : Tree) (e : List ℕ) (before : PageMap) (entries : List (List �
           record {
             own_now = pages_of base.levels r.0.tree;
             stands = record { value = r.0.tree; whole = r.0.whole; has = r.0.has ∙ ap (with_entry old.shape.width e) stands.has; pages_are = refl; count = omega arith };
-            changes = subst (λ (l : List ℕ). Changes before late l (pages_of base.levels r.0.tree)) stands.pages_are r.0.changes;
+            changes = subst (λ (l : List ℕ). ChangesPages before late l (pages_of base.levels r.0.tree)) stands.pages_are r.0.changes;
           },
         ),
         r.1,

@@ -8,27 +8,19 @@ use Rattle.tree_node.specs.Order.{less, Ascends}
 use Rattle.tree_node.specs.Leaf.{leaf_entries}
 use Rattle.tree_node.specs.Inner.{separators, children}
 use Rattle.tree_node.proofs.InnerLemmas.{length_separators, length_children}
-use Rattle.tree_node.proofs.OrderLemmas.{Each-weaker, less-trans, less_itself, not_less, between_less, compared}
+use Rattle.tree_node.proofs.OrderLemmas.{Each-weaker, less-trans, less_itself, not_less, compared}
 use Rattle.pages.specs.PageMap.{PageMap}
 use Rattle.node_balance.specs.Fill.{least}
-use Rattle.bplus_tree.specs.Tree.{TreeOf, page_of, entries_of, pages_of, pages_below, size_of, IsFilled, Bound, NotBelow, Above, Below, IsRow, IsOrdered}
-use Rattle.bplus_tree.specs.Stored.{Holds, IsLeafAt, IsInnerAt}
-use Rattle.bplus_tree.specs.Calls.{IsTree}
+use Rattle.tree_search.specs.Tree.{TreeOf, page_of, entries_of, pages_of, pages_below, size_of, IsHalfFull, Bound, NotBelow, Above, Below, IsRow, IsOrdered}
+use Rattle.tree_search.specs.Stored.{Holds, IsLeafAt, IsInnerAt}
+use Rattle.tree_search.specs.Calls.{IsTree}
 use Rattle.node_balance.specs.Even.{LeavesJoined, LeavesShared, InnersJoined, InnersShared, AreJoined, AreShared}
-use Rattle.bplus_tree.proofs.RowLemmas.{Inside, Each-append, NotBelow-trans, above_not_below, Below-trans, row_split, row_rises}
-use Rattle.bplus_tree.proofs.PageLemmas.{each_left, each_right, each_both, rows_still}
-use Rattle.bplus_tree.proofs.DescentLemmas.{node_whole, each_take, each_drop}
+use Rattle.tree_search.proofs.RowLemmas.{Inside, Each-append, NotBelow-trans, above_not_below, Below-trans, row_split, row_rises}
+use Rattle.tree_search.proofs.RowLemmas.{each_left, each_right, ascends_join}
+use Rattle.bplus_tree.proofs.PageLemmas.{each_both, rows_still}
+use Rattle.tree_search.proofs.DescentLemmas.{node_whole, each_take, each_drop}
 
 -- ---- lists of entries
-
-pub ascends_join : (width : ℕ) (s : List ℕ) (xs ys : List (List ℕ)) → Ascends width xs → Ascends width ys → Each (λ e. less (take width e) s ≡ true) xs → Each (λ e. less (take width e) s ≡ false) ys
-    → Ascends width (xs ++ ys)
-ascends_join width s [] ys rx ry below above = ry
-ascends_join width s (x ∷ xs) ys rx ry below above = (
-  Each-append (λ y. less (take width x) (take width y) ≡ true) xs ys rx.0
-      (Each-weaker (λ e. less (take width e) s ≡ false) (λ y. less (take width x) (take width y) ≡ true) (λ y a. between_less (take width x) (take width y) s below.0 a) ys above),
-  ascends_join width s xs ys rx.1 ry below.1 above,
-)
 
 ascends_left : (width : ℕ) (xs ys : List (List ℕ)) → Ascends width (xs ++ ys) → Ascends width xs
 ascends_left width [] ys h = tt
@@ -101,7 +93,7 @@ pub record OneTree (shape : Shape) (after : PageMap) (k : ℕ) (from to : Bound)
   pub has : entries_of k tree ≡ entries_of k left ++ entries_of k right
   pub pages : pages_of k tree ≡ page_of k left ∷ (pages_below k left ++ pages_below k right)
   pub large : size_of k left + size_of k right ≤ size_of k tree
-  pub filled : IsFilled shape k tree
+  pub filled : IsHalfFull shape k tree
 
 pub record TwoTrees (shape : Shape) (after : PageMap) (k : ℕ) (from to : Bound) (left right : TreeOf k) (key : List ℕ) : Type 0 where
   pub lower : TreeOf k
@@ -117,8 +109,8 @@ pub record TwoTrees (shape : Shape) (after : PageMap) (k : ℕ) (from to : Bound
   pub upper_pages : pages_of k upper ≡ page_of k right ∷ below_upper
   pub pages : below_lower ++ below_upper ≡ pages_below k left ++ pages_below k right
   pub full : least shape k ≤ size_of k left + 1 → least shape k ≤ size_of k right + 1 → (least shape k ≤ size_of k lower) × (least shape k ≤ size_of k upper)
-  pub lower_filled : IsFilled shape k lower
-  pub upper_filled : IsFilled shape k upper
+  pub lower_filled : IsHalfFull shape k lower
+  pub upper_filled : IsHalfFull shape k upper
 
 module _ (shape : Shape) (before after : PageMap) (from to : Bound) (s : List ℕ) (under : Above from s) (over : Below to s) where
   both_rise : (left right : TreeOf zero) → IsOrdered shape.width zero from (Some s) left → IsOrdered shape.width zero (Some s) to right → Ascends shape.width (left.1 ++ right.1)
@@ -199,7 +191,7 @@ module _ (shape : Shape) (before after : PageMap) (from to : Bound) (s : List �
 
   pub inners_joined : (k : ℕ) (left right : TreeOf (suc k)) (bl br now : List ℕ) → Holds shape before (suc k) left → Holds shape before (suc k) right
       → IsOrdered shape.width (suc k) from (Some s) left → IsOrdered shape.width (suc k) (Some s) to right → before left.0 ≡ Some bl → before right.0 ≡ Some br
-      → InnersJoined shape s bl br now → after left.0 ≡ Some now → IsFilled shape (suc k) left → IsFilled shape (suc k) right
+      → InnersJoined shape s bl br now → after left.0 ≡ Some now → IsHalfFull shape (suc k) left → IsHalfFull shape (suc k) right
       → Each (λ n. after n ≡ before n) (flat_map (pages_of k) left.2 ++ flat_map (pages_of k) right.2) → OneTree shape after (suc k) from to left right
   inners_joined k left right bl br now hl hr ol or there there' joined is fl fr still =
       let l = separators_there left.0 left.1 (map (page_of k) left.2) bl hl.0 there in
@@ -228,12 +220,12 @@ module _ (shape : Shape) (before after : PageMap) (from to : Bound) (s : List �
         has = flat_map-append (entries_of k) left.2 right.2;
         pages = ap (λ (x : List ℕ). left.0 ∷ x) flat;
         large = omega arith;
-        filled = Each-append (λ c. (least shape k ≤ size_of k c) × IsFilled shape k c) left.2 right.2 fl fr;
+        filled = Each-append (λ c. (least shape k ≤ size_of k c) × IsHalfFull shape k c) left.2 right.2 fl fr;
       }
 
   pub inners_shared : (k : ℕ) (left right : TreeOf (suc k)) (bl br now now' key : List ℕ) → Holds shape before (suc k) left → Holds shape before (suc k) right
       → IsOrdered shape.width (suc k) from (Some s) left → IsOrdered shape.width (suc k) (Some s) to right → before left.0 ≡ Some bl → before right.0 ≡ Some br
-      → InnersShared shape s bl br now now' key → after left.0 ≡ Some now → after right.0 ≡ Some now' → IsFilled shape (suc k) left → IsFilled shape (suc k) right
+      → InnersShared shape s bl br now now' key → after left.0 ≡ Some now → after right.0 ≡ Some now' → IsHalfFull shape (suc k) left → IsHalfFull shape (suc k) right
       → Each (λ n. after n ≡ before n) (flat_map (pages_of k) left.2 ++ flat_map (pages_of k) right.2) → TwoTrees shape after (suc k) from to left right key
   inners_shared k left right bl br now now' key hl hr ol or there there' shared is is' fl fr still =
       let l = separators_there left.0 left.1 (map (page_of k) left.2) bl hl.0 there in
@@ -264,7 +256,7 @@ module _ (shape : Shape) (before after : PageMap) (from to : Bound) (s : List �
       let at' : IsInnerAt shape after right.0 rs (map (page_of k) second) = record { bytes = now'; there = is'; inner = shared.upper; rises = refl; leads = kids_high } in
       let flat = flat_map-append (pages_of k) left.2 right.2 in
       let hold = rows_still shape before after k xs (Each-append (Holds shape before k) left.2 right.2 hl.1 hr.1) (subst (Each (λ n. after n ≡ before n)) (sym flat) still) in
-      let fill = Each-append (λ c. (least shape k ≤ size_of k c) × IsFilled shape k c) left.2 right.2 fl fr in
+      let fill = Each-append (λ c. (least shape k ≤ size_of k c) × IsHalfFull shape k c) left.2 right.2 fl fr in
       let low_row : IsRow (IsOrdered shape.width k) from ls first (Some key) = rw (is_low, is_key) at cut.left in
       let high_row : IsRow (IsOrdered shape.width k) (Some key) rs second to = rw (is_high, is_key) at cut.right in
       record {
@@ -289,8 +281,8 @@ module _ (shape : Shape) (before after : PageMap) (from to : Bound) (s : List �
         upper_pages = refl;
         pages = sym (flat_map-append (pages_of k) first second) ∙ ap (flat_map (pages_of k)) (take-append-drop (suc m) xs) ∙ flat;
         full = λ a b. shared.fill (rw l a) (rw r b);
-        lower_filled = each_take (λ c. (least shape k ≤ size_of k c) × IsFilled shape k c) (suc m) xs fill;
-        upper_filled = each_drop (λ c. (least shape k ≤ size_of k c) × IsFilled shape k c) (suc m) xs fill;
+        lower_filled = each_take (λ c. (least shape k ≤ size_of k c) × IsHalfFull shape k c) (suc m) xs fill;
+        upper_filled = each_drop (λ c. (least shape k ≤ size_of k c) × IsHalfFull shape k c) (suc m) xs fill;
       }
 
 -- ---- of any height
@@ -298,7 +290,7 @@ module _ (shape : Shape) (before after : PageMap) (from to : Bound) (s : List �
 module _ (shape : Shape) (before after : PageMap) (from to : Bound) (s : List ℕ) (under : Above from s) (over : Below to s) where
   pub trees_joined : (k : ℕ) (left right : TreeOf k) (bl br now : List ℕ) → Holds shape before k left → Holds shape before k right
       → IsOrdered shape.width k from (Some s) left → IsOrdered shape.width k (Some s) to right → before (page_of k left) ≡ Some bl → before (page_of k right) ≡ Some br
-      → AreJoined shape k s bl br now → after (page_of k left) ≡ Some now → IsFilled shape k left → IsFilled shape k right
+      → AreJoined shape k s bl br now → after (page_of k left) ≡ Some now → IsHalfFull shape k left → IsHalfFull shape k right
       → Each (λ n. after n ≡ before n) (pages_below k left ++ pages_below k right) → OneTree shape after k from to left right
   trees_joined zero left right bl br now hl hr ol or there there' joined is fl fr still =
       leaves_joined shape before after from to s under over left right bl br now hl hr ol or there there' joined is
@@ -307,7 +299,7 @@ module _ (shape : Shape) (before after : PageMap) (from to : Bound) (s : List �
 
   pub trees_shared : (k : ℕ) (left right : TreeOf k) (bl br now now' key : List ℕ) → Holds shape before k left → Holds shape before k right
       → IsOrdered shape.width k from (Some s) left → IsOrdered shape.width k (Some s) to right → before (page_of k left) ≡ Some bl → before (page_of k right) ≡ Some br
-      → AreShared shape k s bl br now now' key → after (page_of k left) ≡ Some now → after (page_of k right) ≡ Some now' → IsFilled shape k left → IsFilled shape k right
+      → AreShared shape k s bl br now now' key → after (page_of k left) ≡ Some now → after (page_of k right) ≡ Some now' → IsHalfFull shape k left → IsHalfFull shape k right
       → Each (λ n. after n ≡ before n) (pages_below k left ++ pages_below k right) → TwoTrees shape after k from to left right key
   trees_shared zero left right bl br now now' key hl hr ol or there there' shared is is' fl fr still =
       leaves_shared shape before after from to s under over left right bl br now now' key hl hr ol or there there' shared is is'

@@ -2,7 +2,7 @@
 use Rattle.std.proofs.Common.{◌≡◌, ◌≢◌, ℕ, List, [], ◌∷◌, ◌++◌, None, IsSome, ap, sym, subst, ◌∙◌, append_assoc}
 use Rattle.page_bytes.specs.Each.{Each}
 use Rattle.pages.specs.PageMap.{PageMap}
-use Rattle.pages.specs.Owners.{IsOutside, AreApart, Changes}
+use Rattle.pages.specs.Owners.{IsOutside, AreApart, ChangesPages}
 use Rattle.bplus_tree.proofs.PageLemmas.{each_both}
 
 pull_out : (xs : List ℕ) (q : ℕ) (ys : List ℕ) (n : ℕ) → IsOutside (xs ++ q ∷ ys) n → (n ≢ q) × IsOutside (xs ++ ys) n
@@ -75,7 +75,7 @@ module _ (before late : PageMap) (parent : ℕ) (a : List ℕ) (p : ℕ) (u : Li
       (rest a (u ++ v) b) off
       (each_both (λ n. p ≢ n) (λ n. q ≢ n) (λ n. (p ≢ n) × (q ≢ n)) (λ n x y. (x, y)) (rest a (u ++ v) b) two_.1 two_.2)
 
-  pub spread_shared : (s t : List ℕ) → s ++ t ≡ u ++ v → Changes before late (parent ∷ two a p u q v b) (parent ∷ two a p s q t b)
+  pub spread_shared : (s t : List ℕ) → s ++ t ≡ u ++ v → ChangesPages before late (parent ∷ two a p u q v b) (parent ∷ two a p s q t b)
   spread_shared s t same =
       let there : rest a (u ++ v) b ≡ rest a (s ++ t) b = ap (λ (l : List ℕ). rest a l b) (sym same) in
       let two_ = two_apart a p u q v b apart.1 in
@@ -93,7 +93,7 @@ module _ (before late : PageMap) (parent : ℕ) (a : List ℕ) (p : ℕ) (u : Li
         );
       }
 
-  pub spread_joined : late q ≡ None → Changes before late (parent ∷ two a p u q v b) (parent ∷ (a ++ (p ∷ ((u ++ v) ++ b))))
+  pub spread_joined : late q ≡ None → ChangesPages before late (parent ∷ two a p u q v b) (parent ∷ (a ++ (p ∷ ((u ++ v) ++ b))))
   spread_joined gone =
       let two_ = two_apart a p u q v b apart.1 in
       let off = two_out a p u q v b parent apart.0 in

@@ -5,24 +5,24 @@ use Rattle.pages.specs.PageMap.{PageMap}
 use Rattle.bplus_tree.specs.declared.tree.Tree.{Tree}
 use Rattle.bplus_tree.specs.declared.crown.Base.{Base}
 use Rattle.bplus_tree.specs.declared.remove.Shrunk.TheVariants.{Absent, Taken}
-use Rattle.bplus_tree.specs.Tree.{entries_of, pages_of}
-use Rattle.pages.specs.Owners.{Changes}
+use Rattle.tree_search.specs.Tree.{entries_of, pages_of}
+use Rattle.pages.specs.Owners.{ChangesPages}
 use Rattle.bplus_tree.specs.Edits.{without_key}
-use Rattle.bplus_tree.specs.Calls.{entry_of}
+use Rattle.tree_search.specs.Calls.{entry_of}
 use Rattle.bplus_tree.specs.Crown.{Settles}
-use Rattle.bplus_tree.specs.Remove.{HasRemoved as HasRemovedBelow, HasTaken}
+use Rattle.bplus_tree.specs.Remove.{HasRemovedBelow, HasTaken}
 use Rattle.pages.specs.PageMap.{Takes}
 use Rattle.tree_node.specs.declared.shape.Shape.{Shape}
 use Rattle.bplus_tree.specs.Start.{HasStarted}
-use Rattle.bplus_tree.specs.Standing.{Stands, HasRemoved, IsNew}
+use Rattle.bplus_tree.specs.Standing.{TreeStands, HasRemoved, IsNew}
 use Rattle.bplus_tree.proofs.RemoveLemmas.{changes_trans, taken_once}
 
-pub removed_absent : (before after : PageMap) (old : Tree) (key : List ℕ) (entries : List (List ℕ)) (own : List ℕ) (stands : Stands old before entries own)
+pub removed_absent : (before after : PageMap) (old : Tree) (key : List ℕ) (entries : List (List ℕ)) (own : List ℕ) (stands : TreeStands old before entries own)
     → HasRemovedBelow old.shape before after old.levels old.root None None key stands.value Absent → HasRemoved before after old old key entries own None
 removed_absent before after old key entries own stands h =
     (subst (λ (es : List (List ℕ)). entry_of old.shape.width key es ≡ None) stands.has h.0, h.1, refl)
 
-pub removed_some : (before mid late : PageMap) (is_sound : Type 0) (old : Tree) (key : List ℕ) (entries : List (List ℕ)) (own : List ℕ) (stands : Stands old before entries own) (entry : ArrayVec ℕ) (short : Bool) (base : Base) (n changes : ℕ) (low : base.levels < 20) → n ≡ old.count - 1
+pub removed_some : (before mid late : PageMap) (is_sound : Type 0) (old : Tree) (key : List ℕ) (entries : List (List ℕ)) (own : List ℕ) (stands : TreeStands old before entries own) (entry : ArrayVec ℕ) (short : Bool) (base : Base) (n changes : ℕ) (low : base.levels < 20) → n ≡ old.count - 1
     → HasRemovedBelow old.shape before mid old.levels old.root None None key stands.value (Taken entry short) → Settles old.shape mid late is_sound old.levels old.root (Ok base)
     → HasRemoved before late old (record { shape = old.shape; root = base.root; levels = base.levels; count = n; changes = changes; low = low }) key entries own (Some entry) × is_sound
 removed_some before mid late is_sound old key entries own stands entry short base n changes low is_n h settles =
@@ -38,14 +38,14 @@ removed_some before mid late is_sound old key entries own stands entry short bas
         record {
           own_now = pages_of base.levels s.0.tree;
           stands = record { value = s.0.tree; whole = s.0.whole; has = has; pages_are = refl; count = omega arith };
-          changes = subst (λ (l : List ℕ). Changes before late l (pages_of base.levels s.0.tree)) stands.pages_are
+          changes = subst (λ (l : List ℕ). ChangesPages before late l (pages_of base.levels s.0.tree)) stands.pages_are
               (changes_trans before mid late (pages_of old.levels stands.value) (pages_of old.levels b.tree) (pages_of base.levels s.0.tree) b.changes s.0.changes);
         },
       ),
       s.1,
     )
 
-pub removed_one : (before after : PageMap) (old : Tree) (key : List ℕ) (entries : List (List ℕ)) (own : List ℕ) (stands : Stands old before entries own) (entry : ArrayVec ℕ) (n changes : ℕ) (low : old.levels < 20) → n ≡ old.count - 1
+pub removed_one : (before after : PageMap) (old : Tree) (key : List ℕ) (entries : List (List ℕ)) (own : List ℕ) (stands : TreeStands old before entries own) (entry : ArrayVec ℕ) (n changes : ℕ) (low : old.levels < 20) → n ≡ old.count - 1
     → HasTaken old.shape before after old.levels old.root None None key stands.value entry.items → HasRemoved before after old (record { shape = old.shape; root = old.root; levels = old.levels; count = n; changes = changes; low = low }) key entries own (Some entry)
 removed_one before after old key entries own stands entry n changes low is_n h =
     let b = h.becomes in
@@ -64,7 +64,7 @@ removed_one before after old key entries own stands entry n changes low is_n h =
           pages_are = refl;
           count = omega arith;
         };
-        changes = subst (λ (l : List ℕ). Changes before after l (pages_of old.levels b.tree)) stands.pages_are b.changes;
+        changes = subst (λ (l : List ℕ). ChangesPages before after l (pages_of old.levels b.tree)) stands.pages_are b.changes;
       },
     )
 

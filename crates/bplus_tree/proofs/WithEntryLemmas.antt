@@ -9,8 +9,8 @@ use Rattle.page_bytes.specs.Each.{Each}
 use Rattle.tree_node.specs.Order.{less, Ascends, IsRank}
 use Rattle.tree_node.proofs.OrderLemmas.{Each-weaker, less-trans, less_itself, either, compared, not_less}
 use Rattle.bplus_tree.specs.Edits.{with_entry}
-use Rattle.bplus_tree.specs.Calls.{entry_of}
-use Rattle.bplus_tree.proofs.DescentLemmas.{each_drop}
+use Rattle.tree_search.specs.Calls.{entry_of}
+use Rattle.tree_search.proofs.DescentLemmas.{each_drop}
 
 -- ---- where the entry goes
 

@@ -2,8 +2,8 @@
 use Rattle.std.specs.Prelude.{ℕ, zero, suc, ◌*◌, ◌≤◌, length, None}
 use Rattle.tree_node.specs.declared.shape.Shape.{Shape}
 use Rattle.pages.specs.PageMap.{PageMap}
-use Rattle.bplus_tree.specs.Tree.{TreeOf, entries_of}
-use Rattle.bplus_tree.specs.Calls.{IsWhole}
+use Rattle.tree_search.specs.Tree.{TreeOf, entries_of}
+use Rattle.tree_search.specs.Calls.{IsWhole}
 
 -- in a node that is not the root, with h levels below it
 abbrev pub fewest : ℕ → ℕ

@@ -4,11 +4,11 @@ use Rattle.io_state.specs.declared.fault.Fault.{Fault}
 use Rattle.tree_node.specs.declared.shape.Shape.{Shape}
 use Rattle.pages.specs.PageMap.{PageMap}
 use Rattle.bplus_tree.specs.declared.crown.Base.{Base}
-use Rattle.bplus_tree.specs.Tree.{TreeOf, entries_of, pages_of, IsFilled}
-use Rattle.pages.specs.Owners.{AreApart, Changes}
-use Rattle.bplus_tree.specs.Stored.{IsInnerAt}
+use Rattle.tree_search.specs.Tree.{TreeOf, entries_of, pages_of, IsHalfFull}
+use Rattle.pages.specs.Owners.{AreApart, ChangesPages}
+use Rattle.tree_search.specs.Stored.{IsInnerAt}
 use Rattle.pages.specs.Answer.{IsAnswer}
-use Rattle.bplus_tree.specs.Calls.{IsTree, IsWhole}
+use Rattle.tree_search.specs.Calls.{IsTree, IsWhole}
 
 -- the child of an inner node without separators
 abbrev pub IsOnly : List (List ℕ) → List ℕ → Option ℕ → Type 0
@@ -35,9 +35,9 @@ pub record IsSettled (shape : Shape) (before after : PageMap) (h : ℕ) (t : Tre
   pub tree : TreeOf base.levels
   pub whole : IsWhole shape after base.levels base.root None None tree
   pub has : entries_of base.levels tree ≡ entries_of h t
-  pub changes : Changes before after (pages_of h t) (pages_of base.levels tree)
+  pub changes : ChangesPages before after (pages_of h t) (pages_of base.levels tree)
 
 abbrev pub Settles : Shape → PageMap → PageMap → Type 0 → ℕ → ℕ → Result Base Fault → Type 0
 Settles shape before after is_sound h root result =
-    (t : TreeOf h) → IsTree shape before h root None None t → AreApart (pages_of h t) → IsFilled shape h t
+    (t : TreeOf h) → IsTree shape before h root None None t → AreApart (pages_of h t) → IsHalfFull shape h t
     → IsAnswer result (λ base. IsSettled shape before after h t base × is_sound)

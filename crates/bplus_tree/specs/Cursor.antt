@@ -1,15 +1,16 @@
 -- Where a cursor is in its tree.
-use Rattle.std.specs.Prelude.{◌≡◌, ℕ, ◌+◌, ◌^◌, ◌-◌, ◌<◌, ◌≤◌, List, take, Option, Some, None, Result, option_map}
+use Rattle.std.specs.Prelude.{◌≡◌, ℕ, ◌+◌, ◌^◌, ◌-◌, ◌<◌, ◌≤◌, Bool, false, List, take, Option, Some, None, Result, option_map}
+use Rattle.std.specs.Option.{option_map_or}
 use Rattle.arrayvec.specs.ArrayVec.{ArrayVec}
 use Rattle.io_state.specs.declared.fault.Fault.{Fault}
 use Rattle.pages.specs.PageMap.{PageMap}
 use Rattle.bplus_tree.specs.declared.tree.Tree.{Tree}
 use Rattle.bplus_tree.specs.declared.cursor.Cursor.{Cursor}
-use Rattle.bplus_tree.specs.declared.spot.Spot.{Spot}
+use Rattle.tree_search.specs.declared.spot.Spot.{Spot}
 use Rattle.pages.specs.Answer.{IsAnswer}
-use Rattle.bplus_tree.specs.Calls.{first_after}
-use Rattle.bplus_tree.specs.Spot.{StandsAt, FoundAt}
-use Rattle.bplus_tree.specs.Standing.{Stands}
+use Rattle.tree_search.specs.Calls.{first_after}
+use Rattle.tree_search.specs.Spot.{StandsAt, FoundAt, begins_with}
+use Rattle.bplus_tree.specs.Standing.{TreeStands}
 
 -- the entry that the cursor gave last stands where the cursor says
 pub record IsAt (cursor : Cursor) (tree : Tree) (pages : PageMap) (entries : List (List ℕ)) (own : List ℕ) : Type 0 where
@@ -35,17 +36,23 @@ pub record IsBehind (cursor : Cursor) (tree : Tree) (pages : PageMap) (entries :
 
 abbrev pub LooksBehind : Cursor → Tree → PageMap → Spot → Result (Option (ArrayVec ℕ)) Fault → Type 0
 LooksBehind cursor tree pages spot result =
-    (entries : List (List ℕ)) (own : List ℕ) → Stands tree pages entries own → Belongs cursor tree pages entries own
+    (entries : List (List ℕ)) (own : List ℕ) → TreeStands tree pages entries own → Belongs cursor tree pages entries own
     → IsAnswer result (IsBehind cursor tree pages entries own spot)
+
+-- whether there is a first entry above the cursor's key that begins with these bytes
+abbrev pub TellsNext : Cursor → Tree → PageMap → List ℕ → Result Bool Fault → Type 0
+TellsNext cursor tree pages start result =
+    (entries : List (List ℕ)) (own : List ℕ) → TreeStands tree pages entries own → Belongs cursor tree pages entries own
+    → IsAnswer result (λ told. told ≡ option_map_or (begins_with start) (first_after tree.shape.width cursor.key.items entries) false)
 
 -- the first entry above the cursor's key, and a cursor at that entry
 pub record HasMoved (old new : Cursor) (tree : Tree) (pages : PageMap) (entries : List (List ℕ)) (own : List ℕ) (found : Option (ArrayVec ℕ)) : Type 0 where
   pub found_is : option_map (λ e. e.items) found ≡ first_after tree.shape.width old.key.items entries
   pub belongs : Belongs new tree pages entries own
 
-abbrev pub Moves : Cursor → Cursor → Tree → PageMap → Result (Option (ArrayVec ℕ)) Fault → Type 0
-Moves old new tree pages result =
-    (entries : List (List ℕ)) (own : List ℕ) → Stands tree pages entries own → Belongs old tree pages entries own
+abbrev pub CursorMoves : Cursor → Cursor → Tree → PageMap → Result (Option (ArrayVec ℕ)) Fault → Type 0
+CursorMoves old new tree pages result =
+    (entries : List (List ℕ)) (own : List ℕ) → TreeStands tree pages entries own → Belongs old tree pages entries own
     → IsAnswer result (HasMoved old new tree pages entries own)
 
 -- the key of the entry that was given, or the one before where none was

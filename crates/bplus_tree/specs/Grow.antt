@@ -6,7 +6,7 @@ use Rattle.tree_node.specs.Inner.{IsInner, separators, children}
 use Rattle.pages.specs.PageMap.{PageMap}
 use Rattle.node_balance.specs.declared.separator.Separator.{Separator}
 use Rattle.node_balance.specs.Fill.{least}
-use Rattle.bplus_tree.specs.Stored.{IsLeafAt, IsInnerAt}
+use Rattle.tree_search.specs.Stored.{IsLeafAt, IsInnerAt}
 use Rattle.pages.specs.Answer.{IsAnswer}
 
 -- the page is a leaf of these entries now, and every other page is as it was

@@ -3,16 +3,16 @@ use Rattle.std.specs.Prelude.{◌≡◌, ℕ, Bool, true, false, List, ◌++◌,
 use Rattle.io_state.specs.declared.fault.Fault.{Fault}
 use Rattle.tree_node.specs.declared.shape.Shape.{Shape}
 use Rattle.pages.specs.PageMap.{PageMap}
-use Rattle.pages.specs.Owners.{Changes}
+use Rattle.pages.specs.Owners.{ChangesPages}
 use Rattle.node_balance.specs.declared.separator.Separator.{Separator}
 use Rattle.bplus_tree.specs.declared.insert.Grown.{Grown}
 use Rattle.bplus_tree.specs.declared.insert.Grown.TheVariants.{Present, Added}
-use Rattle.bplus_tree.specs.Tree.{TreeOf, entries_of, pages_of, size_of, Bound, NotBelow, Above, Below}
+use Rattle.tree_search.specs.Tree.{TreeOf, entries_of, pages_of, size_of, Bound, NotBelow, Above, Below}
 use Rattle.pages.specs.Answer.{IsAnswer}
-use Rattle.bplus_tree.specs.Calls.{entry_of, IsTree, IsWhole}
+use Rattle.tree_search.specs.Calls.{entry_of, IsTree, IsWhole}
 use Rattle.bplus_tree.specs.Edits.{with_entry}
 use Rattle.bplus_tree.specs.Split.{HasWidth}
-use Rattle.bplus_tree.specs.Stored.{IsLeafAt}
+use Rattle.tree_search.specs.Stored.{IsLeafAt}
 use Rattle.bplus_tree.specs.Grow.{HasLeaf}
 use Rattle.tree_node.specs.Order.{Ascends}
 use Rattle.bplus_tree.specs.Remove.{Becomes, IsFull}
@@ -28,7 +28,7 @@ pub record BecomesTwo (shape : Shape) (before after : PageMap) (h page : ℕ) (l
   pub left_full : IsFull shape h left
   pub right_full : IsFull shape h right
   pub has : entries_of h left ++ entries_of h right ≡ entries
-  pub changes : Changes before after own (pages_of h left ++ pages_of h right)
+  pub changes : ChangesPages before after own (pages_of h left ++ pages_of h right)
 
 -- The page heads a tree of these entries now, or two where it was split. The root has at least `floor` entries or separators.
 abbrev pub HasGrown : (shape : Shape) → PageMap → PageMap → (h page : ℕ) → (low high : Bound) → List ℕ → ℕ → List (List ℕ) → Option Separator → Type 0
@@ -36,10 +36,10 @@ HasGrown shape before after h page low high own floor entries None = Becomes sha
 HasGrown shape before after h page low high own floor entries (Some separator) = BecomesTwo shape before after h page low high own entries separator
 
 -- the key is there with this entry, and nothing has changed; or it was not, and the entry stands in order now
-abbrev pub HasInserted : (shape : Shape) → PageMap → PageMap → (h page : ℕ) → (low high : Bound) → List ℕ → TreeOf h → Grown → Type 0
-HasInserted shape before after h page low high e t (Present found) =
+abbrev pub HasInsertedBelow : (shape : Shape) → PageMap → PageMap → (h page : ℕ) → (low high : Bound) → List ℕ → TreeOf h → Grown → Type 0
+HasInsertedBelow shape before after h page low high e t (Present found) =
     (entry_of shape.width (take shape.width e) (entries_of h t) ≡ Some found.items) × (after ≡ before)
-HasInserted shape before after h page low high e t (Added up) =
+HasInsertedBelow shape before after h page low high e t (Added up) =
     (entry_of shape.width (take shape.width e) (entries_of h t) ≡ None)
     × HasGrown shape before after h page low high (pages_of h t) (size_of h t) (with_entry shape.width e (entries_of h t)) up
 
@@ -47,7 +47,7 @@ HasInserted shape before after h page low high e t (Added up) =
 abbrev pub Inserts : Shape → PageMap → PageMap → Type 0 → ℕ → ℕ → List ℕ → Result Grown Fault → Type 0
 Inserts shape before after is_sound h page e result =
     (t : TreeOf h) (low high : Bound) → IsWhole shape before h page low high t → NotBelow low (take shape.width e) → Below high (take shape.width e)
-    → IsAnswer result (λ grown. HasInserted shape before after h page low high e t grown × is_sound)
+    → IsAnswer result (λ grown. HasInsertedBelow shape before after h page low high e t grown × is_sound)
 
 -- where a separator goes up, it has a whole key
 abbrev pub HasWholeKey : Shape → Grown → Type 0
@@ -56,7 +56,7 @@ HasWholeKey shape (Added up) = HasWidth shape.width up
 
 -- the entry was put in where its key was not, and its leaf was not split; or nothing has changed
 abbrev pub HasPutIf : (shape : Shape) → PageMap → PageMap → (h page : ℕ) → (low high : Bound) → List ℕ → TreeOf h → Bool → Type 0
-HasPutIf shape before after h page low high e t true = HasInserted shape before after h page low high e t (Added None)
+HasPutIf shape before after h page low high e t true = HasInsertedBelow shape before after h page low high e t (Added None)
 HasPutIf shape before after h page low high e t false = after ≡ before
 
 abbrev pub PutsBelow : Shape → PageMap → PageMap → Type 0 → ℕ → ℕ → List ℕ → Result Bool Fault → Type 0

@@ -3,12 +3,12 @@ use Rattle.std.specs.Prelude.{◌≡◌, ℕ, List, None, Option, Result}
 use Rattle.io_state.specs.declared.fault.Fault.{Fault}
 use Rattle.tree_node.specs.declared.shape.Shape.{Shape}
 use Rattle.pages.specs.PageMap.{PageMap}
-use Rattle.pages.specs.Owners.{Changes}
+use Rattle.pages.specs.Owners.{ChangesPages}
 use Rattle.bplus_tree.specs.declared.crown.Base.{Base}
 use Rattle.node_balance.specs.declared.separator.Separator.{Separator}
-use Rattle.bplus_tree.specs.Tree.{TreeOf, entries_of, pages_of, size_of, IsRooted}
+use Rattle.tree_search.specs.Tree.{TreeOf, entries_of, pages_of, size_of, IsRooted}
 use Rattle.pages.specs.Answer.{IsAnswer}
-use Rattle.bplus_tree.specs.Calls.{IsWhole}
+use Rattle.tree_search.specs.Calls.{IsWhole}
 use Rattle.bplus_tree.specs.Insert.{HasGrown}
 
 -- a tree of these entries stands below the root
@@ -16,7 +16,7 @@ pub record IsRaised (shape : Shape) (before after : PageMap) (own : List ℕ) (e
   pub tree : TreeOf base.levels
   pub whole : IsWhole shape after base.levels base.root None None tree
   pub has : entries_of base.levels tree ≡ entries
-  pub changes : Changes before after own (pages_of base.levels tree)
+  pub changes : ChangesPages before after own (pages_of base.levels tree)
 
 -- of a tree that has grown since an earlier state of the pages
 abbrev pub Raises : Shape → PageMap → PageMap → Type 0 → ℕ → ℕ → Option Separator → Result Base Fault → Type 0

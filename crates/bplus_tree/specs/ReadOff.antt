@@ -5,8 +5,8 @@ use Rattle.tree_node.specs.declared.shape.Shape.{Shape}
 use Rattle.tree_node.specs.Leaf.{leaf_entries}
 use Rattle.tree_node.specs.Inner.{children}
 use Rattle.pages.specs.PageMap.{PageMap}
-use Rattle.bplus_tree.specs.Tree.{TreeOf, page_of, entries_of}
-use Rattle.bplus_tree.specs.Stored.{Holds}
+use Rattle.tree_search.specs.Tree.{TreeOf, page_of, entries_of}
+use Rattle.tree_search.specs.Stored.{Holds}
 
 -- the entries below a page with h levels below it, none below a page that is not in use
 abbrev pub entries_in : Shape → PageMap → ℕ → ℕ → List (List ℕ)

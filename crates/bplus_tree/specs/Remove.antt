@@ -9,38 +9,38 @@ use Rattle.bplus_tree.specs.declared.remove.Shrunk.TheVariants.{Absent, Taken}
 use Rattle.node_balance.specs.Fill.{least}
 use Rattle.arrayvec.specs.ArrayVec.{ArrayVec}
 use Rattle.tree_node.specs.Order.{Ascends, IsRank}
-use Rattle.bplus_tree.specs.Tree.{TreeOf, entries_of, pages_of, size_of, Bound, IsFilled, IsRooted}
-use Rattle.bplus_tree.specs.Stored.{IsLeafAt}
+use Rattle.tree_search.specs.Tree.{TreeOf, entries_of, pages_of, size_of, Bound, IsHalfFull, IsRooted}
+use Rattle.tree_search.specs.Stored.{IsLeafAt}
 use Rattle.pages.specs.Answer.{IsAnswer}
-use Rattle.bplus_tree.specs.Calls.{entry_of, IsTree, IsWhole}
-use Rattle.pages.specs.Owners.{AreApart, Changes}
+use Rattle.tree_search.specs.Calls.{entry_of, IsTree, IsWhole}
+use Rattle.pages.specs.Owners.{AreApart, ChangesPages}
 use Rattle.bplus_tree.specs.Edits.{without_key}
 
 -- The page heads a tree of these entries now, filled below its root. The root has at least `floor` entries or separators.
 pub record Becomes (shape : Shape) (before after : PageMap) (h page : ℕ) (low high : Bound) (own : List ℕ) (floor : ℕ) (entries : List (List ℕ)) : Type 0 where
   pub tree : TreeOf h
   pub stands : IsTree shape after h page low high tree
-  pub filled : IsFilled shape h tree
+  pub filled : IsHalfFull shape h tree
   pub large : floor ≤ size_of h tree
   pub has : entries_of h tree ≡ entries
-  pub changes : Changes before after own (pages_of h tree)
+  pub changes : ChangesPages before after own (pages_of h tree)
 
 -- such a tree; and whether its root has too little for a node below another one
 pub record BecomesShort (shape : Shape) (before after : PageMap) (h page : ℕ) (low high : Bound) (own : List ℕ) (floor : ℕ) (entries : List (List ℕ)) (short : Bool) : Type 0 where
   pub becomes : Becomes shape before after h page low high own floor entries
   pub short_is : IsTrue short ↔ (size_of h becomes.tree < least shape h)
 
-abbrev pub HasRemoved : (shape : Shape) → PageMap → PageMap → (h page : ℕ) → (low high : Bound) → List ℕ → TreeOf h → Shrunk → Type 0
-HasRemoved shape before after h page low high key t Absent =
+abbrev pub HasRemovedBelow : (shape : Shape) → PageMap → PageMap → (h page : ℕ) → (low high : Bound) → List ℕ → TreeOf h → Shrunk → Type 0
+HasRemovedBelow shape before after h page low high key t Absent =
     (entry_of shape.width key (entries_of h t) ≡ None) × (after ≡ before)
-HasRemoved shape before after h page low high key t (Taken entry short) =
+HasRemovedBelow shape before after h page low high key t (Taken entry short) =
     (entry_of shape.width key (entries_of h t) ≡ Some entry.items)
     × BecomesShort shape before after h page low high (pages_of h t) (size_of h t - 1) (without_key shape.width key (entries_of h t)) short
 
 abbrev pub Removes : Shape → PageMap → PageMap → Type 0 → ℕ → ℕ → List ℕ → Result Shrunk Fault → Type 0
 Removes shape before after is_sound h page key result =
     (t : TreeOf h) (low high : Bound) → IsWhole shape before h page low high t
-    → IsAnswer result (λ shrunk. HasRemoved shape before after h page low high key t shrunk × is_sound)
+    → IsAnswer result (λ shrunk. HasRemovedBelow shape before after h page low high key t shrunk × is_sound)
 
 -- all are at least half full, but for the one at this place, which lacks one entry or separator
 abbrev pub AreFullBut : {X : Type 0} → (X → Type 0) → (X → Type 0) → ℕ → List X → Type 0
@@ -49,10 +49,10 @@ AreFullBut IsFull Lacks zero (x ∷ xs) = Lacks x × Each IsFull xs
 AreFullBut IsFull Lacks (suc place) (x ∷ xs) = IsFull x × AreFullBut IsFull Lacks place xs
 
 abbrev pub IsFull : Shape → (h : ℕ) → TreeOf h → Type 0
-IsFull shape h t = (least shape h ≤ size_of h t) × IsFilled shape h t
+IsFull shape h t = (least shape h ≤ size_of h t) × IsHalfFull shape h t
 
 abbrev pub LacksOne : Shape → (h : ℕ) → TreeOf h → Type 0
-LacksOne shape h t = (least shape h ≡ size_of h t + 1) × IsFilled shape h t
+LacksOne shape h t = (least shape h ≡ size_of h t + 1) × IsHalfFull shape h t
 
 -- a node one of whose children lacks one
 abbrev pub Mends : Shape → PageMap → PageMap → Type 0 → ℕ → ℕ → ℕ → Result Bool Fault → Type 0

@@ -1,18 +1,18 @@
 -- A tree that stands in pages, and what its calls answer and leave.
-use Rattle.std.specs.Prelude.{◌≡◌, ℕ, ◌+◌, ◌-◌, ◌^◌, List, [], length, take, min, Option, Some, None, Result, option_map}
+use Rattle.std.specs.Prelude.{◌≡◌, ℕ, ◌+◌, ◌-◌, ◌^◌, Bool, List, [], length, take, min, Option, Some, None, Result, option_map}
 use Rattle.arrayvec.specs.ArrayVec.{ArrayVec}
 use Rattle.io_state.specs.declared.fault.Fault.{Fault}
 use Rattle.tree_node.specs.declared.shape.Shape.{Shape}
 use Rattle.pages.specs.PageMap.{PageMap}
-use Rattle.pages.specs.Owners.{Changes}
+use Rattle.pages.specs.Owners.{ChangesPages}
 use Rattle.bplus_tree.specs.declared.tree.Tree.{Tree}
-use Rattle.bplus_tree.specs.Tree.{TreeOf, entries_of, pages_of}
+use Rattle.tree_search.specs.Tree.{TreeOf, entries_of, pages_of}
 use Rattle.bplus_tree.specs.Edits.{with_entry, without_key}
 use Rattle.pages.specs.Answer.{IsAnswer}
-use Rattle.bplus_tree.specs.Calls.{entry_of, IsWhole}
+use Rattle.tree_search.specs.Calls.{entry_of, IsWhole}
 
 -- these are its entries, by rising tree key, and these its pages
-pub record Stands (tree : Tree) (pages : PageMap) (entries : List (List ℕ)) (own : List ℕ) : Type 0 where
+pub record TreeStands (tree : Tree) (pages : PageMap) (entries : List (List ℕ)) (own : List ℕ) : Type 0 where
   pub value : TreeOf tree.levels
   pub whole : IsWhole tree.shape pages tree.levels tree.root None None value
   pub has : entries_of tree.levels value ≡ entries
@@ -22,8 +22,8 @@ pub record Stands (tree : Tree) (pages : PageMap) (entries : List (List ℕ)) (o
 -- it has these entries now, in pages of which those new to it were free
 pub record Changed (before after : PageMap) (new : Tree) (own : List ℕ) (entries : List (List ℕ)) : Type 0 where
   pub own_now : List ℕ
-  pub stands : Stands new after entries own_now
-  pub changes : Changes before after own own_now
+  pub stands : TreeStands new after entries own_now
+  pub changes : ChangesPages before after own own_now
 
 -- the number of changes after one more, which stays at its greatest value
 abbrev pub one_more : ℕ → ℕ
@@ -32,7 +32,12 @@ one_more changes = min (changes + 1) (2 ^ 64 - 1)
 -- a look-up answers what `look` gives of the entries
 abbrev pub Answers : Tree → PageMap → (List (List ℕ) → Option (List ℕ)) → Result (Option (ArrayVec ℕ)) Fault → Type 0
 Answers tree pages look result =
-    (entries : List (List ℕ)) (own : List ℕ) → Stands tree pages entries own → IsAnswer result (λ found. option_map (λ e. e.items) found ≡ look entries)
+    (entries : List (List ℕ)) (own : List ℕ) → TreeStands tree pages entries own → IsAnswer result (λ found. option_map (λ e. e.items) found ≡ look entries)
+
+-- what a look-up tells of the entry of a key
+abbrev pub Tells : (Option (List ℕ) → Bool → Type 0) → Tree → PageMap → List ℕ → Result Bool Fault → Type 0
+Tells Says tree pages key result =
+    (entries : List (List ℕ)) (own : List ℕ) → TreeStands tree pages entries own → IsAnswer result (Says (entry_of tree.shape.width key entries))
 
 -- a new tree without entries
 pub record IsNew (shape : Shape) (before after : PageMap) (tree : Tree) : Type 0 where
@@ -51,7 +56,7 @@ HasInserted before after old new e entries own None =
 
 abbrev pub Inserts : PageMap → PageMap → Type 0 → Tree → Tree → List ℕ → Result (Option (ArrayVec ℕ)) Fault → Type 0
 Inserts before after is_sound old new e result =
-    (entries : List (List ℕ)) (own : List ℕ) → Stands old before entries own → IsAnswer result (λ found. HasInserted before after old new e entries own found × is_sound)
+    (entries : List (List ℕ)) (own : List ℕ) → TreeStands old before entries own → IsAnswer result (λ found. HasInserted before after old new e entries own found × is_sound)
 
 abbrev pub HasRemoved : PageMap → PageMap → Tree → Tree → List ℕ → List (List ℕ) → List ℕ → Option (ArrayVec ℕ) → Type 0
 HasRemoved before after old new key entries own None =
@@ -61,4 +66,4 @@ HasRemoved before after old new key entries own (Some found) =
 
 abbrev pub Removes : PageMap → PageMap → Type 0 → Tree → Tree → List ℕ → Result (Option (ArrayVec ℕ)) Fault → Type 0
 Removes before after is_sound old new key result =
-    (entries : List (List ℕ)) (own : List ℕ) → Stands old before entries own → IsAnswer result (λ found. HasRemoved before after old new key entries own found × is_sound)
+    (entries : List (List ℕ)) (own : List ℕ) → TreeStands old before entries own → IsAnswer result (λ found. HasRemoved before after old new key entries own found × is_sound)

@@ -3,7 +3,7 @@ use Rattle.std.specs.Prelude.{◌≡◌, ◌≢◌, ℕ, [], Result, IsSome}
 use Rattle.io_state.specs.declared.fault.Fault.{Fault}
 use Rattle.tree_node.specs.declared.shape.Shape.{Shape}
 use Rattle.pages.specs.PageMap.{PageMap}
-use Rattle.bplus_tree.specs.Stored.{IsLeafAt}
+use Rattle.tree_search.specs.Stored.{IsLeafAt}
 use Rattle.pages.specs.Answer.{IsAnswer}
 
 -- a leaf without entries stands there now, and every other page is as it was

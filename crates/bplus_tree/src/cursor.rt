@@ -4,12 +4,11 @@ ghost use Rattle.std.specs.Prelude.{◌≡◌, ◌+◌, ◌*◌, ◌≤◌, ◌�
 ghost use Rattle.pages.specs.PageMap.{PageMap};
 ghost use Rattle.pages.specs.Cause.{IsCaused};
 
-use crate::search::next_below;
-use crate::spot::{Spot, copy_entry};
 use crate::tree::Tree;
 use io_state::Fault;
 use pages::Pages;
 use tree_node::{Entry, Shape, TreeKey};
+use tree_search::{Spot, begins_with, copy_entry, entry_begins_with, next_below};
 
 /// The key of the entry that was given last, at first the one that the cursor was made for. While the tree has not changed, also where that
 /// entry stands.
@@ -41,14 +40,14 @@ impl Tree {
 }
 
 impl Cursor {
-    ghost use Rattle.bplus_tree.specs.Cursor.{HasNeighbour, LooksBehind, Moves, key_after};
+    ghost use Rattle.bplus_tree.specs.Cursor.{HasNeighbour, LooksBehind, CursorMoves, TellsNext, key_after};
 
     /// The next entry: the first one whose key is above that of the entry given last. Where there is none the cursor stays where it is, and
     /// at a fault. It asks one page mostly, and never more than twice the height.
     pub fn next<P: Pages>(&mut self, tree: &Tree, pages: &mut P) -> Result<Option<Entry>, Fault>
         requires ready { P.IsReady pages.old }
         ensures moved { IsTrue (P.state pages.new).is_honest
-            → Moves self.old self.new tree.now (P.state pages.old).live result }
+            → CursorMoves self.old self.new tree.now (P.state pages.old).live result }
         ensures key { IfOk result (λ found. self.new.key.items
             ≡ key_after tree.now.shape.width self.old.key.items found) }
         ensures cause { IfErr result (IsCaused (P.HasFailed pages.old pages.new) ⊥) }
@@ -73,12 +72,42 @@ impl Cursor {
         }
     }
 
+    /// Whether there is a next entry, and it begins with these bytes. The cursor stays where it is. It asks one page mostly, and never more than
+    /// twice the height.
+    pub fn next_begins_with<P: Pages>(
+        &self,
+        tree: &Tree,
+        pages: &mut P,
+        start: &[u8],
+    ) -> Result<bool, Fault>
+        requires ready { P.IsReady pages.old }
+        ensures told { IsTrue (P.state pages.new).is_honest
+            → TellsNext self.now tree.now (P.state pages.old).live start.now result }
+        ensures cause { IfErr result (IsCaused (P.HasFailed pages.old pages.new) ⊥) }
+        ensures asked { (P.state pages.new).asked ≤ (P.state pages.old).asked + 2 * (tree.now.levels + 1) }
+        ensures reads { P.Reads pages.old pages.new }
+    {
+        if self.has_neighbour(tree) {
+            let Spot {
+                leaf,
+                place,
+                count: _,
+            } = self.spot;
+            return entry_begins_with(pages, tree.shape, leaf, usize::from(place) + 1, start);
+        }
+        let mut spot = Spot::nowhere();
+        match self.look_behind(tree, pages, &mut spot)? {
+            Some(entry) => Ok(begins_with(&entry, start)),
+            None => Ok(false),
+        }
+    }
+
     /// The next entry where it stands in the same leaf.
     fn step<P: Pages>(&mut self, tree: &Tree, pages: &mut P) -> Result<Option<Entry>, Fault>
         requires near { HasNeighbour self.old tree.now }
         requires ready { P.IsReady pages.old }
         ensures moved { IsTrue (P.state pages.new).is_honest
-            → Moves self.old self.new tree.now (P.state pages.old).live result }
+            → CursorMoves self.old self.new tree.now (P.state pages.old).live result }
         ensures key { IfOk result (λ found. self.new.key.items
             ≡ key_after tree.now.shape.width self.old.key.items found) }
         ensures cause { IfErr result (IsCaused (P.HasFailed pages.old pages.new) ⊥) }

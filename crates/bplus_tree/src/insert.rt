@@ -6,12 +6,12 @@ ghost use Rattle.tree_node.specs.Order.{Ascends};
 ghost use Rattle.pages.specs.Cause.{IsCaused};
 ghost use Rattle.bplus_tree.specs.Insert.{Inserts, HasWholeKey, PutsBelow, PutsInPlace, IsPutIf};
 
-use crate::descent::{Look, descend, has_key, seek};
 use crate::grow::{add_to_inner, add_to_leaf};
 use io_state::Fault;
 use node_balance::Separator;
 use pages::Pages;
 use tree_node::{Entry, LeafView, LeafViewMut, PAGE_SIZE, Shape, is_leaf};
+use tree_search::{Look, descend, has_key, seek};
 
 /// What an insert found, or did, below a page.
 #[derive(Drop)]

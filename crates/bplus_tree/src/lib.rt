@@ -10,23 +10,18 @@
 
 mod crown;
 mod cursor;
-mod descent;
 mod grow;
 mod insert;
 mod law;
 mod mend;
 mod raise;
-mod range;
 mod remove;
-mod search;
 mod split;
-mod spot;
 mod start;
 mod tree;
 
 pub use cursor::Cursor;
 pub use law::{have_many_entries, reads_its_entries};
-pub use range::First;
 pub use tree::Tree;
 
 #[cfg(test)]

@@ -7,12 +7,11 @@ ghost use Rattle.node_balance.specs.Fill.{least};
 ghost use Rattle.pages.specs.Cause.{IsCaused};
 ghost use Rattle.bplus_tree.specs.Remove.{Removes, TakesOut, OutOfLeaf, TakesBelow, TakesInPlace, IsTakenIf};
 
-use crate::descent::{Look, descend, has_key, seek};
 use crate::mend::mend;
-use crate::spot::fill;
 use io_state::Fault;
 use pages::Pages;
 use tree_node::{Entry, LeafView, LeafViewMut, PAGE_SIZE, Shape, is_leaf};
+use tree_search::{Look, descend, fill, has_key, seek};
 
 /// What is left below a page.
 #[derive(Drop)]

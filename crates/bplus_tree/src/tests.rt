@@ -29,7 +29,7 @@ const LONGEST: Shape = Shape {
     entry: 508,
 };
 
-// An entry whose key ends in a number.
+// An entry whose key ends in a number, the last byte of which stands behind the key too.
 fn entry_of(shape: Shape, number: u64) -> [u8; 508] {
     let mut entry = [b' '; 508];
     let end = shape.width as usize;
@@ -37,6 +37,7 @@ fn entry_of(shape: Shape, number: u64) -> [u8; 508] {
     if end - start == 8 {
         entry[start..end].copy_from_slice(&number.to_be_bytes());
     }
+    entry[end..].fill((number % 256) as u8);
     entry
 }
 
@@ -82,6 +83,24 @@ fn find(tree: &Tree, pages: &mut MemoryPages, number: u64) -> Result<Option<u64>
     Ok(found.map(|entry| number_of(&entry, tree.shape)))
 }
 
+// Whether the number is there, whose entry has these bytes behind its key then.
+fn is_there(
+    rt: &impl Abort,
+    tree: &Tree,
+    pages: &mut MemoryPages,
+    number: u64,
+) -> Result<bool, Fault> {
+    let entry = entry_of(tree.shape, number);
+    let (width, size) = (tree.shape.width as usize, tree.shape.entry as usize);
+    let mut tail = [0; 508];
+    let told = tree.find_tail(pages, &entry[..width], &mut tail[..size - width])?;
+    if told {
+        assert_eq!(rt; tail[..size - width], entry[width..size]);
+    }
+    assert_eq!(rt; tree.has(pages, &entry[..width])?, told);
+    Ok(told)
+}
+
 fn at_or_after(tree: &Tree, pages: &mut MemoryPages, number: u64) -> Result<Option<u64>, Fault> {
     let entry = entry_of(tree.shape, number);
     let width = tree.shape.width as usize;
@@ -104,6 +123,18 @@ fn after(tree: &Tree, pages: &mut MemoryPages, number: Option<u64>) -> Result<Op
 fn next(cursor: &mut Cursor, tree: &Tree, pages: &mut MemoryPages) -> Result<Option<u64>, Fault> {
     let found = cursor.next(tree, pages)?;
     Ok(found.map(|entry| number_of(&entry, tree.shape)))
+}
+
+// Whether the next number is this one. The cursor stays.
+fn is_next(
+    cursor: &Cursor,
+    tree: &Tree,
+    pages: &mut MemoryPages,
+    number: u64,
+) -> Result<bool, Fault> {
+    let entry = entry_of(tree.shape, number);
+    let width = tree.shape.width as usize;
+    cursor.next_begins_with(tree, pages, &entry[..width])
 }
 
 // The first number from one to another, and whether the next number is one of them too.
@@ -317,6 +348,29 @@ fn a_cursor_gives_what_after_gives_while_the_tree_changes(rt: HostRuntime) -> Re
     Ok(())
 }
 
+#[test]
+fn a_cursor_tells_how_the_next_entry_begins_and_stays(rt: HostRuntime) -> Result<(), Fail> {
+    let mut pages = no_pages(rt.alloc(), 1000)?;
+    let mut tree = Tree::empty(&mut pages, LONGEST)?;
+    for i in 0..20 {
+        put(&mut tree, &mut pages, i)?;
+    }
+    let mut cursor = tree.cursor(b"");
+    for i in 0..20u64 {
+        assert!(rt; is_next(&cursor, &tree, &mut pages, i)?, "{i}");
+        assert!(rt;
+            !is_next(&cursor, &tree, &mut pages, i.wrapping_add(1))?,
+            "{i}"
+        );
+        assert_eq!(rt; next(&mut cursor, &tree, &mut pages)?, Some(i));
+    }
+    assert!(rt; !cursor.next_begins_with(&tree, &mut pages, b"")?);
+    assert!(rt; put(&mut tree, &mut pages, 20)?);
+    assert!(rt; cursor.next_begins_with(&tree, &mut pages, b"")?);
+    assert!(rt; is_next(&cursor, &tree, &mut pages, 20)?);
+    Ok(())
+}
+
 // The next number of a series that looks like chance.
 fn another(random: u64) -> u64 {
     random
@@ -337,7 +391,10 @@ fn step(
     let behind = list.get(place).copied();
     let there = behind == Some(number);
     match choice {
-        0 => assert_eq!(rt; find(tree, pages, number)?.is_some(), there),
+        0 => {
+            assert_eq!(rt; find(tree, pages, number)?.is_some(), there);
+            assert_eq!(rt; is_there(rt, tree, pages, number)?, there);
+        }
         1 => assert_eq!(rt; at_or_after(tree, pages, number)?, behind),
         2 => assert_eq!(rt; last(tree, pages)?, list.last().copied()),
         3 => {

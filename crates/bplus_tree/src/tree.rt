@@ -7,12 +7,13 @@ use crate::crown::settle;
 use crate::insert::{Grown, insert_below, put_below};
 use crate::raise::raise;
 use crate::remove::{Shrunk, remove_below, take_below};
-use crate::search::{find_below, last_below, next_below};
-use crate::spot::Spot;
 use crate::start::start;
 use io_state::Fault;
 use pages::Pages;
 use tree_node::{Entry, Shape};
+use tree_search::{
+    First, Spot, find_below, find_tail, first_within, has_below, last_below, next_below,
+};
 
 /// A tree: the page of its root, how many levels are above its leaves, how many entries it has, and how often it has changed, a number
 /// that stays at its greatest value. One that is read off a header begins at 0 changes.
@@ -30,8 +31,10 @@ pub struct Tree {
 }
 
 impl Tree {
-    ghost use Rattle.bplus_tree.specs.Standing.{Answers, Makes, Inserts, Removes, one_more};
-    ghost use Rattle.bplus_tree.specs.Calls.{entry_of, first_from, first_after, last_of};
+    ghost use Rattle.bplus_tree.specs.Within.{FindsWithin};
+    ghost use Rattle.bplus_tree.specs.Standing.{Answers, Tells, Makes, Inserts, Removes, one_more};
+    ghost use Rattle.tree_search.specs.Tail.{IsTail, IsThere};
+    ghost use Rattle.tree_search.specs.Calls.{entry_of, first_from, first_after, last_of};
 
     /// A tree without entries, in a page of its own. Full where no page is available.
     pub fn empty<P: Pages>(pages: &mut P, shape: Shape) -> Result<Tree, Fault>
@@ -74,6 +77,36 @@ impl Tree {
         ensures reads { P.Reads pages.old pages.new }
     {
         find_below(pages, self.shape, self.root, self.levels, key)
+    }
+
+    /// The bytes behind the key of an entry go to `tail`, which is as long as they are. The answer is whether the key, which may have any length, has an
+    /// entry.
+    pub fn find_tail<P: Pages>(
+        &self,
+        pages: &mut P,
+        key: &[u8],
+        tail: &mut [u8],
+    ) -> Result<bool, Fault>
+        requires ready { P.IsReady pages.old }
+        requires size { self.now.shape.width + length tail.old ≡ self.now.shape.entry }
+        ensures found { IsTrue (P.state pages.new).is_honest
+            → Tells (IsTail self.now.shape.width tail.new) self.now (P.state pages.old).live key.now result }
+        ensures cause { IfErr result (IsCaused (P.HasFailed pages.old pages.new) ⊥) }
+        ensures asked { (P.state pages.new).asked ≤ (P.state pages.old).asked + (self.now.levels + 1) }
+        ensures reads { P.Reads pages.old pages.new }
+    {
+        find_tail(pages, self.shape, self.root, self.levels, key, tail)
+    }
+
+    /// Whether a key, which may have any length, has an entry.
+    pub fn has<P: Pages>(&self, pages: &mut P, key: &[u8]) -> Result<bool, Fault>
+        requires ready { P.IsReady pages.old }
+        ensures told { IsTrue (P.state pages.new).is_honest → Tells IsThere self.now (P.state pages.old).live key.now result }
+        ensures cause { IfErr result (IsCaused (P.HasFailed pages.old pages.new) ⊥) }
+        ensures asked { (P.state pages.new).asked ≤ (P.state pages.old).asked + (self.now.levels + 1) }
+        ensures reads { P.Reads pages.old pages.new }
+    {
+        has_below(pages, self.shape, self.root, self.levels, key)
     }
 
     /// The first entry whose key is not below this one, which may have any length.
@@ -128,6 +161,26 @@ impl Tree {
         ensures reads { P.Reads pages.old pages.new }
     {
         last_below(pages, self.shape, self.root, self.levels)
+    }
+
+    /// The first entry whose key is not below `from` and not above `to`, and whether the next entry is such a one too. The keys may have any length.
+    ///
+    /// It asks one page a level, and more only where the range goes on behind a leaf with less than two entries of it; never more than twice the
+    /// height.
+    pub fn first_within<P: Pages>(
+        &self,
+        pages: &mut P,
+        from: &[u8],
+        to: &[u8],
+    ) -> Result<Option<First>, Fault>
+        requires ready { P.IsReady pages.old }
+        ensures found { IsTrue (P.state pages.new).is_honest
+            → FindsWithin self.now (P.state pages.old).live from.now to.now result }
+        ensures cause { IfErr result (IsCaused (P.HasFailed pages.old pages.new) ⊥) }
+        ensures asked { (P.state pages.new).asked ≤ (P.state pages.old).asked + 2 * (self.now.levels + 1) }
+        ensures reads { P.Reads pages.old pages.new }
+    {
+        first_within(pages, self.shape, self.root, self.levels, from, to)
     }
 
     /// Puts an entry in where its key is not there, and answers none. Where the key is there, its

@@ -1,14 +1,18 @@
 -- A step of a cursor, from a step in its tree.
-use Rattle.std.proofs.Common.{◌≡◌, ℕ, ◌+◌, ◌^◌, ◌<◌, List, ◌++◌, length, take, map, Option, None, Some, Result, Ok, refl, sym, ap, subst, ◌∙◌}
-use Rattle.std.specs.Prelude.{find, option_map, IfSome}
+use Rattle.std.proofs.Common.{◌≡◌, ℕ, ◌+◌, ◌^◌, ◌<◌, Bool, false, List, ◌++◌, length, take, map, Option, None, Some, Result, Ok, refl, sym, ap, subst, ◌∙◌, arith, length-append, min}
+use Rattle.std.specs.Prelude.{find, option_map, IfSome, bytes_eq}
+use Rattle.std.specs.Option.{option_map_or}
 use Rattle.std.specs.Int.{bytes_high_first}
+use Rattle.byteorder.specs.Numbers.{length-bytes_high_first}
 use Rattle.arrayvec.specs.ArrayVec.{ArrayVec}
 use Rattle.io_state.specs.declared.fault.Fault.{Fault}
 use Rattle.pages.specs.PageMap.{PageMap}
 use Rattle.pages.specs.Answer.{IsAnswer}
+use Rattle.tree_search.specs.Calls.{first_after}
+use Rattle.tree_search.specs.Spot.{begins_with}
 use Rattle.bplus_tree.specs.Cursor.{HasMoved, key_after}
 use Rattle.key_index.specs.Stored.{prime_bytes, alt_bytes, IsPrimeEntry, IsAltEntry}
-use Rattle.key_index.specs.Entries.{after_prime, after_rank}
+use Rattle.key_index.specs.Entries.{entry_has_value, after_prime, after_rank}
 use Rattle.key_index.specs.Standing.{PrimeStands, AltStands}
 use Rattle.key_index.specs.Cursors.{value_after, rank_after, PrimeHasMoved, AltHasMoved}
 use Rattle.key_index.specs.declared.entry.PrimeEntry.{PrimeEntry}
@@ -18,7 +22,7 @@ use Rattle.key_index.specs.declared.alt_index.AltIndex.{AltIndex}
 use Rattle.key_index.specs.declared.cursor.PrimeCursor.{PrimeCursor}
 use Rattle.key_index.specs.declared.cursor.AltCursor.{AltCursor}
 use Rattle.key_index.proofs.ListLemmas.{found, found_fits}
-use Rattle.key_index.proofs.KeyLemmas.{prime_key, alt_key}
+use Rattle.key_index.proofs.KeyLemmas.{front, prime_key, alt_key}
 use Rattle.key_index.proofs.LookLemmas.{prime_after_at, alt_after_at}
 
 prime_key_after : (w : ℕ) (key : List ℕ) (gave : Option (ArrayVec ℕ)) (e : Option PrimeEntry) → IfSome e (IsPrimeEntry w)
@@ -69,3 +73,36 @@ alt_moved value stamp old new index pages entries own result gave told stands mo
     key ∙ ap (λ (n : ℕ). key_after n old.cursor.key.items gave) index.keys ∙ alt_key_after index.width index.prime old.cursor.key.items gave e fits same in
     subst (λ (r : Result (Option AltEntry) Fault). IsAnswer r (AltHasMoved value stamp old new index pages entries own)) (sym (told e fits same))
     (record { answer = record { found_is = refl; after = after; belongs = moved.belongs }; no_damage = tt })
+
+-- ---- whether the next entry has the value that the cursor stands behind
+
+begins_alike : (w p : ℕ) (v : List ℕ) → length v ≡ w → (e : AltEntry) → IsAltEntry w p e → begins_with v (alt_bytes e) ≡ entry_has_value v e
+begins_alike w p v long e fit = ap (λ (l : List ℕ). bytes_eq l v) (front (length v) e.value.items _ (fit.long ∙ sym long))
+
+begins_found : (w p : ℕ) (v : List ℕ) → length v ≡ w → (o : Option AltEntry) → IfSome o (IsAltEntry w p)
+    → option_map_or (begins_with v) (option_map alt_bytes o) false ≡ option_map_or (entry_has_value v) o false
+begins_found w p v long None fit = refl
+begins_found w p v long (Some e) fit = begins_alike w p v long e fit
+
+pub alt_told : (value : List ℕ) (stamp : ℕ) (cursor : AltCursor) (index : AltIndex) (pages : PageMap) (entries : List AltEntry) (own start : List ℕ) (result : Result Bool Fault)
+    → AltStands index pages entries own → length value ≡ index.width → stamp < 2 ^ 64 → cursor.cursor.key.items ≡ value ++ bytes_high_first 8 stamp → start ≡ value
+    → IsAnswer result (λ told. told ≡ option_map_or (begins_with start) (first_after index.tree.shape.width cursor.cursor.key.items (map alt_bytes entries)) false)
+    → IsAnswer result (λ told. told ≡ option_map_or (entry_has_value value) (find (after_rank value stamp) entries) false)
+alt_told value stamp cursor index pages entries own start result stands long small behind is told =
+    let key = cursor.cursor.key.items in
+    let width = index.tree.shape.width in
+    let first : first_after width key (map alt_bytes entries) ≡ option_map alt_bytes (find (after_rank value stamp) entries) =
+    found alt_bytes (IsAltEntry index.width index.prime) _ (after_rank value stamp) (alt_after_at index key value stamp behind long small) entries stands.each in
+    let same : option_map_or (begins_with start) (first_after width key (map alt_bytes entries)) false ≡ option_map_or (entry_has_value value) (find (after_rank value stamp) entries) false =
+    ap (λ (v : List ℕ). option_map_or (begins_with v) (first_after width key (map alt_bytes entries)) false) is
+    ∙ ap (λ (o : Option (List ℕ)). option_map_or (begins_with value) o false) first
+    ∙ begins_found index.width index.prime value long (find (after_rank value stamp) entries)
+    (found_fits alt_bytes (IsAltEntry index.width index.prime) (after_rank value stamp) entries stands.each) in
+    subst (λ (b : Bool). IsAnswer result (λ told. told ≡ b)) same told
+
+-- the front of a tree key is its value
+pub front_of_key : (width : ℕ) (key value : List ℕ) (stamp : ℕ) → length value ≡ width → key ≡ value ++ bytes_high_first 8 stamp → take (min width (length key)) key ≡ value
+front_of_key width key value stamp long is =
+    let all : length key ≡ length value + 8 = ap length is ∙ length-append value (bytes_high_first 8 stamp) ∙ ap (λ (n : ℕ). length value + n) (length-bytes_high_first 8 stamp) in
+    let least : min width (length key) ≡ width = omega arith in
+    ap (λ (n : ℕ). take n key) least ∙ ap (take width) is ∙ front width value (bytes_high_first 8 stamp) long

@@ -14,7 +14,7 @@ use Rattle.pages.specs.PageMap.{PageMap}
 use Rattle.tree_node.specs.Order.{less}
 use Rattle.bplus_tree.specs.declared.tree.Tree.{Tree}
 use Rattle.bplus_tree.specs.Edits.{with_entry, without_key}
-use Rattle.bplus_tree.specs.Standing.{Stands, HasInserted, HasRemoved}
+use Rattle.bplus_tree.specs.Standing.{TreeStands, HasInserted, HasRemoved}
 use Rattle.key_index.specs.Rank.{value_cmp, rank_cmp}
 use Rattle.key_index.specs.Stored.{prime_bytes, alt_bytes, IsPrimeEntry, IsAltEntry}
 use Rattle.key_index.specs.Entries.{has_prime, has_rank, with_prime, with_alt, without_prime, without_rank}
@@ -104,7 +104,7 @@ module _ (before after : PageMap) (old : PrimeIndex) (entries : List PrimeEntry)
           record {
             own_now = h.1.own_now;
             stands = record {
-              tree = subst (λ (l : List (List ℕ)). Stands new.tree after l h.1.own_now) rows h.1.stands;
+              tree = subst (λ (l : List (List ℕ)). TreeStands new.tree after l h.1.own_now) rows h.1.stands;
               each = subst (λ (n : ℕ). Each (IsPrimeEntry n) (with_prime e entries)) (sym width) (prime_put_fits old.width e fits entries each);
             };
             changes = h.1.changes;
@@ -125,7 +125,7 @@ module _ (before after : PageMap) (old : PrimeIndex) (entries : List PrimeEntry)
         record {
           own_now = h.1.own_now;
           stands = record {
-            tree = subst (λ (l : List (List ℕ)). Stands new.tree after l h.1.own_now) rows h.1.stands;
+            tree = subst (λ (l : List (List ℕ)). TreeStands new.tree after l h.1.own_now) rows h.1.stands;
             each = subst (λ (n : ℕ). Each (IsPrimeEntry n) (without_prime k entries)) (sym width) (filtered_fits prime_bytes (IsPrimeEntry old.width) (λ e. not (has_prime k e)) entries each);
           };
           changes = h.1.changes;
@@ -191,7 +191,7 @@ module _ (before after : PageMap) (old : AltIndex) (entries : List AltEntry) (ow
           record {
             own_now = h.1.own_now;
             stands = record {
-              tree = subst (λ (l : List (List ℕ)). Stands new.tree after l h.1.own_now) rows h.1.stands;
+              tree = subst (λ (l : List (List ℕ)). TreeStands new.tree after l h.1.own_now) rows h.1.stands;
               each = alt_each old new (without_rank k t entries) of (filtered_fits alt_bytes (IsAltEntry old.width old.prime) (λ e. not (has_rank k t e)) entries each);
             };
             changes = h.1.changes;
@@ -221,7 +221,7 @@ module _ (before after : PageMap) (old : AltIndex) (entries : List AltEntry) (ow
           record {
             own_now = h.1.own_now;
             stands = record {
-              tree = subst (λ (l : List (List ℕ)). Stands new.tree after l h.1.own_now) rows h.1.stands;
+              tree = subst (λ (l : List (List ℕ)). TreeStands new.tree after l h.1.own_now) rows h.1.stands;
               each = alt_each old new (with_alt e entries) of (alt_put_fits old.width old.prime e fits entries each);
             };
             changes = h.1.changes;

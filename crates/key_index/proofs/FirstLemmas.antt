@@ -14,12 +14,12 @@ use Rattle.io_state.specs.declared.fault.Fault.{Fault}
 use Rattle.page_bytes.specs.Each.{Each}
 use Rattle.tree_node.specs.Order.{less}
 use Rattle.tree_node.proofs.OrderLemmas.{either}
-use Rattle.bplus_tree.specs.declared.range.First.{First}
-use Rattle.bplus_tree.specs.Calls.{first_after}
-use Rattle.bplus_tree.specs.Range.{is_within, IsFirst}
+use Rattle.tree_search.specs.declared.range.First.{First}
+use Rattle.tree_search.specs.Calls.{first_after}
+use Rattle.tree_search.specs.Range.{is_within, IsFirst}
 use Rattle.key_index.specs.Rank.{value_cmp}
 use Rattle.key_index.specs.Stored.{alt_bytes, IsAltEntry}
-use Rattle.key_index.specs.Entries.{has_value, after_rank}
+use Rattle.key_index.specs.Entries.{entry_has_value, after_rank}
 use Rattle.key_index.specs.Calls.{IsAltFirst}
 use Rattle.key_index.specs.declared.entry.AltEntry.{AltEntry}
 use Rattle.key_index.specs.declared.alt_index.AltIndex.{AltIndex}
@@ -54,18 +54,18 @@ pub some_entry : (a : AltEntry) → answer None ≡ answer (Some a) → ⊥
 some_entry a e = cc
 
 -- no entry has a value of another length
-pub no_value : (w p : ℕ) (v : List ℕ) → length v ≢ w → (entries : List AltEntry) → Each (IsAltEntry w p) entries → find (has_value v) entries ≡ None
+pub no_value : (w p : ℕ) (v : List ℕ) → length v ≢ w → (entries : List AltEntry) → Each (IsAltEntry w p) entries → find (entry_has_value v) entries ≡ None
 no_value w p v other [] each = refl
 no_value w p v other (e ∷ entries) each =
-    ap (λ b. cond b (Some e) (find (has_value v) entries)) miss ∙ no_value w p v other entries each.1
+    ap (λ b. cond b (Some e) (find (entry_has_value v) entries)) miss ∙ no_value w p v other entries each.1
   where
-    miss : has_value v e ≡ false
-    miss = either (has_value v e) (has_value v e ≡ false)
+    miss : entry_has_value v e ≡ false
+    miss = either (entry_has_value v e) (entry_has_value v e ≡ false)
         (λ yes. absurd (other (sym (ap length ((bytes_eq-Decides e.value.items v).0 yes)) ∙ each.0.long))) (λ no. no)
 
 module _ (index : AltIndex) (v least greatest : List ℕ) (long : length v ≡ index.width) (is_least : least ≡ v ++ bytes_high_first 8 0) (is_greatest : greatest ≡ v ++ bytes_high_first 8 (2 ^ 64 - 1)) where
   -- the entries of a value are those in the range of its tree keys
-  pub in_range : (e : AltEntry) → IsAltEntry index.width index.prime e → is_within index.tree.shape.width least greatest (alt_bytes e) ≡ has_value v e
+  pub in_range : (e : AltEntry) → IsAltEntry index.width index.prime e → is_within index.tree.shape.width least greatest (alt_bytes e) ≡ entry_has_value v e
   unfolding less
   in_range e fit =
       let stamp = fit.stamp in
@@ -81,17 +81,17 @@ module _ (index : AltIndex) (v least greatest : List ℕ) (long : length v ≡ i
       ∙ is_eq-slice_cmp e.value.items v
 
   mapped : (o : Option AltEntry) → IfSome o (IsAltEntry index.width index.prime)
-      → option_map_or (is_within index.tree.shape.width least greatest) (option_map alt_bytes o) false ≡ option_map_or (has_value v) o false
+      → option_map_or (is_within index.tree.shape.width least greatest) (option_map alt_bytes o) false ≡ option_map_or (entry_has_value v) o false
   mapped None fit = refl
   mapped (Some e) fit = in_range e fit
 
   module _ (entries : List AltEntry) (each : Each (IsAltEntry index.width index.prime) entries) where
-    found_value : find (is_within index.tree.shape.width least greatest) (map alt_bytes entries) ≡ option_map alt_bytes (find (has_value v) entries)
-    found_value = found alt_bytes (IsAltEntry index.width index.prime) (is_within index.tree.shape.width least greatest) (has_value v) in_range entries each
+    found_value : find (is_within index.tree.shape.width least greatest) (map alt_bytes entries) ≡ option_map alt_bytes (find (entry_has_value v) entries)
+    found_value = found alt_bytes (IsAltEntry index.width index.prime) (is_within index.tree.shape.width least greatest) (entry_has_value v) in_range entries each
 
     -- no entry in the range
-    pub first_none : IsFirst index.tree.shape.width least greatest (map alt_bytes entries) None → find (has_value v) entries ≡ None
-    first_none h = unmapped (find (has_value v) entries) (sym found_value ∙ h)
+    pub first_none : IsFirst index.tree.shape.width least greatest (map alt_bytes entries) None → find (entry_has_value v) entries ≡ None
+    first_none h = unmapped (find (entry_has_value v) entries) (sym found_value ∙ h)
       where
         unmapped : (o : Option AltEntry) → option_map alt_bytes o ≡ None → o ≡ None
         unmapped None e = refl
@@ -104,7 +104,7 @@ module _ (index : AltIndex) (v least greatest : List ℕ) (long : length v ≡ i
       pub bytes : gave.entry.items ≡ alt_bytes entry
       pub is_first : IsAltFirst v entries (Some (record { entry = entry; followed = gave.followed }))
 
-    of_found : (gave : First) → IsFirst index.tree.shape.width least greatest (map alt_bytes entries) (Some gave) → (o : Option AltEntry) → find (has_value v) entries ≡ o → IfSome o (IsAltEntry index.width index.prime)
+    of_found : (gave : First) → IsFirst index.tree.shape.width least greatest (map alt_bytes entries) (Some gave) → (o : Option AltEntry) → find (entry_has_value v) entries ≡ o → IfSome o (IsAltEntry index.width index.prime)
         → Some gave.entry.items ≡ option_map alt_bytes o → TheFirst gave
     of_found gave h None is fit same = absurd (cc)
     of_found gave h (Some e) is fit same =
@@ -129,4 +129,4 @@ module _ (index : AltIndex) (v least greatest : List ℕ) (long : length v ≡ i
         some_same a b e = cc
 
     pub the_first : (gave : First) → IsFirst index.tree.shape.width least greatest (map alt_bytes entries) (Some gave) → TheFirst gave
-    the_first gave h = of_found gave h (find (has_value v) entries) refl (found_fits alt_bytes (IsAltEntry index.width index.prime) (has_value v) entries each) (sym h.0 ∙ found_value)
+    the_first gave h = of_found gave h (find (entry_has_value v) entries) refl (found_fits alt_bytes (IsAltEntry index.width index.prime) (entry_has_value v) entries each) (sym h.0 ∙ found_value)

@@ -2,6 +2,7 @@ pub mod OrderLemmas
 pub mod ListLemmas
 pub mod KeyLemmas
 pub mod StoredLemmas
+pub mod PlaceLemmas
 pub mod LookLemmas
 pub mod EditLemmas
 pub mod LawLemmas

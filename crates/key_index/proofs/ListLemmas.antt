@@ -1,10 +1,8 @@
 -- Look-ups and edits of a list of entries, and of the list of what stands for each of them.
-use Rattle.std.proofs.Common.{◌≡◌, ℕ, Bool, true, false, not, cond, List, [], ◌∷◌, map, Some, refl, sym, ap, ◌∙◌}
+use Rattle.std.proofs.Common.{◌≡◌, ℕ, Bool, true, false, not, cond, List, [], ◌∷◌, map, Some, refl, ap, ◌∙◌}
 use Rattle.std.specs.Prelude.{find, filter, option_map, IfSome}
-use Rattle.std.specs.Option.{option_or}
 use Rattle.page_bytes.specs.Each.{Each}
-use Rattle.bplus_tree.specs.Calls.{last_of as last_entry}
-use Rattle.key_index.specs.Entries.{last_of}
+use Rattle.tree_search.specs.Calls.{last_of}
 
 module _ {X : Type 0} (bytes : X → List ℕ) (Fits : X → Type 0) where
   -- a test of the bytes that says the same of each entry as a test of the entry
@@ -49,16 +47,10 @@ module _ {X : Type 0} (bytes : X → List ℕ) (Fits : X → Type 0) where
       by_test rest true = (fit.0, rest)
       by_test rest false = rest
 
-  last_some : (y : X) (ys : List X) → (z : X) × (last_of (y ∷ ys) ≡ Some z)
-  last_some y [] = (y, refl)
-  last_some y (x ∷ xs) = last_some x xs
-
-  pub last : (xs : List X) → last_entry (map bytes xs) ≡ option_map bytes (last_of xs)
+  pub last : (xs : List X) → last_of (map bytes xs) ≡ option_map bytes (last_of xs)
   last [] = refl
   last (x ∷ []) = refl
-  last (x ∷ (y ∷ ys)) =
-      ap (λ o. option_or o (Some (bytes x))) (last (y ∷ ys) ∙ ap (option_map bytes) (last_some y ys).1)
-      ∙ sym (ap (option_map bytes) (last_some y ys).1)
+  last (x ∷ (y ∷ ys)) = last (y ∷ ys)
 
   pub last_fits : (xs : List X) → Each Fits xs → IfSome (last_of xs) Fits
   last_fits [] fit = tt

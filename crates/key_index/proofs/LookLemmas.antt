@@ -9,10 +9,10 @@ use Rattle.io_state.specs.declared.fault.Fault.TheVariants.{Damage}
 use Rattle.page_bytes.specs.Each.{Each}
 use Rattle.pages.specs.Answer.{IsAnswer}
 use Rattle.tree_node.specs.Order.{less}
-use Rattle.bplus_tree.specs.Calls.{last_of as last_entry}
+use Rattle.tree_search.specs.Calls.{last_of}
 use Rattle.key_index.specs.Keys.{greatest_key}
 use Rattle.key_index.specs.Stored.{prime_bytes, alt_bytes, IsPrimeEntry, IsAltEntry}
-use Rattle.key_index.specs.Entries.{has_prime, from_prime, after_prime, past_prime, has_rank, from_value, after_rank, past_value, last_of}
+use Rattle.key_index.specs.Entries.{has_prime, from_prime, after_prime, past_prime, has_rank, from_value, after_rank, past_value}
 use Rattle.key_index.specs.declared.entry.PrimeEntry.{PrimeEntry}
 use Rattle.key_index.specs.declared.entry.AltEntry.{AltEntry}
 use Rattle.key_index.specs.declared.prime_index.PrimeIndex.{PrimeIndex}
@@ -39,7 +39,7 @@ module _ {X : Type 0} (bytes : X → List ℕ) (Fits : X → Type 0) (result : R
       answered (find q entries) (found_fits bytes Fits q entries fit) (same ∙ found bytes Fits p q alike entries fit)
 
   -- the tree gave the last of the bytes
-  pub finds_last : (entries : List X) → Each Fits entries → option_map (λ b. b.items) gave ≡ last_entry (map bytes entries) → IsAnswer result (λ f. f ≡ last_of entries)
+  pub finds_last : (entries : List X) → Each Fits entries → option_map (λ b. b.items) gave ≡ last_of (map bytes entries) → IsAnswer result (λ f. f ≡ last_of entries)
   finds_last entries fit same =
       answered (last_of entries) (last_fits bytes Fits entries fit) (same ∙ last bytes Fits entries)
 

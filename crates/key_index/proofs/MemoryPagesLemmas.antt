@@ -5,7 +5,7 @@ use Rattle.std.proofs.Math.Dec.{ltb}
 use Rattle.std.proofs.Math.Seq.{get_or-append_seam}
 use Rattle.std.proofs.lemmas.List.{get_or_append_left, length-append}
 use Rattle.pages.specs.PageMap.{Takes}
-use Rattle.key_index.specs.MemoryPages.{pages_in}
+use Rattle.page_marks.specs.PageList.{pages_in}
 
 either : (b : Bool) → (b ≡ true) ⊎ (b ≡ false)
 either true = inl refl

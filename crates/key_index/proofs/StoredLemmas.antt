@@ -6,7 +6,7 @@ use Rattle.std.proofs.Math.Seq.{drop-append_seam}
 use Rattle.std.specs.Int.{bytes_high_first}
 use Rattle.byteorder.specs.Endian.{big_from}
 use Rattle.byteorder.specs.Numbers.{length-bytes_high_first, big_number-reads_back}
-use Rattle.key_index.specs.Stored.{prime_bytes, alt_bytes, prime_entry, alt_entry, IsPrimeEntry, IsAltEntry}
+use Rattle.key_index.specs.Stored.{prime_bytes, alt_bytes, prime_entry_in, alt_entry_in, IsPrimeEntry, IsAltEntry}
 use Rattle.key_index.specs.declared.entry.PrimeEntry.{PrimeEntry}
 use Rattle.key_index.specs.declared.entry.AltEntry.{AltEntry}
 use Rattle.key_index.proofs.KeyLemmas.{front}
@@ -18,7 +18,7 @@ back n xs ys h = ap (λ (m : ℕ). drop m (xs ++ ys)) (sym h) ∙ drop-append_se
 number : (n x : ℕ) (ys : List ℕ) → x < 256 ^ n → ys ≡ bytes_high_first n x → big_from 0 n ys ≡ x
 number n x ys h e = ap (big_from 0 n) (e ∙ sym (append-nil (bytes_high_first n x))) ∙ big_number-reads_back n x [] h
 
-pub prime_back : (w : ℕ) (e : PrimeEntry) → IsPrimeEntry w e → prime_entry w (prime_bytes e) ≡ e
+pub prime_back : (w : ℕ) (e : PrimeEntry) → IsPrimeEntry w e → prime_entry_in w (prime_bytes e) ≡ e
 prime_back w e fit =
     let target = bytes_high_first 4 e.place.page ++ bytes_high_first 2 e.place.slot in
     let behind : drop w (prime_bytes e) ≡ target = back w e.value.items target fit.long in
@@ -30,7 +30,7 @@ prime_back w e fit =
     let slot : big_from 0 2 (drop (w + 4) (prime_bytes e)) ≡ e.place.slot = number 2 e.place.slot (drop (w + 4) (prime_bytes e)) fit.slot last in
     λ i. record { value = record { items = value i }; place = record { page = page i; slot = slot i } }
 
-pub alt_back : (w p : ℕ) (e : AltEntry) → IsAltEntry w p e → alt_entry w (alt_bytes e) ≡ e
+pub alt_back : (w p : ℕ) (e : AltEntry) → IsAltEntry w p e → alt_entry_in w (alt_bytes e) ≡ e
 alt_back w p e fit =
     let behind : drop w (alt_bytes e) ≡ bytes_high_first 8 e.stamp ++ e.prime.items = back w e.value.items (bytes_high_first 8 e.stamp ++ e.prime.items) fit.long in
     let prime : drop (w + 8) (alt_bytes e) ≡ e.prime.items =

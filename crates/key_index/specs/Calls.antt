@@ -1,7 +1,8 @@
 -- What the calls of the indexes answer and leave.
-use Rattle.std.specs.Prelude.{◌≡◌, ℕ, Bool, true, false, List, find, Option, None, Some, IsSome, Result}
+use Rattle.std.specs.Prelude.{◌≡◌, ℕ, Bool, true, false, List, find, Option, None, Some, IsSome, Result, option_map, is_some}
 use Rattle.std.specs.Option.{option_map_or}
 use Rattle.io_state.specs.declared.fault.Fault.{Fault}
+use Rattle.record_heap.specs.declared.shape.Place.{Place}
 use Rattle.pages.specs.PageMap.{PageMap}
 use Rattle.pages.specs.Answer.{IsAnswer}
 use Rattle.key_index.specs.declared.entry.PrimeEntry.{PrimeEntry}
@@ -9,7 +10,7 @@ use Rattle.key_index.specs.declared.entry.AltEntry.{AltEntry}
 use Rattle.key_index.specs.declared.entry.AltFirst.{AltFirst}
 use Rattle.key_index.specs.declared.prime_index.PrimeIndex.{PrimeIndex}
 use Rattle.key_index.specs.declared.alt_index.AltIndex.{AltIndex}
-use Rattle.key_index.specs.Entries.{has_prime, has_value, has_rank, after_rank, with_prime, with_alt, without_prime, without_rank}
+use Rattle.key_index.specs.Entries.{has_prime, entry_has_value, has_rank, after_rank, with_prime, with_alt, without_prime, without_rank}
 use Rattle.key_index.specs.Standing.{PrimeStands, PrimeChanged, AltStands, AltChanged}
 
 -- a look-up answers what `look` gives of the entries
@@ -17,16 +18,28 @@ abbrev pub PrimeFinds : PrimeIndex → PageMap → (List PrimeEntry → Option P
 PrimeFinds index pages look result =
     (entries : List PrimeEntry) (own : List ℕ) → PrimeStands index pages entries own → IsAnswer result (λ found. found ≡ look entries)
 
+-- the place of the record of a value, where the value is there
+abbrev pub PrimeFindsPlace : PrimeIndex → PageMap → List ℕ → Result (Option Place) Fault → Type 0
+PrimeFindsPlace index pages value result =
+    (entries : List PrimeEntry) (own : List ℕ) → PrimeStands index pages entries own
+    → IsAnswer result (λ place. place ≡ option_map (λ e. e.place) (find (has_prime value) entries))
+
+-- whether a value is there
+abbrev pub PrimeTells : PrimeIndex → PageMap → List ℕ → Result Bool Fault → Type 0
+PrimeTells index pages value result =
+    (entries : List PrimeEntry) (own : List ℕ) → PrimeStands index pages entries own
+    → IsAnswer result (λ told. told ≡ is_some (find (has_prime value) entries))
+
 abbrev pub AltFinds : AltIndex → PageMap → (List AltEntry → Option AltEntry) → Result (Option AltEntry) Fault → Type 0
 AltFinds index pages look result =
     (entries : List AltEntry) (own : List ℕ) → AltStands index pages entries own → IsAnswer result (λ found. found ≡ look entries)
 
 -- the first entry of a value, and whether the next entry has the value too
 abbrev pub IsAltFirst : List ℕ → List AltEntry → Option AltFirst → Type 0
-IsAltFirst value entries None = find (has_value value) entries ≡ None
+IsAltFirst value entries None = find (entry_has_value value) entries ≡ None
 IsAltFirst value entries (Some first) =
-    (find (has_value value) entries ≡ Some first.entry)
-    × (first.followed ≡ option_map_or (has_value value) (find (after_rank first.entry.value.items first.entry.stamp) entries) false)
+    (find (entry_has_value value) entries ≡ Some first.entry)
+    × (first.followed ≡ option_map_or (entry_has_value value) (find (after_rank first.entry.value.items first.entry.stamp) entries) false)
 
 abbrev pub AltFindsFirst : AltIndex → PageMap → List ℕ → Result (Option AltFirst) Fault → Type 0
 AltFindsFirst index pages value result =

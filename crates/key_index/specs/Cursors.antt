@@ -1,5 +1,6 @@
 -- Where a cursor is in its index.
-use Rattle.std.specs.Prelude.{◌≡◌, ℕ, ◌^◌, ◌<◌, List, ◌++◌, length, map, find, Option, Some, None, Result}
+use Rattle.std.specs.Prelude.{◌≡◌, ℕ, ◌^◌, ◌<◌, Bool, false, List, ◌++◌, length, map, find, Option, Some, None, Result}
+use Rattle.std.specs.Option.{option_map_or}
 use Rattle.byteorder.specs.Endian.{big_bytes}
 use Rattle.io_state.specs.declared.fault.Fault.{Fault}
 use Rattle.pages.specs.PageMap.{PageMap}
@@ -12,7 +13,7 @@ use Rattle.key_index.specs.declared.alt_index.AltIndex.{AltIndex}
 use Rattle.key_index.specs.declared.cursor.PrimeCursor.{PrimeCursor}
 use Rattle.key_index.specs.declared.cursor.AltCursor.{AltCursor}
 use Rattle.key_index.specs.Stored.{prime_bytes, alt_bytes}
-use Rattle.key_index.specs.Entries.{after_prime, after_rank}
+use Rattle.key_index.specs.Entries.{entry_has_value, after_prime, after_rank}
 use Rattle.key_index.specs.Standing.{PrimeStands, AltStands}
 
 -- the cursor is one of this index
@@ -54,3 +55,10 @@ AltMoves old new index pages result =
     (value : List ℕ) (stamp : ℕ) (entries : List AltEntry) (own : List ℕ) → AltStands index pages entries own → AltBelongs old index pages entries own
     → length value ≡ index.width → stamp < 2 ^ 64 → old.cursor.key.items ≡ value ++ big_bytes 8 stamp
     → IsAnswer result (AltHasMoved value stamp old new index pages entries own)
+
+-- whether the entry behind a cursor, which stands behind a value and stamp, has that value too
+abbrev pub AltTellsNext : AltCursor → AltIndex → PageMap → Result Bool Fault → Type 0
+AltTellsNext cursor index pages result =
+    (value : List ℕ) (stamp : ℕ) (entries : List AltEntry) (own : List ℕ) → AltStands index pages entries own → AltBelongs cursor index pages entries own
+    → length value ≡ index.width → stamp < 2 ^ 64 → cursor.cursor.key.items ≡ value ++ big_bytes 8 stamp
+    → IsAnswer result (λ told. told ≡ option_map_or (entry_has_value value) (find (after_rank value stamp) entries) false)

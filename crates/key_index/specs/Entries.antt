@@ -1,5 +1,5 @@
 -- Entries of the indexes, in the order of their ranks.
-use Rattle.std.specs.Prelude.{ℕ, Bool, not, List, [], ◌∷◌, length, take, filter, bytes_eq, Option, None, Some, ◌&&◌, ◌==◌, if◌then◌else◌}
+use Rattle.std.specs.Prelude.{ℕ, Bool, not, List, [], ◌∷◌, length, take, filter, bytes_eq, ◌&&◌, ◌==◌, if◌then◌else◌}
 use Rattle.std.specs.Ordering.{is_ge, is_gt, is_lt}
 use Rattle.key_index.specs.Rank.{value_cmp, rank_cmp}
 use Rattle.key_index.specs.declared.entry.PrimeEntry.{PrimeEntry}
@@ -22,8 +22,8 @@ abbrev pub past_prime : List ℕ → PrimeEntry → Bool
 past_prime v e = is_gt (value_cmp (take (length v) e.value.items) v)
 
 -- the value is this one
-abbrev pub has_value : List ℕ → AltEntry → Bool
-has_value v e = bytes_eq e.value.items v
+abbrev pub entry_has_value : List ℕ → AltEntry → Bool
+entry_has_value v e = bytes_eq e.value.items v
 
 -- the value and stamp are these
 abbrev pub has_rank : List ℕ → ℕ → AltEntry → Bool
@@ -58,9 +58,3 @@ without_prime v = filter (λ e. not (has_prime v e))
 -- the entries but that of this value and stamp
 abbrev pub without_rank : List ℕ → ℕ → List AltEntry → List AltEntry
 without_rank v s = filter (λ e. not (has_rank v s e))
-
--- the last entry, if there is any
-abbrev pub last_of : {X : Type 0} → List X → Option X
-last_of [] = None
-last_of (x ∷ []) = Some x
-last_of (x ∷ (y ∷ ys)) = last_of (y ∷ ys)

@@ -2,7 +2,7 @@
 use Rattle.std.specs.Prelude.{◌≡◌, ℕ, List, IsSome}
 use Rattle.page_bytes.specs.Each.{Each}
 use Rattle.pages.specs.PageMap.{PageMap}
-use Rattle.pages.specs.Owners.{IsOutside, AreApart, Changes}
+use Rattle.pages.specs.Owners.{IsOutside, AreApart, ChangesPages}
 use Rattle.key_index.specs.declared.entry.PrimeEntry.{PrimeEntry}
 use Rattle.key_index.specs.declared.entry.AltEntry.{AltEntry}
 use Rattle.key_index.specs.declared.prime_index.PrimeIndex.{PrimeIndex}
@@ -29,7 +29,7 @@ prime_is_kept = (index : PrimeIndex) (before after : PageMap) (entries : List Pr
 -- a change of something that has none of its pages leaves it standing, and takes none of them
 abbrev pub prime_stands_aside : Type 0
 prime_stands_aside = (index : PrimeIndex) (before after : PageMap) (entries : List PrimeEntry) (own old new : List ℕ) → PrimeStands index before entries own
-    → Changes before after old new → Each (IsOutside old) own → PrimeStands index after entries own × Each (IsOutside new) own
+    → ChangesPages before after old new → Each (IsOutside old) own → PrimeStands index after entries own × Each (IsOutside new) own
 
 -- the same of an index of an alternate key
 abbrev pub alt_reads : Type 0
@@ -44,4 +44,4 @@ alt_is_kept = (index : AltIndex) (before after : PageMap) (entries : List AltEnt
 
 abbrev pub alt_stands_aside : Type 0
 alt_stands_aside = (index : AltIndex) (before after : PageMap) (entries : List AltEntry) (own old new : List ℕ) → AltStands index before entries own
-    → Changes before after old new → Each (IsOutside old) own → AltStands index after entries own × Each (IsOutside new) own
+    → ChangesPages before after old new → Each (IsOutside old) own → AltStands index after entries own × Each (IsOutside new) own

@@ -1,11 +1,8 @@
 -- Pages kept in a list, which the tests put under an index.
-use Rattle.std.specs.Prelude.{ℕ, ◌-◌, true, nat_lt, List, [], length, slice_index_or, Some, None, if◌then◌else◌}
+use Rattle.std.specs.Prelude.{ℕ, ◌-◌, true, List, length}
 use Rattle.pages.specs.PageMap.{PageMap}
 use Rattle.pages.specs.PagesState.{PagesState}
-
--- each page of the list is in use
-abbrev pub pages_in : List (List ℕ) → PageMap
-pages_in pages n = if nat_lt n (length pages) then Some (slice_index_or pages n []) else None
+use Rattle.page_marks.specs.PageList.{pages_in}
 
 -- the list may grow to so many pages
 abbrev pub in_memory : List (List ℕ) → ℕ → PagesState

@@ -2,14 +2,14 @@
 use Rattle.std.specs.Prelude.{◌≡◌, ℕ, ◌+◌, List, length, map}
 use Rattle.page_bytes.specs.Each.{Each}
 use Rattle.pages.specs.PageMap.{PageMap}
-use Rattle.pages.specs.Owners.{Changes}
-use Rattle.bplus_tree.specs.Standing.{Stands}
+use Rattle.pages.specs.Owners.{ChangesPages}
+use Rattle.bplus_tree.specs.Standing.{TreeStands}
 use Rattle.bplus_tree.specs.ReadOff.{entries_in}
 use Rattle.key_index.specs.declared.entry.PrimeEntry.{PrimeEntry}
 use Rattle.key_index.specs.declared.entry.AltEntry.{AltEntry}
 use Rattle.key_index.specs.declared.prime_index.PrimeIndex.{PrimeIndex}
 use Rattle.key_index.specs.declared.alt_index.AltIndex.{AltIndex}
-use Rattle.key_index.specs.Stored.{prime_bytes, alt_bytes, prime_entry, alt_entry, IsPrimeEntry, IsAltEntry}
+use Rattle.key_index.specs.Stored.{prime_bytes, alt_bytes, prime_entry_in, alt_entry_in, IsPrimeEntry, IsAltEntry}
 
 -- how many levels its tree has
 abbrev pub prime_height : PrimeIndex → ℕ
@@ -38,11 +38,11 @@ pub record IsAltStored (index : AltIndex) (width prime root height count : ℕ) 
 
 -- it has these entries, in the order of their ranks, in these pages
 pub record PrimeStands (index : PrimeIndex) (pages : PageMap) (entries : List PrimeEntry) (own : List ℕ) : Type 0 where
-  pub tree : Stands index.tree pages (map prime_bytes entries) own
+  pub tree : TreeStands index.tree pages (map prime_bytes entries) own
   pub each : Each (IsPrimeEntry index.width) entries
 
 pub record AltStands (index : AltIndex) (pages : PageMap) (entries : List AltEntry) (own : List ℕ) : Type 0 where
-  pub tree : Stands index.tree pages (map alt_bytes entries) own
+  pub tree : TreeStands index.tree pages (map alt_bytes entries) own
   pub each : Each (IsAltEntry index.width index.prime) entries
 
 -- it has so many entries, wherever it stands
@@ -56,16 +56,17 @@ CountsAlt index count = (pages : PageMap) (entries : List AltEntry) (own : List 
 pub record PrimeChanged (before after : PageMap) (new : PrimeIndex) (own : List ℕ) (entries : List PrimeEntry) : Type 0 where
   pub own_now : List ℕ
   pub stands : PrimeStands new after entries own_now
-  pub changes : Changes before after own own_now
+  pub changes : ChangesPages before after own own_now
 
 pub record AltChanged (before after : PageMap) (new : AltIndex) (own : List ℕ) (entries : List AltEntry) : Type 0 where
   pub own_now : List ℕ
   pub stands : AltStands new after entries own_now
-  pub changes : Changes before after own own_now
+  pub changes : ChangesPages before after own own_now
 
 -- the entries that are read off the pages, whether or not an index stands in them
 abbrev pub prime_off : PrimeIndex → PageMap → List PrimeEntry
-prime_off index pages = map (prime_entry index.width) (entries_in index.tree.shape pages index.tree.levels index.tree.root)
+prime_off index pages = map (prime_entry_in index.width) (entries_in index.tree.shape pages index.tree.levels index.tree.root)
 
 abbrev pub alt_off : AltIndex → PageMap → List AltEntry
-alt_off index pages = map (alt_entry index.width) (entries_in index.tree.shape pages index.tree.levels index.tree.root)
+alt_off index pages =
+    map (alt_entry_in index.width) (entries_in index.tree.shape pages index.tree.levels index.tree.root)

@@ -2,6 +2,7 @@
 use Rattle.std.specs.Prelude.{◌≡◌, ℕ, ◌+◌, ◌<◌, ◌^◌, List, ◌++◌, length, take, drop}
 use Rattle.byteorder.specs.Endian.{big_bytes, big_number}
 use Rattle.page_bytes.specs.Each.{Each}
+use Rattle.record_heap.specs.declared.shape.Place.{Place}
 use Rattle.key_index.specs.declared.entry.PrimeEntry.{PrimeEntry}
 use Rattle.key_index.specs.declared.entry.AltEntry.{AltEntry}
 
@@ -13,15 +14,19 @@ prime_bytes e = e.value.items ++ (big_bytes 4 e.place.page ++ big_bytes 2 e.plac
 abbrev pub alt_bytes : AltEntry → List ℕ
 alt_bytes e = e.value.items ++ (big_bytes 8 e.stamp ++ e.prime.items)
 
+-- the place of the bytes behind a value
+abbrev pub place_in : List ℕ → Place
+place_in bytes = record { page = big_number 4 bytes; slot = big_number 2 (drop 4 bytes) }
+
 -- the entry of these bytes
-abbrev pub prime_entry : ℕ → List ℕ → PrimeEntry
-prime_entry width bytes = record {
+abbrev pub prime_entry_in : ℕ → List ℕ → PrimeEntry
+prime_entry_in width bytes = record {
   value = record { items = take width bytes };
   place = record { page = big_number 4 (drop width bytes); slot = big_number 2 (drop (width + 4) bytes) };
 }
 
-abbrev pub alt_entry : ℕ → List ℕ → AltEntry
-alt_entry width bytes = record {
+abbrev pub alt_entry_in : ℕ → List ℕ → AltEntry
+alt_entry_in width bytes = record {
   value = record { items = take width bytes };
   stamp = big_number 8 (drop width bytes);
   prime = record { items = drop (width + 8) bytes };

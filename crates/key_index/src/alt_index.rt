@@ -5,10 +5,11 @@ ghost use Rattle.pages.specs.Cause.{IsCaused};
 
 use crate::entry::{AltEntry, AltFirst};
 use crate::keys::{greatest_key, rank_key};
-use bplus_tree::{First, Tree};
+use bplus_tree::Tree;
 use io_state::Fault;
 use pages::Pages;
 use tree_node::{Entry, Shape};
+use tree_search::First;
 
 /// The index of an alternate key: no two of its entries have one value and stamp.
 #[derive(Clone, Copy)]
@@ -33,7 +34,8 @@ impl Default for AltIndex {
 
 impl AltIndex {
     ghost use Rattle.pages.specs.Answer.{IsAnswer};
-    ghost use Rattle.key_index.specs.Entries.{has_rank, from_value, after_rank, past_value, last_of};
+    ghost use Rattle.key_index.specs.Entries.{has_rank, from_value, after_rank, past_value};
+    ghost use Rattle.tree_search.specs.Calls.{last_of};
     ghost use Rattle.key_index.specs.Standing.{AltChanged, IsAltStored, CountsAlt, alt_height, alt_key};
     ghost use Rattle.key_index.specs.Calls.{AltFinds, AltFindsFirst, AltAdds, AltRemoves};
     ghost use Rattle.key_index.specs.Stored.{IsAltEntry, alt_bytes};

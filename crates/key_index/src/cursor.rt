@@ -90,7 +90,7 @@ impl AltIndex {
 
 impl AltCursor {
     ghost use Rattle.key_index.specs.Standing.{alt_height};
-    ghost use Rattle.key_index.specs.Cursors.{AltMoves};
+    ghost use Rattle.key_index.specs.Cursors.{AltMoves, AltTellsNext};
 
     /// Whether it gives what comes after this value and stamp.
     pub fn is_after(&self, value: &[u8], stamp: u64) -> bool
@@ -117,5 +117,20 @@ impl AltCursor {
     {
         let found = self.cursor.next(&index.tree, pages)?;
         index.told(found)
+    }
+
+    /// Whether the next entry has the value that the cursor stands behind. The cursor stays where it is. While the index has not changed it asks for
+    /// one page mostly.
+    pub fn is_followed<P: Pages>(&self, index: &AltIndex, pages: &mut P) -> Result<bool, Fault>
+        requires ready { P.IsReady pages.old }
+        ensures told { IsTrue (P.state pages.new).is_honest
+            → AltTellsNext self.now index.now (P.state pages.old).live result }
+        ensures cause { IfErr result (IsCaused (P.HasFailed pages.old pages.new) ⊥) }
+        ensures asked { (P.state pages.new).asked ≤ (P.state pages.old).asked + 2 * alt_height index.now }
+        ensures reads { P.Reads pages.old pages.new }
+    {
+        let key = self.cursor.key.as_slice();
+        let value = &key[..usize::from(index.width).min(key.len())];
+        self.cursor.next_begins_with(&index.tree, pages, value)
     }
 }

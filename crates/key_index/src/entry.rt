@@ -13,6 +13,7 @@
 
 ghost use Rattle.std.specs.Prelude.{◌≡◌, ◌+◌, ◌^◌, ◌<◌, ◌≤◌, ◌++◌, length};
 ghost use Rattle.byteorder.specs.Endian.{big_bytes};
+ghost use Rattle.key_index.specs.Stored.{place_in};
 
 use byteorder::{BigEndian, ByteOrder};
 use io_state::Key;
@@ -42,7 +43,7 @@ pub struct AltFirst {
 }
 
 impl PrimeEntry {
-    ghost use Rattle.key_index.specs.Stored.{prime_entry};
+    ghost use Rattle.key_index.specs.Stored.{prime_entry_in};
 
     /// The bytes of an entry.
     pub fn bytes(value: &[u8], place: Place) -> Entry
@@ -64,7 +65,7 @@ impl PrimeEntry {
     pub fn read(bytes: &[u8], width: usize) -> PrimeEntry
         requires width { width ≤ 250 }
         requires long { length bytes.now ≡ width + 6 }
-        ensures { result ≡ prime_entry width bytes.now }
+        ensures { result ≡ prime_entry_in width bytes.now }
     {
         PrimeEntry {
             value: key_of(&bytes[..width]),
@@ -76,8 +77,18 @@ impl PrimeEntry {
     }
 }
 
+/// The place that stands behind the value in the bytes of a prime entry.
+pub fn place_in(bytes: &[u8; 6]) -> Place
+    ensures { result ≡ place_in bytes.now }
+{
+    Place {
+        page: BigEndian::read_u32(bytes),
+        slot: BigEndian::read_u16(&bytes[4..]),
+    }
+}
+
 impl AltEntry {
-    ghost use Rattle.key_index.specs.Stored.{alt_entry};
+    ghost use Rattle.key_index.specs.Stored.{alt_entry_in};
 
     /// The bytes of an entry.
     pub fn bytes(value: &[u8], stamp: u64, prime: &[u8]) -> Entry
@@ -99,7 +110,7 @@ impl AltEntry {
         requires width { width ≤ 250 }
         requires prime { prime ≤ 250 }
         requires long { length bytes.now ≡ width + 8 + prime }
-        ensures { result ≡ alt_entry width bytes.now }
+        ensures { result ≡ alt_entry_in width bytes.now }
     {
         AltEntry {
             value: key_of(&bytes[..width]),

@@ -3,7 +3,7 @@
 ghost use Rattle.std.specs.Prelude.{◌≡◌, ◌+◌, ◌*◌, ◌<◌, ◌≤◌, [], find, length, Ok, Option, option_map, IfSome, IsTrue, IfOk, IfErr, OnOk};
 ghost use Rattle.pages.specs.Cause.{IsCaused};
 
-use crate::entry::PrimeEntry;
+use crate::entry::{PrimeEntry, place_in};
 use crate::keys::greatest_key;
 use bplus_tree::Tree;
 use io_state::Fault;
@@ -25,9 +25,10 @@ pub struct PrimeIndex {
 
 impl PrimeIndex {
     ghost use Rattle.pages.specs.Answer.{IsAnswer};
-    ghost use Rattle.key_index.specs.Entries.{has_prime, from_prime, after_prime, past_prime, last_of};
+    ghost use Rattle.key_index.specs.Entries.{has_prime, from_prime, after_prime, past_prime};
+    ghost use Rattle.tree_search.specs.Calls.{last_of};
     ghost use Rattle.key_index.specs.Standing.{PrimeChanged, IsPrimeStored, CountsPrime, prime_height};
-    ghost use Rattle.key_index.specs.Calls.{PrimeFinds, PrimeAdds, PrimeRemoves};
+    ghost use Rattle.key_index.specs.Calls.{PrimeFinds, PrimeFindsPlace, PrimeTells, PrimeAdds, PrimeRemoves};
     ghost use Rattle.key_index.specs.Stored.{IsPrimeEntry, prime_bytes};
     ghost use Rattle.key_index.specs.Cost.{Spends, PrimeGrows};
 
@@ -103,6 +104,34 @@ impl PrimeIndex {
     {
         let found = self.tree.find(pages, value)?;
         self.told(found)
+    }
+
+    /// The place of the record of a value of any length, read from the leaf.
+    pub fn place_of<P: Pages>(&self, pages: &mut P, value: &[u8]) -> Result<Option<Place>, Fault>
+        requires ready { P.IsReady pages.old }
+        ensures found { IsTrue (P.state pages.new).is_honest
+            → PrimeFindsPlace self.now (P.state pages.old).live value.now result }
+        ensures cause { IfErr result (IsCaused (P.HasFailed pages.old pages.new) ⊥) }
+        ensures asked { (P.state pages.new).asked ≤ (P.state pages.old).asked + prime_height self.now }
+        ensures reads { P.Reads pages.old pages.new }
+    {
+        let mut place = [0; 6];
+        if self.tree.find_tail(pages, value, &mut place)? {
+            return Ok(Some(place_in(&place)));
+        }
+        Ok(None)
+    }
+
+    /// Whether a value of any length is there.
+    pub fn has<P: Pages>(&self, pages: &mut P, value: &[u8]) -> Result<bool, Fault>
+        requires ready { P.IsReady pages.old }
+        ensures told { IsTrue (P.state pages.new).is_honest
+            → PrimeTells self.now (P.state pages.old).live value.now result }
+        ensures cause { IfErr result (IsCaused (P.HasFailed pages.old pages.new) ⊥) }
+        ensures asked { (P.state pages.new).asked ≤ (P.state pages.old).asked + prime_height self.now }
+        ensures reads { P.Reads pages.old pages.new }
+    {
+        self.tree.has(pages, value)
     }
 
     /// The first entry whose value is not less than this one, which may have any length.

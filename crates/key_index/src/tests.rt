@@ -113,6 +113,8 @@ fn a_prime_value_stands_once(rt: HostRuntime) -> Result<(), Fail> {
     assert!(rt; !add_place(&rt, &mut index, &mut pages, b"0002", second)?);
     assert_eq!(rt; index.count(), 2);
     is_at(&rt, index.find(&mut pages, b"0002")?, b"0002", first);
+    assert_eq!(rt; index.place_of(&mut pages, b"0001")?, Some(second));
+    assert!(rt; index.has(&mut pages, b"0002")?);
     is_at(&rt, index.first_from(&mut pages, b"0")?, b"0001", second);
     is_at(&rt, index.first_after(&mut pages, b"0001")?, b"0002", first);
     is_at(&rt, index.last(&mut pages)?, b"0002", first);
@@ -121,6 +123,8 @@ fn a_prime_value_stands_once(rt: HostRuntime) -> Result<(), Fail> {
     assert!(rt; index.remove(&mut pages, b"0002")?);
     assert!(rt; !index.remove(&mut pages, b"0002")?);
     assert!(rt; index.find(&mut pages, b"0002")?.is_none());
+    assert_eq!(rt; index.place_of(&mut pages, b"0002")?, None);
+    assert!(rt; !index.has(&mut pages, b"0002")?);
     assert_eq!(rt; (index.count(), index.height()), (1, 1));
     Ok(())
 }
@@ -276,11 +280,15 @@ fn a_cursor_gives_one_entry_after_another(rt: HostRuntime) -> Result<(), Fail> {
     }
     assert_eq!(rt; (names.width, index.width), (5, 2));
     let mut by_name = names.cursor(b"SMITH", 1);
+    assert!(rt; by_name.is_followed(&names, &mut pages)?);
     shows(&rt, by_name.next(&names, &mut pages)?, b"SMITH", 2, b"02");
+    assert!(rt; by_name.is_followed(&names, &mut pages)?);
     shows(&rt, by_name.next(&names, &mut pages)?, b"SMITH", 3, b"03");
+    assert!(rt; !by_name.is_followed(&names, &mut pages)?);
     assert!(rt; by_name.next(&names, &mut pages)?.is_none());
     assert!(rt; by_name.is_after(b"SMITH", 3));
     assert!(rt; add_name(&rt, &mut names, &mut pages, b"SVEN ", 0, b"04")?);
+    assert!(rt; !by_name.is_followed(&names, &mut pages)?);
     shows(&rt, by_name.next(&names, &mut pages)?, b"SVEN ", 0, b"04");
     let mut by_number = index.cursor(b"01");
     let place = Place { page: 2, slot: 0 };

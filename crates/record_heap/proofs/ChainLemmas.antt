@@ -3,7 +3,7 @@ use Rattle.std.proofs.Common.{◌≡◌, ◌≢◌, ℕ, ◌≤◌, true, false,
 use Rattle.std.proofs.lemmas.Bool.Decides.{eqb_tells}
 use Rattle.page_bytes.specs.Each.{Each}
 use Rattle.record_heap.specs.declared.shape.Place.{Place}
-use Rattle.record_heap.specs.Chain.{Slots, is_place, put, IsOneOf, AreOnce, IsOf, IsFreeChain, Keeps}
+use Rattle.record_heap.specs.Chain.{Slots, is_place, put, IsOneOf, AreOnce, IsPlaceOf, IsFreeChain, KeepsSlots}
 
 pub each_weaker : {X : Type 0} (P Q : X → Type 0) → ((x : X) → P x → Q x) → (xs : List X) → Each P xs → Each Q xs
 each_weaker P Q f [] h = tt
@@ -72,21 +72,21 @@ not_used : (slots : Slots) (place : Place) (bytes : List ℕ) → slots place �
 not_used slots place bytes used q none e = some_none bytes (sym used ∙ ap slots (sym e) ∙ none)
 
 still_free : (room : ℕ) (own : List ℕ) (slots : Slots) (place : Place) (b : Option (List ℕ)) (free : List Place) → Each (λ q. q ≢ place) free
-    → Each (λ q. IsOf room own q × (slots q ≡ None)) free → Each (λ q. IsOf room own q × (put slots place b q ≡ None)) free
+    → Each (λ q. IsPlaceOf room own q × (slots q ≡ None)) free → Each (λ q. IsPlaceOf room own q × (put slots place b q ≡ None)) free
 still_free room own slots place b [] apart free = tt
 still_free room own slots place b (q ∷ qs) apart free = ((free.0.0, put_there slots place q b apart.0 ∙ free.0.1), still_free room own slots place b qs apart.1 free.1)
 
 -- A place in use was made free: it heads the free slots now.
 pub freed : (room : ℕ) (own : List ℕ) (used used' : Slots) (behind behind' : Place → Option Place) (slots : Slots) (first place : Place) (bytes : List ℕ)
-    → Keeps room own used behind slots first → slots place ≡ Some bytes → behind' place ≡ Some first → Writes place used used' behind behind'
-    → Keeps room own used' behind' (put slots place None) place
+    → KeepsSlots room own used behind slots first → slots place ≡ Some bytes → behind' place ≡ Some first → Writes place used used' behind behind'
+    → KeepsSlots room own used' behind' (put slots place None) place
 freed room own used used' behind behind' slots first place bytes keeps here linked writes =
-    let apart = each_weaker (λ q. IsOf room own q × (slots q ≡ None)) (λ q. q ≢ place) (λ q f. not_used slots place bytes here q f.1) keeps.free keeps.free_are in
+    let apart = each_weaker (λ q. IsPlaceOf room own q × (slots q ≡ None)) (λ q. q ≢ place) (λ q f. not_used slots place bytes here q f.1) keeps.free keeps.free_are in
     record {
       free = place ∷ keeps.free;
       chain = (refl, (first, linked, chain_still behind behind' keeps.free first (each_weaker (λ q. q ≢ place) (λ q. behind' q ≡ behind q) writes.behinds keeps.free apart) keeps.chain));
       once = (each_weaker (λ q. q ≢ place) (λ q. place ≢ q) (λ q n e. n (sym e)) keeps.free apart, keeps.once);
-      used_are = λ q b is. at_place (IsOf room own q × (used' q ≡ Some b)) place q
+      used_are = λ q b is. at_place (IsPlaceOf room own q × (used' q ≡ Some b)) place q
           (λ e. absurd (some_none b (sym is ∙ ap (put slots place None) e ∙ put_here slots place None)))
           (λ n. let u = keeps.used_are q b (sym (put_there slots place q None n) ∙ is) in (u.0, writes.useds q n ∙ u.1));
       free_are = (((keeps.used_are place bytes here).0, put_here slots place None), still_free room own slots place None keeps.free apart keeps.free_are);
@@ -97,17 +97,17 @@ freed room own used used' behind behind' slots first place bytes keeps here link
 
 -- A place in use holds other bytes now.
 pub set_again : (room : ℕ) (own : List ℕ) (used used' : Slots) (behind behind' : Place → Option Place) (slots : Slots) (first place : Place) (old bytes : List ℕ)
-    → Keeps room own used behind slots first → slots place ≡ Some old → used' place ≡ Some bytes → Writes place used used' behind behind'
-    → Keeps room own used' behind' (put slots place (Some bytes)) first
+    → KeepsSlots room own used behind slots first → slots place ≡ Some old → used' place ≡ Some bytes → Writes place used used' behind behind'
+    → KeepsSlots room own used' behind' (put slots place (Some bytes)) first
 set_again room own used used' behind behind' slots first place old bytes keeps here now writes =
-    let apart = each_weaker (λ q. IsOf room own q × (slots q ≡ None)) (λ q. q ≢ place) (λ q f. not_used slots place old here q f.1) keeps.free keeps.free_are in
+    let apart = each_weaker (λ q. IsPlaceOf room own q × (slots q ≡ None)) (λ q. q ≢ place) (λ q f. not_used slots place old here q f.1) keeps.free keeps.free_are in
     record {
       free = keeps.free;
       chain = chain_still behind behind' keeps.free first (each_weaker (λ q. q ≢ place) (λ q. behind' q ≡ behind q) writes.behinds keeps.free apart) keeps.chain;
       once = keeps.once;
-      used_are = λ q b is. at_place (IsOf room own q × (used' q ≡ Some b)) place q
+      used_are = λ q b is. at_place (IsPlaceOf room own q × (used' q ≡ Some b)) place q
           (λ e. let same : b ≡ bytes = some_same b bytes (sym is ∙ ap (put slots place (Some bytes)) e ∙ put_here slots place (Some bytes)) in
-          (subst (IsOf room own) (sym e) (keeps.used_are place old here).0, ap used' e ∙ now ∙ ap Some (sym same)))
+          (subst (IsPlaceOf room own) (sym e) (keeps.used_are place old here).0, ap used' e ∙ now ∙ ap Some (sym same)))
           (λ n. let u = keeps.used_are q b (sym (put_there slots place q (Some bytes) n) ∙ is) in (u.0, writes.useds q n ∙ u.1));
       free_are = still_free room own slots place (Some bytes) keeps.free apart keeps.free_are;
       every = λ q of none. at_place (IsOneOf keeps.free q) place q
@@ -121,33 +121,33 @@ behind_first q qs p n (inr i) = i
 
 -- The first free slot: it is of the pages, and this one is behind it.
 pub record Front (room : ℕ) (own : List ℕ) (used : Slots) (behind : Place → Option Place) (slots : Slots) (first : Place) : Type 0 where
-  pub of : IsOf room own first
+  pub of : IsPlaceOf room own first
   pub none : slots first ≡ None
   pub next : Place
   pub linked : behind first ≡ Some next
 
 -- The first free slot was taken: the one behind it is the first now.
 pub taken : (room : ℕ) (own : List ℕ) (used used' : Slots) (behind behind' : Place → Option Place) (slots : Slots) (first : Place) (bytes : List ℕ)
-    → Keeps room own used behind slots first → 1 ≤ first.page → used' first ≡ Some bytes → Writes first used used' behind behind'
-    → (f : Front room own used behind slots first) × Keeps room own used' behind' (put slots first (Some bytes)) f.next
+    → KeepsSlots room own used behind slots first → 1 ≤ first.page → used' first ≡ Some bytes → Writes first used used' behind behind'
+    → (f : Front room own used behind slots first) × KeepsSlots room own used' behind' (put slots first (Some bytes)) f.next
 taken room own used used' behind behind' slots first bytes keeps some now writes = go keeps.free keeps.chain keeps.once keeps.free_are keeps.every
   where
-    go : (free : List Place) → IsFreeChain behind first free → AreOnce free → Each (λ p. IsOf room own p × (slots p ≡ None)) free
-        → ((p : Place) → IsOf room own p → slots p ≡ None → IsOneOf free p)
-        → (f : Front room own used behind slots first) × Keeps room own used' behind' (put slots first (Some bytes)) f.next
+    go : (free : List Place) → IsFreeChain behind first free → AreOnce free → Each (λ p. IsPlaceOf room own p × (slots p ≡ None)) free
+        → ((p : Place) → IsPlaceOf room own p → slots p ≡ None → IsOneOf free p)
+        → (f : Front room own used behind slots first) × KeepsSlots room own used' behind' (put slots first (Some bytes)) f.next
     go [] chain once free every = absurd (omega arith)
     go (q ∷ qs) chain once free every =
         let is = sym chain.0 in
-        let of = subst (λ (p : Place). IsOf room own p × (slots p ≡ None)) is free.0 in
+        let of = subst (λ (p : Place). IsPlaceOf room own p × (slots p ≡ None)) is free.0 in
         let apart = each_weaker (λ p. q ≢ p) (λ p. p ≢ first) (λ p n e. n (is ∙ sym e)) qs once.0 in (
           record { of = of.0; none = of.1; next = chain.1.0; linked = ap behind (sym is) ∙ chain.1.1 },
           record {
             free = qs;
             chain = chain_still behind behind' qs chain.1.0 (each_weaker (λ p. p ≢ first) (λ p. behind' p ≡ behind p) writes.behinds qs apart) chain.1.2;
             once = once.1;
-            used_are = λ p b at. at_place (IsOf room own p × (used' p ≡ Some b)) first p
+            used_are = λ p b at. at_place (IsPlaceOf room own p × (used' p ≡ Some b)) first p
                 (λ e. let same : b ≡ bytes = some_same b bytes (sym at ∙ ap (put slots first (Some bytes)) e ∙ put_here slots first (Some bytes)) in
-                (subst (IsOf room own) (sym e) of.0, ap used' e ∙ now ∙ ap Some (sym same)))
+                (subst (IsPlaceOf room own) (sym e) of.0, ap used' e ∙ now ∙ ap Some (sym same)))
                 (λ n. let u = keeps.used_are p b (sym (put_there slots first p (Some bytes) n) ∙ at) in (u.0, writes.useds p n ∙ u.1));
             free_are = still_free room own slots first (Some bytes) qs apart free.1;
             every = λ p in_page none. at_place (IsOneOf qs p) first p
@@ -157,7 +157,7 @@ taken room own used used' behind behind' slots first bytes keeps some now writes
         )
 
 -- the first free slot, as it is before it is taken
-pub front_of : (room : ℕ) (own : List ℕ) (used : Slots) (behind : Place → Option Place) (slots : Slots) (first : Place) → Keeps room own used behind slots first → 1 ≤ first.page
+pub front_of : (room : ℕ) (own : List ℕ) (used : Slots) (behind : Place → Option Place) (slots : Slots) (first : Place) → KeepsSlots room own used behind slots first → 1 ≤ first.page
     → Front room own used behind slots first
 front_of room own used behind slots first keeps some =
     (taken room own used (put used first (Some [])) behind behind slots first [] keeps some (put_here used first (Some []))

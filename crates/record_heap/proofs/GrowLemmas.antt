@@ -6,12 +6,12 @@ use Rattle.std.proofs.lemmas.Bool.Decides.{eqb_tells}
 use Rattle.std.proofs.Math.Dec.{eqb}
 use Rattle.page_bytes.specs.Each.{Each}
 use Rattle.pages.specs.PageMap.{PageMap, Takes, Writes}
-use Rattle.pages.specs.Owners.{IsOutside, AreApart, Changes}
+use Rattle.pages.specs.Owners.{IsOutside, AreApart, ChangesPages}
 use Rattle.record_heap.specs.declared.shape.Place.{Place}
 use Rattle.record_heap.specs.declared.heap.Heap.{Heap}
 use Rattle.record_heap.specs.Slot.{room, used_in, behind_in}
 use Rattle.record_heap.specs.Slots.{behind_new, AreLinked, IsHeapPage}
-use Rattle.record_heap.specs.Chain.{Slots, IsOneOf, AreOnce, IsOf, IsFreeChain, Keeps}
+use Rattle.record_heap.specs.Chain.{Slots, IsOneOf, AreOnce, IsPlaceOf, IsFreeChain, KeepsSlots}
 use Rattle.record_heap.specs.Calls.{slot_of, used_at, behind_at, IsHeapAt}
 use Rattle.record_heap.specs.Standing.{HeapStands}
 use Rattle.record_heap.specs.Found.{HeapHas}
@@ -64,7 +64,7 @@ rising_chain behind room n i (suc k) end linked =
 
 -- where the first free slot is none, the chain is empty
 no_free : (room : ℕ) (own : List ℕ) (behind : Place → Option Place) (slots : Slots) (first : Place) (free : List Place) → first.page ≡ 0 → IsFreeChain behind first free
-    → Each (λ p. IsOf room own p × (slots p ≡ None)) free → free ≡ []
+    → Each (λ p. IsPlaceOf room own p × (slots p ≡ None)) free → free ≡ []
 no_free room own behind slots first [] none chain are = refl
 no_free room own behind slots first (p ∷ ps) none chain are =
     let e : first.page ≡ p.page = ap (λ (q : Place). q.page) chain.0 in
@@ -73,30 +73,30 @@ no_free room own behind slots first (p ∷ ps) none chain are =
 
 -- a new page, whose slots are linked in rising order
 pub grown : (room : ℕ) (own : List ℕ) (used used' : Slots) (behind behind' : Place → Option Place) (slots : Slots) (first : Place) (n : ℕ)
-    → Keeps room own used behind slots first → first.page ≡ 0 → 1 ≤ n → 1 ≤ room → IsOutside own n
+    → KeepsSlots room own used behind slots first → first.page ≡ 0 → 1 ≤ n → 1 ≤ room → IsOutside own n
     → ((j : ℕ) → j < room → behind' (record { page = n; slot = j }) ≡ Some (behind_new room n j)) → ((q : Place) → q.page ≢ n → used' q ≡ used q)
-    → Keeps room (n ∷ own) used' behind' slots (record { page = n; slot = 0 })
+    → KeepsSlots room (n ∷ own) used' behind' slots (record { page = n; slot = 0 })
 grown room own used used' behind behind' slots first n keeps none some wide outside linked same = record {
   free = rising n 0 room;
   chain = let e : suc (room - 1) ≡ room = omega arith in
       subst (λ (k : ℕ). IsFreeChain behind' (record { page = n; slot = 0 }) (rising n 0 k)) e (rising_chain behind' room n 0 (room - 1) (omega arith) linked);
   once = rising_once n 0 room;
   used_are = λ p bytes is. let u = keeps.used_are p bytes is in (old p u.0, same p (not_new p u.0) ∙ u.1);
-  free_are = each_rising (λ p. IsOf room (n ∷ own) p × (slots p ≡ None)) n 0 room (λ j low high. (record { page = inl refl; some = some; slot = (let below : j < room = omega arith in below) }, unused (record { page = n; slot = j }) refl (slots (record { page = n; slot = j })) refl));
+  free_are = each_rising (λ p. IsPlaceOf room (n ∷ own) p × (slots p ≡ None)) n 0 room (λ j low high. (record { page = inl refl; some = some; slot = (let below : j < room = omega arith in below) }, unused (record { page = n; slot = j }) refl (slots (record { page = n; slot = j })) refl));
   every = λ p of nothing. choose p of nothing of.page;
 }
   where
-    old : (p : Place) → IsOf room own p → IsOf room (n ∷ own) p
+    old : (p : Place) → IsPlaceOf room own p → IsPlaceOf room (n ∷ own) p
     old p of = record { page = inr of.page; some = of.some; slot = of.slot }
 
-    not_new : (p : Place) → IsOf room own p → p.page ≢ n
+    not_new : (p : Place) → IsPlaceOf room own p → p.page ≢ n
     not_new p of e = each_of (λ (m : ℕ). n ≢ m) own p.page outside of.page (sym e)
 
     unused : (p : Place) → p.page ≡ n → (o : Option (List ℕ)) → slots p ≡ o → slots p ≡ None
     unused p page None is = is
     unused p page (Some bytes) is = absurd (not_new p (keeps.used_are p bytes is).0 page)
 
-    choose : (p : Place) → IsOf room (n ∷ own) p → slots p ≡ None → IsOneOf (n ∷ own) p.page → IsOneOf (rising n 0 room) p
+    choose : (p : Place) → IsPlaceOf room (n ∷ own) p → slots p ≡ None → IsOneOf (n ∷ own) p.page → IsOneOf (rising n 0 room) p
     choose p of nothing (inl e) = rising_has n 0 room p e (omega arith) (omega (arith, of.slot))
     choose p of nothing (inr at) =
         absurd (subst (λ (l : List Place). IsOneOf l p) (no_free room own behind slots first keeps.free none keeps.chain keeps.free_are)
@@ -145,7 +145,7 @@ pub taken_written : (a b c : PageMap) (n : ℕ) (first bytes : List ℕ) → Tak
 taken_written a b c n first bytes takes writes = record { free = takes.free; page = writes.page; others = λ m d. writes.others m d ∙ takes.others m d }
 
 -- two changes in a row are one
-pub changes_on : (a b c : PageMap) (xs ys zs : List ℕ) → Changes a b xs ys → Changes b c ys zs → Changes a c xs zs
+pub changes_on : (a b c : PageMap) (xs ys zs : List ℕ) → ChangesPages a b xs ys → ChangesPages b c ys zs → ChangesPages a c xs zs
 changes_on a b c xs ys zs one two = record {
   others = λ n here out. let f = one.others n here out in
       let s = two.others n (subst (λ (o : Option (List ℕ)). IsSome o) (sym f.0) here) f.1 in (s.0 ∙ f.0, s.1);
@@ -154,5 +154,5 @@ changes_on a b c xs ys zs one two = record {
 }
 
 -- nothing has changed
-pub changes_none : (a : PageMap) (own : List ℕ) → AreApart own → Changes a a own own
+pub changes_none : (a : PageMap) (own : List ℕ) → AreApart own → ChangesPages a a own own
 changes_none a own apart = record { others = λ n here out. (refl, out); no_stray = λ n here out. (here, out); apart = apart }

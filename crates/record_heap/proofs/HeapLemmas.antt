@@ -9,7 +9,7 @@ use Rattle.io_state.specs.declared.fault.Fault.TheVariants.{Damage}
 use Rattle.record_heap.specs.declared.shape.Place.{Place}
 use Rattle.record_heap.specs.declared.heap.Heap.{Heap}
 use Rattle.record_heap.specs.Slot.{room, used_in, behind_in}
-use Rattle.record_heap.specs.Chain.{Slots, put, Keeps}
+use Rattle.record_heap.specs.Chain.{Slots, put, KeepsSlots}
 use Rattle.record_heap.specs.Calls.{used_at, behind_at, IsHeapAt, Rewrites, Rewriting, Refilling, Gets, GetsRecord}
 use Rattle.pages.specs.Answer.{IsAnswer}
 use Rattle.record_heap.specs.Standing.{HeapStands}
@@ -76,7 +76,7 @@ heap_refilled heap before after slots own bytes next stands some f w =
       stands = record {
         chain = r.chain;
         apart = stands.apart;
-        keeps = subst (Keeps (room heap.shape) own (used_at heap.shape after) (behind_at heap.shape after) (put slots heap.free (Some bytes))) same t.1;
+        keeps = subst (KeepsSlots (room heap.shape) own (used_at heap.shape after) (behind_at heap.shape after) (put slots heap.free (Some bytes))) same t.1;
       };
       changes = r.changes;
     }

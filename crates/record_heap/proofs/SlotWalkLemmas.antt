@@ -12,7 +12,7 @@ use Rattle.record_heap.specs.declared.shape.Shape.{Shape}
 use Rattle.record_heap.specs.declared.shape.Place.{Place}
 use Rattle.record_heap.specs.Slot.{room, size, head, record_length, used_in, behind_in, is_used}
 use Rattle.record_heap.specs.Slots.{slot_at}
-use Rattle.record_heap.specs.Chain.{IsOneOf, IsOf, IsFreeChain, Keeps}
+use Rattle.record_heap.specs.Chain.{IsOneOf, IsPlaceOf, IsFreeChain, KeepsSlots}
 use Rattle.record_heap.specs.Calls.{slot_of, used_at, behind_at}
 use Rattle.page_marks.specs.PageList.{pages_in}
 use Rattle.record_heap.specs.Walk.{is_one_of, slots_of, marked_slot, IsUsedAt, IsFreeAt, SlotMarked, PageMarked, AreMarked, IsFreePath, SlotsWalked, TakesMark}
@@ -209,7 +209,7 @@ free_not_used shape slot next is = go (eqb_tells (slice_index slot 0) 0) (eqb_te
 
 -- all slots are marked, all marks are found and taken: each is in use or in the chain
 pub slots_kept : (shape : Shape) (pages : PageMap) (own : List ℕ) (first at : Place) (m m' : List Bool) (free : List Place) → AreMarked shape pages own m → SlotsWalked shape pages first at m m' free
-    → at.page ≡ 0 → ((p : Place) → marked_slot m' p ≡ false) → Each (λ n. 1 ≤ n) own → Keeps (room shape) own (used_at shape pages) (behind_at shape pages) (slots_of shape pages own) first
+    → at.page ≡ 0 → ((p : Place) → marked_slot m' p ≡ false) → Each (λ n. 1 ≤ n) own → KeepsSlots (room shape) own (used_at shape pages) (behind_at shape pages) (slots_of shape pages own) first
 slots_kept shape pages own first at m m' free marked walked end none some = record {
   free = free;
   chain = path_chain (behind_at shape pages) first at free walked.path end;
@@ -217,7 +217,7 @@ slots_kept shape pages own first at m m' free marked walked end none some = reco
   used_are = λ p bytes is. let b = both (is_one_of own p.page) (nat_lt p.slot (room shape)) (used_at shape pages p) bytes is in
       let of = one_tells own p.page b.0 in
       (record { page = of; some = each_of (λ n. 1 ≤ n) own p.page some of; slot = ltb-true p.slot (room shape) b.1.0 }, b.1.1);
-  free_are = each_weaker (λ p. (p.slot < room shape) × ((marked_slot m p ≡ true) × (marked_slot m' p ≡ false))) (λ p. IsOf (room shape) own p × (slots_of shape pages own p ≡ None))
+  free_are = each_weaker (λ p. (p.slot < room shape) × ((marked_slot m p ≡ true) × (marked_slot m' p ≡ false))) (λ p. IsPlaceOf (room shape) own p × (slots_of shape pages own p ≡ None))
       (λ p w. let f = marked.free p w.0 w.1.0 in (
         record { page = f.0; some = each_of (λ n. 1 ≤ n) own p.page some f.0; slot = w.0 },
         neither (is_one_of own p.page) (nat_lt p.slot (room shape)) (used_at shape pages p) (free_not_used shape (slot_of shape pages p) f.1.0 f.1.1),
@@ -225,14 +225,14 @@ slots_kept shape pages own first at m m' free marked walked end none some = reco
   every = λ p of nothing. found p of nothing (marked.every p of.slot of.page);
 }
   where
-    unused : (p : Place) → IsOf (room shape) own p → slots_of shape pages own p ≡ None → used_at shape pages p ≡ None
+    unused : (p : Place) → IsPlaceOf (room shape) own p → slots_of shape pages own p ≡ None → used_at shape pages p ≡ None
     unused p of nothing = nothing_in (is_one_of own p.page) (nat_lt p.slot (room shape)) (used_at shape pages p) (one_told own p.page of.page) (lt-ltb p.slot (room shape) of.slot) nothing
 
     chain_has : (p : Place) → (marked_slot m' p ≡ true) ⊎ IsOneOf free p → IsOneOf free p
     chain_has p (inl on) = absurd (clash (marked_slot m' p) on (none p))
     chain_has p (inr of) = of
 
-    found : (p : Place) → IsOf (room shape) own p → slots_of shape pages own p ≡ None → (marked_slot m p ≡ true) ⊎ IsUsedAt shape pages p → IsOneOf free p
+    found : (p : Place) → IsPlaceOf (room shape) own p → slots_of shape pages own p ≡ None → (marked_slot m p ≡ true) ⊎ IsUsedAt shape pages p → IsOneOf free p
     found p of nothing (inl on) = chain_has p (walked.every p of.slot on)
     found p of nothing (inr used) = absurd (some_none used.0 (sym used.1 ∙ unused p of nothing))
 

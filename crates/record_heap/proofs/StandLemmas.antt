@@ -5,12 +5,12 @@ use Rattle.std.proofs.Math.Dec.{eqb}
 use Rattle.std.specs.Prelude.{true, false}
 use Rattle.page_bytes.specs.Each.{Each}
 use Rattle.pages.specs.PageMap.{PageMap}
-use Rattle.pages.specs.Owners.{IsOutside, AreApart, Changes}
+use Rattle.pages.specs.Owners.{IsOutside, AreApart, ChangesPages}
 use Rattle.record_heap.specs.declared.shape.Shape.{Shape}
 use Rattle.record_heap.specs.declared.shape.Place.{Place}
 use Rattle.record_heap.specs.declared.heap.Heap.{Heap}
 use Rattle.record_heap.specs.Slot.{room, used_in, behind_in}
-use Rattle.record_heap.specs.Chain.{Slots, put, IsOneOf, IsOf, Keeps}
+use Rattle.record_heap.specs.Chain.{Slots, put, IsOneOf, IsPlaceOf, KeepsSlots}
 use Rattle.record_heap.specs.Calls.{slot_of, used_at, behind_at, IsHeapAt, Rewrites}
 use Rattle.record_heap.specs.Standing.{IsPageChain, HeapStands, slot_off}
 use Rattle.std.specs.Option.{option_map_or}
@@ -90,11 +90,11 @@ pub slot_read : (heap : Heap) (pages : PageMap) (slots : Slots) (own : List ℕ)
 slot_read heap pages slots own place bytes stands here = (stands.keeps.used_are place bytes here).1
 
 -- own pages alone are what a heap needs
-same_slots : (room : ℕ) (own : List ℕ) (used used' : Slots) (behind behind' : Place → Option Place) (slots : Slots) (first : Place) → Keeps room own used behind slots first
-    → ((p : Place) → IsOf room own p → used' p ≡ used p) → ((p : Place) → IsOf room own p → behind' p ≡ behind p) → Keeps room own used' behind' slots first
+same_slots : (room : ℕ) (own : List ℕ) (used used' : Slots) (behind behind' : Place → Option Place) (slots : Slots) (first : Place) → KeepsSlots room own used behind slots first
+    → ((p : Place) → IsPlaceOf room own p → used' p ≡ used p) → ((p : Place) → IsPlaceOf room own p → behind' p ≡ behind p) → KeepsSlots room own used' behind' slots first
 same_slots room own used used' behind behind' slots first k same same' = record {
   free = k.free;
-  chain = chain_still behind behind' k.free first (each_weaker (λ p. IsOf room own p × (slots p ≡ None)) (λ p. behind' p ≡ behind p) (λ p h. same' p h.0) k.free k.free_are) k.chain;
+  chain = chain_still behind behind' k.free first (each_weaker (λ p. IsPlaceOf room own p × (slots p ≡ None)) (λ p. behind' p ≡ behind p) (λ p h. same' p h.0) k.free k.free_are) k.chain;
   once = k.once;
   used_are = λ p b is. let u = k.used_are p b is in (u.0, same p u.0 ∙ u.1);
   free_are = k.free_are;
@@ -114,7 +114,7 @@ chain_same before after first (n ∷ ns) same chain =
 -- a heap stands while its pages stay as they are
 pub heap_kept : (heap : Heap) (before after : PageMap) (slots : Slots) (own : List ℕ) → Each (λ n. after n ≡ before n) own → HeapStands heap before slots own → HeapStands heap after slots own
 heap_kept heap before after slots own same stands =
-    let still : (p : Place) → IsOf (room heap.shape) own p → slot_of heap.shape after p ≡ slot_of heap.shape before p =
+    let still : (p : Place) → IsPlaceOf (room heap.shape) own p → slot_of heap.shape after p ≡ slot_of heap.shape before p =
     λ p of. slot_still heap.shape before after p (each_of (λ (n : ℕ). after n ≡ before n) own p.page same of.page) in
     record {
       chain = chain_same before after heap.first own same stands.chain;
@@ -127,7 +127,7 @@ heap_kept heap before after slots own same stands =
 outside_not : (own : List ℕ) (p n : ℕ) → IsOneOf own p → IsOutside own n → n ≢ p
 outside_not own p n of out e = each_of (λ (m : ℕ). n ≢ m) own p out of e
 
-pub changes_in : (before after : PageMap) (own : List ℕ) (p : ℕ) → IsOneOf own p → IsSome (before p) → AreApart own → ((n : ℕ) → n ≢ p → after n ≡ before n) → Changes before after own own
+pub changes_in : (before after : PageMap) (own : List ℕ) (p : ℕ) → IsOneOf own p → IsSome (before p) → AreApart own → ((n : ℕ) → n ≢ p → after n ≡ before n) → ChangesPages before after own own
 changes_in before after own p of live apart others = record {
   others = λ n here out. (others n (outside_not own p n of out), out);
   no_stray = λ n here out. (subst (λ (o : Option (List ℕ)). IsSome o) (others n (outside_not own p n of out)) here, out);
@@ -138,7 +138,7 @@ changes_in before after own p of live apart others = record {
 pub record Rewritten (heap : Heap) (before after : PageMap) (own : List ℕ) (place : Place) : Type 0 where
   pub chain : IsPageChain after heap.first own
   pub writes : Writes place (used_at heap.shape before) (used_at heap.shape after) (behind_at heap.shape before) (behind_at heap.shape after)
-  pub changes : Changes before after own own
+  pub changes : ChangesPages before after own own
 
 pub slot_rewritten : (heap : Heap) (before after : PageMap) (slots : Slots) (own : List ℕ) (place : Place) (P : List ℕ → Type 0) → HeapStands heap before slots own
     → IsOneOf own place.page → Rewrites heap.shape before after place P → Rewritten heap before after own place

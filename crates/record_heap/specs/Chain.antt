@@ -28,7 +28,7 @@ AreOnce [] = ⊤
 AreOnce (p ∷ ps) = Each (λ q. p ≢ q) ps × AreOnce ps
 
 -- a place in one of these pages
-pub record IsOf (room : ℕ) (own : List ℕ) (p : Place) : Type 0 where
+pub record IsPlaceOf (room : ℕ) (own : List ℕ) (p : Place) : Type 0 where
   pub page : IsOneOf own p.page
   pub some : 1 ≤ p.page
   pub slot : p.slot < room
@@ -39,10 +39,10 @@ IsFreeChain behind first [] = first.page ≡ 0
 IsFreeChain behind first (p ∷ ps) = (first ≡ p) × ((next : Place) × (behind p ≡ Some next) × IsFreeChain behind next ps)
 
 -- Every slot of the pages is in use, or stands once in the chain of free slots.
-pub record Keeps (room : ℕ) (own : List ℕ) (used : Slots) (behind : Place → Option Place) (slots : Slots) (first : Place) : Type 0 where
+pub record KeepsSlots (room : ℕ) (own : List ℕ) (used : Slots) (behind : Place → Option Place) (slots : Slots) (first : Place) : Type 0 where
   pub free : List Place
   pub chain : IsFreeChain behind first free
   pub once : AreOnce free
-  pub used_are : (p : Place) (bytes : List ℕ) → slots p ≡ Some bytes → IsOf room own p × (used p ≡ Some bytes)
-  pub free_are : Each (λ p. IsOf room own p × (slots p ≡ None)) free
-  pub every : (p : Place) → IsOf room own p → slots p ≡ None → IsOneOf free p
+  pub used_are : (p : Place) (bytes : List ℕ) → slots p ≡ Some bytes → IsPlaceOf room own p × (used p ≡ Some bytes)
+  pub free_are : Each (λ p. IsPlaceOf room own p × (slots p ≡ None)) free
+  pub every : (p : Place) → IsPlaceOf room own p → slots p ≡ None → IsOneOf free p

@@ -1,7 +1,7 @@
 -- What the calls of a heap ensure.
 use Rattle.std.specs.Prelude.{◌≡◌, ◌≢◌, ◌≤◌, ◌+◌, ℕ, List, Option, Some, None, IsSome, IsTrue, Result, ◌++◌, drop, length, ⊤}
 use Rattle.pages.specs.PageMap.{PageMap}
-use Rattle.pages.specs.Owners.{Changes}
+use Rattle.pages.specs.Owners.{ChangesPages}
 use Rattle.pages.specs.PagesState.{PagesState}
 use Rattle.io_state.specs.declared.fault.Fault.{Fault}
 use Rattle.record_heap.specs.declared.shape.Place.{Place}
@@ -15,7 +15,7 @@ use Rattle.record_heap.specs.Calls.{IsFront}
 pub record HeapHas (before after : PageMap) (new : Heap) (own : List ℕ) (slots : Slots) : Type 0 where
   pub own_now : List ℕ
   pub stands : HeapStands new after slots own_now
-  pub changes : Changes before after own own_now
+  pub changes : ChangesPages before after own own_now
 
 -- the stamps and the record at a place, read to the front of `to`
 abbrev pub Got : Heap → PageMap → Place → List ℕ → List ℕ → Result ℕ Fault → Type 0

@@ -6,7 +6,7 @@ use Rattle.pages.specs.Owners.{AreApart}
 use Rattle.record_heap.specs.declared.shape.Place.{Place}
 use Rattle.record_heap.specs.declared.heap.Heap.{Heap}
 use Rattle.record_heap.specs.Slot.{room}
-use Rattle.record_heap.specs.Chain.{Slots, Keeps}
+use Rattle.record_heap.specs.Chain.{Slots, KeepsSlots}
 use Rattle.record_heap.specs.Calls.{used_at, behind_at, IsHeapAt}
 
 -- the chain of heap pages from the first on; page 0 is none
@@ -18,7 +18,7 @@ IsPageChain pages first (n ∷ ns) = (first ≡ n) × ((next : ℕ) × IsHeapAt 
 pub record HeapStands (heap : Heap) (pages : PageMap) (slots : Slots) (own : List ℕ) : Type 0 where
   pub chain : IsPageChain pages heap.first own
   pub apart : AreApart own
-  pub keeps : Keeps (room heap.shape) own (used_at heap.shape pages) (behind_at heap.shape pages) slots heap.free
+  pub keeps : KeepsSlots (room heap.shape) own (used_at heap.shape pages) (behind_at heap.shape pages) slots heap.free
 
 -- what is read off the pages at a place, whether they stand for anything or not
 abbrev pub slot_off : Heap → PageMap → Place → Option (List ℕ)

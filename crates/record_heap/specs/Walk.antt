@@ -7,7 +7,7 @@ use Rattle.record_heap.specs.declared.shape.Place.{Place}
 use Rattle.record_heap.specs.declared.heap.Heap.{Heap}
 use Rattle.record_heap.specs.Slot.{room, used_in, behind_in}
 use Rattle.record_heap.specs.Slots.{slot_at}
-use Rattle.record_heap.specs.Chain.{Slots, IsOneOf, AreOnce, Keeps}
+use Rattle.record_heap.specs.Chain.{Slots, IsOneOf, AreOnce, KeepsSlots}
 use Rattle.record_heap.specs.Calls.{used_at, behind_at, IsHeapAt}
 use Rattle.page_marks.specs.Marks.{Marks}
 
@@ -86,4 +86,4 @@ pub record SlotsWalked (shape : Shape) (pages : PageMap) (first at : Place) (bef
 -- each slot of these pages is in use, or stands once in the chain of free slots
 abbrev pub SlotsKept : Heap → PageMap → List ℕ → Type 0
 SlotsKept heap pages own =
-    Each (λ n. 1 ≤ n) own → Keeps (room heap.shape) own (used_at heap.shape pages) (behind_at heap.shape pages) (slots_of heap.shape pages own) heap.free
+    Each (λ n. 1 ≤ n) own → KeepsSlots (room heap.shape) own (used_at heap.shape pages) (behind_at heap.shape pages) (slots_of heap.shape pages own) heap.free

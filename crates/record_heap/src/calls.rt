@@ -1,6 +1,6 @@
 //! One call on one page.
 
-ghost use Rattle.std.specs.Prelude.{◌≡◌, ◌≤◌, ◌<◌, ◌+◌, IsTrue, IfOk, IfErr, OnErr, Some, length};
+ghost use Rattle.std.specs.Prelude.{◌≡◌, ◌≤◌, ◌<◌, ◌+◌, ◌++◌, IsTrue, IfOk, IfErr, OnErr, Some, length};
 ghost use Rattle.pages.specs.Cause.{IsCaused};
 ghost use Rattle.record_heap.specs.Slot.{used_in, behind_in};
 ghost use Rattle.record_heap.specs.Calls.{Rewriting, Refilling, Gets, GetsRecord, FillsFront};
@@ -84,13 +84,20 @@ pub fn link<P: Pages>(pages: &mut P, shape: Shape, place: Place, next: Place) ->
 }
 
 /// Puts stamps and a record into the slot at a place.
-pub fn fill<P: Pages>(pages: &mut P, shape: Shape, place: Place, bytes: &[u8]) -> Result<(), Fault>
+pub fn fill<P: Pages>(
+    pages: &mut P,
+    shape: Shape,
+    place: Place,
+    stamps: &[u8],
+    record: &[u8],
+) -> Result<(), Fault>
     requires ready { P.IsReady pages.old }
     requires open { P.CanChange pages.old }
-    requires least { shape.stamps + shape.least ≤ length bytes.now }
-    requires greatest { length bytes.now ≤ shape.stamps + shape.greatest }
+    requires stamps { length stamps.now ≡ shape.stamps }
+    requires least { shape.least ≤ length «record».now }
+    requires greatest { length «record».now ≤ shape.greatest }
     ensures filled { Rewriting shape (P.state pages.old) (P.state pages.new) place
-        (λ u slot. used_in shape slot ≡ Some bytes.now) result }
+        (λ u slot. used_in shape slot ≡ Some (stamps.now ++ «record».now)) result }
     ensures available { (P.state pages.new).available ≡ (P.state pages.old).available }
     ensures cause { IfErr result (IsCaused (P.HasFailed pages.old pages.new) ⊥) }
     ensures asked { (P.state pages.new).asked ≤ (P.state pages.old).asked + 1 }
@@ -100,7 +107,7 @@ pub fn fill<P: Pages>(pages: &mut P, shape: Shape, place: Place, bytes: &[u8]) -
     if page[0] != b'H' || place.slot as usize >= shape.room() {
         return Err(Fault::Damage);
     }
-    put_used(page, shape, place.slot as usize, bytes);
+    put_used(page, shape, place.slot as usize, stamps, record);
     Ok(())
 }
 
@@ -109,13 +116,16 @@ pub fn refill<P: Pages>(
     pages: &mut P,
     shape: Shape,
     place: Place,
-    bytes: &[u8],
+    stamps: &[u8],
+    record: &[u8],
 ) -> Result<Place, Fault>
     requires ready { P.IsReady pages.old }
     requires open { P.CanChange pages.old }
-    requires least { shape.stamps + shape.least ≤ length bytes.now }
-    requires greatest { length bytes.now ≤ shape.stamps + shape.greatest }
-    ensures refilled { Refilling shape (P.state pages.old) (P.state pages.new) place bytes.now result }
+    requires stamps { length stamps.now ≡ shape.stamps }
+    requires least { shape.least ≤ length «record».now }
+    requires greatest { length «record».now ≤ shape.greatest }
+    ensures refilled { Refilling shape (P.state pages.old) (P.state pages.new) place
+        (stamps.now ++ «record».now) result }
     ensures available { (P.state pages.new).available ≡ (P.state pages.old).available }
     ensures cause { IfErr result (IsCaused (P.HasFailed pages.old pages.new) ⊥) }
     ensures asked { (P.state pages.new).asked ≤ (P.state pages.old).asked + 1 }
@@ -129,7 +139,7 @@ pub fn refill<P: Pages>(
     match behind(slot(page, shape, i)) {
         None => Err(Fault::Damage),
         Some(next) => {
-            put_used(page, shape, i, bytes);
+            put_used(page, shape, i, stamps, record);
             Ok(next)
         }
     }

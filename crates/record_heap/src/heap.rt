@@ -15,7 +15,7 @@ pub struct Heap {
 }
 
 impl Heap {
-    ghost use Rattle.std.specs.Prelude.{◌≡◌, ◌≢◌, ◌≤◌, ◌+◌, ℕ, [], None, Some, IsTrue, IfOk, IfErr, OnOk, OnErr, length};
+    ghost use Rattle.std.specs.Prelude.{◌≡◌, ◌≢◌, ◌≤◌, ◌+◌, ◌++◌, ℕ, [], None, Some, IsTrue, IfOk, IfErr, OnOk, OnErr, length};
     ghost use Rattle.pages.specs.PageMap.{PageMap};
     ghost use Rattle.pages.specs.Cause.{IsCaused};
     ghost use Rattle.record_heap.specs.Chain.{no_slots};
@@ -73,15 +73,22 @@ impl Heap {
         read_record(pages, self.shape, place, to)
     }
 
-    /// Puts stamps and a record, together, into the slot that was freed last, and answers its place. Where no slot is free, a new page is taken for it.
+    /// Puts stamps and a record into the slot that was freed last, and answers its place. Where no slot is free, a new page is taken for it.
     ///
     /// Device, Memory; Full where no slot is free and no page is left; Damage where a page is none of a heap.
-    pub fn add<P: Pages>(&mut self, pages: &mut P, bytes: &[u8]) -> Result<Place, Fault>
+    pub fn add<P: Pages>(
+        &mut self,
+        pages: &mut P,
+        stamps: &[u8],
+        record: &[u8],
+    ) -> Result<Place, Fault>
         requires ready { P.IsReady pages.old }
         requires open { P.CanChange pages.old }
-        requires least { self.old.shape.stamps + self.old.shape.least ≤ length bytes.now }
-        requires greatest { length bytes.now ≤ self.old.shape.stamps + self.old.shape.greatest }
-        ensures added { Adds (P.state pages.old) (P.state pages.new) self.old self.new bytes.now result }
+        requires stamps { length stamps.now ≡ self.old.shape.stamps }
+        requires least { self.old.shape.least ≤ length «record».now }
+        requires greatest { length «record».now ≤ self.old.shape.greatest }
+        ensures added { Adds (P.state pages.old) (P.state pages.new) self.old self.new
+            (stamps.now ++ «record».now) result }
         ensures shape { self.new.shape ≡ self.old.shape }
         ensures few { TakesFew self.old (P.state pages.old) (P.state pages.new) }
         ensures cause { IfErr result (IsCaused (P.HasFailed pages.old pages.new)
@@ -91,26 +98,33 @@ impl Heap {
     {
         self.make_room(pages)?;
         let place = self.free;
-        self.free = refill(pages, self.shape, place, bytes)?;
+        self.free = refill(pages, self.shape, place, stamps, record)?;
         Ok(place)
     }
 
     /// Puts other stamps and another record at a place in use. No page is taken.
     ///
     /// Device, Memory; Damage where the page is none of a heap.
-    pub fn set<P: Pages>(&self, pages: &mut P, place: Place, bytes: &[u8]) -> Result<(), Fault>
+    pub fn set<P: Pages>(
+        &self,
+        pages: &mut P,
+        place: Place,
+        stamps: &[u8],
+        record: &[u8],
+    ) -> Result<(), Fault>
         requires ready { P.IsReady pages.old }
         requires open { P.CanChange pages.old }
-        requires least { self.now.shape.stamps + self.now.shape.least ≤ length bytes.now }
-        requires greatest { length bytes.now ≤ self.now.shape.stamps + self.now.shape.greatest }
+        requires stamps { length stamps.now ≡ self.now.shape.stamps }
+        requires least { self.now.shape.least ≤ length «record».now }
+        requires greatest { length «record».now ≤ self.now.shape.greatest }
         ensures set { Sets (P.state pages.old) (P.state pages.new) self.now self.now place
-            (Some bytes.now) result }
+            (Some (stamps.now ++ «record».now)) result }
         ensures available { (P.state pages.new).available ≡ (P.state pages.old).available }
         ensures cause { IfErr result (IsCaused (P.HasFailed pages.old pages.new) ⊥) }
         ensures asked { (P.state pages.new).asked ≤ (P.state pages.old).asked + 1 }
         ensures goes { P.Goes pages.old pages.new }
     {
-        fill(pages, self.shape, place, bytes)?;
+        fill(pages, self.shape, place, stamps, record)?;
         Ok(())
     }
 

@@ -17,7 +17,7 @@
 //! | 1 to 4 | page of the next free slot, 0 at the end of the chain |
 //! | 5 to 6 | slot of the next free slot |
 
-ghost use Rattle.std.specs.Prelude.{◌≡◌, ◌≤◌, ◌<◌, ◌+◌, ℕ, Some, IfSome, length, option_map};
+ghost use Rattle.std.specs.Prelude.{◌≡◌, ◌≤◌, ◌<◌, ◌+◌, ◌++◌, ℕ, Some, IfSome, length, option_map};
 ghost use Rattle.record_heap.specs.Slot.{head, size, record_length, is_used, used_in, record_in, behind_in, over};
 
 use crate::shape::{Place, Shape};
@@ -139,43 +139,57 @@ pub fn write_free(slot: &mut [u8], next: Place)
 }
 
 /// Puts stamps and a record into the slot.
-pub fn write_used(slot: &mut [u8], shape: Shape, bytes: &[u8])
+pub fn write_used(slot: &mut [u8], shape: Shape, stamps: &[u8], record: &[u8])
     requires slot { size shape ≤ length slot.old }
-    requires least { shape.stamps + shape.least ≤ length bytes.now }
-    requires greatest { length bytes.now ≤ shape.stamps + shape.greatest }
-    ensures used { used_in shape slot.new ≡ Some bytes.now }
+    requires stamps { length stamps.now ≡ shape.stamps }
+    requires least { shape.least ≤ length «record».now }
+    requires greatest { length «record».now ≤ shape.greatest }
+    ensures used { used_in shape slot.new ≡ Some (stamps.now ++ «record».now) }
     ensures long { length slot.new ≡ length slot.old }
 {
     if shape.least < shape.greatest {
-        write_varying(slot, shape, bytes);
+        write_varying(slot, shape, stamps, record);
     } else {
-        write_fixed(slot, shape, bytes);
+        write_fixed(slot, shape, stamps, record);
     }
 }
 
 /// The slot of a record with its length.
-fn write_varying(slot: &mut [u8], shape: Shape, bytes: &[u8])
+fn write_varying(slot: &mut [u8], shape: Shape, stamps: &[u8], record: &[u8])
     requires slot { size shape ≤ length slot.old }
     requires varying { shape.least < shape.greatest }
-    requires least { shape.stamps + shape.least ≤ length bytes.now }
-    requires greatest { length bytes.now ≤ shape.stamps + shape.greatest }
-    ensures used { used_in shape slot.new ≡ Some bytes.now }
+    requires stamps { length stamps.now ≡ shape.stamps }
+    requires least { shape.least ≤ length «record».now }
+    requires greatest { length «record».now ≤ shape.greatest }
+    ensures used { used_in shape slot.new ≡ Some (stamps.now ++ «record».now) }
     ensures long { length slot.new ≡ length slot.old }
 {
-    let record = bytes.len() - shape.stamps as usize;
     slot[0] = USED;
-    BigEndian::write_u16(&mut slot[LENGTH..LENGTH_END], record as u16);
-    slot[LENGTH_END..LENGTH_END + bytes.len()].copy_from_slice(bytes);
+    BigEndian::write_u16(&mut slot[LENGTH..LENGTH_END], record.len() as u16);
+    let end = LENGTH_END + stamps.len() + record.len();
+    write_both(&mut slot[LENGTH_END..end], stamps, record);
 }
 
 /// The slot of a record of the one length.
-fn write_fixed(slot: &mut [u8], shape: Shape, bytes: &[u8])
+fn write_fixed(slot: &mut [u8], shape: Shape, stamps: &[u8], record: &[u8])
     requires slot { size shape ≤ length slot.old }
     requires fixed { shape.least ≡ shape.greatest }
-    requires long { length bytes.now ≡ shape.stamps + shape.greatest }
-    ensures used { used_in shape slot.new ≡ Some bytes.now }
+    requires stamps { length stamps.now ≡ shape.stamps }
+    requires long { length «record».now ≡ shape.greatest }
+    ensures used { used_in shape slot.new ≡ Some (stamps.now ++ «record».now) }
     ensures long { length slot.new ≡ length slot.old }
 {
     slot[0] = USED;
-    slot[1..1 + bytes.len()].copy_from_slice(bytes);
+    let end = 1 + stamps.len() + record.len();
+    write_both(&mut slot[1..end], stamps, record);
+}
+
+/// The stamps, and the record behind them.
+fn write_both(to: &mut [u8], stamps: &[u8], record: &[u8])
+    requires { length to.old ≡ length stamps.now + length «record».now }
+    ensures { to.new ≡ stamps.now ++ «record».now }
+{
+    let (front, rest) = to.split_at_mut(stamps.len());
+    front.copy_from_slice(stamps);
+    rest.copy_from_slice(record);
 }

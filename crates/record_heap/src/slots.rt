@@ -8,7 +8,7 @@
 //! | 8 to 15 | zero |
 //! | from 16 | as many slots of one size as fit |
 
-ghost use Rattle.std.specs.Prelude.{◌≡◌, ◌≤◌, ◌<◌, ◌+◌, ℕ, Some, length, take};
+ghost use Rattle.std.specs.Prelude.{◌≡◌, ◌≤◌, ◌<◌, ◌+◌, ◌++◌, ℕ, Some, length, take};
 ghost use Rattle.record_heap.specs.Slot.{room, size, used_in, behind_in};
 ghost use Rattle.record_heap.specs.Slots.{slot_at, start_of, behind_new, AreLinked, Edits, IsHeapPage};
 
@@ -49,15 +49,16 @@ pub fn put_free(page: &mut [u8; PAGE_SIZE], shape: Shape, i: usize, next: Place)
 }
 
 /// Puts stamps and a record into slot `i`.
-pub fn put_used(page: &mut [u8; PAGE_SIZE], shape: Shape, i: usize, bytes: &[u8])
+pub fn put_used(page: &mut [u8; PAGE_SIZE], shape: Shape, i: usize, stamps: &[u8], record: &[u8])
     requires slot { i < room shape }
-    requires least { shape.stamps + shape.least ≤ length bytes.now }
-    requires greatest { length bytes.now ≤ shape.stamps + shape.greatest }
-    ensures { Edits shape page.old page.new i (λ slot. used_in shape slot ≡ Some bytes.now) }
+    requires stamps { length stamps.now ≡ shape.stamps }
+    requires least { shape.least ≤ length «record».now }
+    requires greatest { length «record».now ≤ shape.greatest }
+    ensures { Edits shape page.old page.new i (λ slot. used_in shape slot ≡ Some (stamps.now ++ «record».now)) }
 {
     let size = shape.size();
     let at = FIRST_SLOT + i * size;
-    slot::write_used(&mut page[at..at + size], shape, bytes);
+    slot::write_used(&mut page[at..at + size], shape, stamps, record);
 }
 
 /// Makes the page the heap page `n` before the page `next`, with all its slots free.

@@ -22,6 +22,12 @@ const VARYING: Shape = Shape {
     greatest: 16,
 };
 
+const STAMPED: Shape = Shape {
+    stamps: 8,
+    least: 10,
+    greatest: 16,
+};
+
 // A header and so many other pages, and room for one page of the heap, or more.
 fn pages_before(alloc: Global, others: usize, room: usize) -> Result<MemoryPages, Fail> {
     let mut pages = Vec::new(alloc);
@@ -32,29 +38,33 @@ fn pages_before(alloc: Global, others: usize, room: usize) -> Result<MemoryPages
     Ok(MemoryPages { pages, limit })
 }
 
+// Adds what begins with the stamps, and has the record behind them.
 fn add(
     rt: &impl Abort,
     heap: &mut Heap,
     pages: &mut MemoryPages,
-    record: &[u8],
+    bytes: &[u8],
 ) -> Result<Place, Fault> {
     let shape = heap.shape;
-    assert!(rt; shape.stamps as usize + shape.least as usize <= record.len());
-    assert!(rt; record.len() <= shape.stamps as usize + shape.greatest as usize);
-    heap.add(pages, record)
+    assert!(rt; shape.stamps as usize <= bytes.len());
+    let (stamps, record) = bytes.split_at(shape.stamps as usize);
+    assert!(rt; shape.least as usize <= record.len() && record.len() <= shape.greatest as usize);
+    heap.add(pages, stamps, record)
 }
 
+// Sets a place to such bytes.
 fn set(
     rt: &impl Abort,
     heap: &Heap,
     pages: &mut MemoryPages,
     place: Place,
-    record: &[u8],
+    bytes: &[u8],
 ) -> Result<(), Fault> {
     let shape = heap.shape;
-    assert!(rt; shape.stamps as usize + shape.least as usize <= record.len());
-    assert!(rt; record.len() <= shape.stamps as usize + shape.greatest as usize);
-    heap.set(pages, place, record)
+    assert!(rt; shape.stamps as usize <= bytes.len());
+    let (stamps, record) = bytes.split_at(shape.stamps as usize);
+    assert!(rt; shape.least as usize <= record.len() && record.len() <= shape.greatest as usize);
+    heap.set(pages, place, stamps, record)
 }
 
 // Reads a place into an area of dots, and the record alone into another.
@@ -200,7 +210,7 @@ fn a_heap_is_full_where_no_slot_and_no_page_is_left(rt: HostRuntime) -> Result<(
     Ok(())
 }
 
-// The page of the first record: of a file of records of 10 bytes with one key, and of one of records of 10 to 16 bytes with two.
+// The page of the first record: of a file of records of 10 bytes with one key, and of records of 10 to 16 bytes with two keys, and with a stamp.
 #[test]
 fn a_heap_page_is_written_byte_for_byte(rt: HostRuntime) -> Result<(), Fail> {
     let ten = Shape {
@@ -222,10 +232,23 @@ fn a_heap_page_is_written_byte_for_byte(rt: HostRuntime) -> Result<(), Fail> {
         (4044, b"\0\0\0\0\x03\0\xd5"),
         (4063, b"\0\0\0\0\0\0\0"),
     ];
-    for (shape, others, parts) in [(ten, 1, tens), (VARYING, 2, varying)] {
+    let stamped: [(usize, &[u8]); 5] = [
+        (0, b"H\0\0\0\0\0\0\0\0\0\0\0\0\0\0\0"),
+        (16, b"\x01\0\x0a\0\0\0\0\0\0\x02\x050001SMITH "),
+        (43, b"\0\0\0\0\x03\0\x02"),
+        (4039, b"\0\0\0\0\x03\0\x96"),
+        (4066, b"\0\0\0\0\0\0\0"),
+    ];
+    let smith: &[u8] = b"0001SMITH ";
+    let stamp_and_smith: &[u8] = b"\0\0\0\0\0\0\x02\x050001SMITH ";
+    for (shape, others, bytes, parts) in [
+        (ten, 1, smith, tens),
+        (VARYING, 2, smith, varying),
+        (STAMPED, 2, stamp_and_smith, stamped),
+    ] {
         let mut pages = pages_before(rt.alloc(), others, 1)?;
         let mut heap = Heap::new(shape);
-        let place = add(&rt, &mut heap, &mut pages, b"0001SMITH ")?;
+        let place = add(&rt, &mut heap, &mut pages, bytes)?;
         assert_eq!(rt; place.page as usize, others + 1);
         let page = pages.pages.last().expect(&rt, "a page");
         for (at, bytes) in parts {

@@ -1,7 +1,7 @@
 use Rattle.std.proofs.Common.{ℕ, Option, IsSome, subst, sym, ap, ◌∙◌, Bool, IsTrue}
 use Rattle.pages.specs.PageMap.{PageMap}
 use Rattle.bplus_tree.specs.Crown.{IsOnly}
-use Rattle.bplus_tree.proofs.RemoveLemmas.{fails}
+use Rattle.tree_search.proofs.AnswerLemmas.{fails}
 use Rattle.bplus_tree.proofs.CrownLemmas.{node_there}
 use Rattle.bplus_tree.proofs.crown.crown.Goals as goal
 

@@ -1,5 +1,5 @@
 use Rattle.std.proofs.Common.{ℕ, IsTrue, Ok, subst, sym}
-use Rattle.bplus_tree.specs.Stored.{IsLeafAt}
+use Rattle.tree_search.specs.Stored.{IsLeafAt}
 use Rattle.bplus_tree.proofs.InsertLemmas.{leaf_grows}
 use Rattle.bplus_tree.proofs.insert.insert_in_leaf.Goals as goal
 

@@ -2,7 +2,7 @@ use Rattle.std.proofs.Common.{Some, subst, sym, ap, ◌∙◌, IsTrue, Bool}
 use Rattle.pages.specs.PageMap.{PageMap}
 use Rattle.bplus_tree.specs.Mend.{AreThree}
 use Rattle.bplus_tree.proofs.ExitLemmas.{caused}
-use Rattle.bplus_tree.proofs.RemoveLemmas.{fails}
+use Rattle.tree_search.proofs.AnswerLemmas.{fails}
 use Rattle.bplus_tree.proofs.MendLemmas.{parent_of, chosen, no_fault, shared, joined, moved_joined, moved_shared}
 use Rattle.bplus_tree.proofs.mend.mend.Goals as goal
 

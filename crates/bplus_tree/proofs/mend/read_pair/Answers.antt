@@ -1,6 +1,6 @@
 use Rattle.std.proofs.Common.{IsSome, subst, sym, ap, ◌∙◌}
 use Rattle.bplus_tree.proofs.ExitLemmas.{caused}
-use Rattle.bplus_tree.proofs.RemoveLemmas.{fails}
+use Rattle.tree_search.proofs.AnswerLemmas.{fails}
 use Rattle.bplus_tree.proofs.MendLemmas.{kids_there, parent_there}
 use Rattle.pages.specs.PageMap.{PageMap}
 use Rattle.bplus_tree.proofs.mend.read_pair.Goals as goal

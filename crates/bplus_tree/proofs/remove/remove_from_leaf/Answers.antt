@@ -1,6 +1,7 @@
 use Rattle.std.proofs.Common.{ℕ, Err, Ok, subst, sym, Bool, IsTrue}
-use Rattle.bplus_tree.specs.Stored.{IsLeafAt}
-use Rattle.bplus_tree.proofs.RemoveLemmas.{fails, leaf_removes}
+use Rattle.tree_search.specs.Stored.{IsLeafAt}
+use Rattle.tree_search.proofs.AnswerLemmas.{fails}
+use Rattle.bplus_tree.proofs.RemoveLemmas.{leaf_removes}
 use Rattle.bplus_tree.proofs.remove.remove_from_leaf.Goals as goal
 
 pub returns-in_err-short-in-Some-clause-removed : goal.returns-in_err-short-in-Some-clause-removed

@@ -1,4 +1,4 @@
-use Rattle.std.proofs.Common.{◌≡◌, Some, IsSome, IsOk, refl}
+use Rattle.std.proofs.Common.{◌≡◌, ◌++◌, Some, IsSome, IsOk, refl}
 use Rattle.record_heap.specs.Slot.{used_in}
 use Rattle.record_heap.proofs.StandLemmas.{rewritten}
 use Rattle.record_heap.proofs.calls.fill.Goals as goal
@@ -14,7 +14,7 @@ returns-clause-filled g c honest sound next at within =
     let writes = w.0.live honest live in
     record {
       answer = (
-        rewritten c.args.shape before after c.args.place c.in_ok-page.page.now c.put_used.new.page (λ slot. used_in c.args.shape slot ≡ Some c.args.bytes.now) shown writes.page writes.others c.put_used.ensures within,
+        rewritten c.args.shape before after c.args.place c.in_ok-page.page.now c.put_used.new.page (λ slot. used_in c.args.shape slot ≡ Some (c.args.stamps.now ++ c.args.record.now)) shown writes.page writes.others c.put_used.ensures within,
         rw (w.0.sound honest live) sound,
       );
       no_damage = tt;

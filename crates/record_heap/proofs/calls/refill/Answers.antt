@@ -1,4 +1,4 @@
-use Rattle.std.proofs.Common.{◌≡◌, Some, IsSome, IsOk, refl, ◌∙◌, ap, sym}
+use Rattle.std.proofs.Common.{◌≡◌, ◌++◌, Some, IsSome, IsOk, refl, ◌∙◌, ap, sym}
 use Rattle.record_heap.specs.Slot.{used_in, behind_in}
 use Rattle.record_heap.proofs.ChainLemmas.{some_same}
 use Rattle.record_heap.proofs.StandLemmas.{rewritten, refills, slot_there}
@@ -17,8 +17,8 @@ returns-in-Some-clause-refilled g c behind behind_is honest sound next at within
     (sym c.in-Some.is ∙ c.behind.ensures ∙ ap behind_in (c.slot.ensures.value ∙ sym (slot_there c.args.shape before c.args.place c.args.place.page c.in_ok-page.page.now refl shown)) ∙ behind_is) in
     record {
       answer = (
-        refills c.args.shape before after c.args.place c.args.bytes.now c.in-Some.next behind same
-            (rewritten c.args.shape before after c.args.place c.in_ok-page.page.now c.put_used.new.page (λ slot. used_in c.args.shape slot ≡ Some c.args.bytes.now) shown writes.page writes.others c.put_used.ensures within),
+        refills c.args.shape before after c.args.place (c.args.stamps.now ++ c.args.record.now) c.in-Some.next behind same
+            (rewritten c.args.shape before after c.args.place c.in_ok-page.page.now c.put_used.new.page (λ slot. used_in c.args.shape slot ≡ Some (c.args.stamps.now ++ c.args.record.now)) shown writes.page writes.others c.put_used.ensures within),
         rw (w.0.sound honest live) sound,
       );
       no_damage = tt;

@@ -1,11 +1,13 @@
-use Rattle.std.proofs.Common.{◌+◌, ◌-◌, ℕ, List, ◌∷◌, ◌++◌, drop, length, suc, ap, ◌∙◌, arith}
+use Rattle.std.proofs.Common.{◌+◌, ◌-◌, ℕ, List, ◌∷◌, ◌++◌, drop, length, suc, ap, ◌∙◌, arith, length-append}
 use Rattle.record_heap.proofs.SlotLemmas.{marked, used_fixed}
 use Rattle.record_heap.proofs.slot.write_fixed.Goals as goal
 
 pub returns-clause-used : goal.returns-clause-used
 returns-clause-used c =
-    let k = 1 + length c.args.bytes.now - 1 in
+    let stamps = c.args.stamps.now in
+    let record' = c.args.record.now in
+    let k = 1 + length stamps + length record' - 1 in
     let rest = drop (suc k) c.args.slot.now in
-    used_fixed c.args.shape _ c.args.bytes.now rest
-    (marked c.args.slot.now c.copy_from_slice.new.self 1 k (omega arith) ∙ ap (λ (l : List ℕ). 1 ∷ (l ++ rest)) c.copy_from_slice.ensures.after)
-    c.requires.fixed c.requires.long
+    used_fixed c.args.shape _ (stamps ++ record') rest
+    (marked c.args.slot.now c.write_both.new.to 1 k (omega arith) ∙ ap (λ (l : List ℕ). 1 ∷ (l ++ rest)) c.write_both.ensures)
+    c.requires.fixed (omega (arith, length-append stamps record', c.requires.stamps, c.requires.long))

@@ -1,7 +1,7 @@
 use Rattle.std.proofs.Common.{◌+◌, Bool, Ok, refl, subst}
-use Rattle.bplus_tree.specs.Spot.{CopiesEntry}
-use Rattle.bplus_tree.specs.declared.spot.Spot.{Spot}
-use Rattle.bplus_tree.proofs.RemoveLemmas.{fails}
+use Rattle.tree_search.specs.Spot.{CopiesEntry}
+use Rattle.tree_search.specs.declared.spot.Spot.{Spot}
+use Rattle.tree_search.proofs.AnswerLemmas.{fails}
 use Rattle.bplus_tree.proofs.CursorLemmas.{stepped, has_next, no_damage, moved}
 use Rattle.bplus_tree.proofs.cursor.Cursor.step.Goals as goal
 

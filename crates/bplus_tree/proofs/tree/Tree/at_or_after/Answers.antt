@@ -1,7 +1,7 @@
 use Rattle.std.proofs.Common.{ℕ, List, None, subst}
 use Rattle.pages.specs.Answer.{IsAnswer}
-use Rattle.bplus_tree.specs.Calls.{first_from}
-use Rattle.bplus_tree.specs.Search.{IsFound}
+use Rattle.tree_search.specs.Calls.{first_from}
+use Rattle.tree_search.specs.Search.{IsFound}
 use Rattle.bplus_tree.proofs.tree.Tree.at_or_after.Goals as goal
 
 pub returns-clause-found : goal.returns-clause-found

@@ -1,10 +1,9 @@
-use Rattle.bplus_tree.proofs.RangeRowLemmas.{whole_settled, whole_open}
+use Rattle.std.proofs.Common.{ℕ, List, subst}
+use Rattle.pages.specs.Answer.{IsAnswer}
+use Rattle.tree_search.specs.Range.{IsFirst}
 use Rattle.bplus_tree.proofs.tree.Tree.first_within.Goals as goal
 
-pub returns-in-Settled-clause-found : goal.returns-in-Settled-clause-found
-returns-in-Settled-clause-found g c honest entries own stands =
-    whole_settled c.args.self.now (g.P.Pages.state c.args.pages.now).live c.args.from.now c.args.to.now entries own stands c.in-Settled.found (rw c.in-Settled.is at (c.in_ok-found.ensures.sight honest))
-
-pub returns-in-Open-clause-found : goal.returns-in-Open-clause-found
-returns-in-Open-clause-found g c honest entries own stands =
-    whole_open c.args.self.now (g.P.Pages.state c.args.pages.now).live c.args.from.now c.args.to.now entries own stands c.in-Open.last c.joined.result (rw c.in-Open.is at (c.in_ok-found.ensures.sight honest)) c.joined.ensures
+pub returns-clause-found : goal.returns-clause-found
+returns-clause-found g c honest entries own stands =
+    subst (λ (es : List (List ℕ)). IsAnswer c.first_within.result (IsFirst c.args.self.now.shape.width c.args.from.now c.args.to.now es)) stands.has
+    (c.first_within.ensures.found honest stands.value stands.whole.stands stands.whole.filled)

@@ -2,7 +2,7 @@ use Rattle.std.proofs.Common.{◌≡◌, Bool, None, IsTrue, refl, subst}
 use Rattle.pages.specs.PageMap.{PageMap}
 use Rattle.bplus_tree.specs.Insert.{HasPutIf}
 use Rattle.bplus_tree.specs.Standing.{Inserts}
-use Rattle.bplus_tree.proofs.RemoveLemmas.{fails}
+use Rattle.tree_search.proofs.AnswerLemmas.{fails}
 use Rattle.bplus_tree.proofs.RaiseLemmas.{raises_none}
 use Rattle.bplus_tree.proofs.RootLemmas.{inserted_one}
 use Rattle.bplus_tree.proofs.tree.Tree.insert.Goals as goal

@@ -1,9 +1,9 @@
 use Rattle.std.proofs.Common.{None, IsTrue, refl, subst}
 use Rattle.bplus_tree.specs.declared.insert.Grown.{Grown}
-use Rattle.bplus_tree.specs.Insert.{HasInserted as HasInsertedBelow}
+use Rattle.bplus_tree.specs.Insert.{HasInsertedBelow}
 use Rattle.bplus_tree.specs.Edits.{with_entry}
-use Rattle.bplus_tree.specs.Tree.{entries_of}
-use Rattle.bplus_tree.proofs.RemoveLemmas.{fails}
+use Rattle.tree_search.specs.Tree.{entries_of}
+use Rattle.tree_search.proofs.AnswerLemmas.{fails}
 use Rattle.bplus_tree.proofs.RootLemmas.{inserted_none, inserted_one}
 use Rattle.bplus_tree.proofs.tree.Tree.insert_or_split.Goals as goal
 

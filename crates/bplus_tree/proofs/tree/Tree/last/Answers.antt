@@ -1,7 +1,7 @@
 use Rattle.std.proofs.Common.{ℕ, List, None, subst}
 use Rattle.pages.specs.Answer.{IsAnswer}
-use Rattle.bplus_tree.specs.Calls.{last_of}
-use Rattle.bplus_tree.specs.Search.{IsFound}
+use Rattle.tree_search.specs.Calls.{last_of}
+use Rattle.tree_search.specs.Search.{IsFound}
 use Rattle.bplus_tree.proofs.tree.Tree.last.Goals as goal
 
 pub returns-clause-found : goal.returns-clause-found

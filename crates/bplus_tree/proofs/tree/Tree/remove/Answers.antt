@@ -2,7 +2,7 @@ use Rattle.std.proofs.Common.{◌≡◌, Bool, None, IsTrue, subst}
 use Rattle.pages.specs.PageMap.{PageMap}
 use Rattle.bplus_tree.specs.Remove.{HasTakenIf}
 use Rattle.bplus_tree.specs.Standing.{Removes}
-use Rattle.bplus_tree.proofs.RemoveLemmas.{fails}
+use Rattle.tree_search.proofs.AnswerLemmas.{fails}
 use Rattle.bplus_tree.proofs.TreeLemmas.{removed_one}
 use Rattle.bplus_tree.proofs.tree.Tree.remove.Goals as goal
 

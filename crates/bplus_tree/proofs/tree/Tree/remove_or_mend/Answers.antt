@@ -1,7 +1,7 @@
 use Rattle.std.proofs.Common.{None, subst, IsTrue}
 use Rattle.bplus_tree.specs.declared.remove.Shrunk.{Shrunk}
-use Rattle.bplus_tree.specs.Remove.{HasRemoved as HasRemovedBelow}
-use Rattle.bplus_tree.proofs.RemoveLemmas.{fails}
+use Rattle.bplus_tree.specs.Remove.{HasRemovedBelow}
+use Rattle.tree_search.proofs.AnswerLemmas.{fails}
 use Rattle.bplus_tree.proofs.TreeLemmas.{removed_absent, removed_some}
 use Rattle.bplus_tree.proofs.tree.Tree.remove_or_mend.Goals as goal
 

@@ -1,13 +1,13 @@
-use Rattle.std.proofs.Common.{◌≡◌, Some}
+use Rattle.std.proofs.Common.{◌≡◌, ◌++◌, Some}
 use Rattle.record_heap.specs.Slot.{used_in}
 use Rattle.record_heap.proofs.HeapLemmas.{sets_ok, rewriting_fails}
 use Rattle.record_heap.proofs.heap.Heap.set.Goals as goal
 
 pub returns-in_err-fill-clause-set : goal.returns-in_err-fill-clause-set
 returns-in_err-fill-clause-set g c =
-    rewriting_fails c.args.self.now c.args.self.now (g.P.Pages.state c.args.pages.now) (g.P.Pages.state c.fill.new.pages) c.args.place (Some c.args.bytes.now)
-    (λ u slot. used_in c.args.self.now.shape slot ≡ Some c.args.bytes.now) c.in_err-fill.field-0.0 c.from_residual.result c.in_err-fill.ensures.filled c.from_residual.ensures.1
+    rewriting_fails c.args.self.now c.args.self.now (g.P.Pages.state c.args.pages.now) (g.P.Pages.state c.fill.new.pages) c.args.place (Some (c.args.stamps.now ++ c.args.record.now))
+    (λ u slot. used_in c.args.self.now.shape slot ≡ Some (c.args.stamps.now ++ c.args.record.now)) c.in_err-fill.field-0.0 c.from_residual.result c.in_err-fill.ensures.filled c.from_residual.ensures.1
 
 pub returns-clause-set : goal.returns-clause-set
 returns-clause-set g c =
-    sets_ok c.in_ok-fill.field-0 c.args.self.now (g.P.Pages.state c.args.pages.now) (g.P.Pages.state c.fill.new.pages) c.args.place c.args.bytes.now c.in_ok-fill.ensures.filled
+    sets_ok c.in_ok-fill.field-0 c.args.self.now (g.P.Pages.state c.args.pages.now) (g.P.Pages.state c.fill.new.pages) c.args.place (c.args.stamps.now ++ c.args.record.now) c.in_ok-fill.ensures.filled

@@ -1,6 +1,6 @@
 use Rattle.std.proofs.Common.{◌≡◌, ◌≤◌, ℕ, List, subst, sym, ◌∙◌, arith, length, replicate}
 use Rattle.pages.specs.PageMap.{Takes}
-use Rattle.key_index.specs.MemoryPages.{pages_in}
+use Rattle.page_marks.specs.PageList.{pages_in}
 use Rattle.key_index.proofs.MemoryPagesLemmas.{pushed}
 use Rattle.key_index.proofs.tests.memory_pages.MemoryPagesPages.take.Goals as goal
 

@@ -1,4 +1,0 @@
-use Rattle.bplus_tree.proofs.search.+leaf_below.Given as goal
-
-abbrev pub decreases-leaf_below : goal.decreases-leaf_below
-decreases-leaf_below g l = l.levels

@@ -1,0 +1,9 @@
+pub mod RowLemmas
+pub mod FindLemmas
+pub mod DescentLemmas
+pub mod SearchLemmas
+pub mod SpotLemmas
+pub mod RangeLemmas
+pub mod RangeRowLemmas
+pub mod AnswerLemmas
+pub mod TailLemmas

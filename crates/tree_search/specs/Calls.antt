@@ -1,0 +1,39 @@
+-- What look-ups ensure.
+use Rattle.std.specs.Prelude.{◌≡◌, ℕ, not, List, [], ◌∷◌, Some, None, take, find, bytes_eq, Option}
+use Rattle.tree_node.specs.declared.shape.Shape.{Shape}
+use Rattle.tree_node.specs.Order.{less}
+use Rattle.pages.specs.PageMap.{PageMap}
+use Rattle.tree_search.specs.Tree.{TreeOf, page_of, pages_of, Bound, IsOrdered, IsHalfFull, IsRooted}
+use Rattle.tree_search.specs.Stored.{Holds}
+use Rattle.pages.specs.Owners.{AreApart}
+
+-- the entry of this key, where there is one
+abbrev pub entry_of : ℕ → List ℕ → List (List ℕ) → Option (List ℕ)
+entry_of width key = find (λ e. bytes_eq (take width e) key)
+
+-- the first entry whose key is not below this one
+abbrev pub first_from : ℕ → List ℕ → List (List ℕ) → Option (List ℕ)
+first_from width key = find (λ e. not (less (take width e) key))
+
+-- the first entry whose key is above this one
+abbrev pub first_after : ℕ → List ℕ → List (List ℕ) → Option (List ℕ)
+first_after width key = find (λ e. less key (take width e))
+
+-- the last of these, if there is any
+abbrev pub last_of : {X : Type 0} → List X → Option X
+last_of [] = None
+last_of (x ∷ []) = Some x
+last_of (x ∷ (y ∷ ys)) = last_of (y ∷ ys)
+
+-- a tree with h levels above its leaves stands below this page, within these bounds
+pub record IsTree (shape : Shape) (pages : PageMap) (h page : ℕ) (low high : Bound) (t : TreeOf h) : Type 0 where
+  pub holds : Holds shape pages h t
+  pub root : page_of h t ≡ page
+  pub ordered : IsOrdered shape.width h low high t
+
+-- no page stands twice in it, and its nodes are filled
+pub record IsWhole (shape : Shape) (pages : PageMap) (h page : ℕ) (low high : Bound) (t : TreeOf h) : Type 0 where
+  pub stands : IsTree shape pages h page low high t
+  pub apart : AreApart (pages_of h t)
+  pub filled : IsHalfFull shape h t
+  pub rooted : IsRooted h t

@@ -1,0 +1,33 @@
+-- What is told of the entry of a key, without the entry.
+use Rattle.std.specs.Prelude.{◌≡◌, ℕ, Bool, true, false, List, drop, Option, Some, None, Result, option_map, is_some}
+use Rattle.io_state.specs.declared.fault.Fault.{Fault}
+use Rattle.tree_node.specs.declared.shape.Shape.{Shape}
+use Rattle.tree_node.specs.Order.{Ascends}
+use Rattle.pages.specs.PageMap.{PageMap}
+use Rattle.pages.specs.Answer.{IsAnswer}
+use Rattle.tree_search.specs.Tree.{TreeOf, entries_of, Bound}
+use Rattle.tree_search.specs.Stored.{IsLeafAt}
+use Rattle.tree_search.specs.Calls.{IsTree, entry_of}
+
+-- the bytes that were filled in, or none
+abbrev pub filled_tail : List ℕ → Bool → Option (List ℕ)
+filled_tail tail true = Some tail
+filled_tail tail false = None
+
+-- these bytes are those behind the key of the entry, where there is one
+abbrev pub IsTail : ℕ → List ℕ → Option (List ℕ) → Bool → Type 0
+IsTail width tail entry told = filled_tail tail told ≡ option_map (drop width) entry
+
+-- whether there is an entry
+abbrev pub IsThere : Option (List ℕ) → Bool → Type 0
+IsThere entry told = told ≡ is_some entry
+
+-- what a look-up tells of the entry of a key
+abbrev pub Tells : (Option (List ℕ) → Bool → Type 0) → Shape → PageMap → (h page : ℕ) → List ℕ → Result Bool Fault → Type 0
+Tells Says shape pages h page key result =
+    (t : TreeOf h) (low high : Bound) → IsTree shape pages h page low high t → IsAnswer result (Says (entry_of shape.width key (entries_of h t)))
+
+-- the same of a leaf alone
+abbrev pub TellsInLeaf : (Option (List ℕ) → Bool → Type 0) → Shape → PageMap → ℕ → List ℕ → Result Bool Fault → Type 0
+TellsInLeaf Says shape pages page key result =
+    (entries : List (List ℕ)) → IsLeafAt shape pages page entries → Ascends shape.width entries → IsAnswer result (Says (entry_of shape.width key entries))

@@ -1,0 +1,105 @@
+//! One step down a tree, and a look into a leaf.
+
+ghost use Rattle.std.specs.Prelude.{◌≡◌, ◌+◌, ◌<◌, ◌≤◌, ℕ, true, IsTrue, IfErr, length};
+ghost use Rattle.pages.specs.Cause.{IsCaused};
+ghost use Rattle.tree_search.specs.Descent.{Steps, IsStep, Looks, IsLook, IsKeyAt};
+ghost use Rattle.tree_node.specs.Inner.{IsInner, separators, children};
+ghost use Rattle.tree_node.specs.Leaf.{IsLeaf, leaf_entries};
+ghost use Rattle.tree_node.specs.Order.{Ascends, IsRank};
+
+use crate::spot::entry_with;
+use io_state::Fault;
+use pages::Pages;
+use tree_node::{Entry, InnerView, LeafView, PAGE_SIZE, Shape, is_inner, is_leaf};
+
+/// The child of an inner node below which a key belongs: its place, its page, the page of the next one (or its own, where it is the last),
+/// and how many separators the node has.
+#[derive(Clone, Copy)]
+pub struct Step {
+    pub place: usize,
+    pub child: u32,
+    pub next: u32,
+    pub count: usize,
+}
+
+/// The place of a key in a leaf: how many entries have keys below it. And its entry, where it has one.
+#[derive(Drop)]
+pub struct Look {
+    pub place: usize,
+    pub found: Option<Entry>,
+}
+
+/// One step down, to where a key belongs.
+pub fn descend<P: Pages>(pages: &mut P, shape: Shape, page: u32, key: &[u8]) -> Result<Step, Fault>
+    requires ready { P.IsReady pages.old }
+    ensures down { IsTrue (P.state pages.new).is_honest → Steps shape (P.state pages.old).live page key.now result }
+    ensures cause { IfErr result (IsCaused (P.HasFailed pages.old pages.new) ⊥) }
+    ensures asked { (P.state pages.new).asked ≤ (P.state pages.old).asked + 1 }
+    ensures reads { P.Reads pages.old pages.new }
+{
+    let bytes = pages.page(page)?;
+    if !is_inner(bytes, shape) {
+        return Err(Fault::Damage);
+    }
+    Ok(step_in(bytes, shape, key))
+}
+
+/// One step down from the bytes of an inner node.
+pub fn step_in(page: &[u8; PAGE_SIZE], shape: Shape, key: &[u8]) -> Step
+    requires inner { IsInner shape page.now }
+    ensures { IsStep shape.width key.now (separators shape page.now) (children shape page.now) result }
+{
+    let node = InnerView { page, shape };
+    let place = node.rank(key);
+    let count = node.count();
+    Step {
+        place,
+        child: node.child(place),
+        next: node.child((place + 1).min(count)),
+        count,
+    }
+}
+
+/// Looks for a key in a leaf.
+pub fn seek<P: Pages>(pages: &mut P, shape: Shape, page: u32, key: &[u8]) -> Result<Look, Fault>
+    requires ready { P.IsReady pages.old }
+    ensures sought { IsTrue (P.state pages.new).is_honest → Looks shape (P.state pages.old).live page key.now result }
+    ensures cause { IfErr result (IsCaused (P.HasFailed pages.old pages.new) ⊥) }
+    ensures asked { (P.state pages.new).asked ≤ (P.state pages.old).asked + 1 }
+    ensures reads { P.Reads pages.old pages.new }
+{
+    let bytes = pages.page(page)?;
+    if !is_leaf(bytes, shape) {
+        return Err(Fault::Damage);
+    }
+    Ok(find_in(bytes, shape, key))
+}
+
+/// Looks for a key in the bytes of a leaf.
+fn find_in(page: &[u8; PAGE_SIZE], shape: Shape, key: &[u8]) -> Look
+    requires leaf { IsLeaf shape page.now }
+    ensures { Ascends shape.width (leaf_entries shape page.now) → IsLook shape.width key.now (leaf_entries shape page.now) result }
+{
+    let leaf = LeafView { page, shape };
+    let place = leaf.rank(key);
+    if !has_key(page, shape, place, key) {
+        return Look { place, found: None };
+    }
+    let found = Some(entry_with(leaf.entry(place)));
+    Look { place, found }
+}
+
+/// An entry of the key stands at this place of a leaf, where the place is the key's.
+pub fn has_key(page: &[u8; PAGE_SIZE], shape: Shape, place: usize, key: &[u8]) -> bool
+    requires leaf { IsLeaf shape page.now }
+    ensures within { result ≡ true → place < length (leaf_entries shape page.now) }
+    ensures key { Ascends shape.width (leaf_entries shape page.now)
+        → IsRank shape.width key.now (leaf_entries shape page.now) place
+        → IsKeyAt shape.width key.now (leaf_entries shape page.now) place result }
+{
+    let leaf = LeafView { page, shape };
+    if place >= leaf.count() {
+        return false;
+    }
+    leaf.key(place) == key
+}

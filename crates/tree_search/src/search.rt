@@ -1,0 +1,299 @@
+//! Look-ups by descent.
+
+ghost use Rattle.std.specs.Prelude.{◌≡◌, ◌+◌, ◌*◌, ◌<◌, ◌≤◌, ℕ, IsTrue, IfErr, IfOk, Ok, None, length, option_map};
+ghost use Rattle.tree_node.specs.Leaf.{IsLeaf, leaf_entries};
+ghost use Rattle.tree_node.specs.Order.{Ascends};
+ghost use Rattle.pages.specs.Cause.{IsCaused};
+ghost use Rattle.tree_search.specs.Calls.{entry_of, last_of};
+ghost use Rattle.tree_search.specs.Spot.{IsInLeafIf, Spots, SpotsInLeaf, SpotsFirst, SpotsFirstInLeaf};
+ghost use Rattle.tree_search.specs.Search.{Finds, FindsFilled, FindsInLeaf, FindsFirst, FirstOfLeaf, FirstChild, FindsLast, LastOfLeaf, LastChild, IsFound, IsPlace, Leads, FillsFromLeaf, filled, first_of};
+
+use crate::descent::{descend, has_key};
+use crate::spot::{Spot, entry_at, entry_in_leaf, entry_with, fill};
+use io_state::Fault;
+use pages::Pages;
+use tree_node::{Entry, InnerView, LeafView, PAGE_SIZE, Shape, is_inner, is_leaf};
+
+/// The entry of a key in a tree with `levels` levels above its leaves.
+pub fn find_below<P: Pages>(
+    pages: &mut P,
+    shape: Shape,
+    page: u32,
+    levels: u8,
+    key: &[u8],
+) -> Result<Option<Entry>, Fault>
+    requires ready { P.IsReady pages.old }
+    ensures found { IsTrue (P.state pages.new).is_honest → Finds shape (P.state pages.old).live levels page (entry_of shape.width key.now) result }
+    ensures cause { IfErr result (IsCaused (P.HasFailed pages.old pages.new) ⊥) }
+    ensures asked { (P.state pages.new).asked ≤ (P.state pages.old).asked + (levels + 1) }
+    ensures reads { P.Reads pages.old pages.new }
+{
+    let leaf = leaf_below(pages, shape, page, levels, key)?;
+    let mut entry = Entry::new();
+    if find_in_leaf(pages, shape, leaf, key, &mut entry)? {
+        return Ok(Some(entry));
+    }
+    Ok(None)
+}
+
+/// The leaf in which the entry of a key stands, where a tree with `levels` levels above its leaves has one.
+pub fn leaf_below<P: Pages>(
+    pages: &mut P,
+    shape: Shape,
+    page: u32,
+    levels: u8,
+    key: &[u8],
+) -> Result<u32, Fault>
+    requires ready { P.IsReady pages.old }
+    ensures leaf { IsTrue (P.state pages.new).is_honest → Leads shape (P.state pages.old).live levels page key.now result }
+    ensures cause { IfErr result (IsCaused (P.HasFailed pages.old pages.new) ⊥) }
+    ensures asked { (P.state pages.new).asked ≤ (P.state pages.old).asked + levels }
+    ensures reads { P.Reads pages.old pages.new }
+{
+    if levels == 0 {
+        return Ok(page);
+    }
+    let down = descend(pages, shape, page, key)?;
+    leaf_below(pages, shape, down.child, levels - 1, key)
+}
+
+/// The entry of a key in a leaf goes to `to`. The answer is whether there is one.
+fn find_in_leaf<P: Pages>(
+    pages: &mut P,
+    shape: Shape,
+    page: u32,
+    key: &[u8],
+    to: &mut Entry,
+) -> Result<bool, Fault>
+    requires ready { P.IsReady pages.old }
+    ensures found { IsTrue (P.state pages.new).is_honest
+        → FillsFromLeaf shape (P.state pages.old).live page (entry_of shape.width key.now) to.new result }
+    ensures cause { IfErr result (IsCaused (P.HasFailed pages.old pages.new) ⊥) }
+    ensures asked { (P.state pages.new).asked ≤ (P.state pages.old).asked + 1 }
+    ensures reads { P.Reads pages.old pages.new }
+{
+    let bytes = pages.page(page)?;
+    if !is_leaf(bytes, shape) {
+        return Err(Fault::Damage);
+    }
+    Ok(find_entry(bytes, shape, key, to))
+}
+
+/// The same in the bytes of a leaf.
+fn find_entry(bytes: &[u8; PAGE_SIZE], shape: Shape, key: &[u8], to: &mut Entry) -> bool
+    requires leaf { IsLeaf shape bytes.now }
+    ensures { Ascends shape.width (leaf_entries shape bytes.now)
+        → IsFound (entry_of shape.width key.now) (leaf_entries shape bytes.now) (filled to.new result) }
+{
+    let leaf = LeafView { page: bytes, shape };
+    let place = leaf.rank(key);
+    if !has_key(bytes, shape, place, key) {
+        return false;
+    }
+    fill(to, leaf.entry(place));
+    true
+}
+
+/// The first entry at a key or behind it, and where `past`, behind it. Where one is found, `spot` is where it stands.
+pub fn next_below<P: Pages>(
+    pages: &mut P,
+    shape: Shape,
+    page: u32,
+    levels: u8,
+    key: &[u8],
+    past: bool,
+    spot: &mut Spot,
+) -> Result<Option<Entry>, Fault>
+    requires ready { P.IsReady pages.old }
+    ensures found { IsTrue (P.state pages.new).is_honest
+        → FindsFilled shape (P.state pages.old).live levels page (first_of past shape.width key.now) result }
+    ensures spot { IsTrue (P.state pages.new).is_honest → Spots shape (P.state pages.old).live levels page spot.new result }
+    ensures cause { IfErr result (IsCaused (P.HasFailed pages.old pages.new) ⊥) }
+    ensures asked { (P.state pages.new).asked ≤ (P.state pages.old).asked + 2 * (levels + 1) }
+    ensures none { result ≡ Ok None → (P.state pages.new).asked ≤ (P.state pages.old).asked + (levels + 1) }
+    ensures reads { P.Reads pages.old pages.new }
+{
+    if levels == 0 {
+        return next_in_leaf(pages, shape, page, key, past, spot);
+    }
+    let down = descend(pages, shape, page, key)?;
+    if let Some(found) = next_below(pages, shape, down.child, levels - 1, key, past, spot)? {
+        return Ok(Some(found));
+    }
+    if down.place >= down.count {
+        return Ok(None);
+    }
+    let first = first_below(pages, shape, down.next, levels - 1, spot)?;
+    Ok(Some(first))
+}
+
+fn next_in_leaf<P: Pages>(
+    pages: &mut P,
+    shape: Shape,
+    page: u32,
+    key: &[u8],
+    past: bool,
+    spot: &mut Spot,
+) -> Result<Option<Entry>, Fault>
+    requires ready { P.IsReady pages.old }
+    ensures found { IsTrue (P.state pages.new).is_honest
+        → FindsInLeaf shape (P.state pages.old).live page (first_of past shape.width key.now) result }
+    ensures spot { IsTrue (P.state pages.new).is_honest → SpotsInLeaf shape (P.state pages.old).live page spot.new result }
+    ensures cause { IfErr result (IsCaused (P.HasFailed pages.old pages.new) ⊥) }
+    ensures asked { (P.state pages.new).asked ≤ (P.state pages.old).asked + 1 }
+    ensures reads { P.Reads pages.old pages.new }
+{
+    let bytes = pages.page(page)?;
+    if !is_leaf(bytes, shape) {
+        return Err(Fault::Damage);
+    }
+    Ok(next_in(bytes, shape, page, key, past, spot))
+}
+
+/// The first entry of leaf `page` at a key or behind it, and where `past`, behind it.
+fn next_in(
+    bytes: &[u8; PAGE_SIZE],
+    shape: Shape,
+    page: u32,
+    key: &[u8],
+    past: bool,
+    spot: &mut Spot,
+) -> Option<Entry>
+    requires leaf { IsLeaf shape bytes.now }
+    ensures found { Ascends shape.width (leaf_entries shape bytes.now)
+        → IsFound (first_of past shape.width key.now) (leaf_entries shape bytes.now) result }
+    ensures spot { IsInLeafIf page (leaf_entries shape bytes.now) spot.new result }
+{
+    let place = place_in(bytes, shape, key, past);
+    entry_at(bytes, shape, page, place, spot)
+}
+
+/// How many entries of a leaf come before those at a key or behind it, and where `past`, before those behind it.
+fn place_in(bytes: &[u8; PAGE_SIZE], shape: Shape, key: &[u8], past: bool) -> usize
+    requires leaf { IsLeaf shape bytes.now }
+    ensures { Ascends shape.width (leaf_entries shape bytes.now)
+        → IsPlace past shape.width key.now (leaf_entries shape bytes.now) result }
+{
+    let leaf = LeafView { page: bytes, shape };
+    if past {
+        leaf.rank_after(key)
+    } else {
+        leaf.rank(key)
+    }
+}
+
+/// The first entry of a tree that has one; `spot` is then where it stands.
+pub fn first_below<P: Pages>(
+    pages: &mut P,
+    shape: Shape,
+    page: u32,
+    levels: u8,
+    spot: &mut Spot,
+) -> Result<Entry, Fault>
+    requires ready { P.IsReady pages.old }
+    ensures first { IsTrue (P.state pages.new).is_honest → FindsFirst shape (P.state pages.old).live levels page result }
+    ensures spot { IsTrue (P.state pages.new).is_honest → SpotsFirst shape (P.state pages.old).live levels page spot.new result }
+    ensures cause { IfErr result (IsCaused (P.HasFailed pages.old pages.new) ⊥) }
+    ensures asked { (P.state pages.new).asked ≤ (P.state pages.old).asked + (levels + 1) }
+    ensures reads { P.Reads pages.old pages.new }
+{
+    if levels == 0 {
+        return first_of_leaf(pages, shape, page, spot);
+    }
+    let child = first_child(pages, shape, page)?;
+    first_below(pages, shape, child, levels - 1, spot)
+}
+
+fn first_of_leaf<P: Pages>(
+    pages: &mut P,
+    shape: Shape,
+    page: u32,
+    spot: &mut Spot,
+) -> Result<Entry, Fault>
+    requires ready { P.IsReady pages.old }
+    ensures first { IsTrue (P.state pages.new).is_honest → FirstOfLeaf shape (P.state pages.old).live page result }
+    ensures spot { IsTrue (P.state pages.new).is_honest → SpotsFirstInLeaf shape (P.state pages.old).live page spot.new result }
+    ensures cause { IfErr result (IsCaused (P.HasFailed pages.old pages.new) ⊥) }
+    ensures asked { (P.state pages.new).asked ≤ (P.state pages.old).asked + 1 }
+    ensures reads { P.Reads pages.old pages.new }
+{
+    match entry_in_leaf(pages, shape, page, 0, spot)? {
+        Some(entry) => Ok(entry),
+        None => Err(Fault::Damage),
+    }
+}
+
+pub fn first_child<P: Pages>(pages: &mut P, shape: Shape, page: u32) -> Result<u32, Fault>
+    requires ready { P.IsReady pages.old }
+    ensures child { IsTrue (P.state pages.new).is_honest → FirstChild shape (P.state pages.old).live page result }
+    ensures cause { IfErr result (IsCaused (P.HasFailed pages.old pages.new) ⊥) }
+    ensures asked { (P.state pages.new).asked ≤ (P.state pages.old).asked + 1 }
+    ensures reads { P.Reads pages.old pages.new }
+{
+    let bytes = pages.page(page)?;
+    if !is_inner(bytes, shape) {
+        return Err(Fault::Damage);
+    }
+    Ok(InnerView { page: bytes, shape }.child(0))
+}
+
+/// The last entry of a tree.
+pub fn last_below<P: Pages>(
+    pages: &mut P,
+    shape: Shape,
+    page: u32,
+    levels: u8,
+) -> Result<Option<Entry>, Fault>
+    requires ready { P.IsReady pages.old }
+    ensures last { IsTrue (P.state pages.new).is_honest → FindsLast shape (P.state pages.old).live levels page result }
+    ensures cause { IfErr result (IsCaused (P.HasFailed pages.old pages.new) ⊥) }
+    ensures asked { (P.state pages.new).asked ≤ (P.state pages.old).asked + (levels + 1) }
+    ensures reads { P.Reads pages.old pages.new }
+{
+    if levels == 0 {
+        return last_of_leaf(pages, shape, page);
+    }
+    let child = last_child(pages, shape, page)?;
+    last_below(pages, shape, child, levels - 1)
+}
+
+fn last_of_leaf<P: Pages>(pages: &mut P, shape: Shape, page: u32) -> Result<Option<Entry>, Fault>
+    requires ready { P.IsReady pages.old }
+    ensures last { IsTrue (P.state pages.new).is_honest → LastOfLeaf shape (P.state pages.old).live page result }
+    ensures cause { IfErr result (IsCaused (P.HasFailed pages.old pages.new) ⊥) }
+    ensures asked { (P.state pages.new).asked ≤ (P.state pages.old).asked + 1 }
+    ensures reads { P.Reads pages.old pages.new }
+{
+    let bytes = pages.page(page)?;
+    if !is_leaf(bytes, shape) {
+        return Err(Fault::Damage);
+    }
+    Ok(last_in(bytes, shape))
+}
+
+fn last_in(page: &[u8; PAGE_SIZE], shape: Shape) -> Option<Entry>
+    requires leaf { IsLeaf shape page.now }
+    ensures { IsFound last_of (leaf_entries shape page.now) result }
+{
+    let leaf = LeafView { page, shape };
+    let count = leaf.count();
+    if count == 0 {
+        return None;
+    }
+    Some(entry_with(leaf.entry(count - 1)))
+}
+
+fn last_child<P: Pages>(pages: &mut P, shape: Shape, page: u32) -> Result<u32, Fault>
+    requires ready { P.IsReady pages.old }
+    ensures child { IsTrue (P.state pages.new).is_honest → LastChild shape (P.state pages.old).live page result }
+    ensures cause { IfErr result (IsCaused (P.HasFailed pages.old pages.new) ⊥) }
+    ensures asked { (P.state pages.new).asked ≤ (P.state pages.old).asked + 1 }
+    ensures reads { P.Reads pages.old pages.new }
+{
+    let bytes = pages.page(page)?;
+    if !is_inner(bytes, shape) {
+        return Err(Fault::Damage);
+    }
+    let node = InnerView { page: bytes, shape };
+    Ok(node.child(node.count()))
+}

@@ -1,0 +1,118 @@
+//! What the entry of a key has behind the key, and whether a key has an entry.
+
+ghost use Rattle.std.specs.Prelude.{◌≡◌, ◌+◌, ◌≤◌, ℕ, IsTrue, IfErr, length};
+ghost use Rattle.pages.specs.Cause.{IsCaused};
+ghost use Rattle.tree_node.specs.Leaf.{IsLeaf, leaf_entries};
+ghost use Rattle.tree_node.specs.Order.{Ascends};
+ghost use Rattle.tree_search.specs.Calls.{entry_of};
+ghost use Rattle.tree_search.specs.Tail.{IsTail, IsThere, Tells, TellsInLeaf};
+
+use crate::descent::has_key;
+use crate::search::leaf_below;
+use io_state::Fault;
+use pages::Pages;
+use tree_node::{LeafView, PAGE_SIZE, Shape, is_leaf};
+
+/// The bytes behind the key of an entry go to `tail`, in a tree with `levels` levels above its leaves. The answer is whether the key has an entry.
+pub fn find_tail<P: Pages>(
+    pages: &mut P,
+    shape: Shape,
+    page: u32,
+    levels: u8,
+    key: &[u8],
+    tail: &mut [u8],
+) -> Result<bool, Fault>
+    requires ready { P.IsReady pages.old }
+    requires size { shape.width + length tail.old ≡ shape.entry }
+    ensures found { IsTrue (P.state pages.new).is_honest
+        → Tells (IsTail shape.width tail.new) shape (P.state pages.old).live levels page key.now result }
+    ensures cause { IfErr result (IsCaused (P.HasFailed pages.old pages.new) ⊥) }
+    ensures asked { (P.state pages.new).asked ≤ (P.state pages.old).asked + (levels + 1) }
+    ensures reads { P.Reads pages.old pages.new }
+{
+    let leaf = leaf_below(pages, shape, page, levels, key)?;
+    tail_in_leaf(pages, shape, leaf, key, tail)
+}
+
+/// The same in a leaf.
+fn tail_in_leaf<P: Pages>(
+    pages: &mut P,
+    shape: Shape,
+    page: u32,
+    key: &[u8],
+    tail: &mut [u8],
+) -> Result<bool, Fault>
+    requires ready { P.IsReady pages.old }
+    requires size { shape.width + length tail.old ≡ shape.entry }
+    ensures found { IsTrue (P.state pages.new).is_honest
+        → TellsInLeaf (IsTail shape.width tail.new) shape (P.state pages.old).live page key.now result }
+    ensures cause { IfErr result (IsCaused (P.HasFailed pages.old pages.new) ⊥) }
+    ensures asked { (P.state pages.new).asked ≤ (P.state pages.old).asked + 1 }
+    ensures reads { P.Reads pages.old pages.new }
+{
+    let bytes = pages.page(page)?;
+    if !is_leaf(bytes, shape) {
+        return Err(Fault::Damage);
+    }
+    Ok(copy_tail(bytes, shape, key, tail))
+}
+
+/// The same in the bytes of a leaf.
+fn copy_tail(bytes: &[u8; PAGE_SIZE], shape: Shape, key: &[u8], tail: &mut [u8]) -> bool
+    requires leaf { IsLeaf shape bytes.now }
+    requires size { shape.width + length tail.old ≡ shape.entry }
+    ensures { Ascends shape.width (leaf_entries shape bytes.now)
+        → IsTail shape.width tail.new (entry_of shape.width key.now (leaf_entries shape bytes.now)) result }
+{
+    let leaf = LeafView { page: bytes, shape };
+    let place = leaf.rank(key);
+    if !has_key(bytes, shape, place, key) {
+        return false;
+    }
+    let entry = leaf.entry(place);
+    tail.copy_from_slice(&entry[usize::from(shape.width)..]);
+    true
+}
+
+/// Whether a key has an entry in a tree with `levels` levels above its leaves.
+pub fn has_below<P: Pages>(
+    pages: &mut P,
+    shape: Shape,
+    page: u32,
+    levels: u8,
+    key: &[u8],
+) -> Result<bool, Fault>
+    requires ready { P.IsReady pages.old }
+    ensures told { IsTrue (P.state pages.new).is_honest → Tells IsThere shape (P.state pages.old).live levels page key.now result }
+    ensures cause { IfErr result (IsCaused (P.HasFailed pages.old pages.new) ⊥) }
+    ensures asked { (P.state pages.new).asked ≤ (P.state pages.old).asked + (levels + 1) }
+    ensures reads { P.Reads pages.old pages.new }
+{
+    let leaf = leaf_below(pages, shape, page, levels, key)?;
+    is_in_leaf(pages, shape, leaf, key)
+}
+
+/// The same in a leaf.
+fn is_in_leaf<P: Pages>(pages: &mut P, shape: Shape, page: u32, key: &[u8]) -> Result<bool, Fault>
+    requires ready { P.IsReady pages.old }
+    ensures told { IsTrue (P.state pages.new).is_honest → TellsInLeaf IsThere shape (P.state pages.old).live page key.now result }
+    ensures cause { IfErr result (IsCaused (P.HasFailed pages.old pages.new) ⊥) }
+    ensures asked { (P.state pages.new).asked ≤ (P.state pages.old).asked + 1 }
+    ensures reads { P.Reads pages.old pages.new }
+{
+    let bytes = pages.page(page)?;
+    if !is_leaf(bytes, shape) {
+        return Err(Fault::Damage);
+    }
+    Ok(is_among(bytes, shape, key))
+}
+
+/// The same in the bytes of a leaf.
+fn is_among(bytes: &[u8; PAGE_SIZE], shape: Shape, key: &[u8]) -> bool
+    requires leaf { IsLeaf shape bytes.now }
+    ensures { Ascends shape.width (leaf_entries shape bytes.now)
+        → IsThere (entry_of shape.width key.now (leaf_entries shape bytes.now)) result }
+{
+    let leaf = LeafView { page: bytes, shape };
+    has_key(bytes, shape, leaf.rank(key), key)
+}
