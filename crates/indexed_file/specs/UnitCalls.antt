@@ -1,5 +1,5 @@
 -- The kinds of calls on a unit: what each call of a kind promises, besides its answer.
-use Rattle.std.specs.Prelude.{◌≡◌, ◌≢◌, ℕ, ◌≤◌, Bool, List, Result, Err, OnOk, OnErr, IfErr, IsTrue, IsFalse}
+use Rattle.std.specs.Prelude.{◌≡◌, ◌≢◌, ℕ, Bool, List, Result, Err, OnOk, OnErr, IfErr, IsTrue, IsFalse}
 use Rattle.io_state.specs.declared.fault.Fault.{Fault}
 use Rattle.io_state.specs.declared.fault.Fault.TheVariants.{Full, Broken as BrokenUnit}
 use Rattle.record_layout.specs.Schema.{Schema}
@@ -8,7 +8,7 @@ use Rattle.indexed_file.specs.World.{OnlyAt, Unsound, Shut, Opened, holding_at, 
 use Rattle.indexed_file.specs.Room.{most_to_change, room_of_new}
 use Rattle.indexed_file.specs.Shown.{Shown}
 use Rattle.indexed_file.specs.Believed.{Believed}
-use Rattle.indexed_file.specs.Images.{Trace, Stays, CallGoes, untouched, trace_of_change, trace_of_shut}
+use Rattle.indexed_file.specs.Images.{Trace, AllStay, CallGoes, untouched, trace_of_change, trace_of_shut}
 use Rattle.indexed_file.specs.Calls.{Keeps, OnlyReads, MayAnswer, MayAnswerShut, LeavesBroken, AsksAtMost}
 
 -- the count of a unit's pages begins again, and nothing else changes
@@ -21,7 +21,7 @@ pub record RestartsCount {S : Type 0} (shown : Shown S) (u : ℕ) (old new : S) 
   pub truth : (name : List ℕ) → shown.IsShownTruly old name → shown.IsShownTruly new name
   pub count : shown.fault_count new ≡ shown.fault_count old
   pub limit : shown.page_limit new ≡ shown.page_limit old
-  pub images : (name : List ℕ) → Stays shown.Throughout old new name
+  pub images : AllStay shown.Throughout old new
 
 -- a call that opens unit u, or looks whether it can be opened: a fault leaves it shut
 pub record OpensUnit {S X : Type 0} (shown : Shown S) (u : ℕ) (trace : Trace) (old new : S) (result : Result X Fault) : Type 0 where
@@ -41,6 +41,11 @@ pub record ReadsUnit {S X : Type 0} (shown : Shown S) (u most : ℕ) (old new : 
   pub fault : IfErr result (MayAnswer shown u old new)
   pub images : CallGoes shown u untouched old new
   pub keeps : Keeps shown old new
+
+-- a call on unit u has given up: it has only read, and the reason is to be believed
+abbrev pub GivesUp : {S : Type 0} → Shown S → ℕ → S → S → Type 0 → Type 0
+GivesUp shown u old new reason =
+    OnlyReads u (shown.is_honest new) (shown.world old) (shown.world new) × Believed shown u old new reason
 
 -- a call that changes the open unit u, which stays open: a fault other than Full leaves it broken
 pub record ChangesUnit {S X : Type 0} (shown : Shown S) (u : ℕ) (is_made : X → Bool) (old new : S) (result : Result X Fault) : Type 0 where

@@ -7,8 +7,7 @@ use Rattle.io_state.specs.declared.fault.Fault.TheVariants.{Device, Memory, Full
 use Rattle.record_layout.specs.Schema.{prime_of}
 use Rattle.indexed_file.specs.File.{Row}
 use Rattle.indexed_file.specs.Change.{clashes, clashes_with_others, row_of}
-use Rattle.indexed_file.specs.World.{FileUnit, World, Named, Absent, Holding, Shut, Looked, Opened, Broken, OnlyAt, holding_at, unit_at, is_open, schema_in}
-use Rattle.indexed_file.proofs.TestLemmas.{either}
+use Rattle.indexed_file.specs.World.{FileUnit, World, Named, Absent, Shut, OnlyAt, unit_at, is_open, schema_in}
 use Rattle.list_library.specs.Units.{rows_in, FailsChange, unit_after_add, unit_after_replace, unit_after_replace_at, unit_after_remove}
 use Rattle.list_library.proofs.UnitWorldLemmas.{unit_read}
 

@@ -1,11 +1,11 @@
 -- Units that show files, and what they show of a name.
-use Rattle.std.proofs.Common.{◌≡◌, ℕ, zero, suc, ◌+◌, ◌<◌, Bool, true, false, List, [], ◌∷◌, ◌++◌, map, refl, sym, ◌∙◌, ap, slice_index_or}
-use Rattle.std.specs.Prelude.{slice_set, bytes_eq, ◌&&◌, IsTrue}
+use Rattle.std.proofs.Common.{◌≡◌, ℕ, zero, suc, true, List, [], ◌∷◌, ◌++◌, map, refl, ◌∙◌, slice_index_or}
+use Rattle.std.specs.Prelude.{slice_set, bytes_eq, IsTrue}
 use Rattle.std.specs.List.{list_all}
 use Rattle.std.proofs.lemmas.Bool.{and_parts, and_from}
 use Rattle.std.proofs.lemmas.List.Folds.{list_all-append}
-use Rattle.indexed_file.specs.World.{FileUnit, World, Named, Absent, Shut, name_in, named_in, unit_at}
-use Rattle.list_library.specs.Units.{absent_unit, in_place_among, named_among}
+use Rattle.indexed_file.specs.World.{FileUnit, Named, Absent, Shut, name_in}
+use Rattle.list_library.specs.Units.{in_place_among, named_among}
 use Rattle.indexed_file.specs.SoundWorld.{is_sound_named, is_sound_unit, ShowsFiles}
 use Rattle.indexed_file.proofs.TestLemmas.{either}
 

@@ -1,14 +1,14 @@
 -- What a change of a unit makes of the world.
-use Rattle.std.proofs.Common.{◌≡◌, ℕ, zero, suc, ◌+◌, ◌<◌, Bool, true, false, List, [], ◌∷◌, length, Option, Some, None, refl, sym, ap, ◌∙◌, subst, arith, slice_index_or, if◌then◌else◌}
+use Rattle.std.proofs.Common.{◌≡◌, ℕ, zero, suc, ◌<◌, List, [], ◌∷◌, length, Option, Some, None, refl, sym, ap, ◌∙◌, arith, slice_index_or}
 use Rattle.std.specs.Prelude.{slice_set}
 use Rattle.std.proofs.lemmas.List.{set-get_or}
 use Rattle.record_layout.specs.Schema.{prime_of}
 use Rattle.indexed_file.specs.File.{Row}
 use Rattle.indexed_file.specs.Change.{clashes, clashes_with_others, row_of}
-use Rattle.indexed_file.specs.World.{FileUnit, World, Named, Absent, Shut, schema_in, schema_at, file_at, unit_at}
+use Rattle.indexed_file.specs.World.{FileUnit, World, Named, Absent, Shut, schema_at, file_at, unit_at}
 use Rattle.indexed_file.specs.Answers.{world_after_replace_at}
 use Rattle.indexed_file.specs.UnitAnswers.{after_adding, after_replacing}
-use Rattle.list_library.specs.Units.{rows_in, unit_after_add, unit_after_replace, unit_after_replace_at}
+use Rattle.list_library.specs.Units.{unit_after_add, unit_after_replace, unit_after_replace_at}
 use Rattle.indexed_file.proofs.TestLemmas.{either}
 
 same_default : {X : Type 0} (xs : List X) (i : ℕ) (a b : X) → i < length xs → slice_index_or xs i a ≡ slice_index_or xs i b

@@ -1,5 +1,5 @@
 -- What a library in memory shows.
-use Rattle.std.specs.Prelude.{ℕ, List, true, None}
+use Rattle.std.specs.Prelude.{true, None}
 use Rattle.list_library.specs.declared.library.ListLibrary.{ListLibrary}
 use Rattle.indexed_file.specs.World.{World}
 use Rattle.indexed_file.specs.SoundWorld.{ShowsFiles}

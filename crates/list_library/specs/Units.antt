@@ -1,4 +1,8 @@
 -- What a unit of a list library shows.
+use Rattle.indexed_file.specs.declared.answer.Replaced.{Replaced}
+use Rattle.indexed_file.specs.declared.answer.Added.{Added}
+use Rattle.indexed_file.specs.Answers.{added_answer, replaced_answer}
+use Rattle.indexed_file.specs.Rank.{highest_of}
 use Rattle.std.specs.Prelude.{ℕ, Bool, true, false, List, [], ◌∷◌, bytes_eq, Option, Some, None, unwrap_or, is_some, IsFalse, Result, Err, IsTrue, IfErr, ◌≡◌, if◌then◌else◌}
 use Rattle.list_library.specs.declared.list_unit.UnitState.{UnitState}
 use Rattle.list_library.specs.declared.list_unit.UnitState.TheVariants.{IsShut, IsLooked, IsOpened, IsBroken}
@@ -41,6 +45,10 @@ abbrev pub named_among : List FileUnit → List ℕ → Named
 named_among [] name = Absent
 named_among (unit ∷ units) name = if bytes_eq unit.name name then unit.named else named_among units name
 
+-- every name but this one stands among the units for what it stood for
+abbrev pub KeepsNamesBut : List ℕ → List FileUnit → List FileUnit → Type 0
+KeepsNamesBut own old new = (name : List ℕ) → IsFalse (bytes_eq own name) → named_among new name ≡ named_among old name
+
 -- a unit whose name stands for nothing
 abbrev pub absent_unit : List ℕ → FileUnit
 absent_unit name = record { name = name; named = Absent; holding = Shut }
@@ -52,6 +60,20 @@ in_place_among units name = record { name = name; named = named_among units name
 -- the file that a unit holds, with no rows where there is none
 abbrev pub rows_in : Holding → File
 rows_in holding = unwrap_or (file_in holding) empty_file
+
+-- the greatest prime value of what a unit holds
+abbrev pub highest_in : Holding → Option (List ℕ)
+highest_in holding = highest_of (schema_in holding) (rows_in holding).rows
+
+-- what adding a record, replacing one and removing that of a prime value answer
+abbrev pub add_answers : Holding → List ℕ → Added
+add_answers holding bytes = added_answer (schema_in holding) bytes (rows_in holding)
+
+abbrev pub replace_answers : Holding → List ℕ → Replaced
+replace_answers holding bytes = replaced_answer (schema_in holding) bytes (rows_in holding)
+
+abbrev pub remove_answers : Holding → List ℕ → Bool
+remove_answers holding prime = is_some (row_of (schema_in holding) prime (rows_in holding))
 
 -- a broken unit answers so, and no other unit does
 pub record AnswersBroken {X : Type 0} (holding : Holding) (result : Result X Fault) : Type 0 where
@@ -80,6 +102,10 @@ unit_after_replace unit bytes = unit_after_replace_at unit bytes (row_of (schema
 abbrev pub unit_after_remove : FileUnit → List ℕ → FileUnit
 unit_after_remove unit prime =
     if is_some (row_of (schema_in unit.holding) prime (rows_in unit.holding)) then with_rows unit (removed (schema_in unit.holding) prime (rows_in unit.holding)) else unit
+
+-- after it was closed
+abbrev pub unit_after_shut : FileUnit → FileUnit
+unit_after_shut unit = record unit { named = Closed (schema_in unit.holding) (rows_in unit.holding); holding = Shut }
 
 -- a change that failed: Full under this condition, and then nothing is changed; Memory, and then the unit is broken; Broken on a
 -- broken unit

@@ -1,13 +1,11 @@
 //! A file in memory.
 ghost use Rattle.std.specs.Prelude.{◌≡◌, ◌≤◌, ◌<◌, length, filter, is_some, ◌+◌, ◌^◌, ◌&&◌, nat_le, IsFalse, if◌then◌else◌, OnOk, OnErr, IsOkUnless};
-ghost use Rattle.std.specs.Prelude.{not};
 ghost use Rattle.std.specs.List.{prefix_len};
-ghost use Rattle.std.specs.Ordering.{is_lt};
-ghost use Rattle.record_layout.specs.Schema.{prime_of};
-ghost use Rattle.indexed_file.specs.Rank.{value_cmp, lowest, has_value};
+ghost use Rattle.indexed_file.specs.Rank.{lowest, has_value};
 ghost use Rattle.indexed_file.specs.Change.{inserted, others_in};
 ghost use Rattle.indexed_file.specs.Answers.{read_into, found_in};
 ghost use Rattle.list_library.specs.Stored.{IsFit};
+ghost use Rattle.list_library.specs.Scans.{is_up_to};
 
 use crate::list_row::ListRow;
 use crate::presence::{
@@ -44,17 +42,15 @@ const STAMPS_END: u64 = 1 << 63;
 
 #[tactic(auto, using(crate::proofs::StoredLemmas::row_fits, crate::proofs::StoredLemmas::row_at_place))]
 impl ListFile {
-    ghost use Rattle.std.specs.Prelude.{◌≡◌, ◌≤◌, ◌<◌, ◌++◌, length, slice_get, Some, option_map, OnOk, OnErr, IfOk, IfErr, IsTrue, IsFalse, IsErrOf, not, is_some, ◌||◌, ◌⊎◌};
-    ghost use Rattle.record_layout.specs.Schema.{prime_of};
+    ghost use Rattle.std.specs.Prelude.{◌≡◌, ◌≤◌, ◌<◌, length, slice_get, Some, option_map, OnOk, OnErr, IfOk, IfErr, IsTrue, IsErrOf, is_some, ◌⊎◌};
     ghost use Rattle.indexed_file.specs.File.{empty_file};
-    ghost use Rattle.indexed_file.specs.Rank.{least, highest_of};
-    ghost use Rattle.list_library.specs.Wanted.{is_wanted};
+    ghost use Rattle.indexed_file.specs.Rank.{highest_of};
+    ghost use Rattle.list_library.specs.Wanted.{first_wanted, found_wanted, key_wanted};
     ghost use Rattle.list_library.specs.Stored.{IsFit};
     ghost use Rattle.indexed_file.specs.Sound.{is_file};
-    ghost use Rattle.indexed_file.specs.Change.{clashes, clashes_with_others, row_of};
-    ghost use Rattle.indexed_file.specs.Room.{is_last_stamp, Endless, is_full_to_replace};
-    ghost use Rattle.list_library.specs.Stored.{stored_after_add, stored_after_replace, stored_after_remove};
-    ghost use Rattle.indexed_file.specs.Answers.{found_of, key_of_row, area_after, added_answer, replaced_answer};
+    ghost use Rattle.indexed_file.specs.Change.{row_of};
+    ghost use Rattle.list_library.specs.Stored.{stored_after_add, stored_after_replace, stored_after_remove, add_has_room, AddLacksRoom, replace_has_room, ReplaceLacksRoom};
+    ghost use Rattle.indexed_file.specs.Answers.{area_after, added_answer, replaced_answer};
 
     /// A new file.
     pub fn new(alloc: Global, schema: Schema) -> Self
@@ -96,8 +92,8 @@ impl ListFile {
     pub fn find(&self, k: u8, wanted: &Wanted, area: &mut [u8]) -> Option<Found>
         requires key { k < length self.now.schema.keys }
         requires length { length area.old ≡ self.now.schema.greatest }
-        ensures found { result ≡ option_map (found_of self.now.schema k self.now.file) (least self.now.schema k (is_wanted self.now.schema k wanted.now) self.now.file) }
-        ensures area { area.new ≡ area_after area.old (least self.now.schema k (is_wanted self.now.schema k wanted.now) self.now.file) }
+        ensures found { result ≡ found_wanted self.now.schema k wanted.now self.now.file }
+        ensures area { area.new ≡ area_after area.old (first_wanted self.now.schema k wanted.now self.now.file) }
     {
         let place = lowest(&self.schema, k, wanted, self.rows.as_slice())?;
         let row = self.row(place);
@@ -108,7 +104,7 @@ impl ListFile {
     /// The full value of key k of the row of least rank by that key among those wanted.
     pub fn seek(&self, k: u8, wanted: &Wanted) -> Option<Key>
         requires { k < length self.now.schema.keys }
-        ensures { result ≡ option_map (key_of_row self.now.schema k) (least self.now.schema k (is_wanted self.now.schema k wanted.now) self.now.file) }
+        ensures { result ≡ key_wanted self.now.schema k wanted.now self.now.file }
     {
         let place = lowest(&self.schema, k, wanted, self.rows.as_slice())?;
         let row = self.row(place);
@@ -131,8 +127,8 @@ impl ListFile {
         requires greatest { length bytes.now ≤ self.old.schema.greatest }
         ensures answer { IfOk result (λ answer. answer ≡ added_answer self.old.schema bytes.now self.old.file) }
         ensures file { OnOk result (self.new ≡ stored_after_add self.old bytes.now) }
-        ensures full { IsErrOf result Fault.Full → IsFalse (clashes self.old.schema bytes.now self.old.file.rows) × IsTrue (is_last_stamp self.old.file) }
-        ensures room { OnOk result (IsTrue (clashes self.old.schema bytes.now self.old.file.rows || not (is_last_stamp self.old.file))) }
+        ensures full { IsErrOf result Fault.Full → AddLacksRoom self.old.schema bytes.now self.old.file }
+        ensures room { OnOk result (IsTrue (add_has_room self.old.schema bytes.now self.old.file)) }
         ensures fault { IfErr result (λ fault. (fault ≡ Fault.Full) ⊎ (fault ≡ Fault.Memory)) }
         ensures err { OnErr result (self.new ≡ self.old) }
     {
@@ -156,10 +152,8 @@ impl ListFile {
         requires greatest { length bytes.now ≤ self.old.schema.greatest }
         ensures answer { IfOk result (λ answer. answer ≡ replaced_answer self.old.schema bytes.now self.old.file) }
         ensures file { OnOk result (self.new ≡ stored_after_replace self.old bytes.now) }
-        ensures full { IsErrOf result Fault.Full → IsFalse (clashes_with_others self.old.schema bytes.now self.old.file)
-            × IsTrue (is_full_to_replace Endless self.old.schema bytes.now self.old.file) }
-        ensures room { OnOk result (IsTrue (clashes_with_others self.old.schema bytes.now self.old.file
-            || not (is_full_to_replace Endless self.old.schema bytes.now self.old.file))) }
+        ensures full { IsErrOf result Fault.Full → ReplaceLacksRoom self.old.schema bytes.now self.old.file }
+        ensures room { OnOk result (IsTrue (replace_has_room self.old.schema bytes.now self.old.file)) }
         ensures fault { IfErr result (λ fault. (fault ≡ Fault.Full) ⊎ (fault ≡ Fault.Memory)) }
         ensures err { OnErr result (self.new ≡ self.old) }
     {
@@ -250,7 +244,7 @@ fn insert_row(schema: &Schema, rows: &mut Vec<ListRow>, row: ListRow) -> Result<
 /// How many rows come before a new one, by the prime key.
 fn place_for(schema: &Schema, bytes: &[u8], rows: &[ListRow]) -> usize
     ensures within { result ≤ length rows.now }
-    ensures place { result ≡ prefix_len (λ next. not (is_lt (value_cmp (prime_of schema.now bytes.now) (prime_of schema.now next.bytes)))) rows.now }
+    ensures place { result ≡ prefix_len (λ next. is_up_to schema.now bytes.now next) rows.now }
 {
     let prime = value(schema, 0, bytes);
     rows.iter()

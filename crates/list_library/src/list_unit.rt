@@ -41,16 +41,15 @@ impl Model for ListUnit {
 }
 
 impl ListUnit {
-    ghost use Rattle.std.specs.Prelude.{◌≡◌, ◌<◌, ◌≤◌, [], length, bytes_eq, option_map, OnOk, OnErr, IfOk, IfErr, IsTrue, IsFalse, is_some, not, ◌||◌};
+    ghost use Rattle.std.specs.Prelude.{◌≡◌, ◌<◌, ◌≤◌, length, bytes_eq, option_map, OnOk, OnErr, IfOk, IfErr, IsTrue, IsFalse, not};
     ghost use Rattle.indexed_file.specs.File.{empty_file};
-    ghost use Rattle.indexed_file.specs.World.{Absent, Unsound as Refused, Closed, Shut, Opened, Broken as Failed, is_open, is_looked, is_broken, opened_from, schema_in};
-    ghost use Rattle.list_library.specs.Units.{rows_in, AnswersBroken, FailsChange, unit_after_add, unit_after_replace, unit_after_remove};
-    ghost use Rattle.indexed_file.specs.Change.{clashes, clashes_with_others, row_of};
+    ghost use Rattle.indexed_file.specs.World.{Absent, Unsound as Refused, Shut, Opened, is_open, is_looked, is_broken, opened_from, schema_in};
+    ghost use Rattle.list_library.specs.Units.{rows_in, AnswersBroken, FailsChange, unit_after_add, unit_after_replace, unit_after_remove, unit_after_shut, highest_in, add_answers, replace_answers, remove_answers};
+    ghost use Rattle.list_library.specs.Stored.{add_has_room, AddLacksRoom, replace_has_room, ReplaceLacksRoom};
     ghost use Rattle.indexed_file.specs.SoundWorld.{is_sound_unit};
-    ghost use Rattle.indexed_file.specs.Room.{Endless, is_full_to_add, is_full_to_replace};
-    ghost use Rattle.indexed_file.specs.Answers.{seen_of, looked_at, found_of, key_of_row, area_after, added_answer, replaced_answer};
-    ghost use Rattle.indexed_file.specs.Rank.{least, highest_of};
-    ghost use Rattle.list_library.specs.Wanted.{is_wanted};
+    ghost use Rattle.indexed_file.specs.Answers.{seen_of, looked_at, area_after};
+    ghost use Rattle.indexed_file.specs.Rank.{least};
+    ghost use Rattle.list_library.specs.Wanted.{first_wanted, found_wanted, key_wanted};
 
     /// A name that stands for nothing.
     pub fn absent(name: FileName) -> Self
@@ -132,10 +131,9 @@ impl ListUnit {
         requires key { k < length (schema_in self.now.holding).keys }
         requires length { length area.old ≡ (schema_in self.now.holding).greatest }
         ensures found { IfOk result (λ found.
-            found ≡ option_map (found_of (schema_in self.now.holding) k (rows_in self.now.holding))
-            (least (schema_in self.now.holding) k (is_wanted (schema_in self.now.holding) k wanted.now) (rows_in self.now.holding))) }
+            found ≡ found_wanted (schema_in self.now.holding) k wanted.now (rows_in self.now.holding)) }
         ensures area { OnOk result (area.new ≡ area_after area.old
-            (least (schema_in self.now.holding) k (is_wanted (schema_in self.now.holding) k wanted.now) (rows_in self.now.holding))) }
+            (first_wanted (schema_in self.now.holding) k wanted.now (rows_in self.now.holding))) }
         ensures err { OnErr result (area.new ≡ area.old) }
         ensures fault { AnswersBroken self.now.holding result }
     {
@@ -153,8 +151,7 @@ impl ListUnit {
         requires open { IsTrue (is_open self.now.holding) }
         requires key { k < length (schema_in self.now.holding).keys }
         ensures found { IfOk result (λ found.
-            found ≡ option_map (key_of_row (schema_in self.now.holding) k)
-            (least (schema_in self.now.holding) k (is_wanted (schema_in self.now.holding) k wanted.now) (rows_in self.now.holding))) }
+            found ≡ key_wanted (schema_in self.now.holding) k wanted.now (rows_in self.now.holding)) }
         ensures fault { AnswersBroken self.now.holding result }
     {
         if self.state == UnitState::IsBroken {
@@ -169,7 +166,7 @@ impl ListUnit {
     /// The greatest prime value.
     pub fn highest(&self) -> Result<Option<Key>, Fault>
         requires { IsTrue (is_open self.now.holding) }
-        ensures found { IfOk result (λ found. option_map (λ key. key.items) found ≡ highest_of (schema_in self.now.holding) (rows_in self.now.holding).rows) }
+        ensures found { IfOk result (λ found. option_map (λ key. key.items) found ≡ highest_in self.now.holding) }
         ensures fault { AnswersBroken self.now.holding result }
     {
         if self.state == UnitState::IsBroken {
@@ -187,11 +184,12 @@ impl ListUnit {
         requires open { IsTrue (is_open self.old.holding) }
         requires least { (schema_in self.old.holding).least ≤ length bytes.now }
         requires greatest { length bytes.now ≤ (schema_in self.old.holding).greatest }
-        ensures answer { IfOk result (λ answer. answer ≡ added_answer (schema_in self.old.holding) bytes.now (rows_in self.old.holding)) }
+        ensures answer { IfOk result (λ answer. answer ≡ add_answers self.old.holding bytes.now) }
         ensures unit { OnOk result (self.new ≡ unit_after_add self.old bytes.now) }
-        ensures room { OnOk result (IsTrue (clashes (schema_in self.old.holding) bytes.now (rows_in self.old.holding).rows || not (is_full_to_add Endless (rows_in self.old.holding)))) }
+        ensures room { OnOk result (IsTrue
+            (add_has_room (schema_in self.old.holding) bytes.now (rows_in self.old.holding))) }
         ensures fault { IfErr result (FailsChange self.old self.new
-            (IsFalse (clashes (schema_in self.old.holding) bytes.now (rows_in self.old.holding).rows) × IsTrue (is_full_to_add Endless (rows_in self.old.holding)))) }
+            (AddLacksRoom (schema_in self.old.holding) bytes.now (rows_in self.old.holding))) }
         ensures broken { IsTrue (is_broken self.old.holding) → result ≡ Err Fault.Broken }
     {
         if self.state == UnitState::IsBroken {
@@ -219,13 +217,12 @@ impl ListUnit {
         requires open { IsTrue (is_open self.old.holding) }
         requires least { (schema_in self.old.holding).least ≤ length bytes.now }
         requires greatest { length bytes.now ≤ (schema_in self.old.holding).greatest }
-        ensures answer { IfOk result (λ answer. answer ≡ replaced_answer (schema_in self.old.holding) bytes.now (rows_in self.old.holding)) }
+        ensures answer { IfOk result (λ answer. answer ≡ replace_answers self.old.holding bytes.now) }
         ensures unit { OnOk result (self.new ≡ unit_after_replace self.old bytes.now) }
-        ensures room { OnOk result (IsTrue (clashes_with_others (schema_in self.old.holding) bytes.now (rows_in self.old.holding)
-            || not (is_full_to_replace Endless (schema_in self.old.holding) bytes.now (rows_in self.old.holding)))) }
+        ensures room { OnOk result (IsTrue
+            (replace_has_room (schema_in self.old.holding) bytes.now (rows_in self.old.holding))) }
         ensures fault { IfErr result (FailsChange self.old self.new
-            (IsFalse (clashes_with_others (schema_in self.old.holding) bytes.now (rows_in self.old.holding))
-            × IsTrue (is_full_to_replace Endless (schema_in self.old.holding) bytes.now (rows_in self.old.holding)))) }
+            (ReplaceLacksRoom (schema_in self.old.holding) bytes.now (rows_in self.old.holding))) }
         ensures broken { IsTrue (is_broken self.old.holding) → result ≡ Err Fault.Broken }
     {
         if self.state == UnitState::IsBroken {
@@ -252,7 +249,7 @@ impl ListUnit {
     /// Takes out the record of a prime value, and tells whether there was one.
     pub fn remove(&mut self, prime: &[u8]) -> Result<bool, Fault>
         requires { IsTrue (is_open self.old.holding) }
-        ensures answer { IfOk result (λ there. there ≡ is_some (row_of (schema_in self.old.holding) prime.now (rows_in self.old.holding))) }
+        ensures answer { IfOk result (λ there. there ≡ remove_answers self.old.holding prime.now) }
         ensures unit { OnOk result (self.new ≡ unit_after_remove self.old prime.now) }
         ensures err { OnErr result (self.new ≡ self.old) }
         ensures fault { AnswersBroken self.old.holding result }
@@ -273,7 +270,7 @@ impl ListUnit {
     /// Closes the unit; a file that was changed is then what its name stands for. A broken unit answers so, and its name stays.
     pub fn shut(&mut self) -> Result<(), Fault>
         requires { IsTrue (is_open self.old.holding) }
-        ensures ok { OnOk result (self.new ≡ record self.old { named = Closed (schema_in self.old.holding) (rows_in self.old.holding); holding = Shut }) }
+        ensures ok { OnOk result (self.new ≡ unit_after_shut self.old) }
         ensures err { OnErr result (self.new ≡ record self.old { holding = Shut }) }
         ensures fault { AnswersBroken self.old.holding result }
     {

@@ -1,9 +1,8 @@
 //! Scans of all rows.
-ghost use Rattle.std.specs.Prelude.{◌≡◌, ◌<◌, ℕ, true, false, Some, Option, length, map, filter, IfSome, option_map};
-ghost use Rattle.indexed_file.specs.Rank.{lowest, lower_of, highest_of, greater_of};
-ghost use Rattle.list_library.specs.Wanted.{is_wanted};
-ghost use Rattle.list_library.specs.Scans.{row_at, prime_at};
-ghost use Rattle.record_layout.specs.Schema.{prime_of};
+ghost use Rattle.std.specs.Prelude.{◌≡◌, ◌<◌, true, false, Some, Option, length, IfSome};
+ghost use Rattle.indexed_file.specs.Rank.{lowest, lower_of, highest_of};
+ghost use Rattle.list_library.specs.Wanted.{lowest_wanted};
+ghost use Rattle.list_library.specs.Scans.{row_at, prime_at, IsGreater, IsNotGreater};
 
 use crate::list_row::ListRow;
 use crate::wanted::{Wanted, comes_before, value};
@@ -25,7 +24,7 @@ fn is_lower(schema: &Schema, k: u8, row: &ListRow, rows: &[ListRow], best: Optio
 #[tactic(auto, using(crate::proofs::ScanLemmas::scan_passed, crate::proofs::ScanLemmas::scan_failed, crate::proofs::ScanLemmas::row_here))]
 pub fn lowest(schema: &Schema, k: u8, wanted: &Wanted, rows: &[ListRow]) -> Option<usize>
     ensures bound { IfSome result (λ i. i < length rows.now) }
-    ensures lowest { row_at rows.now result ≡ lowest schema.now k (filter (is_wanted schema.now k wanted.now) rows.now) }
+    ensures lowest { row_at rows.now result ≡ lowest_wanted schema.now k wanted.now rows.now }
 {
     let mut best = None;
     let mut i = rows.len();
@@ -44,8 +43,8 @@ pub fn lowest(schema: &Schema, k: u8, wanted: &Wanted, rows: &[ListRow]) -> Opti
 /// Whether the prime value of a row is not below that of the row of a place, or there is no place.
 fn is_higher(schema: &Schema, row: &ListRow, rows: &[ListRow], best: Option<usize>) -> bool
     requires { IfSome best (λ i. i < length rows.now) }
-    ensures yes { result ≡ true → greater_of (prime_of schema.now row.now.bytes) (prime_at schema.now rows.now best) ≡ prime_of schema.now row.now.bytes }
-    ensures no { result ≡ false → Some (greater_of (prime_of schema.now row.now.bytes) (prime_at schema.now rows.now best)) ≡ prime_at schema.now rows.now best }
+    ensures yes { result ≡ true → IsGreater schema.now row.now rows.now best }
+    ensures no { result ≡ false → IsNotGreater schema.now row.now rows.now best }
 {
     match best {
         None => true,

@@ -1,8 +1,7 @@
 //! The rows that a call looks for.
-ghost use Rattle.std.specs.Prelude.{◌≡◌, ◌<◌, ℕ, length, List};
+ghost use Rattle.std.specs.Prelude.{◌≡◌, ◌<◌};
 ghost use Rattle.std.specs.Ordering.{is_lt};
 ghost use Rattle.record_layout.specs.Schema.{value_of};
-ghost use Rattle.indexed_file.specs.File.{stamp_of};
 ghost use Rattle.indexed_file.specs.Rank.{admits, satisfies, is_related, row_cmp};
 ghost use Rattle.list_library.specs.Wanted.{is_wanted};
 

@@ -11,7 +11,7 @@ use Rattle.indexed_file.specs.Images.{Trace, ImagesGo, CallGoes, untouched, trac
 use Rattle.indexed_file.proofs.ImageLemmas.{goes_then}
 use Rattle.indexed_file.specs.Calls.{Keeps, OnlyReads, HasRisen, MayFail, MayAnswer, LeavesBroken, AsksAtMost}
 use Rattle.indexed_file.specs.UnitCalls.{RestartsCount, ReadsUnit, ChangesUnit}
-use Rattle.verbs.specs.Pages.{CountsAtMost}
+use Rattle.verbs.specs.Counted.{CountsAtMost}
 
 module _
     {S : Type 0} (shown : Shown S)

@@ -1,15 +1,19 @@
 -- The pages that a statement may ask for. All of this is ours.
-use Rattle.std.specs.Prelude.{ℕ, ◌*◌, ◌≤◌, Bool, true, false, IsTrue, Result}
-use Rattle.io_state.specs.declared.fault.Fault.{Fault}
+use Rattle.std.specs.Prelude.{◌≡◌, ℕ, ◌+◌, ◌*◌, ◌≤◌, Bool, true, false}
+use Rattle.io_state.specs.declared.status.Status.{Status}
 use Rattle.io_state.specs.declared.statement.FileStatement.{FileStatement}
 use Rattle.io_state.specs.declared.statement.FileStatement.TheVariants.{Open, Close, ReadNext, Read, Start, Write, Rewrite, Delete}
-use Rattle.indexed_file.specs.Room.{Room, levels_of, most_to_read, most_to_seek}
+use Rattle.indexed_file.specs.Room.{Room, levels_of, most_to_read, most_to_seek, most_to_change}
 use Rattle.indexed_file.specs.Shown.{Shown}
-use Rattle.indexed_file.specs.Calls.{is_answered}
+use Rattle.verbs.specs.Faults.{is_fault}
 
--- a call that was answered has asked for so many of unit u's pages at most, since the count was restarted
-abbrev pub CountsAtMost : {S X : Type 0} → Shown S → ℕ → ℕ → S → Result X Fault → Type 0
-CountsAtMost shown u most new result = IsTrue (is_answered result) → shown.pages_asked new u ≤ most
+-- a statement that answers no fault has asked for so many of unit u's pages at most, since the count was restarted
+abbrev pub AnswersWithin : {S : Type 0} → Shown S → ℕ → ℕ → S → Status → Type 0
+AnswersWithin shown u most new status = is_fault status ≡ false → shown.pages_asked new u ≤ most
+
+-- a WRITE may have to look for the greatest prime value before it adds its record
+abbrev pub most_to_write : Room → ℕ
+most_to_write room = most_to_seek room 0 + most_to_change room
 
 -- the statements that restart the count of their unit where they ask the library: all but OPEN and CLOSE
 abbrev pub counts_pages : FileStatement → Bool

@@ -1,28 +1,25 @@
 -- What a statement promises that is performed on one file of a run.
-use Rattle.std.specs.Prelude.{◌≡◌, ◌≤◌, ◌⊎◌, ℕ, Bool, true, false, not, ◌&&◌, List, take, Option, IsTrue}
+use Rattle.std.specs.Prelude.{◌≡◌, ◌⊎◌, ℕ, Bool, true, false, not, ◌&&◌, List, take, Option, IsTrue}
 use Rattle.std.specs.Option.{option_flatten}
 use Rattle.io_state.specs.declared.status.Status.{Status}
 use Rattle.io_state.specs.declared.status.Status.TheVariants.{BoundaryViolation, PermanentError, ConnectorFailed, OutOfSequence}
 use Rattle.io_state.specs.declared.statement.FileStatement.{FileStatement}
 use Rattle.io_state.specs.declared.statement.FileStatement.TheVariants.{Open, Close, ReadNext, Read, Start, Write, Rewrite, Delete}
-use Rattle.io_state.specs.Permission.{is_sequential}
-use Rattle.record_layout.specs.Schema.{prime_of}
 use Rattle.indexed_file.specs.World.{OnlyAt, name_at}
 use Rattle.indexed_file.specs.Shown.{Shown}
 use Rattle.indexed_file.specs.Believed.{Believed}
-use Rattle.indexed_file.specs.Images.{Trace, ImagesGo, CallGoes}
+use Rattle.indexed_file.specs.Images.{ImagesGo}
 use Rattle.indexed_file.specs.Calls.{Keeps, HasRisen}
 use Rattle.verbs.specs.declared.answer.Answer.{Answer}
 use Rattle.verbs.specs.Connector.{Session, FileState}
-use Rattle.verbs.specs.Faults.{is_fault}
-use Rattle.verbs.specs.Fits.{Fits, IsStanding, IsCaused, asks, closes_failed, has_failed, key_of}
+use Rattle.verbs.specs.Fits.{Fits, IsStanding, asks, closes_failed, has_failed, key_of}
 use Rattle.verbs.specs.Full.{TellsRoom, lacks_room}
 use Rattle.verbs.specs.Held.{Held, Performs, Decides, state_of, silent}
-use Rattle.verbs.specs.Pages.{counts_pages, most_asked}
-use Rattle.verbs.specs.Refusals.{is_early, is_refusal}
+use Rattle.verbs.specs.Pages.{AnswersWithin, counts_pages, most_asked}
+use Rattle.verbs.specs.Refusals.{is_refusal}
 use Rattle.verbs.specs.Traces.{trace_of}
 use Rattle.verbs.specs.Verbs.{perform, reaches}
-use Rattle.verbs.specs.Writing.{is_not_above}
+use Rattle.verbs.specs.Writing.{is_late}
 
 -- one file of a run in memory: its connector, the library that it is of, and its record area
 pub record FileInMemory (S : Type 0) : Type 0 where
@@ -42,6 +39,10 @@ abbrev pub Trusted : {S : Type 0} → Shown S → ℕ → FileInMemory S → Fil
 Trusted shown u before after fact =
     Believed shown u before.library after.library (IsStanding before.held (shown.world before.library) u → fact)
 
+-- what the connector keeps stays true
+abbrev pub StaysStanding : {S : Type 0} → Shown S → ℕ → FileInMemory S → FileInMemory S → Type 0
+StaysStanding shown u before after = Trusted shown u before after (IsStanding after.held (shown.world after.library) u)
+
 -- WRITE and REWRITE store a record
 abbrev pub stores : FileStatement → Bool
 stores (Open mode) = false
@@ -55,7 +56,7 @@ stores Delete = false
 
 -- why a status is answered: 30 only where the count of the device's faults rose, or by CLOSE of a connector that has failed; 92 only by a
 -- connector that has failed; 24 only where a record is to be stored
-pub record HasCause (statement : FileStatement) (session : Option Session) (status : Status) (old new : ℕ) : Type 0 where
+pub record StatusHasCause (statement : FileStatement) (session : Option Session) (status : Status) (old new : ℕ) : Type 0 where
   pub device : status ≡ PermanentError → HasRisen old new ⊎ IsTrue (closes_failed statement session)
   pub failed : status ≡ ConnectorFailed → IsTrue (has_failed session)
   pub full : status ≡ BoundaryViolation → IsTrue (stores statement)
@@ -68,10 +69,7 @@ is_known_late (Close lock) n held s = false
 is_known_late ReadNext n held s = false
 is_known_late (Read key) n held s = false
 is_known_late (Start key length relation) n held s = false
-is_known_late Write n held s =
-    reaches Write n s
-    && (is_sequential s.connector.access
-    && is_not_above (prime_of s.connector.schema (take n s.area)) (option_flatten held.highest))
+is_known_late Write n held s = reaches Write n s && is_late s.connector (option_flatten held.highest) (take n s.area)
 is_known_late Rewrite n held s = false
 is_known_late Delete n held s = false
 
@@ -97,33 +95,29 @@ pub record IsPerformed
       → (after.library ≡ before.library) × (answer ≡ silent OutOfSequence)
   -- CLOSE of a connector that has failed answers 30, whatever the library says; and 30, 92 and 24 have their causes
   pub failed_close : closes_failed statement before.held.connector.session ≡ true → answer ≡ silent PermanentError
-  pub cause : HasCause statement before.held.connector.session answer.status
+  pub cause : StatusHasCause statement before.held.connector.session answer.status
       (shown.fault_count before.library) (shown.fault_count after.library)
   -- the answer and what is left are the definitions', or those of a marred step; and what the connector keeps is true
   pub step : Trusted shown u before after
       (Performs statement n (state_in shown u before) answer (state_in shown u after))
-  pub standing : Trusted shown u before after (IsStanding after.held (shown.world after.library) u)
+  pub standing : StaysStanding shown u before after
   -- 24 tells of the room of the file
   pub room : Trusted shown u before after
       (TellsRoom (perform statement n (state_in shown u before))
       (lacks_room statement n (shown.room before.library u) (state_in shown u before)) answer.status)
   -- so many pages are asked for at most
   pub asked : Trusted shown u before after
-      (IsTrue (counts_pages statement) → asks_library statement n before.held (state_in shown u before) ≡ true → is_fault answer.status ≡ false
-      → shown.pages_asked after.library u ≤ most_asked statement (key_of before.held.connector.session) (shown.room before.library u))
+      (IsTrue (counts_pages statement) → asks_library statement n before.held (state_in shown u before) ≡ true
+      → AnswersWithin shown u (most_asked statement (key_of before.held.connector.session) (shown.room before.library u))
+      after.library answer.status)
   -- what a crash may leave
   pub images : Trusted shown u before after
       (ImagesGo shown.Throughout (name_at (shown.world before.library) u)
       (trace_of statement (state_in shown u before) answer.status) before.library after.library)
 
--- a part of a statement behind its checks, which answers none of the early statuses: what a crash in it may leave is this
-pub record IsPart
-    {S : Type 0} (shown : Shown S) (u : ℕ) (trace : Trace)
-    (before : FileInMemory S) (status : Status) (after : FileInMemory S) : Type 0 where
-  pub fits : Fits after.held (shown.world after.library) u
-  pub schema : after.held.connector.schema ≡ before.held.connector.schema
-  pub only : OnlyAt u (shown.world before.library) (shown.world after.library)
-  pub keeps : Keeps shown before.library after.library
-  pub late : is_early status ≡ false
-  pub cause : IsCaused status false (shown.fault_count before.library) (shown.fault_count after.library)
-  pub images : CallGoes shown u trace before.library after.library
+-- a statement without a record was performed: whatever stands in the area stays there
+abbrev pub IsPerformedWithoutRecord
+    : {S : Type 0} → Shown S → ℕ → FileStatement → FileInMemory S → Status → FileInMemory S → Type 0
+IsPerformedWithoutRecord shown u statement before status after =
+    (n : ℕ) → (area : List ℕ)
+    → IsPerformed shown u statement n (record before { area = area }) (silent status) (record after { area = area })

@@ -1,14 +1,13 @@
 //! Calls of a library that begin the count of the pages that their unit asks for.
-ghost use Rattle.std.specs.Prelude.{◌≡◌, ◌≢◌, ◌≤◌, ◌<◌, ◌||◌, length, not, IsTrue, IsFalse, IfOk, IfErr, OnOk, OnErr, option_map, None};
+ghost use Rattle.std.specs.Prelude.{◌≡◌, ◌≢◌, ◌≤◌, ◌<◌, length, IsTrue, IfOk, IfErr, OnOk, OnErr, option_map, None};
 ghost use Rattle.indexed_file.specs.World.{holding_at, schema_at, is_open};
-ghost use Rattle.indexed_file.specs.Room.{most_to_read, most_to_seek, most_to_change};
+ghost use Rattle.indexed_file.specs.Room.{most_to_read, most_to_seek};
 ghost use Rattle.indexed_file.specs.Answers.{area_after};
-ghost use Rattle.indexed_file.specs.UnitAnswers.{row_by_key, row_next, row_sought, found_at, key_at, highest_at, replacing_clashes, replacing_is_full, replacing_answers, after_replacing, removing_answers, after_removing};
+ghost use Rattle.indexed_file.specs.UnitAnswers.{row_by_key, row_next, row_sought, found_at, key_at, highest_at, replacing_answers, after_replacing, removing_answers, after_removing, replacing_has_room, ReplacingLacksRoom};
 ghost use Rattle.indexed_file.specs.Believed.{Believed};
 ghost use Rattle.indexed_file.specs.Images.{is_replaced, is_removed};
-ghost use Rattle.indexed_file.specs.Calls.{OnlyReads};
-ghost use Rattle.indexed_file.specs.UnitCalls.{ReadsUnit, ChangesUnit};
-ghost use Rattle.verbs.specs.Pages.{CountsAtMost};
+ghost use Rattle.indexed_file.specs.UnitCalls.{GivesUp};
+ghost use Rattle.verbs.specs.Counted.{CountsReading, CountsChange};
 
 use indexed_file::{Found, Library, Replaced};
 use io_state::{Fault, Key, Position, Relation};
@@ -31,8 +30,7 @@ pub fn by_key<L: Library>(
         (OnOk result (area.new ≡ area_after area.old (row_by_key (L.shown.world lib.old) u k key.now.items))) }
     ensures none { result ≡ Ok None → area.new ≡ area.old }
     ensures err { OnErr result (area.new ≡ area.old) }
-    ensures reads { ReadsUnit L.shown u (most_to_read (L.shown.room lib.old u) k) lib.old lib.new result }
-    ensures asked { Believed L.shown u lib.old lib.new (CountsAtMost L.shown u (most_to_read (L.shown.room lib.old u) k) lib.new result) }
+    ensures reads { CountsReading L.shown u (most_to_read (L.shown.room lib.old u) k) lib.old lib.new result }
 {
     lib.restart_count(u);
     lib.by_key(u, k, key, area)
@@ -56,8 +54,7 @@ pub fn next<L: Library>(
         (OnOk result (area.new ≡ area_after area.old (row_next (L.shown.world lib.old) u k position.now))) }
     ensures none { result ≡ Ok None → area.new ≡ area.old }
     ensures err { OnErr result (area.new ≡ area.old) }
-    ensures reads { ReadsUnit L.shown u (most_to_read (L.shown.room lib.old u) k) lib.old lib.new result }
-    ensures asked { Believed L.shown u lib.old lib.new (CountsAtMost L.shown u (most_to_read (L.shown.room lib.old u) k) lib.new result) }
+    ensures reads { CountsReading L.shown u (most_to_read (L.shown.room lib.old u) k) lib.old lib.new result }
 {
     lib.restart_count(u);
     lib.next(u, k, position, area)
@@ -76,8 +73,7 @@ pub fn seek<L: Library>(
     requires key { k < length (schema_at (L.shown.world lib.old) u).keys }
     ensures found { Believed L.shown u lib.old lib.new (IfOk result (λ found.
         found ≡ key_at (L.shown.world lib.old) u k (row_sought (L.shown.world lib.old) u k relation operand.now))) }
-    ensures reads { ReadsUnit L.shown u (most_to_seek (L.shown.room lib.old u) k) lib.old lib.new result }
-    ensures asked { Believed L.shown u lib.old lib.new (CountsAtMost L.shown u (most_to_seek (L.shown.room lib.old u) k) lib.new result) }
+    ensures reads { CountsReading L.shown u (most_to_seek (L.shown.room lib.old u) k) lib.old lib.new result }
 {
     lib.restart_count(u);
     lib.seek(u, k, operand, relation)
@@ -89,8 +85,7 @@ pub fn highest<L: Library>(lib: &mut L, u: usize) -> Result<Option<Key>, Fault>
     requires opened { IsTrue (is_open (holding_at (L.shown.world lib.old) u)) }
     ensures found { Believed L.shown u lib.old lib.new
         (IfOk result (λ found. option_map (λ key. key.items) found ≡ highest_at (L.shown.world lib.old) u)) }
-    ensures reads { ReadsUnit L.shown u (most_to_seek (L.shown.room lib.old u) 0) lib.old lib.new result }
-    ensures asked { Believed L.shown u lib.old lib.new (CountsAtMost L.shown u (most_to_seek (L.shown.room lib.old u) 0) lib.new result) }
+    ensures reads { CountsReading L.shown u (most_to_seek (L.shown.room lib.old u) 0) lib.old lib.new result }
 {
     lib.restart_count(u);
     lib.highest(u)
@@ -106,13 +101,11 @@ pub fn replace<L: Library>(lib: &mut L, u: usize, bytes: &[u8]) -> Result<Replac
         (IfOk result (λ answer. answer ≡ replacing_answers (L.shown.world lib.old) u bytes.now)) }
     ensures done { Believed L.shown u lib.old lib.new
         (OnOk result (L.shown.world lib.new ≡ after_replacing (L.shown.world lib.old) u bytes.now)) }
-    ensures room { Believed L.shown u lib.old lib.new (OnOk result (IsTrue (replacing_clashes (L.shown.world lib.old) u bytes.now
-        || not (replacing_is_full (L.shown.room lib.old u) (L.shown.world lib.old) u bytes.now)))) }
-    ensures full { result ≡ Err Fault.Full → OnlyReads u (L.shown.is_honest lib.new) (L.shown.world lib.old) (L.shown.world lib.new)
-        × Believed L.shown u lib.old lib.new (IsFalse (replacing_clashes (L.shown.world lib.old) u bytes.now)
-        × IsTrue (replacing_is_full (L.shown.room lib.old u) (L.shown.world lib.old) u bytes.now)) }
-    ensures changes { ChangesUnit L.shown u is_replaced lib.old lib.new result }
-    ensures asked { Believed L.shown u lib.old lib.new (CountsAtMost L.shown u (most_to_change (L.shown.room lib.old u)) lib.new result) }
+    ensures room { Believed L.shown u lib.old lib.new
+        (OnOk result (IsTrue (replacing_has_room (L.shown.room lib.old u) (L.shown.world lib.old) u bytes.now))) }
+    ensures full { result ≡ Err Fault.Full → GivesUp L.shown u lib.old lib.new
+        (ReplacingLacksRoom (L.shown.room lib.old u) (L.shown.world lib.old) u bytes.now) }
+    ensures changes { CountsChange L.shown u is_replaced lib.old lib.new result }
 {
     lib.restart_count(u);
     lib.replace(u, bytes)
@@ -127,8 +120,7 @@ pub fn remove<L: Library>(lib: &mut L, u: usize, key: &Key) -> Result<bool, Faul
     ensures done { Believed L.shown u lib.old lib.new
         (OnOk result (L.shown.world lib.new ≡ after_removing (L.shown.world lib.old) u key.now.items)) }
     ensures not_full { IfErr result (λ fault. fault ≢ Fault.Full) }
-    ensures changes { ChangesUnit L.shown u is_removed lib.old lib.new result }
-    ensures asked { Believed L.shown u lib.old lib.new (CountsAtMost L.shown u (most_to_change (L.shown.room lib.old u)) lib.new result) }
+    ensures changes { CountsChange L.shown u is_removed lib.old lib.new result }
 {
     lib.restart_count(u);
     lib.remove(u, key)

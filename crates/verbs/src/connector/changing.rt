@@ -1,24 +1,16 @@
 //! REWRITE and DELETE.
-ghost use Rattle.std.specs.Prelude.{◌≡◌, ◌<◌, ◌≤◌, ℕ, List, length as count_of, None, IsTrue, true, false, option_map, []};
-ghost use Rattle.record_layout.specs.Schema.{prime_of};
-ghost use Rattle.indexed_file.specs.Rank.{highest_of};
-ghost use Rattle.indexed_file.specs.Change.{row_of};
-ghost use Rattle.indexed_file.specs.World.{OnlyAt, name_at, holding_at, schema_at, file_at, is_open, is_broken};
-ghost use Rattle.indexed_file.specs.Room.{is_full_to_replace, most_to_change};
+ghost use Rattle.std.specs.Prelude.{◌≡◌, ◌<◌, ℕ, length as count_of, true, false, option_map, []};
+ghost use Rattle.indexed_file.specs.Room.{most_to_change};
 ghost use Rattle.indexed_file.specs.Believed.{Believed};
-ghost use Rattle.indexed_file.specs.Calls.{Keeps, OnlyReads, MayFail};
 ghost use Rattle.io_state.specs.declared.statement.FileStatement.TheVariants.{Rewrite, Delete};
-ghost use Rattle.verbs.specs.Connector.{Session};
-ghost use Rattle.verbs.specs.Writing.{deleted};
-ghost use Rattle.verbs.specs.Verbs.{perform, reaches};
-ghost use Rattle.verbs.specs.Refusals.{is_early, is_refusal};
-ghost use Rattle.verbs.specs.Full.{TellsRoom, lacks_room};
-ghost use Rattle.verbs.specs.Faults.{is_boundary_violation, is_fault};
-ghost use Rattle.verbs.specs.Performed.{IsPerformed, IsPart, in_memory};
-ghost use Rattle.verbs.specs.Held.{Performs, Decides, Changes, state_of, silent, unread, bytes_of, rewritten_as, prime_by};
-ghost use Rattle.verbs.specs.Fits.{Fits, IsStanding, IsCaused, has_failed, last_read_of, updates};
-ghost use Rattle.indexed_file.specs.Images.{CallGoes};
+ghost use Rattle.verbs.specs.Refusals.{is_refusal};
+ghost use Rattle.verbs.specs.Faults.{is_boundary_violation};
+ghost use Rattle.verbs.specs.Performed.{IsPerformed, in_memory, StaysStanding};
+ghost use Rattle.verbs.specs.Parts.{IsPart, IsChangeMade, rewriting, deleting};
+ghost use Rattle.verbs.specs.Held.{silent, bytes_of, prime_by};
+ghost use Rattle.verbs.specs.Fits.{Fits, updates, IsAboutToChange, IsRecordOf};
 ghost use Rattle.verbs.specs.Traces.{trace_of_change_by};
+ghost use Rattle.verbs.specs.Pages.{AnswersWithin};
 
 use super::Connector;
 use crate::checks::{
@@ -66,29 +58,18 @@ impl Connector {
 
     /// Puts a record in the place of that of its prime value.
     fn substitute<L: Library>(&mut self, lib: &mut L, u: usize, bytes: &[u8]) -> Status
-        requires fits { Fits self.old (L.shown.world lib.old) u }
-        requires open { IsTrue (is_open (holding_at (L.shown.world lib.old) u)) }
-        requires works { has_failed self.old.connector.session ≡ false }
-        requires unread { last_read_of self.old.connector.session ≡ None }
+        requires ready { IsAboutToChange self.old (L.shown.world lib.old) u }
         requires updates { updates self.old.connector.session ≡ true }
-        requires least { self.old.connector.schema.least ≤ count_of bytes.now }
-        requires greatest { count_of bytes.now ≤ self.old.connector.schema.greatest }
+        requires fit { IsRecordOf self.old.connector.schema bytes.now }
         ensures part { IsPart L.shown u (trace_of_change_by result)
             (in_memory self.old lib.old []) result (in_memory self.new lib.new []) }
-        ensures step { (area : List ℕ) → (session : Session) → self.old.connector.session ≡ Some (unread session)
-            → Believed L.shown u lib.old lib.new
-            (Changes Rewrite (rewritten_as bytes.now (state_of self.old (L.shown.world lib.old) u area) session)
-            (state_of self.old (L.shown.world lib.old) u area)
-            result (state_of self.new (L.shown.world lib.new) u area)) }
+        ensures change { Believed L.shown u lib.old lib.new
+            (IsChangeMade L.shown u (rewriting bytes.now)
+            (in_memory self.old lib.old []) result (in_memory self.new lib.new [])) }
         ensures late { is_refusal Rewrite result ≡ false }
-        ensures room { (area : List ℕ) → (session : Session) → Believed L.shown u lib.old lib.new
-            (TellsRoom (rewritten_as bytes.now (state_of self.old (L.shown.world lib.old) u area) session)
-            (is_full_to_replace (L.shown.room lib.old u) self.old.connector.schema bytes.now (file_at (L.shown.world lib.old) u)) result) }
-        ensures standing { Believed L.shown u lib.old lib.new
-            (IsStanding self.old (L.shown.world lib.old) u
-            → IsStanding self.new (L.shown.world lib.new) u) }
-        ensures asked { Believed L.shown u lib.old lib.new (is_fault result ≡ false
-            → L.shown.pages_asked lib.new u ≤ most_to_change (L.shown.room lib.old u)) }
+        ensures standing { StaysStanding L.shown u (in_memory self.old lib.old []) (in_memory self.new lib.new []) }
+        ensures asked { Believed L.shown u lib.old lib.new
+            (AnswersWithin L.shown u (most_to_change (L.shown.room lib.old u)) lib.new result) }
     {
         match counted::replace(lib, u, bytes) {
             Ok(Replaced::Done { repeated }) => {
@@ -144,24 +125,17 @@ impl Connector {
 
     /// Takes out the record of a prime value.
     fn take_out<L: Library>(&mut self, lib: &mut L, u: usize, prime: &Key) -> Status
-        requires fits { Fits self.old (L.shown.world lib.old) u }
-        requires open { IsTrue (is_open (holding_at (L.shown.world lib.old) u)) }
-        requires works { has_failed self.old.connector.session ≡ false }
-        requires unread { last_read_of self.old.connector.session ≡ None }
+        requires ready { IsAboutToChange self.old (L.shown.world lib.old) u }
         requires updates { updates self.old.connector.session ≡ true }
         ensures part { IsPart L.shown u (trace_of_change_by result)
             (in_memory self.old lib.old []) result (in_memory self.new lib.new []) }
-        ensures step { (area : List ℕ) → (session : Session) → self.old.connector.session ≡ Some (unread session)
-            → Believed L.shown u lib.old lib.new
-            (Changes Delete (deleted prime.now.items (state_of self.old (L.shown.world lib.old) u area) session)
-            (state_of self.old (L.shown.world lib.old) u area)
-            result (state_of self.new (L.shown.world lib.new) u area)) }
+        ensures change { Believed L.shown u lib.old lib.new
+            (IsChangeMade L.shown u (deleting prime.now.items)
+            (in_memory self.old lib.old []) result (in_memory self.new lib.new [])) }
         ensures not_full { is_boundary_violation result ≡ false }
-        ensures standing { Believed L.shown u lib.old lib.new
-            (IsStanding self.old (L.shown.world lib.old) u
-            → IsStanding self.new (L.shown.world lib.new) u) }
-        ensures asked { Believed L.shown u lib.old lib.new (is_fault result ≡ false
-            → L.shown.pages_asked lib.new u ≤ most_to_change (L.shown.room lib.old u)) }
+        ensures standing { StaysStanding L.shown u (in_memory self.old lib.old []) (in_memory self.new lib.new []) }
+        ensures asked { Believed L.shown u lib.old lib.new
+            (AnswersWithin L.shown u (most_to_change (L.shown.room lib.old u)) lib.new result) }
     {
         match counted::remove(lib, u, prime) {
             Ok(true) => {

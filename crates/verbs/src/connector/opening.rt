@@ -1,22 +1,18 @@
 //! OPEN.
-ghost use Rattle.std.specs.Prelude.{◌≡◌, ◌<◌, ℕ, List, None, IsTrue, true, false, []};
-ghost use Rattle.record_layout.specs.Schema.{Schema as Keys};
+ghost use Rattle.std.specs.Prelude.{◌≡◌, ◌<◌, None, IsTrue, true, false, []};
 ghost use Rattle.io_state.specs.Status.{is_successful};
 ghost use Rattle.indexed_file.specs.declared.answer.Seen.TheVariants.{Sound};
-ghost use Rattle.indexed_file.specs.Answers.{seen_of};
-ghost use Rattle.indexed_file.specs.World.{OnlyAt, Absent, name_at, holding_at, named_at, schema_at, is_looked};
+ghost use Rattle.indexed_file.specs.World.{Absent, holding_at, named_at, schema_at, is_looked};
 ghost use Rattle.indexed_file.specs.Believed.{Believed};
-ghost use Rattle.indexed_file.specs.Calls.{Keeps};
 ghost use Rattle.io_state.specs.declared.statement.FileStatement.TheVariants.{Open};
 ghost use Rattle.verbs.specs.Connector.{answers};
 ghost use Rattle.verbs.specs.Opening.{created, open_absent, open_named};
 ghost use Rattle.verbs.specs.Marred.{creates};
-ghost use Rattle.verbs.specs.Refusals.{is_early};
 ghost use Rattle.verbs.specs.Faults.{is_boundary_violation};
-ghost use Rattle.verbs.specs.Held.{Changes, state_of, silent};
-ghost use Rattle.verbs.specs.Performed.{IsPerformed, IsPart, in_memory};
-ghost use Rattle.verbs.specs.Fits.{Fits, IsStanding, IsCaused, is_output};
-ghost use Rattle.indexed_file.specs.Images.{CallGoes, untouched};
+ghost use Rattle.verbs.specs.Performed.{in_memory, IsPerformedWithoutRecord};
+ghost use Rattle.verbs.specs.Parts.{IsPart, ChangesTo};
+ghost use Rattle.verbs.specs.Fits.{Fits, IsStanding, is_output, HasSoundFile, MakesFile};
+ghost use Rattle.indexed_file.specs.Images.{untouched};
 ghost use Rattle.verbs.specs.Traces.{trace_of_open};
 
 use super::Connector;
@@ -29,8 +25,8 @@ impl Connector {
     /// OPEN.
     pub fn open<L: Library>(&mut self, lib: &mut L, u: usize, mode: OpenMode) -> Status
         requires fits { Fits self.old (L.shown.world lib.old) u }
-        ensures { (n : ℕ) → (area : List ℕ) → IsPerformed L.shown u (Open mode) n (in_memory self.old lib.old area)
-            (silent result) (in_memory self.new lib.new area) }
+        ensures { IsPerformedWithoutRecord L.shown u (Open mode)
+            (in_memory self.old lib.old []) result (in_memory self.new lib.new []) }
     {
         if self.mode.is_some() {
             self.last_read = None;
@@ -58,11 +54,9 @@ impl Connector {
         requires mode { is_output mode ≡ false }
         ensures part { IsPart L.shown u (trace_of_open (creates mode self.old.connector.optional Absent) result)
             (in_memory self.old lib.old []) result (in_memory self.new lib.new []) }
-        ensures step { (area : List ℕ) → Believed L.shown u lib.old lib.new
-            (named_at (L.shown.world lib.old) u ≡ Absent
-            → Changes (Open mode) (open_absent mode (state_of self.old (L.shown.world lib.old) u area))
-            (state_of self.old (L.shown.world lib.old) u area)
-            result (state_of self.new (L.shown.world lib.new) u area)) }
+        ensures step { Believed L.shown u lib.old lib.new (named_at (L.shown.world lib.old) u ≡ Absent
+            → ChangesTo L.shown u (Open mode) (open_absent mode)
+            (in_memory self.old lib.old []) result (in_memory self.new lib.new [])) }
         ensures not_full { is_boundary_violation result ≡ false }
         ensures standing { IsTrue (L.shown.is_honest lib.new) → named_at (L.shown.world lib.old) u ≡ Absent
             → IsStanding self.new (L.shown.world lib.new) u }
@@ -93,13 +87,11 @@ impl Connector {
         requires schema { schema_at (L.shown.world lib.old) u ≡ schema.now }
         ensures part { IsPart L.shown u untouched
             (in_memory self.old lib.old []) result (in_memory self.new lib.new []) }
-        ensures step { (area : List ℕ) → Believed L.shown u lib.old lib.new
-            (Sound schema.now ≡ seen_of (named_at (L.shown.world lib.old) u)
-            → Changes (Open mode) (open_named mode (named_at (L.shown.world lib.old) u) (state_of self.old (L.shown.world lib.old) u area))
-            (state_of self.old (L.shown.world lib.old) u area)
-            result (state_of self.new (L.shown.world lib.new) u area)) }
+        ensures step { Believed L.shown u lib.old lib.new (HasSoundFile (L.shown.world lib.old) u schema.now
+            → ChangesTo L.shown u (Open mode) (open_named mode (named_at (L.shown.world lib.old) u))
+            (in_memory self.old lib.old []) result (in_memory self.new lib.new [])) }
         ensures not_full { is_boundary_violation result ≡ false }
-        ensures standing { IsTrue (L.shown.is_honest lib.new) → Sound schema.now ≡ seen_of (named_at (L.shown.world lib.old) u)
+        ensures standing { IsTrue (L.shown.is_honest lib.new) → HasSoundFile (L.shown.world lib.old) u schema.now
             → IsStanding self.new (L.shown.world lib.new) u }
     {
         let same = schema.same(&self.schema);
@@ -128,13 +120,11 @@ impl Connector {
         requires status { IsTrue (is_successful status) }
         ensures part { IsPart L.shown u (trace_of_open true result)
             (in_memory self.old lib.old []) result (in_memory self.new lib.new []) }
-        ensures step { (area : List ℕ) → Believed L.shown u lib.old lib.new
-            (IsTrue (creates mode self.old.connector.optional (named_at (L.shown.world lib.old) u))
-            → Changes (Open mode) (answers status (created mode (state_of self.old (L.shown.world lib.old) u area)))
-            (state_of self.old (L.shown.world lib.old) u area)
-            result (state_of self.new (L.shown.world lib.new) u area)) }
+        ensures step { Believed L.shown u lib.old lib.new (MakesFile mode self.old (L.shown.world lib.old) u
+            → ChangesTo L.shown u (Open mode) (λ s. answers status (created mode s))
+            (in_memory self.old lib.old []) result (in_memory self.new lib.new [])) }
         ensures not_full { is_boundary_violation result ≡ false }
-        ensures standing { IsTrue (L.shown.is_honest lib.new) → IsTrue (creates mode self.old.connector.optional (named_at (L.shown.world lib.old) u))
+        ensures standing { IsTrue (L.shown.is_honest lib.new) → MakesFile mode self.old (L.shown.world lib.old) u
             → IsStanding self.new (L.shown.world lib.new) u }
     {
         match lib.create(u, &self.schema) {

@@ -1,28 +1,20 @@
 //! WRITE.
-ghost use Rattle.std.specs.Option.{option_flatten};
-ghost use Rattle.std.specs.Prelude.{◌≡◌, ◌<◌, ◌≤◌, ◌+◌, ◌&&◌, ℕ, List, length as count_of, Some, None, IsTrue, true, false, OnOk, OnErr, []};
+ghost use Rattle.std.specs.Prelude.{◌≡◌, ◌<◌, ◌+◌, length as count_of, Some, None, true, false, OnErr, []};
 ghost use Rattle.record_layout.specs.Schema.{prime_of};
-ghost use Rattle.indexed_file.specs.Rank.{highest_of};
-ghost use Rattle.indexed_file.specs.World.{OnlyAt, name_at, holding_at, file_at, is_open};
+ghost use Rattle.indexed_file.specs.World.{file_at};
 ghost use Rattle.indexed_file.specs.Room.{most_to_seek, most_to_change};
 ghost use Rattle.indexed_file.specs.Believed.{Believed};
-ghost use Rattle.indexed_file.specs.Calls.{Keeps};
-ghost use Rattle.indexed_file.specs.UnitCalls.{ReadsUnit};
-ghost use Rattle.indexed_file.specs.UnitAnswers.{adding_is_full};
-ghost use Rattle.indexed_file.specs.Images.{CallGoes};
 ghost use Rattle.io_state.specs.Permission.{is_sequential};
 ghost use Rattle.io_state.specs.declared.status.Status.TheVariants.{OutOfSequence};
 ghost use Rattle.io_state.specs.declared.statement.FileStatement.TheVariants.{Write};
-ghost use Rattle.verbs.specs.Connector.{Session};
-ghost use Rattle.verbs.specs.Writing.{stored, written, is_not_above};
-ghost use Rattle.verbs.specs.Refusals.{is_early};
-ghost use Rattle.verbs.specs.Faults.{is_fault};
-ghost use Rattle.verbs.specs.Full.{TellsRoom};
-ghost use Rattle.verbs.specs.Held.{Changes, state_of, silent, unread, held_after_store};
-ghost use Rattle.verbs.specs.Fits.{Fits, IsStanding, IsHighestOf, IsCaused, has_failed, last_read_of, writes};
+ghost use Rattle.verbs.specs.Writing.{is_late};
+ghost use Rattle.verbs.specs.Held.{silent, held_after_store};
+ghost use Rattle.verbs.specs.Fits.{Fits, is_late_in, knows_late, writes, IsAboutToChange, IsRecordOf, LearnsHighest, LacksHighest};
 ghost use Rattle.verbs.specs.Traces.{trace_of_change_by};
-ghost use Rattle.verbs.specs.Pages.{CountsAtMost};
-ghost use Rattle.verbs.specs.Performed.{IsPerformed, IsPart, in_memory};
+ghost use Rattle.verbs.specs.Pages.{AnswersWithin, most_to_write};
+ghost use Rattle.verbs.specs.Counted.{CountsReading};
+ghost use Rattle.verbs.specs.Performed.{IsPerformed, in_memory, Trusted, StaysStanding};
+ghost use Rattle.verbs.specs.Parts.{IsPart, IsChangeMade, writing, storing};
 
 use super::Connector;
 use crate::checks::{is_length, is_not_above, is_sequential, status_by};
@@ -58,34 +50,18 @@ impl Connector {
 
     /// Adds a record, whose prime value has to be above the greatest of the file in sequential access.
     fn put<L: Library>(&mut self, lib: &mut L, u: usize, bytes: &[u8]) -> Status
-        requires fits { Fits self.old (L.shown.world lib.old) u }
-        requires open { IsTrue (is_open (holding_at (L.shown.world lib.old) u)) }
-        requires works { has_failed self.old.connector.session ≡ false }
+        requires ready { IsAboutToChange self.old (L.shown.world lib.old) u }
         requires writes { writes self.old.connector.access self.old.connector.session ≡ true }
-        requires unread { last_read_of self.old.connector.session ≡ None }
-        requires least { self.old.connector.schema.least ≤ count_of bytes.now }
-        requires greatest { count_of bytes.now ≤ self.old.connector.schema.greatest }
+        requires fit { IsRecordOf self.old.connector.schema bytes.now }
         ensures part { IsPart L.shown u (trace_of_change_by result)
             (in_memory self.old lib.old []) result (in_memory self.new lib.new []) }
-        ensures step { (area : List ℕ) → (session : Session) → self.old.connector.session ≡ Some (unread session)
-            → Believed L.shown u lib.old lib.new
-            (IsStanding self.old (L.shown.world lib.old) u
-            → Changes Write (written bytes.now (state_of self.old (L.shown.world lib.old) u area) session)
-            (state_of self.old (L.shown.world lib.old) u area)
-            result (state_of self.new (L.shown.world lib.new) u area)) }
-        ensures room { (area : List ℕ) → (session : Session) → Believed L.shown u lib.old lib.new
-            (IsStanding self.old (L.shown.world lib.old) u
-            → TellsRoom (written bytes.now (state_of self.old (L.shown.world lib.old) u area) session)
-            (adding_is_full (L.shown.room lib.old u) (L.shown.world lib.old) u) result) }
-        ensures standing { Believed L.shown u lib.old lib.new
-            (IsStanding self.old (L.shown.world lib.old) u
-            → IsStanding self.new (L.shown.world lib.new) u) }
-        ensures known { IsTrue (is_sequential self.old.connector.access)
-            → IsTrue (is_not_above (prime_of self.old.connector.schema bytes.now) (option_flatten self.old.highest))
-            → (lib.new ≡ lib.old) × (result ≡ OutOfSequence) }
-        ensures asked { Believed L.shown u lib.old lib.new ((IsTrue (is_sequential self.old.connector.access)
-            → is_not_above (prime_of self.old.connector.schema bytes.now) (option_flatten self.old.highest) ≡ false) → is_fault result ≡ false
-            → L.shown.pages_asked lib.new u ≤ most_to_seek (L.shown.room lib.old u) 0 + most_to_change (L.shown.room lib.old u)) }
+        ensures change { Trusted L.shown u (in_memory self.old lib.old []) (in_memory self.new lib.new [])
+            (IsChangeMade L.shown u (writing bytes.now)
+            (in_memory self.old lib.old []) result (in_memory self.new lib.new [])) }
+        ensures standing { StaysStanding L.shown u (in_memory self.old lib.old []) (in_memory self.new lib.new []) }
+        ensures known { knows_late self.old bytes.now ≡ true → (lib.new ≡ lib.old) × (result ≡ OutOfSequence) }
+        ensures asked { Believed L.shown u lib.old lib.new (knows_late self.old bytes.now ≡ false
+            → AnswersWithin L.shown u (most_to_write (L.shown.room lib.old u)) lib.new result) }
     {
         let known = self.is_late(bytes);
         if known {
@@ -103,18 +79,13 @@ impl Connector {
 
     /// Begins the count of pages, and in sequential access asks for the greatest prime value of the file, unless it is known.
     fn learn_highest<L: Library>(&mut self, lib: &mut L, u: usize) -> Result<(), Fault>
-        requires fits { Fits self.old (L.shown.world lib.old) u }
-        requires open { IsTrue (is_open (holding_at (L.shown.world lib.old) u)) }
-        requires works { has_failed self.old.connector.session ≡ false }
-        requires unread { last_read_of self.old.connector.session ≡ None }
+        requires ready { IsAboutToChange self.old (L.shown.world lib.old) u }
         ensures kept { Fits self.new (L.shown.world lib.new) u × (self.new.connector ≡ self.old.connector) }
         ensures known { Believed L.shown u lib.old lib.new
-            (IsHighestOf self.old.connector.schema (file_at (L.shown.world lib.old) u) self.old.highest → IsTrue (is_sequential self.old.connector.access)
-            → OnOk result (self.new.highest ≡ Some (highest_of self.old.connector.schema (file_at (L.shown.world lib.old) u).rows))) }
+            (LearnsHighest self.old (file_at (L.shown.world lib.old) u) self.new.highest result) }
         ensures others { is_sequential self.old.connector.access ≡ false → self.new ≡ self.old }
-        ensures err { OnErr result ((self.new ≡ self.old) × (self.old.highest ≡ None) × IsTrue (is_sequential self.old.connector.access)) }
-        ensures reads { ReadsUnit L.shown u (most_to_seek (L.shown.room lib.old u) 0) lib.old lib.new result }
-        ensures asked { Believed L.shown u lib.old lib.new (CountsAtMost L.shown u (most_to_seek (L.shown.room lib.old u) 0) lib.new result) }
+        ensures err { OnErr result ((self.new ≡ self.old) × LacksHighest self.old) }
+        ensures reads { CountsReading L.shown u (most_to_seek (L.shown.room lib.old u) 0) lib.old lib.new result }
     {
         let sequential = is_sequential(self.access);
         if !sequential || self.highest.is_some() {
@@ -133,8 +104,7 @@ impl Connector {
     /// In sequential access the record's prime value is not above the greatest of the file, where that is known.
     fn is_late(&self, bytes: &[u8]) -> bool
         requires { 0 < count_of self.now.connector.schema.keys }
-        ensures { result ≡ (is_sequential self.now.connector.access
-            && is_not_above (prime_of self.now.connector.schema bytes.now) (option_flatten self.now.highest)) }
+        ensures { result ≡ knows_late self.now bytes.now }
     {
         let Some(highest) = &self.highest else {
             return false;
@@ -149,29 +119,17 @@ impl Connector {
 
     /// Adds a record.
     fn store<L: Library>(&mut self, lib: &mut L, u: usize, bytes: &[u8]) -> Status
-        requires fits { Fits self.old (L.shown.world lib.old) u }
-        requires open { IsTrue (is_open (holding_at (L.shown.world lib.old) u)) }
-        requires works { has_failed self.old.connector.session ≡ false }
-        requires unread { last_read_of self.old.connector.session ≡ None }
-        requires least { self.old.connector.schema.least ≤ count_of bytes.now }
-        requires greatest { count_of bytes.now ≤ self.old.connector.schema.greatest }
+        requires ready { IsAboutToChange self.old (L.shown.world lib.old) u }
+        requires fit { IsRecordOf self.old.connector.schema bytes.now }
         ensures part { IsPart L.shown u (trace_of_change_by result)
             (in_memory self.old lib.old []) result (in_memory self.new lib.new []) }
-        ensures step { (area : List ℕ) → (session : Session) → self.old.connector.session ≡ Some (unread session)
-            → Believed L.shown u lib.old lib.new
-            (Changes Write (stored bytes.now (state_of self.old (L.shown.world lib.old) u area) session)
-            (state_of self.old (L.shown.world lib.old) u area)
-            result (state_of self.new (L.shown.world lib.new) u area)) }
-        ensures room { (area : List ℕ) → (session : Session) → Believed L.shown u lib.old lib.new
-            (TellsRoom (stored bytes.now (state_of self.old (L.shown.world lib.old) u area) session)
-            (adding_is_full (L.shown.room lib.old u) (L.shown.world lib.old) u) result) }
-        ensures standing { Believed L.shown u lib.old lib.new
-            ((IsTrue (is_sequential self.old.connector.access)
-            → is_not_above (prime_of self.old.connector.schema bytes.now)
-            (highest_of self.old.connector.schema (file_at (L.shown.world lib.old) u).rows) ≡ false) → IsStanding self.old (L.shown.world lib.old) u
-            → IsStanding self.new (L.shown.world lib.new) u) }
-        ensures asked { Believed L.shown u lib.old lib.new (is_fault result ≡ false
-            → L.shown.pages_asked lib.new u ≤ L.shown.pages_asked lib.old u + most_to_change (L.shown.room lib.old u)) }
+        ensures change { Believed L.shown u lib.old lib.new
+            (IsChangeMade L.shown u (storing bytes.now)
+            (in_memory self.old lib.old []) result (in_memory self.new lib.new [])) }
+        ensures standing { is_late_in self.old (L.shown.world lib.old) u bytes.now ≡ false
+            → StaysStanding L.shown u (in_memory self.old lib.old []) (in_memory self.new lib.new []) }
+        ensures asked { Believed L.shown u lib.old lib.new (AnswersWithin L.shown u
+            (L.shown.pages_asked lib.old u + most_to_change (L.shown.room lib.old u)) lib.new result) }
     {
         match lib.add(u, bytes) {
             Ok(Added::Done { repeated }) => {

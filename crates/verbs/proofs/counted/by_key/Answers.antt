@@ -5,7 +5,7 @@ use Rattle.indexed_file.specs.Room.{Room, most_to_read}
 use Rattle.indexed_file.specs.Answers.{area_after}
 use Rattle.indexed_file.specs.UnitAnswers.{row_by_key, found_at}
 use Rattle.indexed_file.specs.UnitCalls.{ReadsUnit}
-use Rattle.verbs.specs.Pages.{CountsAtMost}
+use Rattle.verbs.specs.Counted.{CountsAtMost}
 use Rattle.verbs.proofs.CountLemmas.{truly_then, counts_then, reads_then}
 use Rattle.verbs.proofs.counted.by_key.Goals as goal
 
@@ -18,11 +18,10 @@ returns-clause-area g c = λ honest truly.
     subst (λ (w : World). OnOk c.by_key.result (c.by_key.new.area ≡ area_after c.args.area.now (row_by_key w c.args.u c.args.k c.args.key.now.items))) c.restart_count.ensures.world (c.by_key.ensures.area honest (truly_then g.L.Library.shown g.met.L.Library.joins g.met.L.Library.ends c.args.u c.args.lib.now c.restart_count.new.self c.by_key.new.self c.restart_count.ensures truly))
 
 pub returns-clause-reads : goal.returns-clause-reads
-returns-clause-reads g c =
-    subst (λ (room : Room). ReadsUnit g.L.Library.shown c.args.u (most_to_read room c.args.k) c.args.lib.now c.by_key.new.self c.by_key.result) (c.restart_count.ensures.room c.args.u)
-    (reads_then g.L.Library.shown g.met.L.Library.joins g.met.L.Library.ends c.args.u c.args.lib.now c.restart_count.new.self c.by_key.new.self c.restart_count.ensures _ c.by_key.result c.by_key.ensures.reads)
-
-pub returns-clause-asked : goal.returns-clause-asked
-returns-clause-asked g c = λ honest truly.
-    subst (λ (room : Room). CountsAtMost g.L.Library.shown c.args.u (most_to_read room c.args.k) c.by_key.new.self c.by_key.result) (c.restart_count.ensures.room c.args.u)
-    (counts_then g.L.Library.shown g.met.L.Library.joins g.met.L.Library.ends c.args.u c.args.lib.now c.restart_count.new.self c.by_key.new.self c.restart_count.ensures _ c.by_key.result (c.by_key.ensures.reads.asked honest (truly_then g.L.Library.shown g.met.L.Library.joins g.met.L.Library.ends c.args.u c.args.lib.now c.restart_count.new.self c.by_key.new.self c.restart_count.ensures truly)))
+returns-clause-reads g c = record {
+  unit = subst (λ (room : Room). ReadsUnit g.L.Library.shown c.args.u (most_to_read room c.args.k) c.args.lib.now c.by_key.new.self c.by_key.result) (c.restart_count.ensures.room c.args.u)
+      (reads_then g.L.Library.shown g.met.L.Library.joins g.met.L.Library.ends c.args.u c.args.lib.now c.restart_count.new.self c.by_key.new.self c.restart_count.ensures _ c.by_key.result c.by_key.ensures.reads);
+  asked = λ honest truly.
+      subst (λ (room : Room). CountsAtMost g.L.Library.shown c.args.u (most_to_read room c.args.k) c.by_key.new.self c.by_key.result) (c.restart_count.ensures.room c.args.u)
+      (counts_then g.L.Library.shown g.met.L.Library.joins g.met.L.Library.ends c.args.u c.args.lib.now c.restart_count.new.self c.by_key.new.self c.restart_count.ensures _ c.by_key.result (c.by_key.ensures.reads.asked honest (truly_then g.L.Library.shown g.met.L.Library.joins g.met.L.Library.ends c.args.u c.args.lib.now c.restart_count.new.self c.by_key.new.self c.restart_count.ensures truly)));
+}

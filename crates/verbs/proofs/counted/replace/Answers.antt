@@ -1,11 +1,11 @@
-use Rattle.std.proofs.Common.{◌≡◌, ◌||◌, not, subst, IsTrue}
-use Rattle.std.specs.Prelude.{IfOk, OnOk, IsFalse}
+use Rattle.std.proofs.Common.{◌≡◌, subst, IsTrue}
+use Rattle.std.specs.Prelude.{IfOk, OnOk}
 use Rattle.indexed_file.specs.World.{World}
 use Rattle.indexed_file.specs.Room.{Room, most_to_change}
-use Rattle.indexed_file.specs.UnitAnswers.{replacing_clashes, replacing_is_full, replacing_answers, after_replacing}
+use Rattle.indexed_file.specs.UnitAnswers.{replacing_has_room, ReplacingLacksRoom, replacing_answers, after_replacing}
 use Rattle.indexed_file.specs.Images.{is_replaced}
 use Rattle.indexed_file.specs.Calls.{OnlyReads}
-use Rattle.verbs.specs.Pages.{CountsAtMost}
+use Rattle.verbs.specs.Counted.{CountsAtMost}
 use Rattle.verbs.proofs.CountLemmas.{truly_then, counts_then, changes_then}
 use Rattle.verbs.proofs.counted.replace.Goals as goal
 
@@ -19,22 +19,21 @@ returns-clause-done g c = λ honest truly.
 
 pub returns-clause-room : goal.returns-clause-room
 returns-clause-room g c = λ honest truly.
-    subst (λ (room : Room). OnOk c.replace.result (IsTrue (replacing_clashes (g.L.Library.shown.world c.args.lib.now) c.args.u c.args.bytes.now || not (replacing_is_full room (g.L.Library.shown.world c.args.lib.now) c.args.u c.args.bytes.now)))) (c.restart_count.ensures.room c.args.u)
-    (subst (λ (w : World). OnOk c.replace.result (IsTrue (replacing_clashes w c.args.u c.args.bytes.now || not (replacing_is_full (g.L.Library.shown.room c.restart_count.new.self c.args.u) w c.args.u c.args.bytes.now)))) c.restart_count.ensures.world (c.replace.ensures.room honest (truly_then g.L.Library.shown g.met.L.Library.joins g.met.L.Library.ends c.args.u c.args.lib.now c.restart_count.new.self c.replace.new.self c.restart_count.ensures truly)))
+    subst (λ (room : Room). OnOk c.replace.result (IsTrue (replacing_has_room room (g.L.Library.shown.world c.args.lib.now) c.args.u c.args.bytes.now))) (c.restart_count.ensures.room c.args.u)
+    (subst (λ (w : World). OnOk c.replace.result (IsTrue (replacing_has_room (g.L.Library.shown.room c.restart_count.new.self c.args.u) w c.args.u c.args.bytes.now))) c.restart_count.ensures.world (c.replace.ensures.room honest (truly_then g.L.Library.shown g.met.L.Library.joins g.met.L.Library.ends c.args.u c.args.lib.now c.restart_count.new.self c.replace.new.self c.restart_count.ensures truly)))
 
 pub returns-clause-full : goal.returns-clause-full
 returns-clause-full g c = λ is.
     let full = c.replace.ensures.full is in (
       subst (λ (w : World). OnlyReads c.args.u (g.L.Library.shown.is_honest c.replace.new.self) w (g.L.Library.shown.world c.replace.new.self)) c.restart_count.ensures.world full.0,
-      (λ honest truly. subst (λ (room : Room). IsFalse (replacing_clashes (g.L.Library.shown.world c.args.lib.now) c.args.u c.args.bytes.now) × IsTrue (replacing_is_full room (g.L.Library.shown.world c.args.lib.now) c.args.u c.args.bytes.now)) (c.restart_count.ensures.room c.args.u)
-          (subst (λ (w : World). IsFalse (replacing_clashes w c.args.u c.args.bytes.now) × IsTrue (replacing_is_full (g.L.Library.shown.room c.restart_count.new.self c.args.u) w c.args.u c.args.bytes.now)) c.restart_count.ensures.world (full.1 honest (truly_then g.L.Library.shown g.met.L.Library.joins g.met.L.Library.ends c.args.u c.args.lib.now c.restart_count.new.self c.replace.new.self c.restart_count.ensures truly)))),
+      (λ honest truly. subst (λ (room : Room). ReplacingLacksRoom room (g.L.Library.shown.world c.args.lib.now) c.args.u c.args.bytes.now) (c.restart_count.ensures.room c.args.u)
+          (subst (λ (w : World). ReplacingLacksRoom (g.L.Library.shown.room c.restart_count.new.self c.args.u) w c.args.u c.args.bytes.now) c.restart_count.ensures.world (full.1 honest (truly_then g.L.Library.shown g.met.L.Library.joins g.met.L.Library.ends c.args.u c.args.lib.now c.restart_count.new.self c.replace.new.self c.restart_count.ensures truly)))),
     )
 
 pub returns-clause-changes : goal.returns-clause-changes
-returns-clause-changes g c =
-    changes_then g.L.Library.shown g.met.L.Library.joins g.met.L.Library.ends c.args.u c.args.lib.now c.restart_count.new.self c.replace.new.self c.restart_count.ensures is_replaced c.replace.result c.replace.ensures.changes
-
-pub returns-clause-asked : goal.returns-clause-asked
-returns-clause-asked g c = λ honest truly.
-    subst (λ (room : Room). CountsAtMost g.L.Library.shown c.args.u (most_to_change room) c.replace.new.self c.replace.result) (c.restart_count.ensures.room c.args.u)
-    (counts_then g.L.Library.shown g.met.L.Library.joins g.met.L.Library.ends c.args.u c.args.lib.now c.restart_count.new.self c.replace.new.self c.restart_count.ensures _ c.replace.result (c.replace.ensures.changes.asked honest (truly_then g.L.Library.shown g.met.L.Library.joins g.met.L.Library.ends c.args.u c.args.lib.now c.restart_count.new.self c.replace.new.self c.restart_count.ensures truly)))
+returns-clause-changes g c = record {
+  unit = changes_then g.L.Library.shown g.met.L.Library.joins g.met.L.Library.ends c.args.u c.args.lib.now c.restart_count.new.self c.replace.new.self c.restart_count.ensures is_replaced c.replace.result c.replace.ensures.changes;
+  asked = λ honest truly.
+      subst (λ (room : Room). CountsAtMost g.L.Library.shown c.args.u (most_to_change room) c.replace.new.self c.replace.result) (c.restart_count.ensures.room c.args.u)
+      (counts_then g.L.Library.shown g.met.L.Library.joins g.met.L.Library.ends c.args.u c.args.lib.now c.restart_count.new.self c.replace.new.self c.restart_count.ensures _ c.replace.result (c.replace.ensures.changes.asked honest (truly_then g.L.Library.shown g.met.L.Library.joins g.met.L.Library.ends c.args.u c.args.lib.now c.restart_count.new.self c.replace.new.self c.restart_count.ensures truly)));
+}
