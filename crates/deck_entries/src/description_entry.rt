@@ -118,7 +118,7 @@ fn described_name(
     if is_described_name(earlier, name.as_str().as_bytes()) {
         return Err(twice);
     }
-    Ok(*name)
+    Ok(name)
 }
 
 #[tactic(auto, unfolding(crate::specs::FileDescription::description_behind))]

@@ -84,7 +84,7 @@ fn item_name(parser: &mut Parser<'_>) -> Result<Option<Name>, Refusal>
     ensures { Reads (item_name.reads parser.old) (map_result (λ n. option_map (λ name. name.bytes) n) result) parser.new }
 {
     if parser.sees_name() {
-        let name = *parser.name()?;
+        let name = parser.name()?;
         return Ok(Some(name));
     }
     parser.expect(b"FILLER")?;
@@ -107,7 +107,7 @@ pub fn picture_clause(parser: &mut Parser<'_>) -> Result<Name, Refusal>
 {
     expect_one(parser, b"PIC", b"PICTURE")?;
     parser.eat(b"IS");
-    Ok(*parser.picture()?)
+    parser.picture()
 }
 
 #[tactic(auto, unfolding(crate::specs::FileDescription::may_picture_clause, crate::specs::FileDescription::picture_clause, deck_words::specs::Notation::the))]

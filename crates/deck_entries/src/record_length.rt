@@ -64,7 +64,7 @@ pub fn count(parser: &mut Parser<'_>) -> Result<u64, Refusal>
     ensures { Reads (count.reads parser.old) result parser.new }
 {
     let digits = parser.digits()?;
-    Ok(number_of(digits))
+    Ok(number_of(digits.as_str().as_bytes()))
 }
 
 #[tactic(auto, unfolding(crate::specs::FileDescription::fixed))]
@@ -92,7 +92,7 @@ fn varying(parser: &mut Parser<'_>) -> Result<RecordLength, Refusal>
     parser.eat(b"CHARACTERS");
     parser.expect(b"DEPENDING")?;
     parser.eat(b"ON");
-    let item = *parser.name()?;
+    let item = parser.name()?;
     Ok(RecordLength::Varying(VaryingLength {
         least,
         greatest,

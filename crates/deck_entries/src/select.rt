@@ -78,7 +78,7 @@ fn record_key(parser: &mut Parser<'_>, clauses: Clauses) -> Result<Clauses, Refu
     parser.eat(b"KEY");
     parser.eat(b"IS");
     let mut clauses = clauses;
-    clauses.record_key = Some(*parser.name()?);
+    clauses.record_key = Some(parser.name()?);
     Ok(clauses)
 }
 
@@ -106,7 +106,7 @@ fn alternate(parser: &mut Parser<'_>, clauses: Clauses) -> Result<Clauses, Refus
     parser.expect(b"RECORD")?;
     parser.eat(b"KEY");
     parser.eat(b"IS");
-    let name = *parser.name()?;
+    let name = parser.name()?;
     let duplicates = duplicates(parser)?;
     let mut clauses = clauses;
     clauses.alternate_keys.push(name, duplicates)?;
@@ -177,13 +177,13 @@ fn all_clauses(parser: &mut Parser<'_>, alloc: Global) -> Result<Clauses, Refusa
 
 /// The literal of ASSIGN.
 #[tactic(auto, unfolding(crate::specs::FileControlEntry::file_name))]
-fn file_name(parser: &mut Parser<'_>) -> Result<FileName, Refusal>
+fn file_name(parser: &mut Parser<'_>, alloc: Global) -> Result<FileName, Refusal>
     ensures { Reads (file_name.reads parser.old) (map_result (λ name. name.bytes) result) parser.new }
 {
     let not_allowed = parser.fault(Cause::NotAllowed);
-    let text = parser.literal()?;
-    if is_file_name_text(text) {
-        Ok(file_name_of(text))
+    let text = parser.literal(alloc)?;
+    if is_file_name_text(text.as_slice()) {
+        Ok(file_name_of(text.as_slice()))
     } else {
         Err(not_allowed)
     }
@@ -211,16 +211,20 @@ fn new_name(parser: &mut Parser<'_>, earlier: &[Selected]) -> Result<Name, Refus
     if is_selected_name(earlier, name.as_str().as_bytes()) {
         Err(twice)
     } else {
-        Ok(*name)
+        Ok(name)
     }
 }
 
 #[tactic(auto, unfolding(crate::specs::FileControlEntry::new_file_name))]
-fn new_file_name(parser: &mut Parser<'_>, earlier: &[Selected]) -> Result<FileName, Refusal>
+fn new_file_name(
+    parser: &mut Parser<'_>,
+    alloc: Global,
+    earlier: &[Selected],
+) -> Result<FileName, Refusal>
     ensures { Reads ((new_file_name earlier.now).reads parser.old) (map_result (λ name. name.bytes) result) parser.new }
 {
     let twice = parser.fault(Cause::Twice);
-    let name = file_name(parser)?;
+    let name = file_name(parser, alloc)?;
     if is_assigned_name(earlier, name.as_str().as_bytes()) {
         Err(twice)
     } else {
@@ -243,7 +247,7 @@ pub fn select(
     let name = new_name(parser, earlier)?;
     parser.expect(b"ASSIGN")?;
     parser.eat(b"TO");
-    let file_name = new_file_name(parser, earlier)?;
+    let file_name = new_file_name(parser, alloc, earlier)?;
     let clauses = all_clauses(parser, alloc)?;
     let end = parser.line();
     parser.period()?;

@@ -92,7 +92,7 @@ fn storage_item(parser: &mut Parser<'_>) -> Result<StorageItem, Refusal>
 {
     let line = parser.line();
     parser.expect(b"77")?;
-    let name = *parser.name()?;
+    let name = parser.name()?;
     let picture = picture_clause(parser)?;
     parser.period()?;
     Ok(StorageItem {

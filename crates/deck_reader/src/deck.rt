@@ -10,7 +10,7 @@ ghost use Rattle.deck_reader.specs.Deck.{Spells, IsDeck, CanBeRun};
 
 use deck_words::Refusal;
 use file_control::{
-    DeckFault, Description, FileDesc, FileList, ItemList, LengthItem, Word, are_described,
+    DeckFault, Description, FileDesc, FileList, ItemList, LengthItem, Words, are_described,
     one_description, one_reading, read_description, words,
 };
 use procedure_division::{Names, StatementList, one_procedure, only_allowed, procedure};
@@ -30,7 +30,7 @@ fn statements_of(
     alloc: Global,
     files: &[FileDesc],
     items: &[LengthItem],
-    words: &[Word],
+    words: &Words<'_>,
 ) -> Result<StatementList, DeckFault>
     ensures statements { IfOk result (λ list. (procedure (names_of files.now items.now)).Spells list words.now []) }
     ensures none { IfErr result (λ fault. fault.code ≢ 8 → (statements : List Statement) →
@@ -42,7 +42,7 @@ fn statements_of(
 }
 
 /// The deck that the words spell.
-fn read(alloc: Global, words: &[Word]) -> Result<Deck, DeckFault>
+fn read(alloc: Global, words: &Words<'_>) -> Result<Deck, DeckFault>
     ensures deck { IfOk result (Spells words.now) }
     ensures none { IfErr result (λ fault. fault.code ≢ 8 → (deck : Deck) → Spells words.now deck → ⊥) }
     ensures told { IfErr result IsTold }
@@ -54,8 +54,8 @@ fn read(alloc: Global, words: &[Word]) -> Result<Deck, DeckFault>
         items,
         words: count,
     } = description;
-    let (_, rest) = words.split_at(count);
-    let statements = statements_of(alloc, files.as_slice(), items.as_slice(), rest)?;
+    let rest = words.skip(count);
+    let statements = statements_of(alloc, files.as_slice(), items.as_slice(), &rest)?;
     Ok(Deck {
         files,
         items,
@@ -82,8 +82,8 @@ pub fn read_deck(alloc: Global, bytes: &[u8]) -> Result<Deck, DeckFault>
 {
     one_reading();
     every_deck_can_be_run();
-    let words = words(alloc, bytes)?;
-    read(alloc, words.as_slice())
+    let words = words(bytes)?;
+    read(alloc, &words)
 }
 
 /// No bytes are two decks.

@@ -10,7 +10,7 @@ use Rattle.procedure_division.specs.declared.statement.Statement.{Statement}
 use Rattle.procedure_division.specs.declared.statement.Statement.TheVariants.{Perform}
 use Rattle.indexed_file.specs.Shown.{Shown}
 use Rattle.deck_runner.specs.Steps.{left_by, IsStepOn, close_of, close_at, closes_from}
-use Rattle.deck_runner.specs.Stretches.{Point, IsStretch, AreStretches, ClosesAt, Closes, ClosesInPart}
+use Rattle.deck_runner.specs.Stretches.{Point, IsStretch, AreStretches, ClosesAt, ClosesFiles, ClosesInPart}
 use Rattle.deck_runner.specs.Running.{Running, run_files}
 use Rattle.deck_runner.proofs.StepLemmas.{no_steps, steps_then, one_step}
 
@@ -96,7 +96,7 @@ module _ {S : Type 0} (library : Shown S) where
         rest = rw add-one after;
       }
 
-  pub all_closed : (first now : Point S) (u : ℕ) (lines : List Line) → u ≡ length first.run.files → AreClosed u first lines now → Closes library first lines now
+  pub all_closed : (first now : Point S) (u : ℕ) (lines : List Line) → u ≡ length first.run.files → AreClosed u first lines now → ClosesFiles library first lines now
   all_closed first now u lines at_end closed =
       subst (λ (l : List RunFile). AreStretches library (closes_from 0 l) first lines now) (take_all u first.run.files (omega arith)) closed.steps
 

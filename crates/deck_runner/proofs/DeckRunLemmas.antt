@@ -15,8 +15,8 @@ use Rattle.deck_runner.specs.declared.run_end.RunEnd.{RunEnd}
 use Rattle.deck_runner.specs.Run.{Run}
 use Rattle.deck_runner.specs.RunEnd.{end_of, Told}
 use Rattle.deck_runner.specs.Stretches.{IsRunOver}
-use Rattle.deck_runner.specs.Beginning.{run_before, Leaves, WhereFilesAreTrue, DeckLeads}
-use Rattle.deck_runner.specs.DeckRun.{RunsExactly, IsRefused}
+use Rattle.deck_runner.specs.Beginning.{run_before, WorldIsLeft, WhereFilesAreTrue, DeckLeads}
+use Rattle.deck_runner.specs.DeckRun.{RunsExactly, IsRefusedDeck}
 use Rattle.deck_runner.proofs.RunLaws.{clean_runs_are_exact, run_of_stretches}
 
 -- a run whose end is clean is the definition's
@@ -31,7 +31,7 @@ exact library old new written written_after end deck run clean = λ honest shown
     record {
       transcript_is = rw (← law.0) run.1;
       end_is = run.2 ∙ ap end_of law.0;
-      leaves = subst (λ (next : Run). Leaves (library.world new) deck next) law.1 leads.4;
+      leaves = subst (λ (next : Run). WorldIsLeft (library.world new) deck next) law.1 leads.4;
     }
 
 -- ---- refusals
@@ -47,26 +47,26 @@ code_within Layout = (omega arith, omega arith)
 
 refused_by :
     (bytes : List ℕ) (fault : DeckFault) (result : RunFault) (refusal : Refusal) → fault ≡ told refusal → (fault.code ≡ 8 → result ≡ Memory) → (fault.code ≢ 8 → result ≡ DeckRefused fault)
-    → (fault.code ≢ 8 → (deck : Deck) → IsDeck bytes deck → ⊥) → IsRefused bytes result
+    → (fault.code ≢ 8 → (deck : Deck) → IsDeck bytes deck → ⊥) → IsRefusedDeck bytes result
 refused_by bytes fault result NoMemory is memory deck none =
     let code : fault.code ≡ 8 = ap (λ (f : DeckFault). f.code) is in
-    subst (IsRefused bytes) (sym (memory code)) tt
+    subst (IsRefusedDeck bytes) (sym (memory code)) tt
 refused_by bytes fault result (Fault line cause) is memory deck none =
     let code : fault.code ≡ code_of cause = ap (λ (f : DeckFault). f.code) is in
     let within = code_within cause in
     let least = within.0 in
     let most = within.1 in
     let unlike : fault.code ≢ 8 = λ e. omega arith in
-    subst (IsRefused bytes) (sym (deck unlike)) (omega arith, omega arith, none unlike)
+    subst (IsRefusedDeck bytes) (sym (deck unlike)) (omega arith, omega arith, none unlike)
 
 -- a fault of reading a deck, as it is told
 pub refused :
     (bytes : List ℕ) (fault : DeckFault) (result : RunFault) → IsTold fault → (fault.code ≡ 8 → result ≡ Memory) → (fault.code ≢ 8 → result ≡ DeckRefused fault)
-    → (fault.code ≢ 8 → (deck : Deck) → IsDeck bytes deck → ⊥) → IsRefused bytes result
+    → (fault.code ≢ 8 → (deck : Deck) → IsDeck bytes deck → ⊥) → IsRefusedDeck bytes result
 refused bytes fault result is_told memory deck none = refused_by bytes fault result is_told.0 is_told.1 memory deck none
 
 -- a fault of a run of a deck that was read is no refusal
-pub not_refused : (bytes : List ℕ) (fault : RunFault) → (fault ≢ Output → fault ≡ Memory) → IsRefused bytes fault
+pub not_refused : (bytes : List ℕ) (fault : RunFault) → (fault ≢ Output → fault ≡ Memory) → IsRefusedDeck bytes fault
 not_refused bytes (DeckRefused told) other = let is = other (λ e. absurd (cc)) in absurd (cc)
 not_refused bytes Output other = tt
 not_refused bytes Memory other = tt

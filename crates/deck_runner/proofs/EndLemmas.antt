@@ -12,11 +12,11 @@ use Rattle.record_layout.specs.Schema.{Schema}
 use Rattle.deck_reader.specs.declared.deck.Deck.{Deck}
 use Rattle.deck_reader.specs.Deck.{CanBeRun}
 use Rattle.deck_runner.specs.Line.{Line}
-use Rattle.deck_runner.specs.Run.{RunFile, LengthItem, Run}
+use Rattle.deck_runner.specs.Run.{RunFile, LengthValue, Run}
 use Rattle.deck_runner.specs.Running.{Running, schema_of, unit_names, run_files, run_of}
 use Rattle.deck_runner.specs.declared.running_deck.RunningDeck.{RunningDeck}
 use Rattle.deck_runner.specs.State.{state, run_in, GoesOn, AreLinesOf, Leads}
-use Rattle.deck_runner.specs.Beginning.{Leaves, SameElsewhere, SameNames, IsUntouched, IsBegun, DeckLeads, program_names}
+use Rattle.deck_runner.specs.Beginning.{WorldIsLeft, SameElsewhere, SameNames, IsUntouched, IsBegun, DeckLeads, program_names}
 use Rattle.deck_runner.proofs.StateLemmas.{lines_within}
 
 -- ---- what names stand for
@@ -59,8 +59,8 @@ files_named world w (file ∷ files) many =
 
 -- ---- what is left
 
-leaves : (world : World) (deck : Deck) (files : List Running) (items : List LengthItem) → unit_names world ≡ file_names deck.files → IsDistinct bytes_eq (file_names deck.files) → length files ≡ length deck.files
-    → Leaves world deck (run_of world files items)
+leaves : (world : World) (deck : Deck) (files : List Running) (items : List LengthValue) → unit_names world ≡ file_names deck.files → IsDistinct bytes_eq (file_names deck.files) → length files ≡ length deck.files
+    → WorldIsLeft world deck (run_of world files items)
 leaves world deck files items units distinct many =
     let units_many : length (unit_names world) ≡ length deck.files = ap (λ (l : List (List ℕ)). length l) units ∙ length-map deck.files (λ file. file.file) in
     let units_are : length (unit_names world) ≡ length world.units = length-map world.units (λ unit. unit.name) in

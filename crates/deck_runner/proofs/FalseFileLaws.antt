@@ -4,7 +4,7 @@ use Rattle.std.specs.List.{list_all}
 use Rattle.std.proofs.lemmas.List.Folds.{list_all-append}
 use Rattle.std.proofs.lemmas.Slice.Eq.{bytes_eq-Decides}
 use Rattle.indexed_file.specs.World.{World, Named}
-use Rattle.indexed_file.specs.Images.{Trace, untouched, Stays, MayLeave, LeavesOnly, ImagesGo, is_one_of}
+use Rattle.indexed_file.specs.Images.{Trace, untouched, Stays, LibraryMayLeave, LeavesOnly, ImagesGo, is_one_of}
 use Rattle.indexed_file.specs.Moments.{Test, Moments}
 use Rattle.indexed_file.proofs.NamedLaws.{one_of_more, all_one_of, all_one_of_rest}
 use Rattle.indexed_file.specs.Shown.{Shown}
@@ -32,13 +32,13 @@ rest_all test xs ys e = all_right (list_all test xs) (list_all test ys) (sym (li
 module _
     {S : Type 0} (library : Shown S)
     (ends : (test : Test) (old new : S) (name : List ℕ) → library.Throughout test old new name → library.Throughout test new new name) where
-  passes : (may : List Named) (old new : S) (name : List ℕ) → MayLeave library.Throughout may old new name
+  passes : (may : List Named) (old new : S) (name : List ℕ) → LibraryMayLeave library.Throughout may old new name
       → (test : Test) → library.Throughout test old old name → IsTrue (list_all test may) → library.Throughout test old new name
   passes [] old new name p test now all = p.within test now
   passes (x ∷ may) old new name p test now all = p test now all
 
   -- a stretch of a name that goes by a trace
-  pub stands_during : (start old new : S) (name : List ℕ) (trace : Trace) (ledger : Ledger) → MayLeave library.Throughout trace.may old new name
+  pub stands_during : (start old new : S) (name : List ℕ) (trace : Trace) (ledger : Ledger) → LibraryMayLeave library.Throughout trace.may old new name
       → StandsBy library.Throughout start name ledger old old → StandsBy library.Throughout start name (during trace ledger) old new
   stands_during start old new name trace ledger may now test was all =
       passes trace.may old new name may test (now test was (rest_all test trace.may ledger.may all)) (first_all test trace.may ledger.may all)
@@ -51,13 +51,13 @@ module _
   -- a step of the name, or of another one
   module _ (start : S) (statement : Statement) (before : Point S) (lines : List Line) (after : Point S) (stretch : IsStretch library statement before lines after) (name : List ℕ) (ledger : Ledger)
       (now : StandsBy library.Throughout start name ledger before.library before.library) where
-    may_here : MayLeave library.Throughout (trace_for (library.world before.library) statement before.run lines name).may before.library after.library name
+    may_here : LibraryMayLeave library.Throughout (trace_for (library.world before.library) statement before.run lines name).may before.library after.library name
     may_here =
         let here = name_by (library.world before.library) statement in
         either (bytes_eq here name) _
         (λ same.
         let is : here ≡ name = (bytes_eq-Decides here name).0 same in
-        rw same (subst (λ (n : List ℕ). MayLeave library.Throughout (trace_by statement before.run lines).may before.library after.library n) is stretch.images.may))
+        rw same (subst (λ (n : List ℕ). LibraryMayLeave library.Throughout (trace_by statement before.run lines).may before.library after.library n) is stretch.images.may))
         (λ apart. rw apart (stretch.images.others name apart))
 
     only_here : LeavesOnly library.Throughout (trace_for (library.world before.library) statement before.run lines name).only after.library name

@@ -7,7 +7,7 @@ use Rattle.deck_reader.specs.declared.deck.Deck.{Deck}
 use Rattle.deck_runner.specs.Line.{Line}
 use Rattle.deck_runner.specs.Steps.{until_stop, closes_from, AreStepsOf}
 use Rattle.deck_runner.specs.Stretches.{Point, AreStretches, IsRunOver, AreStretchesInPart, IsBrokenOff}
-use Rattle.deck_runner.specs.Beginning.{run_before, Leaves, DeckLeads}
+use Rattle.deck_runner.specs.Beginning.{run_before, WorldIsLeft, DeckLeads}
 use Rattle.deck_runner.specs.NoFalseFile.{first_ledger, Judged, IsSafeStretch, StandNow, IsSafeRun, AreSafeInPart, IsSafeBrokenOff, DeckRuns, RunsWhole, RunsInPart}
 use Rattle.deck_runner.proofs.FalseFileLaws.{no_false_file}
 
@@ -66,7 +66,7 @@ module _
           done.2,
           ap (λ (point : Point S). point.library) done.1,
           done.3,
-          subst (λ (point : Point S). Leaves (library.world new) deck point.run) (sym done.1) led.4,
+          subst (λ (point : Point S). WorldIsLeft (library.world new) deck point.run) (sym done.1) led.4,
         );
     lines_are = p.lines_are;
   }

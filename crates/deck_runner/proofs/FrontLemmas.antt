@@ -6,7 +6,7 @@ use Rattle.procedure_division.specs.declared.statement.Statement.{Statement}
 use Rattle.procedure_division.specs.declared.statement.Statement.TheVariants.{Perform, Move, MoveLength, StopRun}
 use Rattle.indexed_file.specs.Shown.{Shown}
 use Rattle.deck_runner.specs.Line.{Line, is_clean}
-use Rattle.deck_runner.specs.Run.{RunFile, LengthItem, Run, performed, items_after, line_of, lines_on, after, lines_of, lines_until_stop, run_at_stop, is_stop, is_still_open, closing_lines, lines_of_run}
+use Rattle.deck_runner.specs.Run.{RunFile, LengthValue, Run, performed, items_after, line_of, lines_on, after, lines_of, lines_until_stop, run_at_stop, is_stop, is_still_open, closing_lines, lines_of_run}
 use Rattle.deck_runner.specs.Steps.{IsStepOn, IsStep, AreSteps, until_stop, closes_from}
 use Rattle.deck_runner.specs.Stretches.{Point, AreStretches, IsRunOver, IsBrokenOff, CleanFrontsAreExact}
 use Rattle.deck_runner.proofs.RunLaws.{and_left, and_right, clean_first, clean_rest, clean_one, clean_until_stop, get_behind, change_behind, length_behind, close_keeps_items, of, steps_of}
@@ -38,10 +38,10 @@ lines_to_stop (statement ∷ rest) run =
     stopping statement (until_stop rest) (lines_until_stop rest (after statement run)) run (is_stop statement) (lines_to_stop rest (after statement run))
 
 -- the lines of the closes
-abbrev AreLinesOfCloses : List LengthItem → List RunFile → Type 0
+abbrev AreLinesOfCloses : List LengthValue → List RunFile → Type 0
 AreLinesOfCloses items files = (before : List RunFile) → lines_through (closes_from (length before) files) (of (before ++ files) items) ≡ flat_map (closing_lines items) files
 
-closes_in : (items : List LengthItem) (file : RunFile) (files : List RunFile) → AreLinesOfCloses items files → (before : List RunFile) (open_still : Bool)
+closes_in : (items : List LengthValue) (file : RunFile) (files : List RunFile) → AreLinesOfCloses items files → (before : List RunFile) (open_still : Bool)
     → lines_through ((if open_still then Perform (length before) (Close false) ∷ [] else []) ++ closes_from (suc (length before)) files) (of (before ++ file ∷ files) items)
     ≡ (if open_still then line_of (Close false) items file ∷ [] else []) ++ flat_map (closing_lines items) files
 closes_in items file files more before false =
@@ -64,7 +64,7 @@ closes_in items file files more before true =
     ap (λ (r : Run). lines_through (closes_from (suc (length before)) files) r) next ∙ rest in
     λ i. first i ++ others i
 
-lines_of_closes : (items : List LengthItem) (files : List RunFile) → AreLinesOfCloses items files
+lines_of_closes : (items : List LengthValue) (files : List RunFile) → AreLinesOfCloses items files
 lines_of_closes items [] before = refl
 lines_of_closes items (file ∷ files) before = closes_in items file files (lines_of_closes items files) before (is_still_open file)
 

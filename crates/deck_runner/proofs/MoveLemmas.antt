@@ -5,7 +5,7 @@ use Rattle.record_layout.specs.declared.area.Source.{Source}
 use Rattle.record_layout.specs.Area.{moved}
 use Rattle.indexed_file.specs.World.{World}
 use Rattle.procedure_division.specs.declared.statement.Statement.TheVariants.{Move, MoveLength}
-use Rattle.deck_runner.specs.Run.{RunFile, LengthItem, after_move, after_move_length}
+use Rattle.deck_runner.specs.Run.{RunFile, LengthValue, after_move, after_move_length}
 use Rattle.deck_runner.specs.Steps.{IsStep}
 use Rattle.verbs.specs.Held.{state_of}
 use Rattle.deck_runner.specs.declared.running_deck.RunningDeck.{RunningDeck}
@@ -73,7 +73,7 @@ still library statement lib run next lines name trace causes step = record {
   images = rw (name, trace) (goes_none library.Throughout lib []);
 }
 
-pub move_step : (world : World) (files : List Running) (items : List LengthItem) (u : ℕ) (file : Running) (field : Field) (source : Source (List ℕ))
+pub move_step : (world : World) (files : List Running) (items : List LengthValue) (u : ℕ) (file : Running) (field : Field) (source : Source (List ℕ))
     → slice_get files u ≡ Some file
     → IsStep (Move u field source) (run_of world files items) [] (run_of world (slice_set files u (record file { area = moved field source file.area })) items)
 move_step world files items u file field source get =
@@ -84,8 +84,8 @@ move_step world files items u file field source get =
     let alike = change_alike u (λ (f : RunFile). let x : RunFile = record f { state = state_of next.held world u next.area } in x) (after_move field source) (run_files world 0 files) (run_file world u file) here refl in
     (refl, (λ i. record { files = (changed ∙ alike) i; items = items }))
 
-pub length_step : (world : World) (files : List Running) (items : List LengthItem) (i : ℕ) (item : LengthItem) (source : Source (List ℕ))
+pub length_step : (world : World) (files : List Running) (items : List LengthValue) (i : ℕ) (item : LengthValue) (source : Source (List ℕ))
     → slice_get items i ≡ Some item
     → IsStep (MoveLength i source) (run_of world files items) [] (run_of world files (slice_set items i (after_move_length source item)))
 length_step world files items i item source get =
-    (refl, ap (λ (l : List LengthItem). run_of world files l) (sym (change_is_set items i (after_move_length source) item get)))
+    (refl, ap (λ (l : List LengthValue). run_of world files l) (sym (change_is_set items i (after_move_length source) item get)))

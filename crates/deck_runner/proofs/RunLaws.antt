@@ -12,7 +12,7 @@ use Rattle.verbs.specs.Opening.{ended, closed, close_in}
 use Rattle.procedure_division.specs.declared.statement.Statement.{Statement}
 use Rattle.procedure_division.specs.declared.statement.Statement.TheVariants.{Perform, Move, MoveLength, StopRun}
 use Rattle.deck_runner.specs.Line.{Line, is_clean}
-use Rattle.deck_runner.specs.Run.{RunFile, LengthItem, Run, change_at, record_length, outcome_on, performed, items_after_read, line_of, lines_on, items_after, after, lines_of, lines_until_stop, run_at_stop, is_stop, is_still_open, closing_lines, closed_at_end}
+use Rattle.deck_runner.specs.Run.{RunFile, LengthValue, Run, change_at, record_length, outcome_on, performed, items_after_read, line_of, lines_on, items_after, after, lines_of, lines_until_stop, run_at_stop, is_stop, is_still_open, closing_lines, closed_at_end}
 use Rattle.deck_runner.specs.Steps.{line_by, left_by, IsStepOn, IsStep, AreSteps, until_stop, closes_from, IsRun, CleanRunsAreExact}
 use Rattle.deck_runner.specs.Stretches.{Point, AreStretches, IsRunOver}
 use Rattle.indexed_file.specs.Shown.{Shown}
@@ -108,11 +108,11 @@ close_delivers_none n s (Some session) = by_checks session.failed session.missin
     by_checks false true = refl
     by_checks false false = refl
 
-no_record_read : (depends_on : Option ℕ) (items : List LengthItem) → items_after_read depends_on None items ≡ items
+no_record_read : (depends_on : Option ℕ) (items : List LengthValue) → items_after_read depends_on None items ≡ items
 no_record_read None items = refl
 no_record_read (Some i) items = refl
 
-pub close_keeps_items : (items : List LengthItem) (file : RunFile) → items_after_read file.depends_on (outcome_on (Close false) items file).delivered items ≡ items
+pub close_keeps_items : (items : List LengthValue) (file : RunFile) → items_after_read file.depends_on (outcome_on (Close false) items file).delivered items ≡ items
 close_keeps_items items file =
     rw (close_delivers_none 0 file.state file.state.connector.session) (no_record_read file.depends_on items)
 
@@ -129,15 +129,15 @@ pub length_behind : {A : Type 0} (before : List A) (x : A) → length (before ++
 length_behind [] x = refl
 length_behind (y ∷ before) x = ap suc (length_behind before x)
 
-abbrev pub of : List RunFile → List LengthItem → Run
+abbrev pub of : List RunFile → List LengthValue → Run
 of files items = record { files = files; items = items }
 
-abbrev AreExactCloses : List LengthItem → List RunFile → Type 0
+abbrev AreExactCloses : List LengthValue → List RunFile → Type 0
 AreExactCloses items files =
     (before : List RunFile) → (lines : List Line) → (next : Run) → AreSteps (closes_from (length before) files) (of (before ++ files) items) lines next → list_all is_clean lines ≡ true
     → (lines ≡ flat_map (closing_lines items) files) × (next ≡ of (before ++ map (closed_at_end items) files) items)
 
-closes_more : (items : List LengthItem) (file : RunFile) (files : List RunFile) → AreExactCloses items files → (before : List RunFile) (lines : List Line) (next : Run) (open_still : Bool)
+closes_more : (items : List LengthValue) (file : RunFile) (files : List RunFile) → AreExactCloses items files → (before : List RunFile) (lines : List Line) (next : Run) (open_still : Bool)
     → AreSteps ((if open_still then Perform (length before) (Close false) ∷ [] else []) ++ closes_from (suc (length before)) files) (of (before ++ file ∷ files) items) lines next
     → list_all is_clean lines ≡ true
     → (lines ≡ (if open_still then line_of (Close false) items file ∷ [] else []) ++ flat_map (closing_lines items) files)
@@ -159,7 +159,7 @@ closes_more items file files more before lines next true steps clean =
     let others = more (before ++ closed_file ∷ []) steps.2 next here (clean_rest steps.0 steps.2 all) in
     (rw (steps.5, one.0, others.0) refl, others.1 ∙ ap (λ (l : List RunFile). of l items) (append_assoc before (closed_file ∷ []) (map (closed_at_end items) files)))
 
-clean_closes : (items : List LengthItem) (files : List RunFile) → AreExactCloses items files
+clean_closes : (items : List LengthValue) (files : List RunFile) → AreExactCloses items files
 clean_closes items [] before lines next steps clean = steps
 clean_closes items (file ∷ files) before lines next steps clean =
     closes_more items file files (clean_closes items files) before lines next (is_still_open file) steps clean

@@ -13,7 +13,7 @@ use Rattle.file_control.specs.Described.{file_names}
 use Rattle.deck_reader.specs.declared.deck.Deck.{Deck}
 use Rattle.deck_runner.specs.Line.{Line}
 use Rattle.deck_runner.specs.declared.running_deck.RunningDeck.{RunningDeck}
-use Rattle.deck_runner.specs.Run.{RunFile, LengthItem, Run}
+use Rattle.deck_runner.specs.Run.{RunFile, LengthValue, Run}
 use Rattle.deck_runner.specs.Running.{Running, unit_names}
 use Rattle.deck_runner.specs.Stretches.{Point}
 use Rattle.deck_runner.specs.State.{state, run_in, names_in, IsSafeIn, IsTrustedIn, AreLinesOf}
@@ -40,7 +40,7 @@ file_before world file = record {
 }
 
 -- a length item of a deck: its value is 0
-abbrev pub item_before : LengthEntry → LengthItem
+abbrev pub item_before : LengthEntry → LengthValue
 item_before item = record { digits = item.digits; value = 0 }
 
 abbrev pub run_before : World → Deck → Run
@@ -58,8 +58,8 @@ running_before file = record {
 -- ---- what is left
 
 -- each file name of the deck stands for what the run leaves
-abbrev pub Leaves : World → Deck → Run → Type 0
-Leaves world deck run = map (named_in world) (file_names deck.files) ≡ map (λ file. file.state.named) run.files
+abbrev pub WorldIsLeft : World → Deck → Run → Type 0
+WorldIsLeft world deck run = map (named_in world) (file_names deck.files) ≡ map (λ file. file.state.named) run.files
 
 -- the name of no file of the deck
 abbrev pub is_elsewhere : Deck → List ℕ → Bool
@@ -98,7 +98,7 @@ pub record DeckLeads {S : Type 0} (library : Shown S) (old new : S) (deck : Deck
   pub steps : WhereFilesAreTrue library old new deck
       ((begun : S) × (next : Run) × IsAttached library old begun deck
       × AreSuch (record { run = run_before (library.world old) deck; library = begun }) lines (record { run = next; library = new })
-      × Leaves (library.world new) deck next)
+      × WorldIsLeft (library.world new) deck next)
   pub lines_are : AreLinesOf library (program_names deck) old new lines
 
 -- ---- the deck in memory

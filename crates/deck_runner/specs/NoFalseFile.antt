@@ -14,7 +14,7 @@ use Rattle.deck_reader.specs.declared.deck.Deck.{Deck}
 use Rattle.deck_runner.specs.Steps.{AreStepsOf, until_stop, closes_from}
 use Rattle.deck_runner.specs.Stretches.{Point, IsStretch, AreStretches, name_by, trace_by}
 use Rattle.deck_runner.specs.State.{AreLinesOf}
-use Rattle.deck_runner.specs.Beginning.{run_before, Leaves, WhereFilesAreTrue, IsAttached, program_names}
+use Rattle.deck_runner.specs.Beginning.{run_before, WorldIsLeft, WhereFilesAreTrue, IsAttached, program_names}
 
 -- what the images of a name may be: as at the start of the run, until the first CLOSE of a change has answered 00; and these
 pub record Ledger : Type 0 where
@@ -113,7 +113,7 @@ pub record DeckRuns {S : Type 0} (library : Shown S) (old new : S) (deck : Deck)
   pub stretches : WhereFilesAreTrue library old new deck
       ((begun : S) × (after : Judged S) × IsAttached library old begun deck
       × AreSuch (record { point = record { run = run_before (library.world old) deck; library = begun }; ledger = λ name. first_ledger }) lines after
-      × (after.point.library ≡ new) × StandNow library old after × Leaves (library.world new) deck after.point.run)
+      × (after.point.library ≡ new) × StandNow library old after × WorldIsLeft (library.world new) deck after.point.run)
   pub lines_are : AreLinesOf library (program_names deck) old new lines
 
 -- a whole run of the deck, and one that was broken off

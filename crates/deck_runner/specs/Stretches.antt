@@ -9,7 +9,7 @@ use Rattle.io_state.specs.declared.status.Status.{Status}
 use Rattle.verbs.specs.Connector.{FileState}
 use Rattle.verbs.specs.Faults.{is_damaged, is_open_statement}
 use Rattle.verbs.specs.Full.{TellsRoom, lacks_room}
-use Rattle.verbs.specs.Performed.{HasCause}
+use Rattle.verbs.specs.Performed.{StatusHasCause}
 use Rattle.verbs.specs.Traces.{trace_of}
 use Rattle.verbs.specs.Verbs.{perform}
 use Rattle.procedure_division.specs.declared.statement.Statement.{Statement}
@@ -46,8 +46,9 @@ trace_by StopRun run lines = untouched
 -- why the line of a statement of unit u's file, with records of n bytes, has its status. 30: the count of the device's faults rose in this
 -- statement, or it is CLOSE of a connector that has failed. 92: the connector has failed. 24: the statement should succeed, and the file has
 -- no room for it; and where that is so, the status is 24, 30 or 90. 91: it is an OPEN
-pub record IsCaused {S : Type 0} (library : Shown S) (u : ℕ) (statement : FileStatement) (n : ℕ) (file : FileState) (before after : S) (status : Status) : Type 0 where
-  pub cause : HasCause statement file.connector.session status (library.fault_count before) (library.fault_count after)
+pub record LineIsCaused {S : Type 0} (library : Shown S) (u : ℕ) (statement : FileStatement) (n : ℕ) (file : FileState) (before after : S) (status : Status) : Type 0 where
+  pub cause : StatusHasCause statement file.connector.session status
+      (library.fault_count before) (library.fault_count after)
   pub room : TellsRoom (perform statement n file) (lacks_room statement n (library.room before u) file) status
   pub damage : IsTrue (is_damaged status) → IsTrue (is_open_statement statement)
 
@@ -55,7 +56,7 @@ abbrev pub IsCausedOn : {S : Type 0} → Shown S → ℕ → FileStatement → O
 IsCausedOn library u statement None run lines before after = Unit {0}
 IsCausedOn library u statement (Some file) run [] before after = Unit {0}
 IsCausedOn library u statement (Some file) run (line ∷ lines) before after =
-    IsCaused library u statement (record_length run.items file file.depends_on) file.state before after line.status
+    LineIsCaused library u statement (record_length run.items file file.depends_on) file.state before after line.status
 
 abbrev pub HasCauses : {S : Type 0} → Shown S → Statement → Run → List Line → (before after : S) → Type 0
 HasCauses library (Perform u statement) run lines before after = IsCausedOn library u statement (slice_get run.files u) run lines before after
@@ -78,14 +79,14 @@ AreStretches library = AreStepsOf (IsStretch library)
 abbrev pub ClosesAt : {S : Type 0} → Shown S → ℕ → Point S → List Line → Point S → Type 0
 ClosesAt library u run lines next = AreStretches library (close_at u (slice_get run.run.files u)) run lines next
 
-abbrev pub Closes : {S : Type 0} → Shown S → Point S → List Line → Point S → Type 0
-Closes library run lines next = AreStretches library (closes_from 0 run.run.files) run lines next
+abbrev pub ClosesFiles : {S : Type 0} → Shown S → Point S → List Line → Point S → Type 0
+ClosesFiles library run lines next = AreStretches library (closes_from 0 run.run.files) run lines next
 
 -- a whole run: the statements up to STOP RUN, and then the closes of the files that are open there
 abbrev pub IsRunOver : {S : Type 0} → Shown S → List Statement → Point S → List Line → Point S → Type 0
 IsRunOver {S} library statements run lines next =
     (stopped : Point S) × (first : List Line) × (others : List Line)
-    × AreStretches library (until_stop statements) run first stopped × Closes library stopped others next × (lines ≡ first ++ others)
+    × AreStretches library (until_stop statements) run first stopped × ClosesFiles library stopped others next × (lines ≡ first ++ others)
 
 -- some of the statements, from the first on, one after another
 abbrev pub AreStretchesInPart : {S : Type 0} → Shown S → List Statement → Point S → List Line → Point S → Type 0

@@ -1,6 +1,6 @@
 //! The closes at the end of a run.
 ghost use Rattle.std.specs.Prelude.{◌≡◌, ◌≤◌, ◌<◌, IfOk, OnErr, length};
-ghost use Rattle.deck_runner.specs.Stretches.{ClosesAt, Closes, ClosesInPart};
+ghost use Rattle.deck_runner.specs.Stretches.{ClosesAt, ClosesFiles, ClosesInPart};
 ghost use Rattle.deck_runner.specs.State.{state, IsSafeIn, GoesOn, Leads};
 ghost use Rattle.deck_runner.specs.RunEnd.{Told, ToldInPart};
 
@@ -47,7 +47,7 @@ impl RunningDeck {
         ensures goes { GoesOn L.shown (state library.old self.old) (state library.new self.new) }
         ensures few { IfOk result (λ end. end.lines ≤ length self.old.files.items) }
         ensures done { IfOk result (λ end. Told (W.contents out.old) (W.contents out.new) end
-            (Leads L.shown (state library.old self.old) (state library.new self.new) (Closes L.shown))) }
+            (Leads L.shown (state library.old self.old) (state library.new self.new) (ClosesFiles L.shown))) }
         ensures refused { OnErr result (ToldInPart (W.contents out.old) (W.contents out.new)
             (Leads L.shown (state library.old self.old) (state library.new self.new) (ClosesInPart L.shown))) }
     {

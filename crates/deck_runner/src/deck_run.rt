@@ -6,7 +6,7 @@ ghost use Rattle.deck_runner.specs.Stretches.{IsRunOver, IsBrokenOff};
 ghost use Rattle.deck_runner.specs.NoFalseFile.{RunsWhole, RunsInPart};
 ghost use Rattle.deck_runner.specs.RunEnd.{Told, ToldInPart};
 ghost use Rattle.deck_runner.specs.Beginning.{SameElsewhere, IsUntouched, WhereFilesAreTrue, DeckLeads};
-ghost use Rattle.deck_runner.specs.DeckRun.{OfDeck, RunsExactly, IsRefused};
+ghost use Rattle.deck_runner.specs.DeckRun.{OfDeck, RunsExactly, IsRefusedDeck};
 
 use crate::beginning::begin;
 use crate::fault::RunFault;
@@ -68,7 +68,7 @@ pub fn run_deck<L: Library, W: Write>(
         ToldInPart (W.contents out.old) (W.contents out.new) (RunsInPart L.shown library.old library.new deck))) }
     ensures nothing { IfErr result (λ fault. fault ≢ RunFault.Output →
         (out.new ≡ out.old) × IsUntouched L.shown library.old library.new) }
-    ensures refused { IfErr result (IsRefused bytes.now) }
+    ensures refused { IfErr result (IsRefusedDeck bytes.now) }
     ensures keeps { Keeps L.shown library.old library.new }
 {
     match read_deck(alloc, bytes) {

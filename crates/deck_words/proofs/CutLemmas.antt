@@ -1,16 +1,13 @@
 -- How the pieces of a deck are cut off one after another, and that there is one way to do so.
-use Rattle.std.proofs.Common.{◌≡◌, ◌≤◌, ◌<◌, ◌+◌, ◌⊎◌, inl, inr, ◌++◌, ◌∷◌, [], length, List, ℕ, Option, Some, None, Err, subst, sym, ap, ◌∙◌, refl, arith, append_assoc, append-nil}
-use Rattle.std.specs.Option.{option_map}
+use Rattle.std.proofs.Common.{◌≡◌, ◌≤◌, ◌<◌, ◌+◌, ◌⊎◌, inl, inr, ◌++◌, ◌∷◌, [], length, List, ℕ, Option, Some, None, subst, sym, ap, ◌∙◌, refl, arith, append_assoc, append-nil}
 use Rattle.std.proofs.lemmas.Option.{same_Some}
 use Rattle.deck_words.specs.Word.{Word}
 use Rattle.deck_words.specs.declared.fault.Cause.{Cause}
 use Rattle.deck_words.specs.declared.fault.Cause.TheVariants.{BadWord, Expected, Unknown, Twice, NotAllowed, Limit, Layout}
 use Rattle.deck_words.specs.declared.fault.Refusal.{Refusal}
 use Rattle.deck_words.specs.declared.fault.Refusal.TheVariants.{Memory, Fault}
-use Rattle.deck_words.specs.Words.{Piece, written, Gives, line_after, Rest, rest_of, IsCut, HasWordsUpTo, HasWords, IsStuck, RefusesWords}
+use Rattle.deck_words.specs.Words.{Piece, written, GivesWords, line_after, Rest, rest_of, IsCut, HasWordsUpTo, HasWords, IsStuck, RefusesWords}
 use Rattle.deck_words.specs.Front.{Next, piece_at}
-use Rattle.deck_words.specs.Scanning.{Steps}
-use Rattle.deck_words.proofs.TestLemmas.{map_some}
 use Rattle.deck_words.proofs.FrontLemmas.{piece_sound, piece_complete, none_at_end}
 
 -- ---- one piece more
@@ -35,7 +32,7 @@ IsLast rest = piece_at rest ≡ None
 abbrev IsSame : List Word → Rest → List Word → Rest → Type 0
 IsSame words end others last = (words ≡ others) × (end ≡ last)
 
-none_stands : (rest : Rest) (piece : Piece) (after : List ℕ) (new : List Word) → IsLast rest → rest.bytes ≡ written piece ++ after → Gives rest.line piece after new → ⊥
+none_stands : (rest : Rest) (piece : Piece) (after : List ℕ) (new : List Word) → IsLast rest → rest.bytes ≡ written piece ++ after → GivesWords rest.line piece after new → ⊥
 none_stands rest piece after new e s g =
     let k : ◌≡◌ {A = Option Next} None (Some (new, rest_of (line_after rest.line piece) after)) = sym e ∙ piece_complete rest piece after new s g in cc
 
@@ -96,20 +93,14 @@ pub record SoFar (bytes : List ℕ) (words : List Word) (rest : Rest) : Type 0 w
 pub start : (bytes : List ℕ) → length bytes ≤ 1048576 → SoFar bytes [] (rest_of 1 bytes)
 start bytes short = record { upto = (short, ([], (refl, refl))); lines = omega arith }
 
-pub step : (bytes : List ℕ) (words new : List Word) (rest after : Rest) → SoFar bytes words rest → option_map {U = Next} (λ n. (words ++ n.0, n.1)) (piece_at rest) ≡ Some (new, after) → after.line + length after.bytes ≤ rest.line + length rest.bytes → SoFar bytes new after
-step bytes words new rest after so e fewer =
-    let m = map_some {B = Next} (λ n. (words ++ n.0, n.1)) (piece_at rest) (new, after) e in
-    let n : Next = m.0 in
-    subst (λ (t : Next). t.1.line + length t.1.bytes ≤ rest.line + length rest.bytes → SoFar bytes t.0 t.1) m.2 (λ less. record {
-      upto = (so.upto.0, one_more (rest_of 1 bytes) rest m.0.1 so.upto.1.0 words m.0.0 so.upto.1.1 m.1);
-      lines = omega (arith, less, so.lines);
-    }) fewer
+pub step : (bytes : List ℕ) (words : List Word) (rest : Rest) (next : Next) → SoFar bytes words rest → piece_at rest ≡ Some next → next.1.line + length next.1.bytes ≤ rest.line + length rest.bytes → SoFar bytes (words ++ next.0) next.1
+step bytes words rest next so e fewer = record {
+  upto = (so.upto.0, one_more (rest_of 1 bytes) rest next.1 so.upto.1.0 words next.0 so.upto.1.1 e);
+  lines = omega (arith, fewer, so.lines);
+}
 
-pub refused : (bytes : List ℕ) (words new : List Word) (rest : Rest) (refusal : Refusal) → SoFar bytes words rest → 0 < length rest.bytes → Steps rest.line (piece_at rest) words (Err refusal) new → RefusesWords bytes refusal
-refused bytes words new rest Memory so more s = tt
-refused bytes words new rest (Fault line cause) so more s =
-    let told : RefusesWords bytes (Fault rest.line BadWord) = (words, rest.bytes, so.upto, last_is_stuck rest more s.0) in
-    subst (λ l. RefusesWords bytes (Fault l cause)) (sym s.1) (subst (λ k. RefusesWords bytes (Fault rest.line k)) (sym s.2) told)
+pub refused : (bytes : List ℕ) (words : List Word) (rest : Rest) → SoFar bytes words rest → 0 < length rest.bytes → piece_at rest ≡ None → RefusesWords bytes (Fault rest.line BadWord)
+refused bytes words rest so more e = (words, rest.bytes, so.upto, last_is_stuck rest more e)
 
 no_bytes : (rest : List ℕ) → length rest ≡ 0 → rest ≡ []
 no_bytes [] e = refl
@@ -156,6 +147,3 @@ faults_are_one bytes (Fault line cause) (Fault other another) f g p q =
         | inr g ↦ same_fault line other cause another (bad_is_one bytes line other f.1 g.1) (f.0 ∙ sym g.0)
       ]
     ]
-
-pub something_left : (rest after : List ℕ) (byte : ℕ) → rest ≡ byte ∷ after → 0 < length rest
-something_left rest after byte e = omega (arith, ap (λ (bytes : List ℕ). length bytes) e)

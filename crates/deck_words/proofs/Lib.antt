@@ -3,6 +3,7 @@ pub mod LiteralLemmas
 pub mod RunLemmas
 pub mod FrontLemmas
 pub mod CutLemmas
+pub mod RemainingLemmas
 pub mod ClassLemmas
 pub mod RuleLemmas
 pub mod RepeatLemmas

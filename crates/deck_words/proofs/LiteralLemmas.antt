@@ -1,12 +1,13 @@
 -- The text that is cut out between two marks is the one that stands there.
-use Rattle.std.proofs.Common.{◌≡◌, ℕ, Bool, true, false, cond, eqb, List, [], ◌∷◌, ◌++◌, Option, Some, None, refl, sym, ap, ◌∙◌, subst, arith, append_assoc}
+use Rattle.std.proofs.Common.{◌≡◌, ℕ, ◌+◌, length, Bool, true, false, cond, eqb, List, [], ◌∷◌, ◌++◌, Option, Some, None, refl, sym, ap, ◌∙◌, subst, arith, append_assoc}
 use Rattle.std.specs.List.{list_all}
+use Rattle.std.specs.Option.{option_map}
 use Rattle.std.proofs.lemmas.Option.{cond_some, some_pair_parts}
 use Rattle.std.proofs.lemmas.Bool.{eqb-true}
 use Rattle.std.proofs.lemmas.Bool.Decides.{nat_tests}
 use Rattle.deck_words.specs.ByteClass.{is_mark, is_of_literal}
 use Rattle.deck_words.specs.Words.{doubled}
-use Rattle.deck_words.specs.Front.{with_first, cut_literal}
+use Rattle.deck_words.specs.Literal.{with_first, cut_literal}
 use Rattle.deck_words.proofs.TestLemmas.{both_true, both_are}
 
 -- a text of which a front is known
@@ -86,3 +87,16 @@ cut_sound mark (b ∷ []) text rest i e =
     rw (← ap (λ q. q.0) p.1, ← ap (λ q. q.1) p.1) (ap (λ (x : ℕ). x ∷ []) (eqb-true b mark p.0), refl)
 cut_sound mark (b ∷ c ∷ bytes) text rest i e =
     sound_by mark b c bytes text rest (eqb b mark) (eqb c mark) (is_of_literal b) i refl refl refl (λ t r. cut_sound mark bytes t r i) (λ t r. cut_sound mark (c ∷ bytes) t r i) e
+
+-- so many bytes of a text are known
+abbrev pub with_count : ℕ → Option (List ℕ × List ℕ) → Option (ℕ × List ℕ)
+with_count count None = None
+with_count count (Some cut) = Some (count + length cut.0, cut.1)
+
+pub with_count-with_first : (count b : ℕ) (cut : Option (List ℕ × List ℕ)) → with_count count (with_first b cut) ≡ with_count (count + 1) cut
+with_count-with_first count b None = refl
+with_count-with_first count b (Some cut) = ap (λ (n : ℕ). Some (n, cut.1)) (omega arith)
+
+pub counted_from_none : (cut : Option (List ℕ × List ℕ)) → with_count 0 cut ≡ option_map (λ (c : List ℕ × List ℕ). (length c.0, c.1)) cut
+counted_from_none None = refl
+counted_from_none (Some cut) = ap (λ (n : ℕ). Some (n, cut.1)) (omega arith)

@@ -1,23 +1,11 @@
 -- The piece at the front of what is left of a deck, as it is found from the front.
 use Rattle.std.specs.Prelude.{ℕ, ◌+◌, ◌==◌, Bool, true, ◌&&◌, ◌||◌, if◌then◌else◌, List, [], ◌∷◌, length, take, drop, nat_le, nat_lt, Option, Some, None, option_map}
 use Rattle.std.specs.List.{prefix_len}
-use Rattle.deck_words.specs.ByteClass.{is_space, is_mark, is_of_run, is_of_literal}
+use Rattle.deck_words.specs.ByteClass.{is_space, is_mark, is_of_run}
+use Rattle.deck_words.specs.Literal.{cut_literal}
 use Rattle.deck_words.specs.Words.{run_words, Rest, rest_of}
 use Rattle.deck_words.specs.Word.{Word, word_of}
 use Rattle.deck_words.specs.Word.{Literal}
-
--- a text and what comes after it, with one byte more before the text
-abbrev pub with_first : ℕ → Option (List ℕ × List ℕ) → Option (List ℕ × List ℕ)
-with_first byte None = None
-with_first byte (Some cut) = Some (byte ∷ cut.0, cut.1)
-
--- behind an opening mark: the text up to the closing one, and what comes after that
-abbrev pub cut_literal : ℕ → List ℕ → Option (List ℕ × List ℕ)
-cut_literal mark [] = None
-cut_literal mark (b ∷ []) = if b == mark then Some ([], []) else None
-cut_literal mark (b ∷ c ∷ bytes) =
-    if b == mark then (if c == mark then with_first mark (cut_literal mark bytes) else Some ([], c ∷ bytes)) else (
-    if is_of_literal b then with_first b (cut_literal mark (c ∷ bytes)) else None)
 
 abbrev pub ends_literal : List ℕ → Bool
 ends_literal [] = true

@@ -1,9 +1,12 @@
 pub mod ByteClass
 pub mod Fault
+pub mod Literal
 pub mod Name
 pub mod Word
 pub mod Words
+pub mod Spelling
 pub mod Front
+pub mod Remaining
 pub mod Scanning
 pub mod Class
 pub mod Rule

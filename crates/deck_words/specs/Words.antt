@@ -78,11 +78,11 @@ written (Quoted mark text) = mark ∷ doubled mark text ++ mark ∷ []
 written (Run run) = run
 
 -- a piece at this line gives these words, where these bytes come after it
-abbrev pub Gives : ℕ → Piece → List ℕ → List Word → Type 0
-Gives line (Space byte) after words = IsTrue (is_space byte) × (words ≡ [])
-Gives line (Quoted mark text) after words =
+abbrev pub GivesWords : ℕ → Piece → List ℕ → List Word → Type 0
+GivesWords line (Space byte) after words = IsTrue (is_space byte) × (words ≡ [])
+GivesWords line (Quoted mark text) after words =
     IsTrue (is_mark mark) × IsLiteralText text × EndsLiteral after × (words ≡ word_of line Literal text ∷ [])
-Gives line (Run run) after words =
+GivesWords line (Run run) after words =
     (0 < length run) × IsTrue (list_all is_of_run run) × EndsRun after × (run_words line run ≡ Some words)
 
 -- a line feed ends its line
@@ -106,7 +106,7 @@ abbrev pub IsCut : Rest → List Piece → List Word → Rest → Type 0
 IsCut from [] words end = (from ≡ end) × (words ≡ [])
 IsCut from (piece ∷ pieces) words end =
     (new : List Word) × (more : List Word) × (after : List ℕ) × (from.bytes ≡ written piece ++ after)
-    × Gives from.line piece after new × (words ≡ new ++ more) × IsCut (rest_of (line_after from.line piece) after) pieces more end
+    × GivesWords from.line piece after new × (words ≡ new ++ more) × IsCut (rest_of (line_after from.line piece) after) pieces more end
 
 -- up to here a deck is cut into pieces, which give these words; it begins at line 1, and is not too long
 abbrev pub HasWordsUpTo : List ℕ → List Word → Rest → Type 0
@@ -120,7 +120,7 @@ HasWords bytes words = (line : ℕ) × HasWordsUpTo bytes words (rest_of line []
 abbrev pub IsStuck : Rest → Type 0
 IsStuck rest =
     (0 < length rest.bytes)
-    × ((piece : Piece) (after : List ℕ) (words : List Word) → rest.bytes ≡ written piece ++ after → Gives rest.line piece after words → ⊥)
+    × ((piece : Piece) (after : List ℕ) (words : List Word) → rest.bytes ≡ written piece ++ after → GivesWords rest.line piece after words → ⊥)
 
 -- why a deck has no words: it is too long, or what is left behind some pieces begins with none; or there was no memory
 abbrev pub RefusesWords : List ℕ → Refusal → Type 0

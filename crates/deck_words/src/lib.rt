@@ -13,12 +13,17 @@ mod fault;
 mod literal;
 mod name;
 mod parser;
+mod piece;
+mod remaining;
 mod run;
 mod scanner;
+mod spelling;
 mod text;
 mod word;
 
 pub use fault::{Cause, DeckFault, Refusal};
+pub use literal::Quoted;
 pub use parser::Parser;
+pub use remaining::Words;
 pub use scanner::{DECK_LIMIT, one_reading, words};
 pub use word::{Sign, Word, WordText};

@@ -1,34 +1,53 @@
 //! A literal.
-ghost use Rattle.std.specs.Prelude.{◌≡◌, ◌≤◌, length, IfOk};
-ghost use Rattle.deck_words.specs.Front.{cut_literal, literal_at, ends_literal};
-ghost use Rattle.deck_words.specs.Scanning.{CutsLiteral, Steps, map_result};
-ghost use Rattle.deck_words.specs.Words.{rest_of};
+ghost use Rattle.std.specs.Prelude.{◌≡◌, ℕ, List, length, option_map, IfOk};
+ghost use Rattle.deck_words.specs.Literal.{cut_literal, text_of_cut};
+ghost use Rattle.deck_words.specs.Front.{literal_at, ends_literal};
 
 use crate::byte_class::is_space_byte;
-use crate::fault::{Cause, Refusal};
-use crate::word::{Word, WordText};
+use crate::piece::Piece;
+use crate::spelling::{Spelled, Spelling};
 use record_layout::Bytes;
-use std::alloc::Global;
+use std::alloc::{AllocError, Global};
+use std::marker::Model;
 
 /// The most bytes of a literal, each doubled mark counted once.
 const LITERAL_LIMIT: usize = 1_000;
 
-/// The text from behind a mark up to the next same mark that is not doubled, and what follows it.
-fn text_before<'a>(
-    alloc: Global,
-    line: u64,
+/// A literal, from behind its first mark on. Contracts see its text, in which a doubled mark stands once.
+#[derive(Drop)]
+pub struct Quoted<'a> {
     mark: u8,
     bytes: &'a [u8],
-) -> Result<(Bytes, &'a [u8]), Refusal>
-    ensures cut { CutsLiteral line (cut_literal mark bytes.now) result }
-    ensures shorter { IfOk result (λ cut. length cut.1.now ≤ length bytes.now) }
+}
+
+impl<'a> Model for Quoted<'a> {
+    ghost use Rattle.std.specs.Prelude.{ℕ, List};
+    ghost use Rattle.deck_words.specs.Literal.{cut_literal, text_of_cut};
+
+    ghost Value = { List ℕ };
+
+    ghost view = { λ q. text_of_cut (cut_literal q.mark q.bytes.now) };
+}
+
+impl<'a> Quoted<'a> {
+    /// The text, in memory of its own.
+    pub fn text(&self, alloc: Global) -> Result<Bytes, AllocError>
+        ensures { IfOk result (λ text. text ≡ self.now) }
+    {
+        text_before(alloc, self.mark, self.bytes)
+    }
+}
+
+/// The text from behind a mark up to the next same mark that is not doubled, or nothing where there is none.
+fn text_before(alloc: Global, mark: u8, bytes: &[u8]) -> Result<Bytes, AllocError>
+    ensures { IfOk result (λ text. text ≡ text_of_cut (cut_literal mark bytes.now)) }
 {
     let mut text = Vec::new(alloc);
     let mut rest = bytes;
     'more: while let Some((byte, after)) = rest.split_first() {
         if *byte != mark {
             if *byte == b'\n' || *byte == b'\r' {
-                return Err(Refusal::Fault(line, Cause::BadWord));
+                return Ok(Bytes::from_vec(Vec::new(alloc)));
             }
             text.push(*byte)?;
             rest = after;
@@ -39,10 +58,37 @@ fn text_before<'a>(
                 text.push(mark)?;
                 rest = more;
             }
-            _ => return Ok((Bytes::from_vec(text), after)),
+            _ => return Ok(Bytes::from_vec(text)),
         }
     }
-    Err(Refusal::Fault(line, Cause::BadWord))
+    Ok(Bytes::from_vec(Vec::new(alloc)))
+}
+
+/// How many bytes the text behind a mark has, and what follows the mark that closes it.
+fn length_before(mark: u8, bytes: &[u8]) -> Option<(usize, &[u8])>
+    ensures { option_map {U = ℕ × List ℕ} (λ cut. (cut.0, cut.1.now)) result
+        ≡ option_map {U = ℕ × List ℕ} (λ cut. (length cut.0, cut.1)) (cut_literal mark bytes.now) }
+{
+    let mut count = 0;
+    let mut rest = bytes;
+    'more: while let Some((byte, after)) = rest.split_first() {
+        if *byte != mark {
+            if *byte == b'\n' || *byte == b'\r' {
+                return None;
+            }
+            count += 1;
+            rest = after;
+            continue;
+        }
+        match after.split_first() {
+            Some((next, more)) if *next == mark => {
+                count += 1;
+                rest = more;
+            }
+            _ => return Some((count, after)),
+        }
+    }
+    None
 }
 
 /// Whether a literal may end before this.
@@ -55,26 +101,22 @@ fn may_follow_literal(rest: &[u8]) -> bool
     }
 }
 
-/// Adds the literal that begins behind this mark, and gives what follows it.
-pub fn push_literal<'a>(
-    alloc: Global,
-    line: u64,
-    mark: u8,
-    bytes: &'a [u8],
-    words: &mut Vec<Word>,
-) -> Result<&'a [u8], Refusal>
-    ensures adds { Steps line (literal_at line (cut_literal mark bytes.now)) words.old.items
-        (map_result (λ rest. rest_of line rest.now) result) words.new.items }
-    ensures shorter { IfOk result (λ rest. length rest.now ≤ length bytes.now) }
+/// The literal that begins behind this mark.
+pub fn literal_piece(line: u64, mark: u8, bytes: &[u8]) -> Option<Piece<'_>>
+    ensures { result ≡ literal_at line (cut_literal mark bytes.now) }
 {
-    let (text, rest) = text_before(alloc, line, mark, bytes)?;
-    let length = text.as_slice().len();
+    let (length, rest) = length_before(mark, bytes)?;
     if length == 0 || length > LITERAL_LIMIT || !may_follow_literal(rest) {
-        return Err(Refusal::Fault(line, Cause::BadWord));
+        return None;
     }
-    words.push(Word {
+    let word = Spelling {
         line,
-        text: WordText::Literal(text),
-    })?;
-    Ok(rest)
+        says: Spelled::Literal(Quoted { mark, bytes }),
+    };
+    Some(Piece {
+        word: Some(word),
+        period: false,
+        line,
+        rest,
+    })
 }

@@ -1,5 +1,5 @@
 //! The words that are still to be read, and the steps that read one.
-ghost use Rattle.std.specs.Prelude.{◌≡◌, ◌≢◌, [], ◌∷◌, map, Some, length, MatchResult};
+ghost use Rattle.std.specs.Prelude.{◌≡◌, ◌≢◌, [], ◌∷◌, map, drop, Some, length, MatchResult};
 ghost use Rattle.std.specs.Bool.{OnTrue, OnFalse};
 ghost use Rattle.std.specs.List.{list_any};
 ghost use Rattle.deck_words.specs.Class.{begins, is_in, this, names, numbers, levels, pictures, signs, periods};
@@ -12,30 +12,34 @@ ghost use Rattle.deck_words.specs.Fault.{IsFault};
 
 use crate::fault::{Cause, Refusal};
 use crate::name::{is_name_text, is_number_text};
+use crate::remaining::Words;
 use crate::word::{Word, WordText};
 use io_state::Name;
+use record_layout::Bytes;
+use std::alloc::Global;
 use std::marker::Model;
 
 /// The most digits of a number.
 const DIGIT_LIMIT: usize = 18;
 
-/// The words that are still to be read, and the line of the last one. Contracts see the words.
+/// The words that are still to be read: the next one, and those behind it. Contracts see all of them.
 #[derive(Drop)]
 pub struct Parser<'a> {
-    words: &'a [Word],
-    last_line: u64,
+    next: Option<Word<'a>>,
+    behind: Words<'a>,
 }
 
 impl<'a> Model for Parser<'a> {
     ghost use Rattle.std.specs.Prelude.{List};
     ghost use Rattle.deck_words.specs.Word.{Word};
+    ghost use Rattle.deck_words.specs.Remaining.{from_next};
 
     ghost Value = { List Word };
 
-    ghost view = { λ parser. parser.words.now };
+    ghost view = { λ parser. from_next parser.next parser.behind };
 }
 
-fn is_this(word: &Word, text: &[u8]) -> bool
+fn is_this(word: &Word<'_>, text: &[u8]) -> bool
     ensures { result ≡ is_in (this text.now) word.now }
 {
     match word.plain() {
@@ -44,13 +48,13 @@ fn is_this(word: &Word, text: &[u8]) -> bool
     }
 }
 
-fn is_one_of(word: &Word, texts: &[&[u8]]) -> bool
+fn is_one_of(word: &Word<'_>, texts: &[&[u8]]) -> bool
     ensures { result ≡ list_any (λ text. is_in (this text.now) word.now) texts.now }
 {
     texts.iter().any(|text| is_this(word, text))
 }
 
-fn is_name(word: &Word) -> bool
+fn is_name(word: &Word<'_>) -> bool
     ensures { result ≡ is_in names word.now }
 {
     match word.plain() {
@@ -59,7 +63,7 @@ fn is_name(word: &Word) -> bool
     }
 }
 
-fn is_number(word: &Word) -> bool
+fn is_number(word: &Word<'_>) -> bool
     ensures { result ≡ is_in numbers word.now }
 {
     match word.plain() {
@@ -68,7 +72,7 @@ fn is_number(word: &Word) -> bool
     }
 }
 
-fn is_level(word: &Word) -> bool
+fn is_level(word: &Word<'_>) -> bool
     ensures { result ≡ is_in levels word.now }
 {
     match word.plain() {
@@ -77,7 +81,7 @@ fn is_level(word: &Word) -> bool
     }
 }
 
-fn is_picture(word: &Word) -> bool
+fn is_picture(word: &Word<'_>) -> bool
     ensures { result ≡ is_in pictures word.now }
 {
     match word.plain() {
@@ -86,7 +90,7 @@ fn is_picture(word: &Word) -> bool
     }
 }
 
-fn is_sign(word: &Word, text: &[u8]) -> bool
+fn is_sign(word: &Word<'_>, text: &[u8]) -> bool
     ensures { result ≡ is_in (signs text.now) word.now }
 {
     match &word.text {
@@ -95,7 +99,7 @@ fn is_sign(word: &Word, text: &[u8]) -> bool
     }
 }
 
-fn is_period(word: &Word) -> bool
+fn is_period(word: &Word<'_>) -> bool
     ensures { result ≡ is_in periods word.now }
 {
     matches!(&word.text, WordText::Period)
@@ -103,21 +107,28 @@ fn is_period(word: &Word) -> bool
 
 impl<'a> Parser<'a> {
     /// All of the words are to be read.
-    pub fn new(words: &'a [Word]) -> Self
+    pub fn new(words: &Words<'a>) -> Self
         ensures { result ≡ words.now }
     {
-        let last_line = match words.last() {
-            Some(word) => word.line,
-            None => 1,
-        };
-        Parser { words, last_line }
+        let mut behind = words.copy();
+        let next = behind.next();
+        Parser { next, behind }
+    }
+
+    /// Goes on to the word behind the next one.
+    fn advance(&mut self)
+        ensures { self.new ≡ drop 1 self.old }
+    {
+        if self.next.is_some() {
+            self.next = self.behind.next();
+        }
     }
 
     /// The line of the next word, or of the last one.
     pub fn line(&self) -> u64 {
-        match self.words.first() {
+        match &self.next {
             Some(word) => word.line,
-            None => self.last_line,
+            None => self.behind.last_line(),
         }
     }
 
@@ -132,7 +143,7 @@ impl<'a> Parser<'a> {
     pub fn sees(&self, text: &[u8]) -> bool
         ensures { result ≡ begins (this text.now ∷ []) self.now }
     {
-        match self.words.first() {
+        match &self.next {
             Some(word) => is_this(word, text),
             None => false,
         }
@@ -143,7 +154,7 @@ impl<'a> Parser<'a> {
     pub fn sees_one_of(&self, texts: &[&[u8]]) -> bool
         ensures { result ≡ begins (map (λ text. this text.now) texts.now) self.now }
     {
-        match self.words.first() {
+        match &self.next {
             Some(word) => is_one_of(word, texts),
             None => false,
         }
@@ -153,7 +164,7 @@ impl<'a> Parser<'a> {
     pub fn sees_name(&self) -> bool
         ensures { result ≡ begins (names ∷ []) self.now }
     {
-        match self.words.first() {
+        match &self.next {
             Some(word) => is_name(word),
             None => false,
         }
@@ -163,7 +174,7 @@ impl<'a> Parser<'a> {
     pub fn sees_name_or(&self, text: &[u8]) -> bool
         ensures { result ≡ begins (names ∷ this text.now ∷ []) self.now }
     {
-        match self.words.first() {
+        match &self.next {
             Some(word) => is_name(word) || is_this(word, text),
             None => false,
         }
@@ -173,7 +184,7 @@ impl<'a> Parser<'a> {
     pub fn sees_level(&self) -> bool
         ensures { result ≡ begins (levels ∷ []) self.now }
     {
-        match self.words.first() {
+        match &self.next {
             Some(word) => is_level(word),
             None => false,
         }
@@ -183,7 +194,10 @@ impl<'a> Parser<'a> {
     pub fn left(&self) -> usize
         ensures { result ≡ length self.now }
     {
-        self.words.len()
+        match &self.next {
+            Some(_) => self.behind.len() + 1,
+            None => 0,
+        }
     }
 
     /// Takes this word.
@@ -191,9 +205,9 @@ impl<'a> Parser<'a> {
     pub fn expect(&mut self, text: &[u8]) -> Result<(), Refusal>
         ensures { Reads ((the text.now).reads self.old) result self.new }
     {
-        match self.words.split_first() {
-            Some((word, rest)) if is_this(word, text) => {
-                self.words = rest;
+        match &self.next {
+            Some(word) if is_this(word, text) => {
+                self.advance();
                 Ok(())
             }
             _ => Err(self.fault(Cause::Expected)),
@@ -208,9 +222,9 @@ impl<'a> Parser<'a> {
         ensures taken { OnTrue result ((the text.now).reads self.old ≡ Some (tt, self.new)) }
         ensures kept { OnFalse result (self.new ≡ self.old) }
     {
-        match self.words.split_first() {
-            Some((word, rest)) if is_this(word, text) => {
-                self.words = rest;
+        match &self.next {
+            Some(word) if is_this(word, text) => {
+                self.advance();
                 true
             }
             _ => false,
@@ -219,16 +233,17 @@ impl<'a> Parser<'a> {
 
     /// A name.
     #[tactic(auto, unfolding(crate::specs::Notation::name))]
-    pub fn name(&mut self) -> Result<&'a Name, Refusal>
-        ensures { Reads (name.reads self.old) (map_result (λ name. name.now.bytes) result) self.new }
+    pub fn name(&mut self) -> Result<Name, Refusal>
+        ensures { Reads (name.reads self.old) (map_result (λ name. name.bytes) result) self.new }
     {
         let fault = self.fault(Cause::Expected);
-        let Some((word, rest)) = self.words.split_first() else {
+        let Some(word) = &self.next else {
             return Err(fault);
         };
         match word.plain() {
             Some(text) if is_name(word) => {
-                self.words = rest;
+                let text = *text;
+                self.advance();
                 Ok(text)
             }
             _ => Err(fault),
@@ -236,16 +251,17 @@ impl<'a> Parser<'a> {
     }
 
     /// The one or two digits of a level number.
-    pub fn level(&mut self) -> Result<&'a Name, Refusal>
-        ensures { Reads ((one levels).reads self.old) (map_result (λ level. level.now.bytes) result) self.new }
+    pub fn level(&mut self) -> Result<Name, Refusal>
+        ensures { Reads ((one levels).reads self.old) (map_result (λ level. level.bytes) result) self.new }
     {
         let fault = self.fault(Cause::Expected);
-        let Some((word, rest)) = self.words.split_first() else {
+        let Some(word) = &self.next else {
             return Err(fault);
         };
         match word.plain() {
             Some(text) if is_level(word) => {
-                self.words = rest;
+                let text = *text;
+                self.advance();
                 Ok(text)
             }
             _ => Err(fault),
@@ -253,16 +269,17 @@ impl<'a> Parser<'a> {
     }
 
     /// Any plain word but IS.
-    pub fn picture(&mut self) -> Result<&'a Name, Refusal>
-        ensures { Reads ((one pictures).reads self.old) (map_result (λ text. text.now.bytes) result) self.new }
+    pub fn picture(&mut self) -> Result<Name, Refusal>
+        ensures { Reads ((one pictures).reads self.old) (map_result (λ text. text.bytes) result) self.new }
     {
         let fault = self.fault(Cause::Expected);
-        let Some((word, rest)) = self.words.split_first() else {
+        let Some(word) = &self.next else {
             return Err(fault);
         };
         match word.plain() {
             Some(text) if is_picture(word) => {
-                self.words = rest;
+                let text = *text;
+                self.advance();
                 Ok(text)
             }
             _ => Err(fault),
@@ -271,43 +288,42 @@ impl<'a> Parser<'a> {
 
     /// The digits of a number. A number of more than 18 of them is past the limit.
     #[tactic(auto, unfolding(crate::specs::Operand::digits))]
-    pub fn digits(&mut self) -> Result<&'a [u8], Refusal>
-        ensures { Reads (digits.reads self.old) (map_result (λ text. text.now) result) self.new }
+    pub fn digits(&mut self) -> Result<Name, Refusal>
+        ensures { Reads (digits.reads self.old) (map_result (λ text. text.bytes) result) self.new }
     {
         let fault = self.fault(Cause::Expected);
         let limit = self.fault(Cause::Limit);
-        let Some((word, rest)) = self.words.split_first() else {
+        let Some(word) = &self.next else {
             return Err(fault);
         };
         match word.plain() {
             Some(text) if is_number(word) => {
-                let digits = text.as_str().as_bytes();
-                if digits.len() > DIGIT_LIMIT {
+                let digits = *text;
+                if digits.as_str().len() > DIGIT_LIMIT {
                     return Err(limit);
                 }
-                self.words = rest;
+                self.advance();
                 Ok(digits)
             }
             _ => Err(fault),
         }
     }
 
-    /// What stands between the marks of a literal.
+    /// What stands between the marks of a literal, in memory of its own.
     #[tactic(auto, unfolding(crate::specs::Notation::literal))]
-    pub fn literal(&mut self) -> Result<&'a [u8], Refusal>
-        ensures { Reads (literal.reads self.old) (map_result (λ text. text.now) result) self.new }
+    pub fn literal(&mut self, alloc: Global) -> Result<Bytes, Refusal>
+        ensures { Reads (literal.reads self.old) result self.new }
     {
         let fault = self.fault(Cause::Expected);
-        let Some((word, rest)) = self.words.split_first() else {
+        let Some(word) = &self.next else {
             return Err(fault);
         };
-        match word.literal() {
-            Some(text) => {
-                self.words = rest;
-                Ok(text)
-            }
-            None => Err(fault),
-        }
+        let Some(quoted) = word.literal() else {
+            return Err(fault);
+        };
+        let text = quoted.text(alloc)?;
+        self.advance();
+        Ok(text)
     }
 
     /// Takes a period.
@@ -315,9 +331,9 @@ impl<'a> Parser<'a> {
     pub fn period(&mut self) -> Result<(), Refusal>
         ensures { Reads (period.reads self.old) result self.new }
     {
-        match self.words.split_first() {
-            Some((word, rest)) if is_period(word) => {
-                self.words = rest;
+        match &self.next {
+            Some(word) if is_period(word) => {
+                self.advance();
                 Ok(())
             }
             _ => Err(self.fault(Cause::Expected)),
@@ -329,7 +345,7 @@ impl<'a> Parser<'a> {
     pub fn sees_literal(&self) -> bool
         ensures { result ≡ begins literal.starts self.now }
     {
-        match self.words.first() {
+        match &self.next {
             Some(word) => matches!(&word.text, WordText::Literal(_)),
             None => false,
         }
@@ -340,7 +356,7 @@ impl<'a> Parser<'a> {
     pub fn sees_digits(&self) -> bool
         ensures { result ≡ begins digits.starts self.now }
     {
-        match self.words.first() {
+        match &self.next {
             Some(word) => is_number(word),
             None => false,
         }
@@ -351,9 +367,9 @@ impl<'a> Parser<'a> {
     pub fn expect_sign(&mut self, text: &[u8]) -> Result<(), Refusal>
         ensures { Reads ((sign text.now).reads self.old) result self.new }
     {
-        match self.words.split_first() {
-            Some((word, rest)) if is_sign(word, text) => {
-                self.words = rest;
+        match &self.next {
+            Some(word) if is_sign(word, text) => {
+                self.advance();
                 Ok(())
             }
             _ => Err(self.fault(Cause::Expected)),
@@ -367,9 +383,9 @@ impl<'a> Parser<'a> {
         ensures taken { OnTrue result ((sign text.now).reads self.old ≡ Some (tt, self.new)) }
         ensures kept { OnFalse result (self.new ≡ self.old) }
     {
-        match self.words.split_first() {
-            Some((word, rest)) if is_sign(word, text) => {
-                self.words = rest;
+        match &self.next {
+            Some(word) if is_sign(word, text) => {
+                self.advance();
                 true
             }
             _ => false,
@@ -380,7 +396,7 @@ impl<'a> Parser<'a> {
     pub fn end(&self) -> Result<(), Refusal>
         ensures { MatchResult result (λ _. self.now ≡ []) (λ _. self.now ≢ []) }
     {
-        if self.words.is_empty() {
+        if self.next.is_none() {
             Ok(())
         } else {
             Err(self.fault(Cause::Expected))

@@ -1,16 +1,16 @@
 //! A run: the bytes up to white space or a mark.
-ghost use Rattle.std.specs.Prelude.{◌≡◌, ◌<◌, ◌≤◌, length, option_map, IfOk};
+ghost use Rattle.std.specs.Prelude.{◌≡◌, ◌<◌, ◌≤◌, false, length, option_map};
 ghost use Rattle.std.specs.List.{list_all, prefix_len};
 ghost use Rattle.deck_words.specs.ByteClass.{is_of_run, is_of_word};
 ghost use Rattle.deck_words.specs.Word.{sign_text};
-ghost use Rattle.deck_words.specs.Words.{sign_in, is_plain_text, body_words, run_words, rest_of};
+ghost use Rattle.deck_words.specs.Words.{sign_in, is_plain_text, body_words, run_words};
 ghost use Rattle.deck_words.specs.Front.{run_at, ends_run};
-ghost use Rattle.deck_words.specs.Scanning.{Adds, Steps, map_result};
+ghost use Rattle.deck_words.specs.Remaining.{found};
 
 use crate::byte_class::{is_run_byte, is_space_byte, is_word_byte};
-use crate::fault::{Cause, Refusal};
-use crate::text::capitals_of;
-use crate::word::{Sign, Word, WordText};
+use crate::piece::Piece;
+use crate::spelling::{PlainBytes, Spelled, Spelling};
+use crate::word::Sign;
 
 /// The most bytes of a plain word.
 const WORD_LIMIT: usize = 30;
@@ -48,40 +48,32 @@ fn is_plain(body: &[u8]) -> bool
     body.len() <= WORD_LIMIT && has_word_bytes(body)
 }
 
-/// Adds the word of a run without its last point, comma or semicolon, if anything is left.
-fn push_body(line: u64, body: &[u8], words: &mut Vec<Word>) -> Result<(), Refusal>
-    ensures { Adds line (body_words line body.now) words.old.items result words.new.items }
+/// The word of a run without its last point, comma or semicolon, if anything is left.
+fn body_word(line: u64, body: &[u8]) -> Option<Option<Spelling<'_>>>
+    ensures { option_map (λ word. found line word false) result ≡ body_words line body.now }
 {
     if body.is_empty() {
-        return Ok(());
+        return Some(None);
     }
-    let text = match sign_of(body) {
-        Some(sign) => WordText::Sign(sign),
-        None if is_plain(body) => WordText::Plain(capitals_of(body)),
-        None => return Err(Refusal::Fault(line, Cause::BadWord)),
+    let says = match sign_of(body) {
+        Some(sign) => Spelled::Sign(sign),
+        None if is_plain(body) => Spelled::Plain(PlainBytes::new(body)),
+        None => return None,
     };
-    words.push(Word { line, text })?;
-    Ok(())
+    Some(Some(Spelling { line, says }))
 }
 
-/// Adds the words of a run.
-fn push_run(line: u64, run: &[u8], words: &mut Vec<Word>) -> Result<(), Refusal>
+/// The words of a run: one at most, and whether a period stands behind it.
+fn words_of(line: u64, run: &[u8]) -> Option<(Option<Spelling<'_>>, bool)>
     requires { 0 < length run.now }
-    ensures { Adds line (run_words line run.now) words.old.items result words.new.items }
+    ensures { option_map (λ words. found line words.0 words.1) result ≡ run_words line run.now }
 {
     let end = run.len() - 1;
     let body = &run[..end];
     match run[end] {
-        b'.' => {
-            push_body(line, body, words)?;
-            words.push(Word {
-                line,
-                text: WordText::Period,
-            })?;
-            Ok(())
-        }
-        b',' | b';' => push_body(line, body, words),
-        _ => push_body(line, run, words),
+        b'.' => Some((body_word(line, body)?, true)),
+        b',' | b';' => Some((body_word(line, body)?, false)),
+        _ => Some((body_word(line, run)?, false)),
     }
 }
 
@@ -103,23 +95,22 @@ fn may_follow_run(rest: &[u8]) -> bool
     }
 }
 
-/// Adds the words of the run at the front, and gives what follows it.
-pub fn push_front_run<'a>(
-    line: u64,
-    bytes: &'a [u8],
-    words: &mut Vec<Word>,
-) -> Result<&'a [u8], Refusal>
+/// The run at the front.
+pub fn run_piece(line: u64, bytes: &[u8]) -> Option<Piece<'_>>
     requires { 0 < prefix_len is_of_run bytes.now }
-    ensures adds { Steps line (run_at line bytes.now) words.old.items
-        (map_result (λ rest. rest_of line rest.now) result) words.new.items }
-    ensures shorter { IfOk result (λ rest. length rest.now < length bytes.now) }
+    ensures { result ≡ run_at line bytes.now }
 {
     let end = run_len(bytes);
     let run = &bytes[..end];
     let rest = &bytes[end..];
     if !may_follow_run(rest) {
-        return Err(Refusal::Fault(line, Cause::BadWord));
+        return None;
     }
-    push_run(line, run, words)?;
-    Ok(rest)
+    let (word, period) = words_of(line, run)?;
+    Some(Piece {
+        word,
+        period,
+        line,
+        rest,
+    })
 }

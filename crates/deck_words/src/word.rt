@@ -2,17 +2,17 @@
 ghost use Rattle.std.specs.Prelude.{◌≡◌, option_map};
 ghost use Rattle.deck_words.specs.Word.{sign_text, plain_text, literal_text};
 
+use crate::literal::Quoted;
 use io_state::Name;
-use record_layout::Bytes;
 use std::marker::Model;
 
 /// What a word says.
 #[derive(Drop)]
-pub enum WordText {
+pub enum WordText<'a> {
     /// Letters, digits, hyphens and parentheses, in capitals: a name, a reserved word, a number or a picture.
     Plain(Name),
     /// What stood between two marks, in which a doubled mark stands once.
-    Literal(Bytes),
+    Literal(Quoted<'a>),
     Sign(Sign),
     Period,
 }
@@ -28,12 +28,12 @@ pub enum Sign {
 
 /// A word, and the line of its first byte, from 1. Contracts see its line, its kind and its text.
 #[derive(Drop)]
-pub struct Word {
+pub struct Word<'a> {
     pub line: u64,
-    pub text: WordText,
+    pub text: WordText<'a>,
 }
 
-impl Model for Word {
+impl<'a> Model for Word<'a> {
     ghost use Rattle.deck_words.specs.Word.{Word as Seen, word_of, kind_of, text_of};
 
     ghost Value = { Seen };
@@ -55,7 +55,7 @@ impl Sign {
     }
 }
 
-impl Word {
+impl<'a> Word<'a> {
     /// The text of a plain word.
     pub fn plain(&self) -> Option<&Name>
         ensures { option_map (λ name. name.now.bytes) result ≡ plain_text self.now }
@@ -67,11 +67,11 @@ impl Word {
     }
 
     /// What stands between the marks of a literal.
-    pub fn literal(&self) -> Option<&[u8]>
+    pub fn literal(&self) -> Option<&Quoted<'a>>
         ensures { option_map (λ text. text.now) result ≡ literal_text self.now }
     {
         match &self.text {
-            WordText::Literal(text) => Some(text.as_slice()),
+            WordText::Literal(text) => Some(text),
             WordText::Plain(_) | WordText::Sign(_) | WordText::Period => None,
         }
     }

@@ -7,7 +7,7 @@ use Rattle.std.proofs.lemmas.Option.{same_Some}
 use Rattle.std.proofs.lemmas.List.Folds.{list_any-append}
 use Rattle.record_layout.specs.declared.picture.Picture.{Picture}
 use Rattle.record_layout.specs.Picture.{Means, IsPicture}
-use Rattle.record_layout.specs.Layout.{Entry, Placed, Structure, written, width, placed, places, is_nothing, IsSound, is_named, is_name_of, IsLayout, field_of}
+use Rattle.record_layout.specs.Layout.{Entry, Placed, Structure, written, width, placed, places, is_nothing, IsWellFormed, is_named, is_name_of, IsLayout, field_of}
 use Rattle.record_layout.specs.Layout.Structure.{Nothing, Elementary, Group}
 use Rattle.record_layout.proofs.PictureLemmas.{kind_of, one_size}
 use Rattle.deck_words.proofs.TestLemmas.{neither_true}
@@ -56,7 +56,7 @@ some_text : (text : List ℕ) → ◌≡◌ {A = Option (List ℕ)} (Some text) 
 some_text text e = cc
 
 -- entries of a level are written by one structure
-same : (level : ℕ) (s t : Structure) (r q : List Entry) → IsSound level s → IsSound level t → Below level r → Below level q → written level s ++ r ≡ written level t ++ q → (s ≡ t) × (r ≡ q)
+same : (level : ℕ) (s t : Structure) (r q : List Entry) → IsWellFormed level s → IsWellFormed level t → Below level r → Below level q → written level s ++ r ≡ written level t ++ q → (s ≡ t) × (r ≡ q)
 same level Nothing Nothing r q a b c d e = (refl, e)
 same level Nothing (Elementary name text picture after) r q a b c d e = absurd (not_below level r _ (record { level = level; name = name; picture = Some text }) refl c e)
 same level Nothing (Group name inner members after) r q a b c d e = absurd (not_below level r _ (record { level = level; name = name; picture = None }) refl c e)
@@ -81,7 +81,7 @@ same level (Group name inner members after) (Group other within parts behind) r 
     let tails : written inner members ++ (written level after ++ r) ≡ written within parts ++ (written level behind ++ q) =
     sym (append_assoc (written inner members) (written level after) r) ∙ (ap tail_of e ∙ append_assoc (written within parts) (written level behind) q) in
     let levels : inner ≡ within = same_Some inner within (sym (first_level inner members (written level after ++ r) a.2) ∙ (ap head_level tails ∙ first_level within parts (written level behind ++ q) b.2)) in
-    let front = same inner members parts (written level after ++ r) (written level behind ++ q) a.3 (subst (λ k. IsSound k parts) (sym levels) b.3)
+    let front = same inner members parts (written level after ++ r) (written level behind ++ q) a.3 (subst (λ k. IsWellFormed k parts) (sym levels) b.3)
     (below_inner level inner after r a.0 c) (below_inner level inner behind q a.0 d) (subst (λ k. written inner members ++ (written level after ++ r) ≡ written k parts ++ (written level behind ++ q)) (sym levels) tails) in
     let back = same level after behind r q a.4 b.4 c d front.1 in
     (λ j. Group (names j) (levels j) (front.0 j) (back.0 j), back.1)

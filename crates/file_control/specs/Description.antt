@@ -56,6 +56,12 @@ AreItems names (entry ∷ entries) (item ∷ items) =
     (has_name names entry.name ≡ false) × (item.name ≡ entry.name) × HasDigits entry.picture item.digits
     × AreItems (names ++ entry.name ∷ []) entries items
 
+-- each entry of the working storage is an item of digits
+abbrev pub HaveDigits : List StorageEntry → List LengthItem → Type 0
+HaveDigits [] items = items ≡ []
+HaveDigits (entry ∷ entries) [] = ⊥
+HaveDigits (entry ∷ entries) (item ∷ items) = (item.name ≡ entry.name) × HasDigits entry.picture item.digits × HaveDigits entries items
+
 -- ---- lengths
 
 -- the least length of the records of a description, where the greatest one is that of the record

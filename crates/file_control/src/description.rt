@@ -8,9 +8,9 @@ ghost use Rattle.file_control.specs.Whole.{Describe, IsDescription};
 ghost use Rattle.file_control.specs.Described.{AreDescribed};
 
 use crate::data_names::DataNames;
-use crate::files::{FileList, ItemList, files_of, items_of};
+use crate::files::{FileList, ItemList, check_items, files_of, items_of};
 use deck_entries::{Divisions, read_divisions};
-use deck_words::{Cause, DeckFault, Parser, Refusal, Word};
+use deck_words::{Cause, DeckFault, Parser, Refusal, Words};
 use std::alloc::Global;
 
 /// The files of a deck in the order of their SELECT entries, its 77-level items, and how many words were read: the word
@@ -43,11 +43,12 @@ fn contents_of(alloc: Global, divisions: &Divisions) -> Result<Contents, Refusal
         divisions.storage.as_slice(),
         &mut names,
     )?;
-    let items = items_of(alloc, divisions.storage.as_slice(), &mut names)?;
+    check_items(divisions.storage.as_slice(), names)?;
+    let items = items_of(alloc, divisions.storage.as_slice())?;
     Ok(Contents { files, items })
 }
 
-fn read(alloc: Global, words: &[Word]) -> Result<Description, Refusal>
+fn read(alloc: Global, words: &Words<'_>) -> Result<Description, Refusal>
     ensures description { IfOk result (IsDescription words.now) }
     ensures none { IfErr result (λ refusal. IsFault refusal →
         (description : Description) → IsDescription words.now description → ⊥) }
@@ -71,7 +72,7 @@ fn read(alloc: Global, words: &[Word]) -> Result<Description, Refusal>
 /// key and a number of more than 18 digits, 5 for a literal that is no file name, 3 for a description of a file without an
 /// entry. Then those of each file, in the order of the entries, and of the 77-level items: 3 for a name that nothing has, 7 for
 /// items, lengths and keys that are none, 4 for a data name that is there already. Or code 8.
-pub fn read_description(alloc: Global, words: &[Word]) -> Result<Description, DeckFault>
+pub fn read_description(alloc: Global, words: &Words<'_>) -> Result<Description, DeckFault>
     ensures description { IfOk result (IsDescription words.now) }
     ensures none { IfErr result (λ fault. fault.code ≢ 8 →
         (description : Description) → IsDescription words.now description → ⊥) }

@@ -17,7 +17,7 @@ use deck_entries::{Described, FileControlEntry, RecordLength, Selected, StorageI
 use deck_words::{Cause, Refusal};
 use io_state::{Access, FileName, Name};
 use record_layout::{Field, Item, Layout, LayoutFault, Schema, one_outcome};
-use std::alloc::{AllocError, Global};
+use std::alloc::Global;
 use std::marker::Model;
 
 /// A file of a deck: its name in the program, the name of its file in the folder, the name of its record, the places of the
@@ -97,18 +97,6 @@ fn described_layout(alloc: Global, described: &Described) -> Result<Layout, Refu
         (layout : List PlacedItem) → IsLayout described.now.items layout → ⊥) }
 {
     layout_of(alloc, described.line, described.items())
-}
-
-/// The places of the items by their names.
-fn fields_of(
-    alloc: Global,
-    described: &Described,
-    layout: &Layout,
-) -> Result<FieldPlaces, AllocError>
-    requires laid { IsLayout described.now.items layout.now }
-    ensures fields { IfOk result (λ fields. AreFields fields layout.now) }
-{
-    fields_by_name(alloc, layout, described.items())
 }
 
 fn least_of(described: &Described, layout: &Layout) -> Option<u16>
@@ -325,6 +313,6 @@ pub fn file(
         Err(cause) => return Err(Refusal::Fault(described.line, cause)),
     };
     let schema = selected_schema(alloc, selected, &layout, least)?;
-    let fields = fields_of(alloc, described, &layout)?;
+    let fields = fields_by_name(alloc, &layout)?;
     Ok(whole_file(selected, described, layout, fields, schema, place))
 }

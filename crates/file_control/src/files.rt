@@ -1,8 +1,8 @@
 //! The files of a deck, and its 77-level items.
-ghost use Rattle.std.specs.Prelude.{◌≡◌, ℕ, List, [], ◌∷◌, option_map, IfOk, IfErr};
+ghost use Rattle.std.specs.Prelude.{◌≡◌, ℕ, List, [], ◌∷◌, option_map, OnOk, IfOk, IfErr};
 ghost use Rattle.std.specs.Str.{bytes_eq};
 ghost use Rattle.deck_words.specs.Fault.{IsFault};
-ghost use Rattle.file_control.specs.Description.{FileDesc as File, LengthItem as Digits, description_of_file, AreFiles, AreItems};
+ghost use Rattle.file_control.specs.Description.{FileDesc as File, LengthItem as Digits, description_of_file, AreFiles, AreItems, HaveDigits};
 
 use crate::data_names::DataNames;
 use crate::file::{FileDesc, file};
@@ -85,14 +85,14 @@ impl FileList {
 }
 
 impl ItemList {
-    ghost use Rattle.std.specs.Prelude.{◌≡◌, [], ◌∷◌, ◌++◌, OnOk};
+    ghost use Rattle.std.specs.Prelude.{◌≡◌, [], ◌∷◌, ◌++◌, OnOk, IfOk};
 
-    fn new(alloc: Global) -> Self
-        ensures { result ≡ [] }
+    fn with_capacity(alloc: Global, capacity: usize) -> Result<Self, AllocError>
+        ensures { IfOk result (λ items. items ≡ []) }
     {
-        ItemList {
-            items: Vec::new(alloc),
-        }
+        Ok(ItemList {
+            items: Vec::with_capacity(alloc, capacity)?,
+        })
     }
 
     fn push(&mut self, item: LengthItem) -> Result<(), AllocError>
@@ -151,25 +151,38 @@ pub fn files_of<'a>(
     Ok(files)
 }
 
-/// The 77-level items, whose names are new behind these.
-pub fn items_of<'a>(
-    alloc: Global,
-    storage: &'a [StorageItem],
-    names: &mut DataNames<'a>,
-) -> Result<ItemList, Refusal>
-    ensures items { IfOk result (AreItems names.old storage.now) }
-    ensures none { IfErr result (λ refusal. IsFault refusal → (items : List Digits) → AreItems names.old storage.now items → ⊥) }
+/// Looks whether each 77-level item has digits and a name that is new behind these. The names are not wanted behind that, and
+/// give their memory back.
+pub fn check_items<'a>(storage: &'a [StorageItem], names: DataNames<'a>) -> Result<(), Refusal>
+    ensures items { OnOk result ((items : List Digits) × AreItems names.entry storage.now items) }
+    ensures none { IfErr result (λ refusal. IsFault refusal → (items : List Digits) → AreItems names.entry storage.now items → ⊥) }
 {
-    let mut items = ItemList::new(alloc);
+    let mut names = names;
     let mut rest = storage;
     'more: while let Some((item, after)) = rest.split_first() {
         if names.has(item.name.as_str()) {
             return Err(Refusal::Fault(item.line, Cause::Twice));
         }
-        let Some(digits) = digits_of_item(item) else {
+        let Some(_) = digits_of_item(item) else {
             return Err(Refusal::Fault(item.line, Cause::Layout));
         };
         names.push(&item.name)?;
+        rest = after;
+    }
+    Ok(())
+}
+
+/// The 77-level items, whatever their names are.
+pub fn items_of(alloc: Global, storage: &[StorageItem]) -> Result<ItemList, Refusal>
+    ensures items { IfOk result (HaveDigits storage.now) }
+    ensures none { IfErr result (λ refusal. IsFault refusal → (items : List Digits) → HaveDigits storage.now items → ⊥) }
+{
+    let mut items = ItemList::with_capacity(alloc, storage.len())?;
+    let mut rest = storage;
+    'more: while let Some((item, after)) = rest.split_first() {
+        let Some(digits) = digits_of_item(item) else {
+            return Err(Refusal::Fault(item.line, Cause::Layout));
+        };
         items.push(LengthItem {
             name: item.name,
             digits,

@@ -16,7 +16,7 @@ mod files;
 mod keys;
 mod length_item;
 
-pub use deck_words::{DECK_LIMIT, DeckFault, Word, one_reading, words};
+pub use deck_words::{DECK_LIMIT, DeckFault, Words, one_reading, words};
 pub use description::{Description, are_described, one_description, read_description};
 pub use field_places::{FieldPlaces, fields_by_name};
 pub use file::FileDesc;

@@ -16,7 +16,7 @@ use Rattle.deck_words.proofs.TestLemmas.{both_true, then_some}
 use Rattle.record_layout.specs.Area.{is_taken_by}
 use Rattle.record_layout.specs.declared.area.Source.{Source}
 use Rattle.record_layout.specs.declared.area.Source.TheVariants.{Text, Digits, Fill}
-use Rattle.procedure_division.specs.Allowed.{is_number}
+use Rattle.procedure_division.specs.Allowed.{is_numeric}
 use Rattle.procedure_division.specs.StatementRules.{figure, sent_by_literal, source}
 use Rattle.procedure_division.proofs.GivesLemmas.{Gives, gives_either, gives_as}
 
@@ -67,7 +67,7 @@ gives_source =
     (gives_either HasDigits (Digits <$> digits) (Fill <$> figure) gives_number gives_figure)
 
 -- what a numeric item takes is a number
-pub taken_is_number : (sent : Source (List ℕ)) → HasDigits sent → is_taken_by true sent ≡ true → is_number sent ≡ true
+pub taken_is_number : (sent : Source (List ℕ)) → HasDigits sent → is_taken_by true sent ≡ true → is_numeric sent ≡ true
 taken_is_number (Text _) h e = absurd (false≢true e)
 taken_is_number (Digits _) h e = h
 taken_is_number (Fill _) h e = e

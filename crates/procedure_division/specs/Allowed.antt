@@ -17,10 +17,10 @@ use Rattle.procedure_division.specs.declared.statement.Statement.{Statement}
 use Rattle.procedure_division.specs.declared.statement.Statement.TheVariants.{Perform, Move, MoveLength, StopRun}
 
 -- a length item takes digits and ZERO alone
-abbrev pub is_number : Source (List ℕ) → Bool
-is_number (Text bytes) = false
-is_number (Digits digits) = list_all is_ascii_digit digits
-is_number (Fill figure) = is_taken_by true (Fill figure)
+abbrev pub is_numeric : Source (List ℕ) → Bool
+is_numeric (Text bytes) = false
+is_numeric (Digits digits) = list_all is_ascii_digit digits
+is_numeric (Fill figure) = is_taken_by true (Fill figure)
 
 -- the file's access mode allows the statement, and its key is one of the file's, with 1 to all of its bytes
 abbrev pub IsAllowedOn : FileDesc → FileStatement → Type 0
@@ -41,5 +41,5 @@ IsAllowed names (Perform u statement) =
 IsAllowed names (Move u field source) =
     (file : FileDesc) × (slice_get names.files u ≡ Some file) × (field.offset + field.length ≤ length_of file.layout)
     × IsTrue (is_taken_by field.numeric source)
-IsAllowed names (MoveLength i source) = (i < length names.items) × IsTrue (is_number source)
+IsAllowed names (MoveLength i source) = (i < length names.items) × IsTrue (is_numeric source)
 IsAllowed names StopRun = Unit {0}

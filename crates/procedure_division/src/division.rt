@@ -14,10 +14,14 @@ ghost use Rattle.procedure_division.specs.declared.statement.Statement.{Statemen
 use crate::names::Names;
 use crate::sentence::{paragraph_or_sentence, sees_sentence};
 use crate::statement_list::StatementList;
-use deck_words::{DeckFault, Parser, Refusal, Word};
+use deck_words::{DeckFault, Parser, Refusal, Words};
 use std::alloc::Global;
 
-/// Paragraphs and sentences up to a word with which none begins.
+/// How many words a statement has, or more, in most procedures. A period is one.
+const WORDS_OF_STATEMENT: usize = 4;
+
+/// Paragraphs and sentences up to a word with which none begins. The list of the statements begins with the room that it takes in
+/// most procedures, so that it is not moved as it grows.
 fn all_sentences(
     alloc: Global,
     parser: &mut Parser<'_>,
@@ -25,7 +29,8 @@ fn all_sentences(
 ) -> Result<StatementList, Refusal>
     ensures { Reads ((onto joined [] (paragraph_or_sentence names.now)).reads parser.old) result parser.new }
 {
-    let mut statements = StatementList::new(alloc);
+    let none = StatementList::with_capacity(alloc, parser.left() / WORDS_OF_STATEMENT)?;
+    let mut statements = none;
     'more: while sees_sentence(parser) {
         statements = paragraph_or_sentence(alloc, parser, names, statements)?;
     }
@@ -49,7 +54,7 @@ fn procedure_division(
 fn read_procedure(
     alloc: Global,
     names: &Names<'_>,
-    words: &[Word],
+    words: &Words<'_>,
 ) -> Result<StatementList, Refusal>
     ensures statements { IfOk result (λ list. (procedure names.now).Spells list words.now []) }
     ensures fault { IfErr result (λ refusal. IsFault refusal →
@@ -67,7 +72,7 @@ fn read_procedure(
 pub fn procedure(
     alloc: Global,
     names: &Names<'_>,
-    words: &[Word],
+    words: &Words<'_>,
 ) -> Result<StatementList, DeckFault>
     ensures statements { IfOk result (λ list. (procedure names.now).Spells list words.now []) }
     ensures fault { IfErr result (λ fault. fault.code ≢ 8 →

@@ -11,8 +11,8 @@ pub fn file(parser: &mut Parser<'_>, names: &Names<'_>) -> Result<usize, Refusal
     ensures { Reads ((file names.now).reads parser.old) result parser.new }
 {
     let unknown = parser.fault(Cause::Unknown);
-    let name = parser.name()?.as_str();
-    match names.file(name) {
+    let name = parser.name()?;
+    match names.file(name.as_str()) {
         Some(file) => Ok(file),
         None => Err(unknown),
     }
@@ -24,8 +24,8 @@ pub fn record_name(parser: &mut Parser<'_>, names: &Names<'_>) -> Result<usize, 
     ensures { Reads ((record_name names.now).reads parser.old) result parser.new }
 {
     let unknown = parser.fault(Cause::Unknown);
-    let name = parser.name()?.as_str();
-    match names.record(name) {
+    let name = parser.name()?;
+    match names.record(name.as_str()) {
         Some(file) => Ok(file),
         None => Err(unknown),
     }

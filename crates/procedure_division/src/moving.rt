@@ -4,7 +4,6 @@ ghost use Rattle.std.specs.List.{list_all};
 ghost use Rattle.std.specs.Char.{is_ascii_digit};
 ghost use Rattle.record_layout.specs.Area.{is_taken_by, sent};
 ghost use Rattle.deck_words.specs.Reading.{Reads};
-ghost use Rattle.deck_words.specs.Scanning.{map_result};
 ghost use Rattle.procedure_division.specs.StatementRules.{Adds, some_of, figure, source, sent_by_literal};
 ghost use Rattle.procedure_division.specs.StatementRules.{receiver, receivers, move_statement};
 
@@ -43,10 +42,10 @@ fn are_digits(text: &[u8]) -> bool
 }
 
 /// What a literal sends.
-fn sent_by_literal(text: &[u8]) -> Source<&[u8]>
-    ensures { sent result ≡ sent_by_literal text.now }
+fn sent_by_literal(text: Bytes) -> Source<Bytes>
+    ensures { result ≡ sent_by_literal text }
 {
-    if are_digits(text) {
+    if are_digits(text.as_slice()) {
         Source::Digits(text)
     } else {
         Source::Text(text)
@@ -54,16 +53,17 @@ fn sent_by_literal(text: &[u8]) -> Source<&[u8]>
 }
 
 #[tactic(auto, unfolding(crate::specs::StatementRules::source))]
-fn source<'a>(parser: &mut Parser<'a>) -> Result<Source<&'a [u8]>, Refusal>
-    ensures { Reads (source.reads parser.old) (map_result sent result) parser.new }
+fn source(alloc: Global, parser: &mut Parser<'_>) -> Result<Source<Bytes>, Refusal>
+    ensures { Reads (source.reads parser.old) result parser.new }
 {
     if parser.sees_literal() {
-        let text = parser.literal()?;
+        let text = parser.literal(alloc)?;
         return Ok(sent_by_literal(text));
     }
     if parser.sees_digits() {
         let digits = parser.digits()?;
-        return Ok(Source::Digits(digits));
+        let copy = Vec::from_slice(alloc, digits.as_str().as_bytes())?;
+        return Ok(Source::Digits(Bytes::from_vec(copy)));
     }
     let figure = figure(parser)?;
     Ok(Source::Fill(figure))
@@ -101,7 +101,7 @@ fn receiver(
     let unknown = parser.fault(Cause::Unknown);
     let not_allowed = parser.fault(Cause::NotAllowed);
     let name = parser.name()?;
-    if let Some((file, field)) = names.item(name) {
+    if let Some((file, field)) = names.item(&name) {
         if !takes(field, source) {
             return Err(not_allowed);
         }
@@ -163,6 +163,6 @@ pub fn move_statement(
     ensures { Adds (move_statement names.now) statements parser.old result parser.new }
 {
     parser.expect(b"MOVE")?;
-    let source = source(parser)?;
-    receivers(alloc, parser, names, &source, statements)
+    let source = source(alloc, parser)?;
+    receivers(alloc, parser, names, &source.as_ref(), statements)
 }

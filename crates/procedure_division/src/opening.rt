@@ -23,8 +23,8 @@ fn opened(
 {
     let unknown = parser.fault(Cause::Unknown);
     let not_allowed = parser.fault(Cause::NotAllowed);
-    let name = parser.name()?.as_str();
-    let Some(file) = names.file(name) else {
+    let name = parser.name()?;
+    let Some(file) = names.file(name.as_str()) else {
         return Err(unknown);
     };
     if !permits(names.access(file), mode, Verb::Open) {

@@ -34,7 +34,7 @@ fn key(parser: &mut Parser<'_>, names: &Names<'_>, file: usize) -> Result<u8, Re
     let unknown = parser.fault(Cause::Unknown);
     let not_allowed = parser.fault(Cause::NotAllowed);
     let name = parser.name()?;
-    let Some(field) = names.item_in(file, name) else {
+    let Some(field) = names.item_in(file, &name) else {
         return Err(unknown);
     };
     match names.key(file, field) {

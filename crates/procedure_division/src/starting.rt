@@ -18,8 +18,8 @@ fn file_to_start(parser: &mut Parser<'_>, names: &Names<'_>) -> Result<usize, Re
 {
     let unknown = parser.fault(Cause::Unknown);
     let not_allowed = parser.fault(Cause::NotAllowed);
-    let name = parser.name()?.as_str();
-    let Some(file) = names.file(name) else {
+    let name = parser.name()?;
+    let Some(file) = names.file(name.as_str()) else {
         return Err(unknown);
     };
     if names.access(file) == Access::Random {
@@ -36,7 +36,7 @@ fn led_key(parser: &mut Parser<'_>, names: &Names<'_>, file: usize) -> Result<(u
     let unknown = parser.fault(Cause::Unknown);
     let not_allowed = parser.fault(Cause::NotAllowed);
     let name = parser.name()?;
-    let Some(field) = names.item_in(file, name) else {
+    let Some(field) = names.item_in(file, &name) else {
         return Err(unknown);
     };
     match names.led_key(file, field) {

@@ -21,12 +21,13 @@ impl Model for StatementList {
 }
 
 impl StatementList {
-    pub fn new(alloc: Global) -> Self
-        ensures { result ≡ [] }
+    /// No statements, with room for so many.
+    pub fn with_capacity(alloc: Global, capacity: usize) -> Result<Self, AllocError>
+        ensures { IfOk result (λ statements. statements ≡ []) }
     {
-        StatementList {
-            statements: Vec::new(alloc),
-        }
+        Ok(StatementList {
+            statements: Vec::with_capacity(alloc, capacity)?,
+        })
     }
 
     /// The statements themselves.

@@ -8,5 +8,6 @@ pub mod StructureLemmas
 pub mod RecordLemmas
 pub mod PlacingLemmas
 pub mod LevelLemmas
+pub mod NamesInOrderLemmas
 pub mod OutcomeLemmas
 pub mod PropLemmas

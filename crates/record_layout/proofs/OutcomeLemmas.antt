@@ -11,7 +11,7 @@ use Rattle.record_layout.specs.declared.fault.LayoutFault.{LayoutFault}
 use Rattle.record_layout.specs.declared.fault.LayoutFault.TheVariants.{BadPicture, BadLevel, TooLong, DuplicateName, Empty, Memory}
 use Rattle.record_layout.specs.declared.picture.Picture.{Picture}
 use Rattle.record_layout.specs.Picture.{Means, IsPicture}
-use Rattle.record_layout.specs.Layout.{Entry, Placed, Structure, written, width, is_nothing, IsSound, is_one, is_named, is_name_of, AreNamedApart, IsLayout}
+use Rattle.record_layout.specs.Layout.{Entry, Placed, Structure, written, width, is_nothing, IsWellFormed, is_one, is_named, is_name_of, AreNamedApart, IsLayout}
 use Rattle.record_layout.specs.Layout.Structure.{Nothing, Elementary, Group}
 use Rattle.record_layout.specs.LayoutFault.{is_behind_empty, is_open_level, is_level_fit, is_unfinished, HasPictureFault, IsFaultOf, IsFirstFault}
 use Rattle.record_layout.proofs.PictureLemmas.{kind_of, one_size}
@@ -137,11 +137,11 @@ record EndsInPicture (entries : List Entry) : Type 0 where
   is : entries ≡ last ∷ before
   some : is_none last.picture ≡ false
 
-ends_in_picture : (level : ℕ) (s : Structure) (before : List Entry) → IsFalse (is_nothing s) → IsSound level s → EndsInPicture (behind before (written level s))
+ends_in_picture : (level : ℕ) (s : Structure) (before : List Entry) → IsFalse (is_nothing s) → IsWellFormed level s → EndsInPicture (behind before (written level s))
 ends_in_picture level Nothing before some sound = absurd (false≢true (sym some))
 ends_in_picture level (Elementary name text picture after) before some sound = by_after after sound.1 (ends_in_picture level after (record { level = level; name = name; picture = Some text } ∷ before))
   where
-    by_after : (s : Structure) → IsSound level s → (IsFalse (is_nothing s) → IsSound level s → EndsInPicture (behind (record { level = level; name = name; picture = Some text } ∷ before) (written level s))) → EndsInPicture (behind (record { level = level; name = name; picture = Some text } ∷ before) (written level s))
+    by_after : (s : Structure) → IsWellFormed level s → (IsFalse (is_nothing s) → IsWellFormed level s → EndsInPicture (behind (record { level = level; name = name; picture = Some text } ∷ before) (written level s))) → EndsInPicture (behind (record { level = level; name = name; picture = Some text } ∷ before) (written level s))
     by_after Nothing sound later = record { last = record { level = level; name = name; picture = Some text }; before = before; is = refl; some = refl }
     by_after (Elementary n t p a) sound later = later refl sound
     by_after (Group n i m a) sound later = later refl sound
@@ -149,13 +149,13 @@ ends_in_picture level (Group name inner members after) before some sound =
     subst EndsInPicture (sym (behind-append (record { level = level; name = name; picture = None } ∷ before) (written inner members) (written level after)))
     (by_after after sound.4 (ends_in_picture level after (behind (record { level = level; name = name; picture = None } ∷ before) (written inner members))) (ends_in_picture inner members (record { level = level; name = name; picture = None } ∷ before) sound.2 sound.3))
   where
-    by_after : (s : Structure) → IsSound level s → (IsFalse (is_nothing s) → IsSound level s → EndsInPicture (behind (behind (record { level = level; name = name; picture = None } ∷ before) (written inner members)) (written level s))) → EndsInPicture (behind (record { level = level; name = name; picture = None } ∷ before) (written inner members)) → EndsInPicture (behind (behind (record { level = level; name = name; picture = None } ∷ before) (written inner members)) (written level s))
+    by_after : (s : Structure) → IsWellFormed level s → (IsFalse (is_nothing s) → IsWellFormed level s → EndsInPicture (behind (behind (record { level = level; name = name; picture = None } ∷ before) (written inner members)) (written level s))) → EndsInPicture (behind (record { level = level; name = name; picture = None } ∷ before) (written inner members)) → EndsInPicture (behind (behind (record { level = level; name = name; picture = None } ∷ before) (written inner members)) (written level s))
     by_after Nothing sound later here = here
     by_after (Elementary n t p a) sound later here = later refl sound
     by_after (Group n i m a) sound later here = later refl sound
 
 -- deeper items do not close a level
-open_behind : (level inner : ℕ) (s : Structure) (before : List Entry) → level < inner → IsSound inner s → is_open_level (behind before (written inner s)) level ≡ is_open_level before level
+open_behind : (level inner : ℕ) (s : Structure) (before : List Entry) → level < inner → IsWellFormed inner s → is_open_level (behind before (written inner s)) level ≡ is_open_level before level
 open_behind level inner Nothing before deeper sound = refl
 open_behind level inner (Elementary name text picture after) before deeper sound =
     let entry : Entry = record { level = inner; name = name; picture = Some text } in
@@ -167,7 +167,7 @@ open_behind level inner (Group name within members after) before deeper sound =
     ∙ (open_behind level within members (entry ∷ before) (omega (arith, deeper, sound.0)) sound.3 ∙ open_past entry before level deeper))
 
 -- behind a whole group, its level goes on
-stand_behind_members : (level inner : ℕ) (name : Option (List ℕ)) (members : Structure) (before : List Entry) → 2 ≤ level → level ≤ 49 → level < inner → IsFalse (is_nothing members) → IsSound inner members → CanStand (behind (record { level = level; name = name; picture = None } ∷ before) (written inner members)) level
+stand_behind_members : (level inner : ℕ) (name : Option (List ℕ)) (members : Structure) (before : List Entry) → 2 ≤ level → level ≤ 49 → level < inner → IsFalse (is_nothing members) → IsWellFormed inner members → CanStand (behind (record { level = level; name = name; picture = None } ∷ before) (written inner members)) level
 stand_behind_members level inner name members before low high deeper some sound =
     let entry : Entry = record { level = level; name = name; picture = None } in
     let end = ends_in_picture inner members (entry ∷ before) some sound in
@@ -193,7 +193,7 @@ unnamed None = refl
 unnamed (Some name) = refl
 
 -- without a fault in the items of a structure, the first fault is behind them
-past : (level total : ℕ) (before : List Entry) (s : Structure) (rest : List Entry) (fault : LayoutFault) → 2 ≤ level → level ≤ 49 → IsSound level s → CanStand before level → NoneBefore before (written level s ++ rest) → total + width s ≤ 4000 → IsFirstFault before total (written level s ++ rest) fault → IsFirstFault (behind before (written level s)) (total + width s) rest fault
+past : (level total : ℕ) (before : List Entry) (s : Structure) (rest : List Entry) (fault : LayoutFault) → 2 ≤ level → level ≤ 49 → IsWellFormed level s → CanStand before level → NoneBefore before (written level s ++ rest) → total + width s ≤ 4000 → IsFirstFault before total (written level s ++ rest) fault → IsFirstFault (behind before (written level s)) (total + width s) rest fault
 past level total before Nothing rest fault low high sound stands names short h = subst (λ t. IsFirstFault before t rest fault) (sym (add-zero total)) h
 past level total before (Elementary name text picture after) rest fault low high sound stands names short h =
     let entry : Entry = record { level = level; name = name; picture = Some text } in
@@ -220,13 +220,13 @@ past level total before (Group name inner members after) rest fault low high sou
     ]
 
 -- at the end of a structure, nothing is unfinished
-all_finished : (level total : ℕ) (s : Structure) (before : List Entry) (fault : LayoutFault) → IsFalse (is_nothing s) → IsSound level s → IsFirstFault (behind before (written level s)) total [] fault → ⊥
+all_finished : (level total : ℕ) (s : Structure) (before : List Entry) (fault : LayoutFault) → IsFalse (is_nothing s) → IsWellFormed level s → IsFirstFault (behind before (written level s)) total [] fault → ⊥
 all_finished level total s before fault some sound h =
     let end = ends_in_picture level s before some sound in
     let unfinished : is_unfinished (end.last ∷ end.before) ≡ true = subst (λ b. is_unfinished b ≡ true) end.is h.0 in
     false≢true (sym end.some ∙ unfinished)
 
-of_structure : (s : Structure) (fault : LayoutFault) → is_one s ≡ true → IsSound 1 s → AreNamedApart (written 1 s) → width s ≤ 4000 → IsFirstFault [] 0 (written 1 s) fault → ⊥
+of_structure : (s : Structure) (fault : LayoutFault) → is_one s ≡ true → IsWellFormed 1 s → AreNamedApart (written 1 s) → width s ≤ 4000 → IsFirstFault [] 0 (written 1 s) fault → ⊥
 of_structure Nothing fault one sound names short h = false≢true one
 of_structure (Elementary name text picture Nothing) fault one sound names short h =
     let entry : Entry = record { level = 1; name = name; picture = Some text } in

@@ -1,5 +1,5 @@
 -- Parts by rising offset, the first one and those behind it.
-use Rattle.std.proofs.Common.{◌≡◌, ℕ, suc, ◌+◌, ◌<◌, List, ◌∷◌, length, All, AllPairs, IsTrue, ◌↔◌, Bool, true, false, sym, subst, arith}
+use Rattle.std.proofs.Common.{◌≡◌, suc, ◌<◌, List, ◌∷◌, length, All, AllPairs, IsTrue, ◌↔◌, Bool, false, sym, subst, arith}
 use Rattle.std.proofs.lemmas.List.Kept.{AllPairs-cons}
 use Rattle.record_layout.specs.declared.schema.KeyPart.{KeyPart}
 

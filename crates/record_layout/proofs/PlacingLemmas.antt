@@ -15,6 +15,9 @@ use Rattle.record_layout.specs.declared.fault.LayoutFault.{LayoutFault}
 use Rattle.record_layout.specs.declared.fault.LayoutFault.TheVariants.{Empty}
 use Rattle.record_layout.specs.LayoutFault.{is_in_place, is_unfinished, Lengthens, IsFirstFault}
 use Rattle.record_layout.specs.Placing.{PlacedEntry, place_of, IsOwnPlace, ArePlaced, HavePlaces, members_length, with_length, with_group_lengths}
+use Rattle.record_layout.specs.NamesInOrder.{HasNamesOf}
+use Rattle.std.specs.BTreeMap.{BTreeMap}
+use denote.Ref.{Bor}
 use Rattle.record_layout.proofs.LevelLemmas.{reverse_more}
 use Rattle.record_layout.proofs.StructureLemmas.{behind}
 use Rattle.record_layout.proofs.RecordLemmas.{laid}
@@ -88,6 +91,11 @@ next items i item total places field so h is there place limit =
     let more = step all before after (entry_of item) total (map item_of places) field (subst (λ rest. SoFar all before rest total (map item_of places)) here so) there place limit in
     subst (λ own. SoFar all (reverse (map entry_of (take (i + 1) items))) after (total + field.length) own) (sym (map_push item_of places placed))
     (subst (λ first. SoFar all first after (total + field.length) (map item_of places ++ item_of placed ∷ [])) (sym longer) more)
+
+-- the names up to an item, with its own
+pub names_next : (names : BTreeMap (Bor (List ℕ)) (Unit {0})) (items : List Item) (i : ℕ) (item : Item) → i < length items → item ≡ get_or items i item → HasNamesOf names (entry_of item ∷ reverse (map entry_of (take i items))) → HasNamesOf names (reverse (map entry_of (take (i + 1) items)))
+names_next names items i item h is known =
+    subst (HasNamesOf names) (sym (reverse_more items i item h ∙ ap (λ (read : Item). entry_of read ∷ reverse (map entry_of (take i items))) (sym is))) known
 
 pub at_end : (items : List Item) (i total : ℕ) (places : List Declared) → PlacedUpTo items i total places → length items ≤ i → SoFar (map entry_of items) (reverse (map entry_of items)) [] total (map item_of places)
 at_end items i total places so h =

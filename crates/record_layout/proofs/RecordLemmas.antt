@@ -7,7 +7,7 @@ use Rattle.std.proofs.lemmas.Bool.Decides.{nat_tests, Decides-eqb}
 use Rattle.std.proofs.lemmas.Cmp.{nat_list_eq_equiv}
 use Rattle.std.proofs.lemmas.List.{append-nil}
 use Rattle.std.proofs.lemmas.List.Elements.{All-from_recursion}
-use Rattle.record_layout.specs.Layout.{Entry, Placed, Structure, width, placed, places, is_nothing, IsSound, is_one, is_named, is_name_of, AreNamedApart, IsLayout, IsRecord, length_of}
+use Rattle.record_layout.specs.Layout.{Entry, Placed, Structure, width, placed, places, is_nothing, IsWellFormed, is_one, is_named, is_name_of, AreNamedApart, IsLayout, IsRecord, length_of}
 use Rattle.record_layout.specs.Layout.Structure.{Nothing, Elementary, Group}
 use Rattle.record_layout.specs.LayoutFault.{is_level_fit}
 use Rattle.record_layout.specs.Placing.{PlacedEntry, place_of, ArePlaced, HavePlaces, members_length, with_length, with_group_lengths}
@@ -41,7 +41,7 @@ members_none level (item ∷ items) up = grind (arith, nat_tests)
 member_more : (a b n rest : ℕ) → a < b → cond (ltb a b) (n + rest) 0 ≡ n + rest
 member_more a b n rest h = grind (arith, nat_tests)
 
-members_of : (offset inner level : ℕ) (s : Structure) (rest : List PlacedEntry) → level < inner → IsSound inner s → members level (own_places offset inner s ++ rest) ≡ width s + members level rest
+members_of : (offset inner level : ℕ) (s : Structure) (rest : List PlacedEntry) → level < inner → IsWellFormed inner s → members level (own_places offset inner s ++ rest) ≡ width s + members level rest
 members_of offset inner level Nothing rest below sound = omega arith
 members_of offset inner level (Elementary name text picture after) rest below sound =
     let more = members_of (offset + picture.length) inner level after rest below sound.1 in
@@ -63,7 +63,7 @@ up_to_deeper : (level inner : ℕ) (items : List PlacedEntry) → level < inner 
 up_to_deeper level inner [] below up = tt
 up_to_deeper level inner (item ∷ items) below up = omega (arith, below, up)
 
-lengthened_places : (offset level : ℕ) (s : Structure) (rest : List PlacedEntry) → IsSound level s → IsUpTo level rest → lengthened (own_places offset level s ++ rest) ≡ places offset s ++ lengthened rest
+lengthened_places : (offset level : ℕ) (s : Structure) (rest : List PlacedEntry) → IsWellFormed level s → IsUpTo level rest → lengthened (own_places offset level s ++ rest) ≡ places offset s ++ lengthened rest
 lengthened_places offset level Nothing rest sound up = refl
 lengthened_places offset level (Elementary name text picture after) rest sound up =
     ap (λ (xs : List Placed). placed name offset picture.length picture.numeric ∷ xs) (lengthened_places (offset + picture.length) level after rest sound.1 up)
@@ -125,7 +125,7 @@ none_left (Group name within inside after) total (item ∷ rest) some below h =
 
 -- ---- each item within the record
 
-some_width : (level : ℕ) (s : Structure) → IsSound level s → IsFalse (is_nothing s) → 1 ≤ width s
+some_width : (level : ℕ) (s : Structure) → IsWellFormed level s → IsFalse (is_nothing s) → 1 ≤ width s
 some_width level Nothing sound some = absurd (false≢true (sym some))
 some_width level (Elementary name text picture after) sound some = omega (arith, some_picture text picture sound.0)
 some_width level (Group name within inside after) sound some = omega (arith, some_width within inside sound.3 sound.2)
@@ -137,7 +137,7 @@ inside-append : (end : ℕ) (xs ys : List Placed) → ByRecursion (IsInside end)
 inside-append end [] ys h k = k
 inside-append end (x ∷ xs) ys h k = (h.0, inside-append end xs ys h.1 k)
 
-each_inside : (offset level end : ℕ) (s : Structure) → IsSound level s → offset + width s ≤ end → ByRecursion (IsInside end) (places offset s)
+each_inside : (offset level end : ℕ) (s : Structure) → IsWellFormed level s → offset + width s ≤ end → ByRecursion (IsInside end) (places offset s)
 each_inside offset level end Nothing sound room = tt
 each_inside offset level end (Elementary name text picture after) sound room =
     ((some_picture text picture sound.0, omega (arith, room)), each_inside (offset + picture.length) level end after sound.1 (omega (arith, room)))

@@ -9,7 +9,7 @@ use Rattle.std.proofs.lemmas.List.{map-append, length-append}
 use Rattle.std.proofs.Math.Nat.{add-zero}
 use Rattle.record_layout.specs.declared.item.Field.{Field}
 use Rattle.record_layout.specs.declared.picture.Picture.{Picture}
-use Rattle.record_layout.specs.Layout.{Entry, Structure, written, width, is_nothing, IsSound, is_name_of}
+use Rattle.record_layout.specs.Layout.{Entry, Structure, written, width, is_nothing, IsWellFormed, is_name_of}
 use Rattle.record_layout.specs.Layout.Structure.{Nothing, Elementary, Group}
 use Rattle.record_layout.specs.LayoutFault.{is_behind_empty, is_open_level, is_level_fit, is_in_place}
 use Rattle.record_layout.specs.Placing.{PlacedEntry, ArePlaced}
@@ -122,7 +122,7 @@ entries_written offset level (Group name inner members after) =
     ∙ ap (λ (xs : List Entry). written inner members ++ xs) (entries_written (offset + width members) level after)))
 
 -- the items of a level are deeper than each lower level
-deeper_items : (offset inner level : ℕ) (s : Structure) → level < inner → IsSound inner s → AreDeeper level (own_places offset inner s)
+deeper_items : (offset inner level : ℕ) (s : Structure) → level < inner → IsWellFormed inner s → AreDeeper level (own_places offset inner s)
 deeper_items offset inner level Nothing below sound = tt
 deeper_items offset inner level (Elementary name text picture after) below sound = (below, deeper_items (offset + picture.length) inner level after below sound.1)
 deeper_items offset inner level (Group name within members after) below sound =
@@ -149,7 +149,7 @@ pub record AreItems (level total : ℕ) (before : List Entry) (items : List Plac
   pub structure : Structure
   pub rest : List PlacedEntry
   pub is : items ≡ own_places total level structure ++ rest
-  pub sound : IsSound level structure
+  pub sound : IsWellFormed level structure
   pub below : IsBelow level rest
   pub fits : ArePlaced (behind before (own_places total level structure)) (total + width structure) rest
   pub short : total + width structure ≤ 4000
@@ -165,14 +165,14 @@ up_to_behind_picture entry before total (next ∷ after) some h =
     open_up_to entry before next.entry.level (behind_picture entry before next.entry.level some (in_place (entry ∷ before) next.entry h.0).fit)
 
 -- behind the members of a group, a level that fits is open before them
-open_behind : (offset inner level : ℕ) (before : List Entry) (s : Structure) → IsFalse (is_nothing s) → level < inner → IsSound inner s → is_behind_empty (behind before (own_places offset inner s)) level ≡ false → is_level_fit (behind before (own_places offset inner s)) level ≡ true → is_open_level before level ≡ true
+open_behind : (offset inner level : ℕ) (before : List Entry) (s : Structure) → IsFalse (is_nothing s) → level < inner → IsWellFormed inner s → is_behind_empty (behind before (own_places offset inner s)) level ≡ false → is_level_fit (behind before (own_places offset inner s)) level ≡ true → is_open_level before level ≡ true
 open_behind offset inner level before Nothing some below sound empty fit = absurd (false≢true (sym some))
 open_behind offset inner level before (Elementary name text picture after) some below sound empty fit =
     open_before before (placed_picture offset inner name text picture) _ level (deeper_items offset inner level (Elementary name text picture after) below sound) empty fit
 open_behind offset inner level before (Group name within members after) some below sound empty fit =
     open_before before (placed_group offset inner name) _ level (deeper_items offset inner level (Group name within members after) below sound) empty fit
 
-up_to_behind_group : (offset inner total : ℕ) (entry : Entry) (before : List Entry) (s : Structure) (rest : List PlacedEntry) → IsFalse (is_nothing s) → IsSound inner s → IsBelow inner rest → ArePlaced (behind (entry ∷ before) (own_places offset inner s)) total rest → IsUpTo entry.level rest
+up_to_behind_group : (offset inner total : ℕ) (entry : Entry) (before : List Entry) (s : Structure) (rest : List PlacedEntry) → IsFalse (is_nothing s) → IsWellFormed inner s → IsBelow inner rest → ArePlaced (behind (entry ∷ before) (own_places offset inner s)) total rest → IsUpTo entry.level rest
 up_to_behind_group offset inner total entry before s [] some sound below h = tt
 up_to_behind_group offset inner total entry before s (next ∷ rest) some sound below h =
     let p = in_place (behind (entry ∷ before) (own_places offset inner s)) next.entry h.0 in

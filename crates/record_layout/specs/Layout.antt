@@ -68,11 +68,12 @@ is_nothing (Elementary name text picture after) = false
 is_nothing (Group name inner members after) = false
 
 -- each picture means what it is taken for, and a group has a member, of a greater level number up to 49
-abbrev pub IsSound : ℕ → Structure → Type 0
-IsSound level Nothing = Unit {0}
-IsSound level (Elementary name text picture after) = IsPicture text picture × IsSound level after
-IsSound level (Group name inner members after) =
-    (level < inner) × (inner ≤ 49) × IsFalse (is_nothing members) × IsSound inner members × IsSound level after
+abbrev pub IsWellFormed : ℕ → Structure → Type 0
+IsWellFormed level Nothing = Unit {0}
+IsWellFormed level (Elementary name text picture after) = IsPicture text picture × IsWellFormed level after
+IsWellFormed level (Group name inner members after) =
+    (level < inner) × (inner ≤ 49) × IsFalse (is_nothing members) × IsWellFormed inner members
+    × IsWellFormed level after
 
 -- one item alone
 abbrev pub is_one : Structure → Bool
@@ -104,7 +105,7 @@ pub record IsLayout (entries : List Entry) (layout : List Placed) : Type 0 where
   pub structure : Structure
   pub one : IsTrue (is_one structure)
   pub entries_are : entries ≡ written 1 structure
-  pub sound : IsSound 1 structure
+  pub sound : IsWellFormed 1 structure
   pub names : AreNamedApart entries
   pub short : width structure ≤ 4000
   pub layout_is : layout ≡ places 0 structure

@@ -2,6 +2,7 @@ pub mod Picture
 pub mod Reading
 pub mod Layout
 pub mod LayoutFault
+pub mod NamesInOrder
 pub mod Area
 pub mod Schema
 pub mod SchemaFault

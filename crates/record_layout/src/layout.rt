@@ -30,7 +30,7 @@ impl Model for Layout {
 
 impl Layout {
     ghost use Rattle.std.specs.Prelude.{◌≡◌, ◌≢◌, ◌+◌, ◌≤◌, [], length, map, IfSome, IfOk, IfErr};
-    ghost use Rattle.record_layout.specs.Layout.{entry_of, IsLayout, IsRecord, length_of, field_of};
+    ghost use Rattle.record_layout.specs.Layout.{entry_of, item_of, IsLayout, IsRecord, length_of, field_of};
     ghost use Rattle.record_layout.specs.LayoutFault.{IsFirstFault};
     ghost use Rattle.record_layout.specs.Area.{blank_area};
 
@@ -58,6 +58,13 @@ impl Layout {
             [record, ..] => record.field.length,
             [] => 0,
         }
+    }
+
+    /// The items in the order of their entries, each with its place.
+    pub fn items(&self) -> &[Placed]
+        ensures { map item_of result.now ≡ self.now }
+    {
+        self.items.as_slice()
     }
 
     /// Where the item of a name stands. FILLER has no name.

@@ -1,15 +1,20 @@
 //! Where a data description entry may stand behind others.
-ghost use Rattle.std.specs.Prelude.{◌≡◌, ℕ, map, reverse, IsTrue, OnOk, IfErr, option_map};
-ghost use Rattle.std.specs.List.{list_any};
-ghost use Rattle.record_layout.specs.Layout.{entry_of, is_named, is_name_of};
+ghost use Rattle.std.specs.Prelude.{◌≡◌, ℕ, map, reverse, IsTrue, OnOk, IfErr};
+ghost use Rattle.record_layout.specs.Layout.{entry_of};
 ghost use Rattle.record_layout.specs.LayoutFault.{is_behind_empty, is_open_level, is_level_fit, is_in_place, is_unfinished, IsFaultOf};
+ghost use Rattle.record_layout.specs.NamesInOrder.{HasNamesOf};
 
 use crate::fault::LayoutFault;
-use crate::item::{Item, is_name};
-use io_state::Name;
+use crate::item::Item;
+use crate::names_in_order::{NamesInOrder, is_taken};
 
 /// Looks whether an item may stand behind the items before it, but for its picture.
-pub fn check_place(before: &[Item], item: &Item) -> Result<(), LayoutFault>
+pub fn check_place(
+    before: &[Item],
+    names: &NamesInOrder<'_>,
+    item: &Item,
+) -> Result<(), LayoutFault>
+    requires { HasNamesOf names.now (reverse (map entry_of before.now)) }
     ensures in_place { OnOk result (IsTrue (is_in_place (reverse (map entry_of before.now)) (entry_of item.now))) }
     ensures fault { IfErr result (λ fault. (total : ℕ) → IsFaultOf (reverse (map entry_of before.now)) total (entry_of item.now) fault) }
 {
@@ -19,7 +24,7 @@ pub fn check_place(before: &[Item], item: &Item) -> Result<(), LayoutFault>
     if !fits_level(before, item.level) {
         return Err(LayoutFault::BadLevel);
     }
-    if is_taken(before, &item.name) {
+    if is_taken(names, &item.name) {
         return Err(LayoutFault::DuplicateName);
     }
     Ok(())
@@ -69,20 +74,4 @@ fn is_open(before: &[Item], level: u8) -> bool
         rest = older;
     }
     false
-}
-
-/// Whether one of the items has this name, if there is a name.
-fn is_taken(before: &[Item], name: &Option<Name>) -> bool
-    ensures { result ≡ is_name_of (reverse (map entry_of before.now)) (option_map (λ name. name.bytes) name.now) }
-{
-    match name {
-        Some(name) => has_name(before, name.as_str()),
-        None => false,
-    }
-}
-
-fn has_name(before: &[Item], name: &str) -> bool
-    ensures { result ≡ list_any (λ item. is_named name.now (entry_of item).name) before.now }
-{
-    before.iter().any(|item| is_name(&item.name, name))
 }

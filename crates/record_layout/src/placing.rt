@@ -7,6 +7,7 @@ ghost use Rattle.record_layout.specs.Placing.{IsOwnPlace, HavePlaces, members_le
 use crate::fault::LayoutFault;
 use crate::item::{Field, Item, Placed};
 use crate::levels::{check_place, ends_in_group};
+use crate::names_in_order::{add_name, no_names};
 use crate::picture::Picture;
 use std::alloc::Global;
 
@@ -16,9 +17,10 @@ pub fn own_places(alloc: Global, items: &[Item]) -> Result<Vec<Placed>, LayoutFa
     ensures fault { IfErr result (λ fault. fault ≢ LayoutFault.Memory → IsFirstFault [] 0 (map entry_of items.now) fault) }
 {
     let mut places = Vec::new(alloc);
+    let mut names = no_names(alloc);
     let mut total: u16 = 0;
     for (i, item) in items.iter().enumerate() {
-        check_place(&items[..i], item)?;
+        check_place(&items[..i], &names, item)?;
         let field = own_place(total, item)?;
         total += field.length;
         let place = Placed {
@@ -26,6 +28,7 @@ pub fn own_places(alloc: Global, items: &[Item]) -> Result<Vec<Placed>, LayoutFa
             field,
         };
         places.push(place).map_err(|_| LayoutFault::Memory)?;
+        add_name(&mut names, item)?;
     }
     if ends_in_group(items) {
         return Err(LayoutFault::Empty);

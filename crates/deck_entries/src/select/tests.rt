@@ -9,8 +9,8 @@ use std::test::Fail;
 
 /// The entry that all of these words are.
 fn entry_of(alloc: Global, deck: &str) -> Result<FileControlEntry, DeckFault> {
-    let words = words(alloc, deck.as_bytes())?;
-    let mut parser = Parser::new(words.as_slice());
+    let words = words(deck.as_bytes())?;
+    let mut parser = Parser::new(&words);
     let selected = select(&mut parser, alloc, &[])?;
     parser.end()?;
     Ok(selected.entry)

@@ -2,7 +2,9 @@
 
 use super::{DECK_LIMIT, one_reading, words};
 use crate::fault::DeckFault;
+use crate::parser::Parser;
 use crate::word::{Word, WordText};
+use record_layout::Bytes;
 use std::alloc::{AllocError, Global};
 use std::process::Abort;
 use std::test::Fail;
@@ -36,13 +38,14 @@ const SIGN: &str = "sign";
 const PERIOD: &str = "period";
 
 /// What a word is, and its text.
-fn seen(word: &Word) -> (&str, &[u8]) {
-    match &word.text {
-        WordText::Plain(text) => (PLAIN, text.as_str().as_bytes()),
-        WordText::Literal(text) => (LITERAL, text.as_slice()),
-        WordText::Sign(sign) => (SIGN, sign.text()),
-        WordText::Period => (PERIOD, b".".as_slice()),
-    }
+fn seen(alloc: Global, word: &Word<'_>) -> Result<(&'static str, Bytes), AllocError> {
+    let (kind, text) = match &word.text {
+        WordText::Plain(text) => (PLAIN, text.as_str().as_bytes().to_vec(alloc)?),
+        WordText::Literal(text) => return Ok((LITERAL, text.text(alloc)?)),
+        WordText::Sign(sign) => (SIGN, sign.text().to_vec(alloc)?),
+        WordText::Period => (PERIOD, b".".to_vec(alloc)?),
+    };
+    Ok((kind, Bytes::from_vec(text)))
 }
 
 /// The deck has these words, each with its line and what it is.
@@ -52,12 +55,19 @@ fn shows(
     deck: &str,
     expected: &[(u64, &str, &str)],
 ) -> Result<(), Fail> {
-    let words = words(alloc, deck.as_bytes())?;
+    let mut words = words(deck.as_bytes())?;
     assert_eq!(rt; words.len(), expected.len(), "{deck:?}");
-    for (word, (line, kind, text)) in words.iter().zip(expected.iter()) {
+    for (line, kind, text) in expected {
+        let Some(word) = words.next() else {
+            assert!(rt; false, "{deck:?}");
+            return Ok(());
+        };
+        let (seen_kind, seen_text) = seen(alloc, &word)?;
         assert_eq!(rt; word.line, *line, "{deck:?}");
-        assert_eq!(rt; seen(word), (*kind, text.as_bytes()), "{deck:?}");
+        assert_eq!(rt; seen_kind, *kind, "{deck:?}");
+        assert_eq!(rt; seen_text.as_slice(), text.as_bytes(), "{deck:?}");
     }
+    assert!(rt; words.next().is_none(), "{deck:?}");
     Ok(())
 }
 
@@ -125,7 +135,7 @@ fn bytes_that_are_no_word_are_told_for_their_line(rt: HostRuntime) -> Result<(),
         ("\n\ncaf\u{e9}", 3),
     ];
     for (deck, line) in decks {
-        let fault = words(rt.alloc(), deck.as_bytes()).err();
+        let fault = words(deck.as_bytes()).err();
         assert_eq!(rt; fault, Some(DeckFault { line, code: 1 }), "{deck:?}");
     }
     Ok(())
@@ -133,19 +143,22 @@ fn bytes_that_are_no_word_are_told_for_their_line(rt: HostRuntime) -> Result<(),
 
 #[test]
 fn a_literal_has_at_most_a_thousand_bytes(rt: HostRuntime) -> Result<(), Fail> {
-    let longest = words(rt.alloc(), literal_of(rt.alloc(), 1_000)?.as_slice())?;
-    assert_eq!(rt; longest.len(), 1);
-    assert_eq!(rt; longest[0].literal().map(|text| text.len()), Some(1_000));
-    let fault = words(rt.alloc(), literal_of(rt.alloc(), 1_001)?.as_slice()).err();
+    let deck = literal_of(rt.alloc(), 1_000)?;
+    let mut parser = Parser::new(&words(deck.as_slice())?);
+    assert_eq!(rt; parser.left(), 1);
+    assert_eq!(rt; parser.literal(rt.alloc())?.as_slice().len(), 1_000);
+    let deck = literal_of(rt.alloc(), 1_001)?;
+    let fault = words(deck.as_slice()).err();
     assert_eq!(rt; fault, Some(DeckFault { line: 1, code: 1 }));
     Ok(())
 }
 
 #[test]
 fn a_deck_has_at_most_a_mebibyte(rt: HostRuntime) -> Result<(), Fail> {
-    let longest = words(rt.alloc(), spaces(rt.alloc(), DECK_LIMIT)?.as_slice())?;
-    assert_eq!(rt; longest.len(), 0);
-    let fault = words(rt.alloc(), spaces(rt.alloc(), 1_048_577)?.as_slice()).err();
+    let longest = spaces(rt.alloc(), DECK_LIMIT)?;
+    assert_eq!(rt; words(longest.as_slice())?.len(), 0);
+    let longer = spaces(rt.alloc(), 1_048_577)?;
+    let fault = words(longer.as_slice()).err();
     assert_eq!(rt; fault, Some(DeckFault { line: 1, code: 6 }));
     assert_eq!(rt; DECK_LIMIT, 1_048_576);
     Ok(())

@@ -1,15 +1,15 @@
 //! Descriptions of decks, and faulty ones.
 
 use super::{Description, are_described, one_description, read_description};
-use deck_words::{DeckFault, words};
+use deck_words::{DeckFault, Parser, words};
 use io_state::Access;
 use record_layout::{Field, KeyPart};
 use std::alloc::Global;
 use std::test::Fail;
 
 fn description_of(alloc: Global, deck: &str) -> Result<Description, DeckFault> {
-    let words = words(alloc, deck.as_bytes())?;
-    read_description(alloc, words.as_slice())
+    let words = words(deck.as_bytes())?;
+    read_description(alloc, &words)
 }
 
 fn field(offset: u16, length: u16, numeric: bool) -> Option<Field> {
@@ -50,14 +50,10 @@ PROCEDURE DIVISION.";
 
 #[test]
 fn optional_words_have_no_effect(rt: HostRuntime) -> Result<(), Fail> {
-    let words = words(rt.alloc(), OPTIONAL_WORDS.as_bytes())?;
-    let description = read_description(rt.alloc(), words.as_slice())?;
-    let next = words.as_slice().get(description.words);
-    assert_eq!(rt;
-        next.and_then(|word| word.plain())
-            .is_some_and(|text| text.as_str() == "PROCEDURE"),
-        true
-    );
+    let words = words(OPTIONAL_WORDS.as_bytes())?;
+    let description = read_description(rt.alloc(), &words)?;
+    let behind = words.skip(description.words);
+    assert!(rt; Parser::new(&behind).sees(b"PROCEDURE"));
     assert_eq!(rt; description.items.as_slice().len(), 0);
     let files = description.files.as_slice();
     assert_eq!(rt; files.len(), 1);

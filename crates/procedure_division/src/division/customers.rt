@@ -32,7 +32,7 @@ fn laid_out(
         })?;
     }
     let layout = Layout::build(alloc, &items)?;
-    let fields = fields_by_name(alloc, &layout, &items)?;
+    let fields = fields_by_name(alloc, &layout)?;
     Ok((layout, fields))
 }
 
@@ -125,7 +125,7 @@ pub fn read(
     let mut deck = String::new(alloc);
     deck.push_str(heading)?;
     deck.push_str(text)?;
-    let words = words(alloc, deck.as_bytes())?;
+    let words = words(deck.as_bytes())?;
     let names = described.names(alloc)?;
-    Ok(procedure(alloc, &names, words.as_slice()))
+    Ok(procedure(alloc, &names, &words))
 }

@@ -11,4 +11,4 @@ pub returns-in_err-statements-clause-none : goal.returns-in_err-statements-claus
 returns-in_err-statements-clause-none c =
     let p = err_from_is_err_and c.from_residual-in_err-statements.result c.from_residual-in_err-statements.ensures.1 in
     rw (p.1, p.2) (λ other. no_deck c.one_description.ensures c.args.words.now c.in_ok-description.description c.in_ok-description.ensures.description
-    (λ statements s. c.in_err-statements.ensures.none other statements (rw (c.as_slice.ensures, c.as_slice-2.ensures, c.split_at.ensures.back) s)))
+    (λ statements s. c.in_err-statements.ensures.none other statements (rw (c.as_slice.ensures, c.as_slice-2.ensures, c.skip-rest.ensures) s)))

@@ -11,7 +11,7 @@ returns-in_err-words-clause-none c =
 pub returns-clause-none : goal.returns-clause-none
 returns-clause-none c =
     IfErr-weaker c.read.result _ _ (λ fault none other deck d. none other deck
-    (subst (λ words. Spells words deck) (c.one_reading.ensures.words c.args.bytes.now d.0 c.as_slice.result.now d.1 (rw (c.as_slice.ensures.value) c.in_ok-words.ensures.words)) d.2)) c.read.ensures.none
+    (subst (λ words. Spells words deck) (c.one_reading.ensures.words c.args.bytes.now d.0 c.in_ok-words.words d.1 c.in_ok-words.ensures.words) d.2)) c.read.ensures.none
 
 pub returns-clause-runnable : goal.returns-clause-runnable
-returns-clause-runnable c = IfOk-weaker c.read.result (Spells c.as_slice.result.now) CanBeRun (λ deck s. c.every_deck_can_be_run.ensures c.as_slice.result.now deck s) c.read.ensures.deck
+returns-clause-runnable c = IfOk-weaker c.read.result (Spells c.in_ok-words.words) CanBeRun (λ deck s. c.every_deck_can_be_run.ensures c.in_ok-words.words deck s) c.read.ensures.deck

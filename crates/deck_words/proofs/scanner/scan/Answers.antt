@@ -1,14 +1,30 @@
-use Rattle.std.proofs.lemmas.Result.{err_from_is_err_and}
-use Rattle.deck_words.specs.Words.{rest_of}
-use Rattle.deck_words.proofs.CutLemmas.{step, refused, something_left}
+use Rattle.std.proofs.Common.{◌≡◌, ◌∙◌, ◌+◌, ◌<◌, Some, length, ap, sym, subst, arith}
+use Rattle.std.proofs.lemmas.Bool.Decides.{nat_tests}
+use Rattle.deck_words.specs.Words.{rest_of, HasWords}
+use Rattle.deck_words.specs.Front.{Next, piece_at}
+use Rattle.deck_words.proofs.CutLemmas.{refused}
+use Rattle.deck_words.proofs.RemainingLemmas.{takes, Counted, counted_step, counted_done}
 use Rattle.deck_words.proofs.scanner.scan.Goals as goal
+
+pub returns-in_default-clause-fault : goal.returns-in_default-clause-fault
+returns-in_default-clause-fault c =
+    refused c.args.bytes.now c.more.invariant.words (rest_of c.more.line c.more.rest.now) c.more.invariant.so (grind (arith, nat_tests)) (sym c.front_piece.ensures ∙ c.in_default.is)
+
+pub more-smaller : goal.more-smaller
+more-smaller c =
+    let t = takes (rest_of c.more.line c.more.rest.now) c.in-Some.piece (sym c.front_piece.ensures ∙ c.in-Some.is) in
+    let same : length c.piece.inside.rest.now ≡ length c.in-Some.piece.1.bytes = ap (λ (n : Next). length n.1.bytes) c.piece.view_is in
+    let less : length c.piece.inside.rest.now < length c.more.rest.now = omega (arith, t.fewer, same) in less
 
 pub more-preserved : goal.more-preserved
 more-preserved c =
-    step c.args.bytes.now c.more.words.items c.push_piece.new.words.items (rest_of c.more.line c.more.rest.now) (rest_of c.in_ok-next.next c.in_ok-next.left.now) c.more.invariant c.in_ok-next.ensures.adds c.in_ok-next.ensures.lines
+    let there : piece_at (rest_of c.more.line c.more.rest.now) ≡ Some c.in-Some.piece = sym c.front_piece.ensures ∙ c.in-Some.is in
+    let further = counted_step c.args.bytes.now (rest_of c.more.line c.more.rest.now) c.more.count c.in-Some.piece c.more.invariant there in
+    subst (λ n. Counted c.args.bytes.now (rest_of c.piece.inside.line c.piece.inside.rest.now) (c.more.count + n)) (sym c.count-new.ensures)
+    (subst (λ (next : Next). Counted c.args.bytes.now next.1 (c.more.count + length c.in-Some.piece.0)) (sym c.piece.view_is) further)
 
-pub returns-in_err-next-clause-fault : goal.returns-in_err-next-clause-fault
-returns-in_err-next-clause-fault c =
-    let p = err_from_is_err_and c.from_residual.result c.from_residual.ensures.1 in
-    let some = something_left c.more.rest.now c.in-Some.after.now c.in-Some.first.now c.in-Some.ensures.cases.0 in
-    rw (p.1, p.2) (refused c.args.bytes.now c.more.words.items c.push_piece.new.words.items (rest_of c.more.line c.more.rest.now) c.in_err-next.field-0.0 c.more.invariant some c.in_err-next.ensures.adds)
+pub new-requires-clause-counted : goal.new-requires-clause-counted
+new-requires-clause-counted c = (counted_done c.args.bytes.now c.more.line c.more.count c.more.rest.now c.more.invariant (grind (arith, nat_tests))).1
+
+pub returns-clause-words : goal.returns-clause-words
+returns-clause-words c = subst (λ ws. HasWords c.args.bytes.now ws) (sym c.new.ensures) (counted_done c.args.bytes.now c.more.line c.more.count c.more.rest.now c.more.invariant (grind (arith, nat_tests))).0

@@ -39,7 +39,7 @@ returns-clause-description c =
     let divisions = c.in_ok-divisions.divisions in
     let rest = c.read_divisions.new.parser in
     let spelled = subst (λ words. SpellsDivisions divisions words rest) c.new-parser.ensures (reads_sound divisions c.new-parser.result rest c.in_ok-divisions.ensures) in
-    let count = c.saturating_sub.ensures ∙ ap (λ n. length c.args.words.now - n) c.left.ensures in
+    let count = c.saturating_sub.ensures ∙ (ap (λ n. n - c.left.result) c.len.ensures.count ∙ ap (λ n. length c.args.words.now - n) c.left.ensures) in
     let left : drop c.saturating_sub.result c.args.words.now ≡ rest = ap (λ n. drop n c.args.words.now) count ∙ rest_is divisions c.args.words.now rest spelled in (
       divisions,
       omega (arith, count),

@@ -7,7 +7,7 @@ use Rattle.procedure_division.proofs.division.all_sentences.Goals as goal
 
 pub returns-in_err-statements : goal.returns-in_err-statements
 returns-in_err-statements c =
-    let p = err_from_is_err_and c.from_residual.result c.from_residual.ensures.1 in
+    let p = err_from_is_err_and c.from_residual-in_err-statements.result c.from_residual-in_err-statements.ensures.1 in
     rw (p.1, p.2) (not_further (paragraph_or_sentence c.args.names.now) (lawful_paragraph_or_sentence _) (sentences_are_fit _) _ c.more.statements c.more.parser c.in_err-statements.field-0.0 c.more.invariant (sym (c.sees_sentence.ensures c.args.names.now) ∙ c.more-test.true) c.in_err-statements.ensures)
 
 pub more-smaller : goal.more-smaller

@@ -1,5 +1,5 @@
 use Rattle.std.proofs.Common.{◌≡◌, ◌<◌, ◌+◌, ◌++◌, length, arith}
-use Rattle.deck_runner.specs.Stretches.{ClosesAt, Closes, ClosesInPart}
+use Rattle.deck_runner.specs.Stretches.{ClosesAt, ClosesFiles, ClosesInPart}
 use Rattle.deck_runner.specs.State.{state, point_in, Leads}
 use Rattle.deck_runner.proofs.StateLemmas.{goes_then, leads_then, leads_as}
 use Rattle.deck_runner.proofs.CloseLemmas.{AreClosed, one_closed, all_closed, closed_in_part, as_many_files}
@@ -53,7 +53,7 @@ returns-clause-done g c =
     let at_end : c.loop-u.u ≡ length (point_in g.L.Library.shown first).run.files = omega arith in
     told_as (g.W.Write.contents c.args.out.now) (g.W.Write.contents c.loop-u.out) c.loop-u.end
     (Leads g.L.Library.shown first now (AreClosed g.L.Library.shown c.loop-u.u))
-    (Leads g.L.Library.shown first now (Closes g.L.Library.shown))
+    (Leads g.L.Library.shown first now (ClosesFiles g.L.Library.shown))
     c.loop-u.invariant.told
-    (leads_as g.L.Library.shown first now (AreClosed g.L.Library.shown c.loop-u.u) (Closes g.L.Library.shown)
+    (leads_as g.L.Library.shown first now (AreClosed g.L.Library.shown c.loop-u.u) (ClosesFiles g.L.Library.shown)
     (λ lines p. all_closed g.L.Library.shown (point_in g.L.Library.shown first) (point_in g.L.Library.shown now) c.loop-u.u lines at_end p))

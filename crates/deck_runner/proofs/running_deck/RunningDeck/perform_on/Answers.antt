@@ -3,7 +3,7 @@ use Rattle.indexed_file.specs.World.{name_at}
 use Rattle.indexed_file.specs.Images.{ImagesGo}
 use Rattle.verbs.specs.Held.{record_in}
 use Rattle.verbs.specs.Fits.{HasOperands}
-use Rattle.deck_runner.specs.Run.{RunFile, LengthItem, items_after_read}
+use Rattle.deck_runner.specs.Run.{RunFile, LengthValue, items_after_read}
 use Rattle.deck_runner.specs.Stretches.{trace_on}
 use Rattle.deck_runner.specs.Running.{line_answered}
 use Rattle.deck_runner.proofs.FrameLemmas.{unit_elsewhere, as_many_units, name_kept, names_after as units_after, elsewhere_after}
@@ -35,7 +35,7 @@ returns-clause-goes g c =
     let many : length c.note_length.new.items ≡ length c.args.self.now.items.items =
     rw (c.note_length.ensures, ← c.deref_mut.ensures.value) (as_many_items c.depends_on.result _ c.deref_mut.result.now) in
     let written = written_over c.args.self.now.items.len c.args.self.now.items.items c.note_length.new.items c.args.self.now.items.ok.0 many in
-    let count = ap (λ (l : List LengthItem). length l) written ∙ many in
+    let count = ap (λ (l : List LengthValue). length l) written ∙ many in
     record {
       keeps = c.perform-answer.ensures.performed.keeps;
       safe = safe_after world world_after c.args.u files file next (length c.args.self.now.items.items) _
@@ -64,7 +64,7 @@ returns-clause-line g c =
     let get = file_at files c.args.u (λ schema. HasOperands schema c.args.statement.now) file c.requires.statement c.index_mut-file.ensures.value in
     let read : c.note_length.new.items ≡ items_after_read file.depends_on (record_in next.area answer.length) items =
     rw (c.note_length.ensures, c.deref_mut.ensures.value, c.delivered-delivered.ensures.record, c.depends_on.ensures, c.perform-answer.ensures.same.depends_on) refl in
-    let many : length c.note_length.new.items ≡ length items = ap (λ (l : List LengthItem). length l) read ∙ as_many_items file.depends_on (record_in next.area answer.length) items in
+    let many : length c.note_length.new.items ≡ length items = ap (λ (l : List LengthValue). length l) read ∙ as_many_items file.depends_on (record_in next.area answer.length) items in
     let noted = written_over c.args.self.now.items.len items c.note_length.new.items c.args.self.now.items.ok.0 many ∙ read in
     record {
       line = line;

@@ -1,6 +1,6 @@
 use Rattle.std.proofs.Common.{refl, inl, inr}
 use Rattle.deck_runner.specs.Steps.{until_stop}
-use Rattle.deck_runner.specs.Stretches.{AreStretches, AreStretchesInPart, Closes, ClosesInPart, IsRunOver, IsBrokenOff}
+use Rattle.deck_runner.specs.Stretches.{AreStretches, AreStretchesInPart, ClosesFiles, ClosesInPart, IsRunOver, IsBrokenOff}
 use Rattle.deck_runner.specs.State.{state, point_in, Leads}
 use Rattle.deck_runner.proofs.StateLemmas.{leads_then, leads_as}
 use Rattle.deck_runner.proofs.ToldLemmas.{told_then, part_then, part_as}
@@ -23,9 +23,9 @@ returns-in-Ok-close_all-clause-done g c =
     let Done = AreStretches g.L.Library.shown (until_stop c.args.statements.now) in
     let Whole = IsRunOver g.L.Library.shown c.args.statements.now in
     told_then (g.W.Write.contents c.args.out.now) (g.W.Write.contents c.run_to_stop.new.out) (g.W.Write.contents c.close_all.new.out) c.in-Ok.stopped c.in-Ok-close_all.closed c.followed_by.result
-    (Leads g.L.Library.shown first stopped Done) (Leads g.L.Library.shown stopped next (Closes g.L.Library.shown)) (Leads g.L.Library.shown first next Whole)
+    (Leads g.L.Library.shown first stopped Done) (Leads g.L.Library.shown stopped next (ClosesFiles g.L.Library.shown)) (Leads g.L.Library.shown first next Whole)
     c.in-Ok.ensures.done c.in-Ok-close_all.ensures.done c.followed_by.ensures
-    (leads_then g.L.Library.shown first stopped next Done (Closes g.L.Library.shown) Whole c.run_to_stop.ensures.goes c.close_all.ensures.goes
+    (leads_then g.L.Library.shown first stopped next Done (ClosesFiles g.L.Library.shown) Whole c.run_to_stop.ensures.goes c.close_all.ensures.goes
     (λ xs ys p q. (point_in g.L.Library.shown stopped, xs, ys, p, q, refl)))
 
 pub returns-in-Err-close_all-clause-refused : goal.returns-in-Err-close_all-clause-refused
