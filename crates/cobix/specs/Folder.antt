@@ -12,3 +12,7 @@ folder_at_first disk = folder_state disk [] []
 -- what it holds after these calls, by what they were answered, with these names attached
 abbrev pub folder_after : Unseen → List ArrayString → List Event → ShelfState
 folder_after disk names calls = folder_state disk (map (λ name. name.bytes) names) calls
+
+-- what is so of the folder before the first call on it, and of what it holds after these calls
+abbrev pub OverFolder : Unseen → List ArrayString → List Event → (ShelfState → ShelfState → Type 0) → Type 0
+OverFolder disk names calls IsSo = IsSo (folder_at_first disk) (folder_after disk names calls)

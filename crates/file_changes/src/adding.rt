@@ -18,7 +18,7 @@ ghost use Rattle.open_file.specs.Faults.{IsCausedIn};
 ghost use Rattle.file_changes.specs.Adding.{HasAdded, stamp_in, entry_of, added_below, AreFree, levels_in, RowPut};
 
 use crate::room::is_full;
-use crate::slot::stamped;
+use crate::stamps::new_stamps;
 use arrayvec::ArrayVec;
 use indexed_file::Added;
 use io_state::Fault;
@@ -173,8 +173,8 @@ fn store<P: Pages>(opened: &mut OpenFile, pages: &mut P, bytes: &[u8]) -> Result
     ensures asked { (P.state pages.new).asked ≤ (P.state pages.old).asked + 4 }
     ensures goes { P.Goes pages.old pages.new }
 {
-    let slot = stamped(opened, bytes);
-    opened.heap.add(pages, slot.as_slice())
+    let stamps = new_stamps(opened);
+    opened.heap.add(pages, stamps.as_slice(), bytes)
 }
 
 /// Adds a new record to the prime index.

@@ -1,6 +1,6 @@
 //! What a record that is to take the place of another changes, and what that needs.
 
-ghost use Rattle.std.specs.Prelude.{◌≡◌, ◌≤◌, ◌<◌, ◌+◌, ◌^◌, ◌||◌, ◌&&◌, not, bytes_eq, length, nat_lt, nat_le};
+ghost use Rattle.std.specs.Prelude.{◌≡◌, ◌≤◌, ◌<◌, ◌+◌, ◌++◌, ◌^◌, ◌||◌, ◌&&◌, not, bytes_eq, length, nat_lt, nat_le};
 ghost use Rattle.record_layout.specs.Schema.{value_of};
 ghost use Rattle.indexed_file.specs.Change.{takes_stamp, changed_row};
 ghost use Rattle.open_file.specs.Stored.{stored};
@@ -8,7 +8,7 @@ ghost use Rattle.open_file.specs.Stands.{IsShaped};
 ghost use Rattle.file_changes.specs.Old.{row_with};
 ghost use Rattle.file_changes.specs.Replacing.{need_in_indexes, stamp_after};
 
-use crate::slot::push_stamp;
+use crate::stamps::push_stamp;
 use arrayvec::ArrayVec;
 use open_file::OpenFile;
 
@@ -63,32 +63,31 @@ pub(crate) fn is_full_to_change(opened: &OpenFile, left: u64, old: &[u8], new: &
         || (takes_stamp opened.now.schema old.now new.now && nat_le (2 ^ 63) opened.now.next_stamp)) }
 {
     left < need_to_change(opened, old, new)
-        || (takes_stamp(opened, old, new) && opened.next_stamp >= 1 << 63)
+        || (opened.next_stamp >= 1 << 63 && takes_stamp(opened, old, new))
 }
 
-/// The stamps of a record that takes the place of another, and the record.
-pub(crate) fn changed_slot(
+/// The stamps of a record that takes the place of another.
+pub(crate) fn changed_stamps(
     opened: &OpenFile,
     old: &[u8],
     stamps: &[u64],
     new: &[u8],
-) -> ArrayVec<u8, 4064>
+) -> ArrayVec<u8, 64>
     requires shaped { IsShaped opened.now }
     requires old { opened.now.schema.least ≤ length old.now }
     requires stamps { length stamps.now ≡ length opened.now.alternates.items }
     requires least { opened.now.schema.least ≤ length new.now }
-    requires greatest { length new.now ≤ opened.now.schema.greatest }
-    ensures stored { result.items ≡ stored opened.now.schema (changed_row opened.now.schema opened.now.next_stamp new.now (row_with old.now stamps.now)) }
-    ensures length { length result.items ≡ opened.now.heap.shape.stamps + length new.now }
+    ensures stored { result.items ++ new.now ≡ stored opened.now.schema
+        (changed_row opened.now.schema opened.now.next_stamp new.now (row_with old.now stamps.now)) }
+    ensures length { length result.items ≡ opened.now.heap.shape.stamps }
 {
-    let mut slot = ArrayVec::new();
+    let mut changed = ArrayVec::new();
     for j in 0..opened.alternates.len() {
         if opened.schema.part(j as u8 + 1).duplicates {
-            push_stamp(&mut slot, stamp_after(opened, j, old, stamps[j], new));
+            push_stamp(&mut changed, stamp_after(opened, j, old, stamps[j], new));
         }
     }
-    let _ = slot.try_extend_from_slice(new);
-    slot
+    changed
 }
 
 /// The stamp in a key of duplicates after a change: the next one, where the value changes.

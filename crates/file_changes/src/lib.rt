@@ -13,7 +13,7 @@ mod old_record;
 mod removing;
 mod replacing;
 mod room;
-mod slot;
+mod stamps;
 
 pub use adding::add;
 pub use removing::remove;

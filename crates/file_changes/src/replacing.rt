@@ -22,7 +22,7 @@ ghost use Rattle.file_changes.specs.Removing.{AreThere};
 ghost use Rattle.file_changes.specs.Replacing.{HasReplaced, CanPutOver, AreFreed, changed_below, need_in_indexes, next_after};
 
 use crate::adding::add_to_alternate;
-use crate::changed::{changed_slot, differs, is_full_to_change, takes_stamp};
+use crate::changed::{changed_stamps, differs, is_full_to_change, takes_stamp};
 use crate::old_record::{OldRecord, find_old, record_in};
 use crate::removing::remove_from_alternate;
 use indexed_file::Replaced;
@@ -296,8 +296,8 @@ fn set_slot<P: Pages>(
     ensures asked { (P.state pages.new).asked ≤ (P.state pages.old).asked + 1 }
     ensures goes { P.Goes pages.old pages.new }
 {
-    let slot = changed_slot(opened, before, old.stamps.as_slice(), bytes);
-    opened.heap.set(pages, old.place, slot.as_slice())
+    let stamps = changed_stamps(opened, before, old.stamps.as_slice(), bytes);
+    opened.heap.set(pages, old.place, stamps.as_slice(), bytes)
 }
 
 /// Changes the record's entries in the alternate indexes, where its values change.

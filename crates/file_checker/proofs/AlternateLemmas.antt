@@ -6,8 +6,8 @@ use Rattle.std.proofs.Math.Seq.{get_or-append_seam}
 use Rattle.pages.specs.PageMap.{PageMap}
 use Rattle.tree_node.specs.Order.{Ascends}
 use Rattle.bplus_tree.specs.declared.tree.Tree.{Tree}
-use Rattle.bplus_tree.specs.Standing.{Stands as TreeStands}
-use Rattle.bplus_tree.proofs.RemoveLemmas.{tree_ascends}
+use Rattle.bplus_tree.specs.Standing.{TreeStands}
+use Rattle.tree_search.proofs.DescentLemmas.{tree_ascends}
 use Rattle.page_marks.specs.Marks.{Marks}
 use Rattle.page_marks.specs.Parted.{own_at, all_of}
 use Rattle.page_marks.proofs.MarksLemmas.{marks_on}

@@ -3,7 +3,7 @@ use Rattle.std.proofs.Common.{◌≡◌, ℕ, zero, suc, ◌+◌, ◌<◌, Bool,
 use Rattle.std.proofs.lemmas.List.{length-map}
 use Rattle.pages.specs.PageMap.{PageMap}
 use Rattle.bplus_tree.specs.declared.tree.Tree.{Tree}
-use Rattle.bplus_tree.specs.Standing.{Stands as TreeStands}
+use Rattle.bplus_tree.specs.Standing.{TreeStands}
 use Rattle.page_marks.specs.Marks.{Marks}
 use Rattle.page_marks.specs.PageList.{pages_in}
 use Rattle.page_marks.specs.Parted.{own_at, all_of}

@@ -9,7 +9,7 @@ use Rattle.page_walks.specs.declared.spot.Spot.{Spot}
 use Rattle.page_walks.specs.Spots.{entries_at}
 use Rattle.page_walks.specs.FreeWalk.{page_in}
 use Rattle.page_walks.specs.WholeFile.{used_in}
-use Rattle.bplus_tree.specs.Standing.{Stands as TreeStands}
+use Rattle.bplus_tree.specs.Standing.{TreeStands}
 use Rattle.key_index.specs.declared.alt_index.AltIndex.{AltIndex}
 use Rattle.file_header.specs.declared.header.Header.{Header}
 use Rattle.open_file.specs.declared.open_file.OpenFile.{OpenFile}

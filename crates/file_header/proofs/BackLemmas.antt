@@ -10,7 +10,7 @@ use Rattle.record_layout.specs.declared.schema.KeyPart.{KeyPart}
 use Rattle.record_layout.specs.Schema.{IsKey, AreKeys}
 use Rattle.file_header.specs.declared.header.Header.{Header}
 use Rattle.file_header.specs.declared.header.TreeNumbers.{TreeNumbers}
-use Rattle.file_header.specs.Bounds.{IsTree, IsHeader}
+use Rattle.file_header.specs.Bounds.{AreTreeNumbers, IsHeader}
 use Rattle.file_header.specs.FirstPage.{first_bytes, header_bytes, closed_page, row_of, rows_from, zeros}
 use Rattle.file_header.specs.Reading.{number_in, greatest_in, least_in, key_count_in, rows_in, part_in, tree_in, numbers_in}
 use Rattle.file_header.proofs.RowLemmas.{length-row}
@@ -72,15 +72,15 @@ parts_back k least (key ∷ keys) (tree ∷ trees) rest same limit whole unique 
     ap (map part_in) (first_row (length keys) k key tree (rows_from (k + 1) keys trees) rest)
     ∙ λ i. (part_back k key tree (omega (arith, first.within)) (omega (arith, first.short)) unique i) ∷ (parts_back (k + 1) least keys trees rest (omega arith) limit later (λ e. absurd (omega arith)) i)
 
-trees_back : (k pages : ℕ) (keys : List KeyPart) (trees : List TreeNumbers) (rest : List ℕ) → length trees ≡ length keys → pages ≤ 256 ^ 4 → All (IsTree pages) trees
+trees_back : (k pages : ℕ) (keys : List KeyPart) (trees : List TreeNumbers) (rest : List ℕ) → length trees ≡ length keys → pages ≤ 256 ^ 4 → All (AreTreeNumbers pages) trees
     → map tree_in (chunks 16 (length keys) (rows_from k keys trees ++ rest)) ≡ trees
 unfolding rows_from chunks
 trees_back k pages [] [] rest same limit whole = refl
 trees_back k pages [] (tree ∷ trees) rest same limit whole = absurd (omega arith)
 trees_back k pages (key ∷ keys) [] rest same limit whole = absurd (omega arith)
 trees_back k pages (key ∷ keys) (tree ∷ trees) rest same limit whole =
-    let first : IsTree pages tree = whole 0 tree (omega arith) in
-    let later : All (IsTree pages) trees = λ j d h. whole (suc j) d (omega arith) in
+    let first : AreTreeNumbers pages tree = whole 0 tree (omega arith) in
+    let later : All (AreTreeNumbers pages) trees = λ j d h. whole (suc j) d (omega arith) in
     ap (map tree_in) (first_row (length keys) k key tree (rows_from (k + 1) keys trees) rest)
     ∙ λ i. (tree_back k key tree (omega (arith, first.within)) i) ∷ (trees_back (k + 1) pages keys trees rest (omega arith) limit later i)
 

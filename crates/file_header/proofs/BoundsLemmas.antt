@@ -9,7 +9,7 @@ use Rattle.record_layout.specs.Schema.{Schema, IsKey, AreKeys, IsSchema}
 use Rattle.record_layout.proofs.PartsLemmas.{first_below, later_rise}
 use Rattle.file_header.specs.declared.header.Header.{Header}
 use Rattle.file_header.specs.declared.header.TreeNumbers.{TreeNumbers}
-use Rattle.file_header.specs.Bounds.{IsTree, IsWithin, HasRoom, IsHeader}
+use Rattle.file_header.specs.Bounds.{AreTreeNumbers, AreLinksWithin, FitsItsBytes, IsHeader}
 use Rattle.file_header.specs.BoundTests.{is_tree, is_within, has_room, is_key, rise, are_keys, is_schema, is_header}
 
 le : (a b : ℕ) → Decides (nat_le a b) (a ≤ b)
@@ -25,19 +25,19 @@ unset : (b : Bool) → Decides (not b) (b ≡ false)
 unset true = (λ e. absurd (false≢true e), λ e. sym e)
 unset false = (λ _. refl, λ _. refl)
 
-is_tree-Decides : (pages : ℕ) (tree : TreeNumbers) → Decides (is_tree pages tree) (IsTree pages tree)
+is_tree-Decides : (pages : ℕ) (tree : TreeNumbers) → Decides (is_tree pages tree) (AreTreeNumbers pages tree)
 is_tree-Decides pages tree =
     Decides-like (is_tree pages tree) (λ p. record { some = p.0.0.0; low = p.0.0.1; behind = p.0.1; within = p.1 }) (λ t. (((t.some, t.low), t.behind), t.within))
     (Decides-and _ _ (Decides-and _ _ (Decides-and _ _ (le 1 tree.height) (le tree.height 20)) (le 1 tree.root)) (Decides-ltb tree.root pages))
 
-is_within-Decides : (header : Header) → Decides (is_within header) (IsWithin header)
+is_within-Decides : (header : Header) → Decides (is_within header) (AreLinksWithin header)
 is_within-Decides header =
     Decides-like (is_within header)
     (λ p. record { counted = p.0.0.0.0.0.0.0; trees = p.0.0.0.0.0.0.1; first_free = p.0.0.0.0.0.1; free = p.0.0.0.0.1; first_heap = p.0.0.0.1; free_slot = p.0.0.1; stamped = p.0.1; limit = p.1 })
     (λ w. (((((((w.counted, w.trees), w.first_free), w.free), w.first_heap), w.free_slot), w.stamped), w.limit))
     (Decides-and _ _ (Decides-and _ _ (Decides-and _ _ (Decides-and _ _ (Decides-and _ _ (Decides-and _ _ (Decides-and _ _
     (le (1 + length header.schema.keys) header.pages)
-    (each (is_tree header.pages) (IsTree header.pages) (is_tree-Decides header.pages) header.trees.items))
+    (each (is_tree header.pages) (AreTreeNumbers header.pages) (is_tree-Decides header.pages) header.trees.items))
     (Decides-ltb header.first_free header.pages))
     (Decides-ltb header.free header.pages))
     (Decides-ltb header.first_heap header.pages))
@@ -45,7 +45,7 @@ is_within-Decides header =
     (le 1 header.next_stamp))
     (le header.next_stamp 9223372036854775808))
 
-has_room-Decides : (header : Header) → Decides (has_room header) (HasRoom header)
+has_room-Decides : (header : Header) → Decides (has_room header) (FitsItsBytes header)
 has_room-Decides header =
     Decides-like (has_room header) (λ p. record { pages = p.0.0; slot = p.0.1; records = p.1 }) (λ r. ((r.pages, r.slot), r.records))
     (Decides-and _ _ (Decides-and _ _ (Decides-ltb header.pages 4294967296) (Decides-ltb header.free_slot 65536)) (Decides-ltb header.records 18446744073709551616))

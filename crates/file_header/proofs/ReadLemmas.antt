@@ -6,7 +6,7 @@ use Rattle.std.proofs.lemmas.Bool.Decides.{Decides-and, Decides-like}
 use Rattle.std.proofs.lemmas.Slice.Eq.{bytes_eq-Decides}
 use Rattle.record_layout.specs.Schema.{IsSchema}
 use Rattle.file_header.specs.declared.header.Header.{Header}
-use Rattle.file_header.specs.Bounds.{HasRoom, IsWithin}
+use Rattle.file_header.specs.Bounds.{FitsItsBytes, AreLinksWithin}
 use Rattle.file_header.specs.BoundTests.{is_header}
 use Rattle.file_header.specs.FirstPage.{closed_page}
 use Rattle.file_header.specs.Reading.{numbers_in, header_in, part_in, tree_in, rows_in, key_count_in, IsFirstPage}
@@ -57,7 +57,7 @@ unfolding header_in
 read_first header page e = chosen page header (is_header (numbers_in page) && pointwise nat_eq page (closed_page (numbers_in page))) (first_page-Decides (numbers_in page) page) e
 
 -- a page that its own numbers make, within their bounds
-pub accepted : (page : List ℕ) (header : Header) → header ≡ numbers_in page → IsSchema (numbers_in page).schema → HasRoom header → IsWithin header
+pub accepted : (page : List ℕ) (header : Header) → header ≡ numbers_in page → IsSchema (numbers_in page).schema → FitsItsBytes header → AreLinksWithin header
     → page ≡ closed_page header → IsFirstPage header page
 unfolding numbers_in
 accepted page header same schema room within bytes =

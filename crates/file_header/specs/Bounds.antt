@@ -5,16 +5,16 @@ use Rattle.file_header.specs.declared.header.Header.{Header}
 use Rattle.file_header.specs.declared.header.TreeNumbers.{TreeNumbers}
 
 -- a tree of 1 to 20 levels, with its root in one of the pages behind the header
-pub record IsTree (pages : ℕ) (tree : TreeNumbers) : Type 0 where
+pub record AreTreeNumbers (pages : ℕ) (tree : TreeNumbers) : Type 0 where
   pub some : 1 ≤ tree.height
   pub low : tree.height ≤ 20
   pub behind : 1 ≤ tree.root
   pub within : tree.root < pages
 
 -- links are within the pages, and page 0 is none; the free pages are fewer than the pages; stamps begin with 1
-pub record IsWithin (header : Header) : Type 0 where
+pub record AreLinksWithin (header : Header) : Type 0 where
   pub counted : 1 + length header.schema.keys ≤ header.pages
-  pub trees : All (IsTree header.pages) header.trees.items
+  pub trees : All (AreTreeNumbers header.pages) header.trees.items
   pub first_free : header.first_free < header.pages
   pub free : header.free < header.pages
   pub first_heap : header.first_heap < header.pages
@@ -23,7 +23,7 @@ pub record IsWithin (header : Header) : Type 0 where
   pub limit : header.next_stamp ≤ 2 ^ 63
 
 -- each number has room in its bytes
-pub record HasRoom (header : Header) : Type 0 where
+pub record FitsItsBytes (header : Header) : Type 0 where
   pub pages : header.pages < 2 ^ 32
   pub slot : header.free_slot < 2 ^ 16
   pub records : header.records < 2 ^ 64
@@ -32,5 +32,5 @@ pub record HasRoom (header : Header) : Type 0 where
 pub record IsHeader (header : Header) : Type 0 where
   pub schema : IsSchema header.schema
   pub trees : length header.trees.items ≡ length header.schema.keys
-  pub within : IsWithin header
-  pub room : HasRoom header
+  pub within : AreLinksWithin header
+  pub room : FitsItsBytes header

@@ -1,6 +1,6 @@
 //! What the numbers of a header must be.
 ghost use Rattle.std.specs.Prelude.{◌≡◌, ◌↔◌, IsTrue, All};
-ghost use Rattle.file_header.specs.Bounds.{IsTree, IsWithin};
+ghost use Rattle.file_header.specs.Bounds.{AreTreeNumbers, AreLinksWithin};
 
 use crate::header::{Header, TreeNumbers};
 
@@ -9,7 +9,7 @@ const LAST_STAMP: u64 = 1 << 63;
 
 /// The numbers are within their bounds. The schema is not looked at, but for the number of its keys.
 pub fn is_within(header: &Header) -> bool
-    ensures { IsTrue result ↔ IsWithin header.now }
+    ensures { IsTrue result ↔ AreLinksWithin header.now }
 {
     let pages = header.pages;
     header.schema.key_count() < pages as usize
@@ -23,14 +23,14 @@ pub fn is_within(header: &Header) -> bool
 }
 
 fn are_trees(trees: &[TreeNumbers], pages: u32) -> bool
-    ensures { IsTrue result ↔ All (IsTree pages) trees.now }
+    ensures { IsTrue result ↔ All (AreTreeNumbers pages) trees.now }
 {
     trees.iter().all(|tree| is_tree(tree, pages))
 }
 
 /// The tree has 1 to 20 levels, and its root is a page behind the header.
 fn is_tree(tree: &TreeNumbers, pages: u32) -> bool
-    ensures { IsTrue result ↔ IsTree pages tree.now }
+    ensures { IsTrue result ↔ AreTreeNumbers pages tree.now }
 {
     1 <= tree.height && tree.height <= 20 && 1 <= tree.root && tree.root < pages
 }

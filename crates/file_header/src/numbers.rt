@@ -20,7 +20,7 @@
 //! | 56 to 63 | zero |
 ghost use Rattle.std.specs.Prelude.{◌≡◌, ◌↔◌, IsSome, IfSome};
 ghost use Rattle.record_layout.specs.Schema.{IsSchema};
-ghost use Rattle.file_header.specs.Bounds.{HasRoom};
+ghost use Rattle.file_header.specs.Bounds.{FitsItsBytes};
 ghost use Rattle.file_header.specs.FirstPage.{first_bytes, version_of, least_told};
 ghost use Rattle.file_header.specs.Reading.{least_in, greatest_in, numbers_in};
 
@@ -105,7 +105,7 @@ fn least_told(least: u16, greatest: u16) -> u16
 /// What stands in a page at the places of the table, where the lengths and keys are those of a schema.
 pub fn numbers_in(page: &[u8; PAGE_SIZE]) -> Option<Header>
     ensures numbers { IfSome result (λ header. header ≡ numbers_in page.now) }
-    ensures room { IfSome result HasRoom }
+    ensures room { IfSome result FitsItsBytes }
     ensures schema { IsSome result ↔ IsSchema (numbers_in page.now).schema }
 {
     let count = usize::from(page[KEY_COUNT]).min(9);

@@ -15,8 +15,8 @@ use Rattle.key_index.specs.Calls.{IsAltFirst}
 use Rattle.open_file.specs.declared.open_file.OpenFile.{OpenFile}
 use Rattle.open_file.specs.InOrder.{alt_entry, alt_entries, in_order}
 use Rattle.io_state.specs.declared.fault.Fault.{Fault}
-use Rattle.key_index.specs.Entries.{has_value as entry_has}
-use Rattle.open_file.specs.Reading.{Reads, IsOf}
+use Rattle.key_index.specs.Entries.{entry_has_value}
+use Rattle.open_file.specs.Reading.{Reads, IsEntryOfRow}
 use Rattle.open_file.proofs.ByKeyLemmas.{prime_once, by_entry, entry_is_of}
 use Rattle.open_file.proofs.FirstLemmas.{same_bytes, first_passes, RowOf, row_of_entry}
 use Rattle.open_file.proofs.RowLemmas.{least_is_first}
@@ -36,20 +36,20 @@ nothing schema k file v old none = rw none (record { answered = record { answer 
 
 -- the row of the first entry of a value, and whether another row has the value
 pub record FirstRow (schema : Schema) (k : ℕ) (file : File) (v : List ℕ) (first : AltFirst) : Type 0 where
-  pub of : RowOf schema k (λ row. entry_has v (alt_entry schema k row)) (in_order schema k file.rows) first.entry
-  pub is : IsOf schema k file first.entry of.row
+  pub of : RowOf schema k (λ row. entry_has_value v (alt_entry schema k row)) (in_order schema k file.rows) first.entry
+  pub is : IsEntryOfRow schema k file first.entry of.row
   pub repeated : first.followed ≡ is_repeated schema k of.row file
 
 pub first_row : (schema : Schema) (k : ℕ) (file : File) (v : List ℕ) (first : AltFirst) → is_file schema file ≡ true → IsAltFirst v (alt_entries schema k file.rows) (Some first) → FirstRow schema k file v first
 first_row schema k file v first sound found =
-    let test : Row → Bool = λ row. entry_has v (alt_entry schema k row) in
-    let r = row_of_entry schema k (entry_has v) file.rows first.entry found.0 in
+    let test : Row → Bool = λ row. entry_has_value v (alt_entry schema k row) in
+    let r = row_of_entry schema k (entry_has_value v) file.rows first.entry found.0 in
     let is = entry_is_of schema k file sound test first.entry r in
     let has = same_bytes (value_of schema k r.row.bytes) v (first_passes test (in_order schema k file.rows) r.row r.is_first) in
     record { of = r; is = is; repeated = repeated_first schema k file v first r.row is has found }
 
 -- the row of the first entry of the value
-pub found_it : (schema : Schema) (k : ℕ) (file : File) (v : List ℕ) (entry : AltEntry) (r : RowOf schema k (λ row. entry_has v (alt_entry schema k row)) (in_order schema k file.rows) entry) → (answer : Found) (old new : List ℕ)
+pub found_it : (schema : Schema) (k : ℕ) (file : File) (v : List ℕ) (entry : AltEntry) (r : RowOf schema k (λ row. entry_has_value v (alt_entry schema k row)) (in_order schema k file.rows) entry) → (answer : Found) (old new : List ℕ)
     → Reads (Ok answer) (found_of schema k file r.row) old new (Some r.row) → Tells schema k file v (Ok (Some answer)) old new
 found_it schema k file v entry r answer old new found =
     let row : least schema k (has_value schema k v) file ≡ Some r.row = by_entry schema k v file entry r in

@@ -13,9 +13,9 @@ use Rattle.indexed_file.specs.Rank.{value_cmp, has_value, is_repeated, least}
 use Rattle.indexed_file.specs.Sound.{are_rows, is_file, are_apart}
 use Rattle.page_bytes.specs.Each.{Each}
 use Rattle.key_index.specs.declared.entry.AltEntry.{AltEntry}
-use Rattle.key_index.specs.Entries.{has_value as entry_has}
+use Rattle.key_index.specs.Entries.{entry_has_value}
 use Rattle.open_file.specs.InOrder.{in_order, alt_entry, alt_entries}
-use Rattle.open_file.specs.Reading.{IsOf}
+use Rattle.open_file.specs.Reading.{IsEntryOfRow}
 use Rattle.open_file.proofs.RowLemmas.{least_is_first, row_is_first, put_each, both}
 use Rattle.open_file.proofs.RepeatLemmas.{find_mapped}
 use Rattle.open_file.proofs.PlaceLemmas.{find_each}
@@ -52,7 +52,7 @@ in_order_each schema k P [] h = tt
 in_order_each schema k P (row ∷ rows) h = put_each schema k P row (in_order schema k rows) h.0 (in_order_each schema k P rows h.1)
 
 -- so an entry leads to its row
-pub entry_is_of : (schema : Schema) (k : ℕ) (file : File) → is_file schema file ≡ true → (test : Row → Bool) (entry : AltEntry) (r : RowOf schema k test (in_order schema k file.rows) entry) → IsOf schema k file entry r.row
+pub entry_is_of : (schema : Schema) (k : ℕ) (file : File) → is_file schema file ≡ true → (test : Row → Bool) (entry : AltEntry) (r : RowOf schema k test (in_order schema k file.rows) entry) → IsEntryOfRow schema k file entry r.row
 entry_is_of schema k file sound test entry r =
     let own = find_each (λ row. find (has_value schema 0 (prime_of schema row.bytes)) file.rows ≡ Some row) test (in_order schema k file.rows) r.row
     (in_order_each schema k (λ row. find (has_value schema 0 (prime_of schema row.bytes)) file.rows ≡ Some row) file.rows (each_own schema file.next_stamp file.rows (both _ _ sound).1)) r.is_first in
@@ -71,16 +71,16 @@ pub prime_once : (schema : Schema) (row : Row) (file : File) → is_repeated sch
 prime_once schema row file = never (λ other. has_value schema 0 (value_of schema 0 row.bytes) other && nat_lt (stamp_of 0 row) (stamp_of 0 other)) file.rows (λ other. and_false _)
 
 -- no entry, so no row
-pub by_none : (schema : Schema) (k : ℕ) (v : List ℕ) (file : File) → find (entry_has v) (alt_entries schema k file.rows) ≡ None → least schema k (has_value schema k v) file ≡ None
+pub by_none : (schema : Schema) (k : ℕ) (v : List ℕ) (file : File) → find (entry_has_value v) (alt_entries schema k file.rows) ≡ None → least schema k (has_value schema k v) file ≡ None
 by_none schema k v file none =
     let rows = in_order schema k file.rows in
-    least_is_first schema k (has_value schema k v) file.rows ∙ unmapped _ (sym (find_mapped (alt_entry schema k) (entry_has v) rows) ∙ none)
+    least_is_first schema k (has_value schema k v) file.rows ∙ unmapped _ (sym (find_mapped (alt_entry schema k) (entry_has_value v) rows) ∙ none)
   where
     unmapped : (found : Option Row) → option_map (alt_entry schema k) found ≡ None → found ≡ None
     unmapped None e = refl
     unmapped (Some row) e = absurd (cc)
 
 -- the first entry tells
-pub by_entry : (schema : Schema) (k : ℕ) (v : List ℕ) (file : File) (entry : AltEntry) (r : RowOf schema k (λ row. entry_has v (alt_entry schema k row)) (in_order schema k file.rows) entry)
+pub by_entry : (schema : Schema) (k : ℕ) (v : List ℕ) (file : File) (entry : AltEntry) (r : RowOf schema k (λ row. entry_has_value v (alt_entry schema k row)) (in_order schema k file.rows) entry)
     → least schema k (has_value schema k v) file ≡ Some r.row
 by_entry schema k v file entry r = least_is_first schema k (has_value schema k v) file.rows ∙ r.is_first

@@ -6,7 +6,7 @@ use Rattle.record_layout.specs.declared.schema.KeyPart.{KeyPart}
 use Rattle.record_layout.specs.Schema.{Schema, IsSchema, AreKeys}
 use Rattle.page_bytes.specs.Each.{Each}
 use Rattle.pages.specs.PageMap.{PageMap}
-use Rattle.pages.specs.Owners.{IsOutside, Changes}
+use Rattle.pages.specs.Owners.{IsOutside, ChangesPages}
 use Rattle.key_index.specs.declared.prime_index.PrimeIndex.{PrimeIndex}
 use Rattle.key_index.specs.declared.alt_index.AltIndex.{AltIndex}
 use Rattle.key_index.specs.Standing.{AltStands, AltChanged, PrimeChanged, prime_height, alt_height}
@@ -16,7 +16,8 @@ use Rattle.record_heap.specs.Chain.{no_slots}
 use Rattle.record_heap.specs.Standing.{HeapStands}
 use Rattle.record_heap.proofs.StandLemmas.{heap_kept, chain_live}
 use Rattle.open_file.specs.Stored.{stamps_length}
-use Rattle.open_file.specs.Parts.{own_at, Parted, Parts}
+use Rattle.open_file.specs.Parts.{Parts}
+use Rattle.page_marks.specs.Parted.{own_at, Parted}
 use Rattle.open_file.specs.Stands.{Stands, heights_in}
 use Rattle.open_file.specs.Creating.{IsIndexOf, AreIndexesOf}
 use Rattle.open_file.specs.declared.open_file.OpenFile.{OpenFile}
@@ -98,14 +99,14 @@ is_none (Some x) s e = let h : Some x ≡ None = e in cc
 -- ---- one part more
 
 -- pages in use are as they were, and outside the new ones
-untouched : (before after : PageMap) (own now : List ℕ) → Each (λ n. IsSome (before n)) own → Changes before after [] now → Each (λ n. after n ≡ before n) own × Each (λ n. IsOutside now n) own
+untouched : (before after : PageMap) (own now : List ℕ) → Each (λ n. IsSome (before n)) own → ChangesPages before after [] now → Each (λ n. after n ≡ before n) own × Each (λ n. IsOutside now n) own
 untouched before after [] now used changes = (tt, tt)
 untouched before after (n ∷ own) now used changes =
     let rest = untouched before after own now used.1 changes in
     let here = changes.others n used.0 tt in
     ((here.0, rest.0), (here.1, rest.1))
 
-parted_more : (before after : PageMap) (owns : List (List ℕ)) (now : List ℕ) → ((j : ℕ) → Each (λ n. IsSome (before n)) (own_at owns j)) → Changes before after [] now → Parted before owns
+parted_more : (before after : PageMap) (owns : List (List ℕ)) (now : List ℕ) → ((j : ℕ) → Each (λ n. IsSome (before n)) (own_at owns j)) → ChangesPages before after [] now → Parted before owns
     → Parted after (owns ++ now ∷ [])
 parted_more before after owns now used changes parted =
     let all : List (List ℕ) = owns ++ now ∷ [] in

@@ -1,6 +1,6 @@
 -- What is told of the row of an entry.
-use Rattle.std.proofs.Common.{◌≡◌, ℕ, Bool, false, List, length, Some, None, refl, sym, ap, ◌∙◌}
-use Rattle.std.specs.Prelude.{find, Ok, option_map, bytes_eq}
+use Rattle.std.proofs.Common.{◌≡◌, ℕ, Bool, false, List, length, Some, sym, ap, ◌∙◌}
+use Rattle.std.specs.Prelude.{find, Ok, option_map}
 use Rattle.std.specs.Option.{option_map_or}
 use Rattle.record_layout.specs.Schema.{Schema, value_of}
 use Rattle.indexed_file.specs.File.{Row, File}
@@ -9,16 +9,16 @@ use Rattle.indexed_file.specs.Change.{row_of}
 use Rattle.indexed_file.specs.Answers.{found_of}
 use Rattle.key_index.specs.declared.entry.AltEntry.{AltEntry}
 use Rattle.key_index.specs.declared.entry.AltFirst.{AltFirst}
-use Rattle.key_index.specs.Entries.{after_rank, has_value as entry_has}
+use Rattle.key_index.specs.Entries.{after_rank, entry_has_value}
 use Rattle.key_index.specs.Calls.{IsAltFirst}
 use Rattle.open_file.specs.InOrder.{alt_entries}
-use Rattle.open_file.specs.Reading.{Reads, IsOf}
+use Rattle.open_file.specs.Reading.{Reads, IsEntryOfRow}
 use Rattle.open_file.proofs.RepeatLemmas.{next_tells}
 
 pub from_some : {X : Type 0} (x y : X) → Some x ≡ Some y → x ≡ y
 from_some x y e = cc
 
-pub told : (schema : Schema) (k : ℕ) (file : File) (entry : AltEntry) (row : Row) → IsOf schema k file entry row → (n : ℕ) (repeated : Bool) (old new : List ℕ) → repeated ≡ is_repeated schema k row file
+pub told : (schema : Schema) (k : ℕ) (file : File) (entry : AltEntry) (row : Row) → IsEntryOfRow schema k file entry row → (n : ℕ) (repeated : Bool) (old new : List ℕ) → repeated ≡ is_repeated schema k row file
     → Reads (Ok (Some n)) (option_map (λ row. length row.bytes) (row_of schema entry.prime.items file)) old new (row_of schema entry.prime.items file)
     → Reads (Ok (record { key = entry.value; length = n; stamp = entry.stamp; repeated = repeated })) (found_of schema k file row) old new (Some row)
 told schema k file entry row is n repeated old new same found =
@@ -32,23 +32,19 @@ told schema k file entry row is n repeated old new same found =
       area = there.area;
     }
 
-pub repeated_some : (schema : Schema) (k : ℕ) (file : File) (entry : AltEntry) (row : Row) → IsOf schema k file entry row → (next : AltEntry)
-    → Some next ≡ find (after_rank entry.value.items entry.stamp) (alt_entries schema k file.rows) → bytes_eq next.value.items entry.value.items ≡ is_repeated schema k row file
-repeated_some schema k file entry row is next found =
-    let same = rw is.is_entry at found in
-    rw (is.is_entry, next_tells schema k row file, sym same) refl
-
-pub repeated_none : (schema : Schema) (k : ℕ) (file : File) (entry : AltEntry) (row : Row) → IsOf schema k file entry row
-    → None ≡ find (after_rank entry.value.items entry.stamp) (alt_entries schema k file.rows) → false ≡ is_repeated schema k row file
-repeated_none schema k file entry row is found =
-    let same = rw is.is_entry at found in
-    rw (next_tells schema k row file, sym same) refl
+-- whether the next entry has its value tells whether another row has it
+pub repeated_next : (schema : Schema) (k : ℕ) (file : File) (entry : AltEntry) (row : Row) → IsEntryOfRow schema k file entry row → (told : Bool)
+    → told ≡ option_map_or (entry_has_value entry.value.items) (find (after_rank entry.value.items entry.stamp) (alt_entries schema k file.rows)) false → told ≡ is_repeated schema k row file
+repeated_next schema k file entry row is told found =
+    found
+    ∙ ap (λ (e : AltEntry). option_map_or (entry_has_value e.value.items) (find (after_rank e.value.items e.stamp) (alt_entries schema k file.rows)) false) is.is_entry
+    ∙ sym (next_tells schema k row file)
 
 -- the first entry of a value tells whether another row has the value
-pub repeated_first : (schema : Schema) (k : ℕ) (file : File) (v : List ℕ) (first : AltFirst) (row : Row) → IsOf schema k file first.entry row → value_of schema k row.bytes ≡ v
+pub repeated_first : (schema : Schema) (k : ℕ) (file : File) (v : List ℕ) (first : AltFirst) (row : Row) → IsEntryOfRow schema k file first.entry row → value_of schema k row.bytes ≡ v
     → IsAltFirst v (alt_entries schema k file.rows) (Some first) → first.followed ≡ is_repeated schema k row file
 repeated_first schema k file v first row is has found =
     found.1
-    ∙ ap (λ (w : List ℕ). option_map_or (entry_has w) (find (after_rank first.entry.value.items first.entry.stamp) (alt_entries schema k file.rows)) false) (sym has)
-    ∙ ap (λ (e : AltEntry). option_map_or (entry_has (value_of schema k row.bytes)) (find (after_rank e.value.items e.stamp) (alt_entries schema k file.rows)) false) is.is_entry
+    ∙ ap (λ (w : List ℕ). option_map_or (entry_has_value w) (find (after_rank first.entry.value.items first.entry.stamp) (alt_entries schema k file.rows)) false) (sym has)
+    ∙ ap (λ (e : AltEntry). option_map_or (entry_has_value (value_of schema k row.bytes)) (find (after_rank e.value.items e.stamp) (alt_entries schema k file.rows)) false) is.is_entry
     ∙ sym (next_tells schema k row file)

@@ -13,7 +13,7 @@ use Rattle.record_heap.specs.Chain.{Slots}
 use Rattle.open_file.specs.declared.open_file.OpenFile.{OpenFile}
 use Rattle.open_file.specs.InOrder.{in_order, alt_entry, alt_entries, prime_entries}
 use Rattle.open_file.specs.Stored.{AreAt, stored}
-use Rattle.open_file.specs.Parts.{own_at}
+use Rattle.page_marks.specs.Parted.{own_at}
 use Rattle.open_file.specs.Stands.{Stands}
 use Rattle.open_file.proofs.OrderLemmas.{either}
 use Rattle.open_file.proofs.RepeatLemmas.{find_mapped}

@@ -10,17 +10,17 @@ use Rattle.indexed_file.specs.Rank.{row_cmp}
 use Rattle.pages.specs.PageMap.{PageMap}
 use Rattle.tree_node.specs.declared.shape.Shape.{Shape}
 use Rattle.bplus_tree.specs.declared.tree.Tree.{Tree}
-use Rattle.bplus_tree.specs.Tree.{TreeOf, entries_of}
-use Rattle.bplus_tree.specs.Calls.{IsWhole}
+use Rattle.tree_search.specs.Tree.{TreeOf, entries_of}
+use Rattle.tree_search.specs.Calls.{IsWhole}
 use Rattle.bplus_tree.specs.Count.{fewest}
-use Rattle.bplus_tree.specs.Standing.{Stands as TreeStands}
+use Rattle.bplus_tree.specs.Standing.{TreeStands}
 use Rattle.bplus_tree.proofs.CountLemmas.{have_many_entries}
 use Rattle.key_index.specs.Standing.{alt_height}
 use Rattle.key_index.specs.Stored.{prime_bytes, alt_bytes}
 use Rattle.record_heap.specs.declared.shape.Place.{Place}
 use Rattle.record_heap.specs.Chain.{Slots}
 use Rattle.open_file.specs.InOrder.{put, in_order, alt_entries, prime_entries}
-use Rattle.open_file.specs.Parts.{own_at}
+use Rattle.page_marks.specs.Parted.{own_at}
 use Rattle.open_file.specs.Stored.{AreAt}
 use Rattle.open_file.specs.Stands.{Stands, heights_of}
 use Rattle.open_file.specs.Laws.{is_filled, counts_its_rows}

@@ -50,7 +50,7 @@ above Less h e = absurd (cc)
 above Equal h e = absurd (cc)
 above Greater h e = refl
 
-differ : {b : Bool} → b ≡ true → b ≡ false → ⊥
+pub differ : {b : Bool} → b ≡ true → b ≡ false → ⊥
 differ e k = let both : true ≡ false = sym e ∙ k in cc
 
 -- bytes that are alike are the same

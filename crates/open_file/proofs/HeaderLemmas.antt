@@ -12,9 +12,9 @@ use Rattle.indexed_file.specs.Rank.{row_cmp}
 use Rattle.pages.specs.PageMap.{PageMap}
 use Rattle.tree_node.specs.declared.shape.Shape.{Shape}
 use Rattle.bplus_tree.specs.declared.tree.Tree.{Tree}
-use Rattle.bplus_tree.specs.Tree.{TreeOf, entries_of, pages_of}
-use Rattle.bplus_tree.specs.Calls.{IsWhole}
-use Rattle.bplus_tree.specs.Standing.{Stands as TreeStands}
+use Rattle.tree_search.specs.Tree.{TreeOf, entries_of, pages_of}
+use Rattle.tree_search.specs.Calls.{IsWhole}
+use Rattle.bplus_tree.specs.Standing.{TreeStands}
 use Rattle.key_index.specs.declared.entry.PrimeEntry.{PrimeEntry}
 use Rattle.key_index.specs.declared.entry.AltEntry.{AltEntry}
 use Rattle.key_index.specs.declared.prime_index.PrimeIndex.{PrimeIndex}
@@ -29,7 +29,8 @@ use Rattle.record_heap.specs.Chain.{Slots}
 use Rattle.record_heap.specs.Standing.{HeapStands}
 use Rattle.open_file.specs.InOrder.{put, in_order, alt_entries, prime_entries}
 use Rattle.open_file.specs.Stored.{AreAt, stamps_length}
-use Rattle.open_file.specs.Parts.{own_at, Parts}
+use Rattle.open_file.specs.Parts.{Parts}
+use Rattle.page_marks.specs.Parted.{own_at}
 use Rattle.open_file.specs.Stands.{IsPlaced}
 use Rattle.open_file.specs.Headers.{is_read_back}
 use Rattle.open_file.proofs.OrderLemmas.{either}

@@ -12,7 +12,7 @@ use Rattle.indexed_file.proofs.RowLemmas.{rows_parts, is_before}
 use Rattle.key_index.specs.declared.entry.PrimeEntry.{PrimeEntry}
 use Rattle.record_heap.specs.declared.shape.Place.{Place}
 use Rattle.record_heap.specs.Chain.{Slots}
-use Rattle.key_index.specs.Entries.{last_of}
+use Rattle.tree_search.specs.Calls.{last_of}
 use Rattle.open_file.specs.InOrder.{prime_entries}
 use Rattle.open_file.specs.Stored.{AreAt}
 use Rattle.open_file.proofs.OrderLemmas.{either}

@@ -1,6 +1,6 @@
 -- What READ NEXT tells, by the first entry that the position admits.
-use Rattle.std.proofs.Common.{◌≡◌, ◌≢◌, ℕ, ◌+◌, ◌-◌, ◌≤◌, ◌<◌, true, false, List, length, drop, Option, Some, None, refl, ap, sym, subst, ◌∙◌, arith}
-use Rattle.std.specs.Prelude.{find, option_map, slice_index_or, Result, Ok, Err}
+use Rattle.std.proofs.Common.{◌≡◌, ◌≢◌, ℕ, true, false, List, length, drop, Option, Some, None, refl, ap, sym, subst, ◌∙◌, arith}
+use Rattle.std.specs.Prelude.{find, option_map, Result, Ok, Err}
 use Rattle.std.specs.Ordering.{is_gt, nat_cmp, ordering_then}
 use Rattle.std.specs.declared.cmp.Ordering.{Ordering}
 use Rattle.std.specs.declared.cmp.Ordering.TheVariants.{Less, Equal, Greater}
@@ -21,15 +21,14 @@ use Rattle.indexed_file.specs.declared.answer.Found.{Found}
 use Rattle.pages.specs.PageMap.{PageMap}
 use Rattle.key_index.specs.declared.entry.PrimeEntry.{PrimeEntry}
 use Rattle.key_index.specs.declared.entry.AltEntry.{AltEntry}
-use Rattle.key_index.specs.declared.alt_index.AltIndex.{AltIndex}
 use Rattle.record_heap.specs.declared.shape.Place.{Place}
 use Rattle.record_heap.specs.Standing.{HeapStands}
 use Rattle.open_file.specs.declared.open_file.OpenFile.{OpenFile}
 use Rattle.open_file.specs.InOrder.{in_order, alt_entry, alt_entries, prime_entries}
 use Rattle.open_file.specs.Stored.{stamps_length}
-use Rattle.open_file.specs.Parts.{own_at}
+use Rattle.page_marks.specs.Parted.{own_at}
 use Rattle.open_file.specs.Stands.{Stands}
-use Rattle.open_file.specs.Reading.{Reads, IsAt, IsOf}
+use Rattle.open_file.specs.Reading.{Reads, IsAt, IsEntryOfRow}
 use Rattle.open_file.specs.Steps.{admits_prime, admits_alt}
 use Rattle.open_file.proofs.RowLemmas.{least_is_first, each_row}
 use Rattle.open_file.proofs.PlaceLemmas.{find_each}
@@ -73,7 +72,7 @@ alt_not_admitted schema k position file none = least_admitted schema k position 
 record NextRow (schema : Schema) (k : ℕ) (position : Position) (file : File) (entry : AltEntry) : Type 0 where
   pub row : Row
   pub is_next : least schema k (admits schema k position) file ≡ Some row
-  pub is_of : IsOf schema k file entry row
+  pub is_of : IsEntryOfRow schema k file entry row
 
 alt_admitted : (opened : OpenFile) (pages : PageMap) (file : File) → Stands opened pages file → (k : ℕ) (position : Position) (entry : AltEntry)
     → find (admits_alt position) (alt_entries opened.schema k file.rows) ≡ Some entry → NextRow opened.schema k position file entry
@@ -87,36 +86,27 @@ alt_admitted opened pages file stands k position entry found =
     }
 
 -- what is read of the row of an entry
-abbrev pub ReadsOf : OpenFile → AltIndex → File → AltEntry → Result Found Fault → List ℕ → List ℕ → Type 0
-ReadsOf opened index file entry result old new =
-    (j : ℕ) (row : Row) → j < length opened.alternates.items → index ≡ slice_index_or opened.alternates.items j index → IsOf opened.schema (j + 1) file entry row
-    → Reads result (found_of opened.schema (j + 1) file row) old new (Some row)
+abbrev pub ReadsOf : OpenFile → ℕ → File → AltEntry → Result Found Fault → List ℕ → List ℕ → Type 0
+ReadsOf opened k file entry result old new =
+    (row : Row) → IsEntryOfRow opened.schema k file entry row → Reads result (found_of opened.schema k file row) old new (Some row)
 
-module _ (opened after : OpenFile) (k : ℕ) (index : AltIndex) (rest : after ≡ record opened { path = after.path })
-    (some : 1 ≤ k) (within : k ≤ length opened.alternates.items) (is : index ≡ slice_index_or opened.alternates.items (k - 1) index) where
+module _ (opened after : OpenFile) (k : ℕ) (rest : after ≡ record opened { path = after.path }) (pages : PageMap) (file : File) (stands : Stands opened pages file) (position : Position) (entry : AltEntry)
+    (found : find (admits_alt position) (alt_entries opened.schema k file.rows) ≡ Some entry) (old new : List ℕ) where
   -- another path changes nothing of it
-  delivered : (file : File) (entry : AltEntry) (row : Row) (result : Result Found Fault) (old new : List ℕ) → IsOf opened.schema k file entry row
-      → ReadsOf after index file entry result old new → Reads result (found_of opened.schema k file row) old new (Some row)
-  delivered file entry row result old new is_of reads =
-      let lt : k - 1 < length opened.alternates.items = omega arith in
-      let e : k - 1 + 1 ≡ k = omega arith in
-      let it = subst (λ (o : OpenFile). ReadsOf o index file entry result old new) rest reads (k - 1) row lt is
-      (subst (λ (m : ℕ). IsOf opened.schema m file entry row) (sym e) is_of) in
-      subst (λ (m : ℕ). Reads result (found_of opened.schema m file row) old new (Some row)) e it
+  delivered : (row : Row) (result : Result Found Fault) → IsEntryOfRow opened.schema k file entry row → ReadsOf after k file entry result old new → Reads result (found_of opened.schema k file row) old new (Some row)
+  delivered row result is_of reads = subst (λ (o : OpenFile). ReadsOf o k file entry result old new) rest reads row is_of
 
-  module _ (pages : PageMap) (file : File) (stands : Stands opened pages file) (position : Position) (entry : AltEntry)
-      (found : find (admits_alt position) (alt_entries opened.schema k file.rows) ≡ Some entry) (old new : List ℕ) where
-    pub alt_read : (answer : Found) → ReadsOf after index file entry (Ok answer) old new
-        → Reads (Ok (Some answer)) (option_map (found_of opened.schema k file) (least opened.schema k (admits opened.schema k position) file)) old new (least opened.schema k (admits opened.schema k position) file)
-    alt_read answer reads =
-        let next = alt_admitted opened pages file stands k position entry found in
-        row_read opened.schema k file (least opened.schema k (admits opened.schema k position) file) next.row answer old new next.is_next
-        (delivered file entry next.row (Ok answer) old new next.is_of reads)
+  pub alt_read : (answer : Found) → ReadsOf after k file entry (Ok answer) old new
+      → Reads (Ok (Some answer)) (option_map (found_of opened.schema k file) (least opened.schema k (admits opened.schema k position) file)) old new (least opened.schema k (admits opened.schema k position) file)
+  alt_read answer reads =
+      let next = alt_admitted opened pages file stands k position entry found in
+      row_read opened.schema k file (least opened.schema k (admits opened.schema k position) file) next.row answer old new next.is_next
+      (delivered next.row (Ok answer) next.is_of reads)
 
-    pub alt_not_read : (fault : Fault) → ReadsOf after index file entry (Err fault) old new → fault ≢ Damage
-    alt_not_read fault reads =
-        let next = alt_admitted opened pages file stands k position entry found in
-        (delivered file entry next.row (Err fault) old new next.is_of reads).answered.no_damage
+  pub alt_not_read : (fault : Fault) → ReadsOf after k file entry (Err fault) old new → fault ≢ Damage
+  alt_not_read fault reads =
+      let next = alt_admitted opened pages file stands k position entry found in
+      (delivered next.row (Err fault) next.is_of reads).answered.no_damage
 
 -- ---- by the prime key, in which every stamp is 0
 

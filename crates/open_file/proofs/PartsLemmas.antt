@@ -4,7 +4,7 @@ use Rattle.std.specs.Prelude.{slice_index_or, slice_set, IsSome, nat_lt}
 use Rattle.std.proofs.lemmas.Grind.{common_steps}
 use Rattle.page_bytes.specs.Each.{Each}
 use Rattle.pages.specs.PageMap.{PageMap}
-use Rattle.pages.specs.Owners.{IsOutside, Changes}
+use Rattle.pages.specs.Owners.{IsOutside, ChangesPages}
 use Rattle.key_index.specs.declared.entry.PrimeEntry.{PrimeEntry}
 use Rattle.key_index.specs.declared.entry.AltEntry.{AltEntry}
 use Rattle.key_index.specs.declared.prime_index.PrimeIndex.{PrimeIndex}
@@ -15,7 +15,8 @@ use Rattle.key_index.proofs.LawLemmas.{alt_live, alt_kept, prime_live, prime_kep
 use Rattle.record_heap.specs.Chain.{Slots}
 use Rattle.record_heap.specs.Found.{HeapHas}
 use Rattle.record_heap.proofs.StandLemmas.{heap_kept, chain_live}
-use Rattle.open_file.specs.Parts.{own_at, Parted, Parts, but_at}
+use Rattle.open_file.specs.Parts.{Parts, but_at}
+use Rattle.page_marks.specs.Parted.{own_at, Parted}
 use Rattle.open_file.proofs.OrderLemmas.{either}
 
 -- ---- lists
@@ -91,17 +92,17 @@ some_none (Some x) s e = let h : Some x ≡ None = e in cc
 abbrev pub AreUsed : PageMap → List (List ℕ) → Type 0
 AreUsed pages owns = (j : ℕ) → Each (λ n. IsSome (pages n)) (own_at owns j)
 
-unchanged : (before after : PageMap) (owns : List (List ℕ)) (i : ℕ) (now : List ℕ) → Changes before after (own_at owns i) now → Parted before owns → AreUsed before owns
+unchanged : (before after : PageMap) (owns : List (List ℕ)) (i : ℕ) (now : List ℕ) → ChangesPages before after (own_at owns i) now → Parted before owns → AreUsed before owns
     → (j : ℕ) → j ≢ i → Each (λ n. after n ≡ before n) (own_at owns j)
 unchanged before after owns i now changes parted used j other =
     each_both (λ n. IsSome (before n)) (λ n. IsOutside (own_at owns i) n) (λ n. after n ≡ before n) (λ n some out. (changes.others n some out).0) (own_at owns j) (used j) (parted.apart i j (λ e. other (sym e)))
 
-outside_now : (before after : PageMap) (owns : List (List ℕ)) (i : ℕ) (now : List ℕ) → Changes before after (own_at owns i) now → Parted before owns → AreUsed before owns
+outside_now : (before after : PageMap) (owns : List (List ℕ)) (i : ℕ) (now : List ℕ) → ChangesPages before after (own_at owns i) now → Parted before owns → AreUsed before owns
     → (j : ℕ) → j ≢ i → Each (λ n. IsOutside now n) (own_at owns j)
 outside_now before after owns i now changes parted used j other =
     each_both (λ n. IsSome (before n)) (λ n. IsOutside (own_at owns i) n) (λ n. IsOutside now n) (λ n some out. (changes.others n some out).1) (own_at owns j) (used j) (parted.apart i j (λ e. other (sym e)))
 
-parted_after : (before after : PageMap) (owns : List (List ℕ)) (i : ℕ) (now : List ℕ) → i < length owns → Changes before after (own_at owns i) now → Parted before owns → AreUsed before owns
+parted_after : (before after : PageMap) (owns : List (List ℕ)) (i : ℕ) (now : List ℕ) → i < length owns → ChangesPages before after (own_at owns i) now → Parted before owns → AreUsed before owns
     → Parted after (slice_set owns i now)
 parted_after before after owns i now within changes parted used = record {
   apart = λ a b differ.

@@ -11,7 +11,7 @@ use Rattle.open_file.specs.declared.path.Path.{Path}
 use Rattle.open_file.specs.declared.path.Path.TheVariants.{Alternate}
 use Rattle.open_file.specs.InOrder.{alt_entries, prime_entries}
 use Rattle.open_file.specs.Paths.{IsOnPath}
-use Rattle.open_file.specs.Parts.{own_at}
+use Rattle.page_marks.specs.Parted.{own_at}
 use Rattle.open_file.specs.Stands.{Stands}
 use Rattle.open_file.proofs.PartsLemmas.{same_default}
 

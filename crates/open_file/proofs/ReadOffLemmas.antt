@@ -20,7 +20,7 @@ use Rattle.key_index.proofs.LawLemmas.{prime_reads_off}
 use Rattle.record_heap.proofs.StandLemmas.{slot_read}
 use Rattle.open_file.specs.InOrder.{prime_entries}
 use Rattle.open_file.specs.Stored.{stamp_bytes, stamps_length, stored, AreAt}
-use Rattle.open_file.specs.Parts.{own_at}
+use Rattle.page_marks.specs.Parted.{own_at}
 use Rattle.open_file.specs.Stands.{Stands}
 use Rattle.open_file.specs.ReadOff.{stamps_off, row_off, rows_off, file_off}
 use Rattle.open_file.specs.declared.open_file.OpenFile.{OpenFile}

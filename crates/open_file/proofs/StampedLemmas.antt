@@ -1,6 +1,6 @@
 -- The stamps of a new record, written one after another.
 use Rattle.std.proofs.Common.{◌≡◌, ℕ, ◌+◌, ◌*◌, ◌≤◌, ◌<◌, true, false, List, [], ◌∷◌, ◌++◌, length, drop, map, refl, ap, sym, ◌∙◌, arith, append_assoc, length-append, length-drop}
-use Rattle.std.specs.Prelude.{slice_index_or, if◌then◌else◌, Result, Ok, Err, IsOk, OnOk}
+use Rattle.std.specs.Prelude.{slice_index_or, if◌then◌else◌}
 use Rattle.byteorder.specs.Endian.{big_bytes}
 use Rattle.record_layout.specs.declared.schema.KeyPart.{KeyPart}
 use Rattle.open_file.specs.Stored.{stamp_bytes, stamps_length}
@@ -67,16 +67,9 @@ at_most (part ∷ parts) =
 pub few_stamps : (keys : List KeyPart) → length keys ≤ 9 → stamps_length (drop 1 keys) ≤ 64
 few_stamps keys few = omega (arith, few, at_most (drop 1 keys), length-drop 1 keys)
 
-pub written_few : (keys : List KeyPart) (stamp k : ℕ) (written : List ℕ) → length keys ≤ 9 → Written keys stamp k written → length written ≤ 64
-written_few keys stamp k written few w = omega (arith, few_stamps keys few, w.long)
-
 -- one more key fits
 pub written_room : (keys : List KeyPart) (d : KeyPart) (stamp k : ℕ) (written : List ℕ) → length keys ≤ 9 → k < length keys → (slice_index_or keys k d).duplicates ≡ true → Written keys stamp k written → length written + 8 ≤ 64
 written_room keys d stamp k written few lt many w =
     let e = dropped keys d k lt in
     let l : stamps_length (drop k keys) ≡ 8 + stamps_length (drop (k + 1) keys) = ap stamps_length e ∙ ap (λ b. if b then 8 + stamps_length (drop (k + 1) keys) else stamps_length (drop (k + 1) keys)) many in
     omega (arith, few_stamps keys few, l, w.long)
-
-pub when_ok : {X E : Type 0} (r : Result X E) (A : Type 0) → IsOk r → OnOk r A → A
-when_ok (Ok x) A is h = h
-when_ok (Err e) A is h = absurd (let f : false ≡ true = is in cc)

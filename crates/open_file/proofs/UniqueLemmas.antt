@@ -1,10 +1,12 @@
 -- The first entry of a value of a unique key: the one of stamp 0.
-use Rattle.std.proofs.Common.{◌≡◌, ℕ, ◌<◌, Bool, true, false, List, [], ◌∷◌, Some, None, refl, ap, sym, ◌∙◌}
+use Rattle.std.proofs.Common.{◌≡◌, ℕ, ◌<◌, Bool, true, false, List, [], ◌∷◌, Some, None, refl, ap, sym, ◌∙◌, arith}
 use Rattle.std.specs.Prelude.{find, map, length, ◌&&◌, ◌==◌, cond, bytes_eq}
 use Rattle.std.specs.Option.{option_map_or}
 use Rattle.std.specs.Ordering.{nat_cmp, ordering_then, is_gt, is_eq}
 use Rattle.std.specs.declared.cmp.Ordering.{Ordering}
 use Rattle.std.specs.declared.cmp.Ordering.TheVariants.{Less, Equal, Greater}
+use Rattle.std.proofs.lemmas.Bool.Decides.{nat_tests}
+use Rattle.std.proofs.lemmas.Grind.{common_steps}
 use Rattle.std.proofs.lemmas.Map.Text.{is_eq-slice_cmp}
 use Rattle.record_layout.specs.Schema.{Schema, key_at}
 use Rattle.indexed_file.specs.File.{Row, File, stamp_of}
@@ -12,14 +14,13 @@ use Rattle.indexed_file.specs.Rank.{value_cmp}
 use Rattle.indexed_file.specs.Sound.{is_file, is_row}
 use Rattle.page_bytes.specs.Each.{Each}
 use Rattle.key_index.specs.declared.entry.AltEntry.{AltEntry}
-use Rattle.key_index.specs.Entries.{has_value, has_rank, after_rank}
+use Rattle.key_index.specs.Entries.{entry_has_value, has_rank, after_rank}
 use Rattle.key_index.specs.Calls.{IsAltFirst}
 use Rattle.open_file.specs.InOrder.{in_order, alt_entry, alt_entries}
 use Rattle.open_file.proofs.OrderLemmas.{either}
 use Rattle.open_file.proofs.RowLemmas.{both, each_row, stamp_zero}
 use Rattle.open_file.proofs.ByKeyLemmas.{in_order_each}
-use Rattle.open_file.proofs.PlaceLemmas.{find_each}
-use Rattle.open_file.proofs.FirstLemmas.{first_passes, same_bytes}
+use Rattle.open_file.proofs.FirstLemmas.{first_passes, same_bytes, differ}
 
 -- the entries of a unique key have stamp 0
 entries_zero : (schema : Schema) (k : ℕ) (rows : List Row) → Each (λ row. stamp_of k row ≡ 0) rows → Each (λ (e : AltEntry). e.stamp ≡ 0) (map (alt_entry schema k) rows)
@@ -39,28 +40,31 @@ and_true : (b : Bool) → (b && true) ≡ b
 and_true true = refl
 and_true false = refl
 
-same_rank : (v : List ℕ) (e : AltEntry) → e.stamp ≡ 0 → has_rank v 0 e ≡ has_value v e
+same_rank : (v : List ℕ) (e : AltEntry) → e.stamp ≡ 0 → has_rank v 0 e ≡ entry_has_value v e
 same_rank v e zero = ap (λ (s : ℕ). bytes_eq e.value.items v && (s == 0)) zero ∙ and_true (bytes_eq e.value.items v)
 
-found_alike : (v : List ℕ) (entries : List AltEntry) → Each (λ (e : AltEntry). e.stamp ≡ 0) entries → find (has_rank v 0) entries ≡ find (has_value v) entries
+found_alike : (v : List ℕ) (entries : List AltEntry) → Each (λ (e : AltEntry). e.stamp ≡ 0) entries → find (has_rank v 0) entries ≡ find (entry_has_value v) entries
 found_alike v [] h = refl
-found_alike v (e ∷ entries) h = ap (λ b. cond b (Some e) (find (has_rank v 0) entries)) (same_rank v e h.0) ∙ ap (λ o. cond (has_value v e) (Some e) o) (found_alike v entries h.1)
+found_alike v (e ∷ entries) h = ap (λ b. cond b (Some e) (find (has_rank v 0) entries)) (same_rank v e h.0) ∙ ap (λ o. cond (entry_has_value v e) (Some e) o) (found_alike v entries h.1)
 
-above : (o : Ordering) → is_gt (ordering_then o (nat_cmp 0 0)) ≡ true → is_eq o ≡ false
-above Less h = refl
-above Equal h = absurd (cc)
-above Greater h = refl
+never_above : (s : ℕ) → is_gt (nat_cmp 0 s) ≡ false
+never_above s = grind (arith, common_steps, nat_tests)
 
--- an entry behind stamp 0 has another value
-other : (v : List ℕ) (e : AltEntry) → e.stamp ≡ 0 → after_rank v 0 e ≡ true → has_value v e ≡ false
-other v e zero after = sym (is_eq-slice_cmp e.value.items v) ∙ above (value_cmp e.value.items v) (ap (λ (s : ℕ). is_gt (ordering_then (value_cmp e.value.items v) (nat_cmp s 0))) (sym zero) ∙ after)
+above : (o : Ordering) (s : ℕ) → is_gt (ordering_then o (nat_cmp 0 s)) ≡ true → is_eq o ≡ false
+above Less s h = refl
+above Equal s h = absurd (differ h (never_above s))
+above Greater s h = refl
 
-never_followed : (v : List ℕ) (entries : List AltEntry) → Each (λ (e : AltEntry). e.stamp ≡ 0) entries → option_map_or (has_value v) (find (after_rank v 0) entries) false ≡ false
-never_followed v [] h = refl
-never_followed v (e ∷ entries) h =
-    either (after_rank v 0 e) (option_map_or (has_value v) (find (after_rank v 0) (e ∷ entries)) false ≡ false)
-    (λ yes. ap (λ b. option_map_or (has_value v) (cond b (Some e) (find (after_rank v 0) entries)) false) yes ∙ other v e h.0 yes)
-    (λ no. ap (λ b. option_map_or (has_value v) (cond b (Some e) (find (after_rank v 0) entries)) false) no ∙ never_followed v entries h.1)
+-- an entry of stamp 0 that comes after a value and stamp has another value
+other : (v : List ℕ) (s : ℕ) (e : AltEntry) → e.stamp ≡ 0 → after_rank v s e ≡ true → entry_has_value v e ≡ false
+other v s e zero after = sym (is_eq-slice_cmp e.value.items v) ∙ above (value_cmp e.value.items v) s (ap (λ (t : ℕ). is_gt (ordering_then (value_cmp e.value.items v) (nat_cmp t s))) (sym zero) ∙ after)
+
+pub never_followed : (v : List ℕ) (s : ℕ) (entries : List AltEntry) → Each (λ (e : AltEntry). e.stamp ≡ 0) entries → option_map_or (entry_has_value v) (find (after_rank v s) entries) false ≡ false
+never_followed v s [] h = refl
+never_followed v s (e ∷ entries) h =
+    either (after_rank v s e) (option_map_or (entry_has_value v) (find (after_rank v s) (e ∷ entries)) false ≡ false)
+    (λ yes. ap (λ b. option_map_or (entry_has_value v) (cond b (Some e) (find (after_rank v s) entries)) false) yes ∙ other v s e h.0 yes)
+    (λ no. ap (λ b. option_map_or (entry_has_value v) (cond b (Some e) (find (after_rank v s) entries)) false) no ∙ never_followed v s entries h.1)
 
 -- so what is found of stamp 0 is the first entry of the value, and is not followed
 pub unique_none : (v : List ℕ) (entries : List AltEntry) → Each (λ (e : AltEntry). e.stamp ≡ 0) entries → find (has_rank v 0) entries ≡ None → IsAltFirst v entries None
@@ -68,9 +72,8 @@ unique_none v entries h none = sym (found_alike v entries h) ∙ none
 
 pub unique_some : (v : List ℕ) (entries : List AltEntry) → Each (λ (e : AltEntry). e.stamp ≡ 0) entries → (e : AltEntry) → find (has_rank v 0) entries ≡ Some e → IsAltFirst v entries (Some (record { entry = e; followed = false }))
 unique_some v entries h e found =
-    let zero : e.stamp ≡ 0 = find_each (λ (x : AltEntry). x.stamp ≡ 0) (has_rank v 0) entries e h found in
     let value_is : e.value.items ≡ v = same_bytes e.value.items v (both (bytes_eq e.value.items v) (e.stamp == 0) (first_passes (has_rank v 0) entries e found)).0 in (
       sym (found_alike v entries h) ∙ found,
-      sym (ap (λ (w : List ℕ). option_map_or (has_value v) (find (after_rank w e.stamp) entries) false) value_is
-          ∙ ap (λ (s : ℕ). option_map_or (has_value v) (find (after_rank v s) entries) false) zero ∙ never_followed v entries h),
+      sym (ap (λ (w : List ℕ). option_map_or (entry_has_value v) (find (after_rank w e.stamp) entries) false) value_is
+          ∙ never_followed v e.stamp entries h),
     )

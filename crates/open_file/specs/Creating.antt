@@ -14,7 +14,7 @@ pub record IsNew (opened : OpenFile) (pages : PageMap) (is_sound : Type 0) : Typ
   pub sound : is_sound
 
 -- it is one of this schema that is not broken, with a tree of one level for each key
-pub record IsMade (opened : OpenFile) (schema : Schema) : Type 0 where
+pub record IsNewOpenFile (opened : OpenFile) (schema : Schema) : Type 0 where
   pub schema_is : opened.schema ≡ schema
   pub shaped : IsShaped opened
   pub unbroken : IsFalse opened.broken

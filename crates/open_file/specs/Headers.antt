@@ -22,7 +22,7 @@ pub record HasTree (tree : Tree) (numbers : TreeNumbers) : Type 0 where
   pub height : tree.levels + 1 ≡ numbers.height
 
 -- what the header says is so of the open file
-pub record IsOf (header : Header) (opened : OpenFile) : Type 0 where
+pub record IsHeaderOf (header : Header) (opened : OpenFile) : Type 0 where
   pub schema_is : opened.schema ≡ header.schema
   pub next_stamp : opened.next_stamp ≡ header.next_stamp
   pub first_heap : opened.heap.first ≡ header.first_heap
@@ -43,7 +43,7 @@ pub record Counts (header : Header) (pages first_free free : ℕ) : Type 0 where
 
 -- the open file is made from the header: each index has as many entries as there are records
 pub record IsOpenedBy (header : Header) (opened : OpenFile) : Type 0 where
-  pub header_is : IsOf header opened
+  pub header_is : IsHeaderOf header opened
   pub shaped : IsShaped opened
   pub counts : (j : ℕ) (index : AltIndex) → j < length opened.alternates.items → index ≡ slice_index_or opened.alternates.items j index
       → index.tree.count ≡ header.records
@@ -53,7 +53,7 @@ pub record IsOpenedBy (header : Header) (opened : OpenFile) : Type 0 where
 -- what is opened by the header of a file that stands, stands for the same records
 abbrev pub is_read_back : Type 0
 is_read_back = (opened other : OpenFile) (header : Header) (pages : PageMap) (file : File)
-    → Stands opened pages file → IsShaped opened → IsOf header opened → IsOpenedBy header other → Stands other pages file
+    → Stands opened pages file → IsShaped opened → IsHeaderOf header opened → IsOpenedBy header other → Stands other pages file
 
 -- ---- its trees
 

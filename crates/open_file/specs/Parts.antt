@@ -1,8 +1,7 @@
 -- The parts of an open file: the heap, the prime index, and the alternate indexes, each in pages of its own.
-use Rattle.std.specs.Prelude.{◌≡◌, ◌≢◌, ℕ, ◌+◌, ◌<◌, ◌==◌, List, [], length, slice_index_or, None, if◌then◌else◌}
+use Rattle.std.specs.Prelude.{◌≡◌, ℕ, ◌+◌, ◌<◌, ◌==◌, List, length, slice_index_or, if◌then◌else◌}
 use Rattle.page_bytes.specs.Each.{Each}
 use Rattle.pages.specs.PageMap.{PageMap}
-use Rattle.pages.specs.Owners.{IsOutside}
 use Rattle.key_index.specs.declared.entry.PrimeEntry.{PrimeEntry}
 use Rattle.key_index.specs.declared.entry.AltEntry.{AltEntry}
 use Rattle.key_index.specs.declared.prime_index.PrimeIndex.{PrimeIndex}
@@ -11,17 +10,10 @@ use Rattle.key_index.specs.Standing.{AltStands, PrimeStands}
 use Rattle.record_heap.specs.declared.heap.Heap.{Heap}
 use Rattle.record_heap.specs.Chain.{Slots}
 use Rattle.record_heap.specs.Standing.{HeapStands}
+use Rattle.page_marks.specs.Parted.{own_at, Parted}
 
--- the pages of part i: of the heap (0), the prime index (1), alternate index j (j + 2)
-abbrev pub own_at : List (List ℕ) → ℕ → List ℕ
-own_at owns i = slice_index_or owns i []
-
--- no page belongs to two parts, and each page in use to one
-pub record Parted (pages : PageMap) (owns : List (List ℕ)) : Type 0 where
-  pub apart : (i j : ℕ) → i ≢ j → Each (λ n. IsOutside (own_at owns i) n) (own_at owns j)
-  pub covers : (n : ℕ) → Each (λ own. IsOutside own n) owns → pages n ≡ None
-
--- the heap has these records, and the indexes these entries
+-- the heap has these records, and the indexes these entries. Part 0 is the heap, part 1 the prime index, part j + 2
+-- alternate index j
 pub record Parts (heap : Heap) (prime : PrimeIndex) (alternates : List AltIndex) (pages : PageMap) (slots : Slots) (primes : List PrimeEntry) (entries : ℕ → List AltEntry) : Type 0 where
   pub owns : List (List ℕ)
   pub owners : length owns ≡ length alternates + 2

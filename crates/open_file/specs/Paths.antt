@@ -6,7 +6,7 @@ use Rattle.key_index.specs.declared.entry.AltEntry.{AltEntry}
 use Rattle.key_index.specs.declared.prime_index.PrimeIndex.{PrimeIndex}
 use Rattle.key_index.specs.declared.alt_index.AltIndex.{AltIndex}
 use Rattle.key_index.specs.Cursors.{PrimeBelongs, AltBelongs}
-use Rattle.open_file.specs.Parts.{own_at}
+use Rattle.page_marks.specs.Parted.{own_at}
 use Rattle.open_file.specs.declared.path.Path.{Path}
 use Rattle.open_file.specs.declared.path.Path.TheVariants.{Prime, Alternate}
 

@@ -48,6 +48,6 @@ pub record IsAt (schema : Schema) (heap : Heap) (stamps : ℕ) (pages : PageMap)
   pub short : length row.bytes ≤ schema.greatest
 
 -- the entry is that of the row in alternate index k, and the row is the one of its prime value
-pub record IsOf (schema : Schema) (k : ℕ) (file : File) (entry : AltEntry) (row : Row) : Type 0 where
+pub record IsEntryOfRow (schema : Schema) (k : ℕ) (file : File) (entry : AltEntry) (row : Row) : Type 0 where
   pub is_entry : entry ≡ alt_entry schema k row
   pub is_row : row_of schema entry.prime.items file ≡ Some row

@@ -1,5 +1,6 @@
 -- The entries that READ NEXT and START come to.
 use Rattle.std.specs.Prelude.{◌≡◌, ℕ, Bool, true, false, List, length, take, find, bytes_eq, Option, Result}
+use Rattle.std.specs.Option.{option_map_or}
 use Rattle.io_state.specs.declared.fault.Fault.{Fault}
 use Rattle.io_state.specs.declared.position.Position.{Position}
 use Rattle.io_state.specs.declared.position.Position.TheVariants.{Invalid, Missing, From, After}
@@ -10,7 +11,7 @@ use Rattle.pages.specs.PageMap.{PageMap}
 use Rattle.pages.specs.Answer.{IsAnswer}
 use Rattle.key_index.specs.declared.entry.PrimeEntry.{PrimeEntry}
 use Rattle.key_index.specs.declared.entry.AltEntry.{AltEntry}
-use Rattle.key_index.specs.Entries.{from_prime, after_prime, past_prime, from_value, after_rank, past_value}
+use Rattle.key_index.specs.Entries.{from_prime, after_prime, past_prime, entry_has_value, from_value, after_rank, past_value}
 use Rattle.open_file.specs.InOrder.{alt_entries, prime_entries}
 use Rattle.open_file.specs.Stands.{Stands}
 use Rattle.open_file.specs.declared.open_file.OpenFile.{OpenFile}
@@ -56,6 +57,12 @@ GivesPrime opened pages test result =
 abbrev pub GivesAlt : OpenFile → PageMap → ℕ → (AltEntry → Bool) → Result (Option AltEntry) Fault → Type 0
 GivesAlt opened pages k test result =
     (file : File) → Stands opened pages file → IsAnswer result (λ found. found ≡ find test (alt_entries opened.schema k file.rows))
+
+-- whether the first entry of the index of alternate key k that comes after a value and stamp has this value
+abbrev pub TellsNext : OpenFile → PageMap → ℕ → List ℕ → ℕ → Result Bool Fault → Type 0
+TellsNext opened pages k value stamp result =
+    (file : File) → Stands opened pages file
+    → IsAnswer result (λ told. told ≡ option_map_or (entry_has_value value) (find (after_rank value stamp) (alt_entries opened.schema k file.rows)) false)
 
 -- what the pages stood for they stand for still
 abbrev pub StandsStill : OpenFile → OpenFile → PageMap → Type 0

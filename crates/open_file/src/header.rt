@@ -3,7 +3,7 @@
 ghost use Rattle.std.specs.Prelude.{◌≡◌, ◌+◌, length};
 ghost use Rattle.file_header.specs.Bounds.{IsHeader};
 ghost use Rattle.open_file.specs.Stands.{IsShaped};
-ghost use Rattle.open_file.specs.Headers.{IsOf, Counts, IsOpenedBy, AreStored, AreTrees, is_read_back};
+ghost use Rattle.open_file.specs.Headers.{IsHeaderOf, Counts, IsOpenedBy, AreStored, AreTrees, is_read_back};
 
 use crate::creating::heap_shape;
 use crate::open_file::OpenFile;
@@ -44,7 +44,7 @@ impl OpenFile {
     /// Its header. How many pages there are, the header among them, the first free one and how many are free, is known where pages are given out.
     pub fn header(&self, pages: u32, first_free: u32, free: u32) -> Header
         requires { IsShaped self.now }
-        ensures told { IsOf result self.now }
+        ensures told { IsHeaderOf result self.now }
         ensures counts { Counts result pages first_free free }
     {
         Header {

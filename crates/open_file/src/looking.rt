@@ -24,10 +24,7 @@ impl OpenFile {
         ensures asked { (P.state pages.new).asked ≤ (P.state pages.old).asked + prime_height self.now.prime }
         ensures reads { P.Reads pages.old pages.new }
     {
-        match self.prime.find(pages, value)? {
-            Some(_) => Ok(true),
-            None => Ok(false),
-        }
+        self.prime.has(pages, value)
     }
 
     /// Whether some record has this value of an alternate key.

@@ -112,6 +112,6 @@ impl OpenFile {
         let Some(entry) = self.step_in_alternate(pages, k, index, position)? else {
             return Ok(None);
         };
-        Ok(Some(self.deliver(pages, index, entry, area)?))
+        Ok(Some(self.deliver(pages, k, index, entry, area)?))
     }
 }

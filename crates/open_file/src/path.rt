@@ -1,15 +1,17 @@
 //! The path of READ NEXT through an index.
 
-ghost use Rattle.std.specs.Prelude.{◌≡◌, ◌+◌, ◌-◌, ◌*◌, ◌≤◌, ◌++◌, ℕ, List, length, None, IsTrue, IfErr, slice_index_or};
+ghost use Rattle.std.specs.Prelude.{◌≡◌, ◌+◌, ◌-◌, ◌*◌, ◌≤◌, ◌++◌, ℕ, List, length, None, Some, IfSome, IsTrue, IsFalse, IfErr, slice_index_or};
+ghost use Rattle.record_layout.specs.Schema.{key_at};
 ghost use Rattle.byteorder.specs.Endian.{big_bytes};
 ghost use Rattle.pages.specs.PageMap.{PageMap};
 ghost use Rattle.pages.specs.Cause.{IsCaused};
 ghost use Rattle.key_index.specs.Entries.{from_prime, after_prime, from_value, after_rank};
 ghost use Rattle.key_index.specs.Standing.{prime_height, alt_height};
 ghost use Rattle.key_index.specs.Cursors.{PrimeBelongs, AltBelongs};
-ghost use Rattle.open_file.specs.Parts.{own_at};
+ghost use Rattle.page_marks.specs.Parted.{own_at};
+ghost use Rattle.open_file.specs.Stands.{IsShaped};
 ghost use Rattle.open_file.specs.Paths.{IsOnPath};
-ghost use Rattle.open_file.specs.Steps.{admits_prime, admits_alt, GivesPrime, GivesAlt, StandsStill};
+ghost use Rattle.open_file.specs.Steps.{admits_prime, admits_alt, GivesPrime, GivesAlt, TellsNext, StandsStill};
 
 use crate::open_file::OpenFile;
 use io_state::{Fault, Position};
@@ -74,6 +76,53 @@ impl OpenFile {
                 value.as_slice(),
                 *stamp,
             ),
+        }
+    }
+
+    /// Whether the first entry of the index of an alternate key that comes after a value and stamp has this value. The path tells, where it stands
+    /// behind them; of a key that one record alone can have no page is asked.
+    pub(crate) fn is_followed<P: Pages>(
+        &self,
+        pages: &mut P,
+        k: usize,
+        index: AltIndex,
+        value: &[u8],
+        stamp: u64,
+    ) -> Result<bool, Fault>
+        requires ready { P.IsReady pages.old }
+        requires shaped { IsShaped self.now }
+        requires short { length value.now ≤ 250 }
+        requires some { 1 ≤ k }
+        requires within { k ≤ length self.now.alternates.items }
+        requires index { index ≡ slice_index_or self.now.alternates.items (k - 1) index }
+        ensures told { IsTrue (P.state pages.new).is_honest → TellsNext self.now (P.state pages.old).live k value.now stamp result }
+        ensures cause { IfErr result (IsCaused (P.HasFailed pages.old pages.new) ⊥) }
+        ensures asked { (P.state pages.new).asked ≤ (P.state pages.old).asked + 2 * alt_height index }
+        ensures alone { IsFalse (key_at self.now.schema k).duplicates → (P.state pages.new).asked ≤ (P.state pages.old).asked }
+        ensures reads { P.Reads pages.old pages.new }
+    {
+        if !self.schema.part(k as u8).duplicates {
+            return Ok(false);
+        }
+        if let Some(cursor) = self.cursor_of(k) {
+            if value.len() == usize::from(index.width) && cursor.is_after(value, stamp) {
+                return cursor.is_followed(&index, pages);
+            }
+        }
+        match index.first_after(pages, value, stamp)? {
+            Some(next) => Ok(next.value.as_slice() == value),
+            None => Ok(false),
+        }
+    }
+
+    /// The cursor of the path, where that is in the index of this alternate key.
+    fn cursor_of(&self, k: usize) -> Option<&AltCursor>
+        requires some { 1 ≤ k }
+        ensures { IfSome result (λ cursor. self.now.path ≡ Some (Path.Alternate (k - 1) cursor.now)) }
+    {
+        match &self.path {
+            Some(Path::Alternate(j, cursor)) if *j == k - 1 => Some(cursor),
+            _ => None,
         }
     }
 

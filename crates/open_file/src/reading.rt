@@ -1,6 +1,6 @@
 //! The record that a key leads to.
 
-ghost use Rattle.std.specs.Prelude.{◌≡◌, ◌+◌, ◌*◌, ◌≤◌, ◌<◌, ℕ, length, None, Some, Ok, Err, Option, option_map, IsTrue, IsFalse, IfErr, OnErr, slice_index, slice_index_or};
+ghost use Rattle.std.specs.Prelude.{◌≡◌, ◌+◌, ◌-◌, ◌*◌, ◌≤◌, ◌<◌, ℕ, length, None, Some, Ok, Err, Option, option_map, IsTrue, IsFalse, IfErr, OnErr, slice_index, slice_index_or};
 ghost use Rattle.record_layout.specs.Schema.{key_at};
 ghost use Rattle.indexed_file.specs.File.{Row, File};
 ghost use Rattle.indexed_file.specs.Change.{row_of};
@@ -14,7 +14,7 @@ ghost use Rattle.key_index.specs.Standing.{prime_height, alt_height};
 ghost use Rattle.open_file.specs.Stands.{Stands, IsShaped, room_of, heights_of};
 ghost use Rattle.open_file.specs.InOrder.{alt_entries};
 ghost use Rattle.open_file.specs.Faults.{IsCausedIn};
-ghost use Rattle.open_file.specs.Reading.{Reads, Delivers, IsAt, IsOf};
+ghost use Rattle.open_file.specs.Reading.{Reads, Delivers, IsAt, IsEntryOfRow};
 
 use crate::open_file::OpenFile;
 use indexed_file::Found;
@@ -176,30 +176,30 @@ impl OpenFile {
         }
     }
 
-    /// What is told of the record of an entry of an alternate index, and the record.
+    /// What is told of the record of an entry of the index of an alternate key, and the record.
     pub(crate) fn deliver<P: Pages>(
         &self,
         pages: &mut P,
+        k: usize,
         index: AltIndex,
         entry: AltEntry,
         area: &mut [u8],
     ) -> Result<Found, Fault>
         requires ready { P.IsReady pages.old }
         requires shaped { IsShaped self.now }
+        requires some { 1 ≤ k }
+        requires within { k ≤ length self.now.alternates.items }
+        requires index { index ≡ slice_index_or self.now.alternates.items (k - 1) index }
         requires area { length area.old ≡ self.now.schema.greatest }
         ensures found { IsTrue (P.state pages.new).is_honest → (file : File) → Stands self.now (P.state pages.old).live file
-            → (k : ℕ) (row : Row) → k < length self.now.alternates.items → index ≡ slice_index_or self.now.alternates.items k index
-            → IsOf self.now.schema (k + 1) file entry row
-            → Reads result (found_of self.now.schema (k + 1) file row) area.old area.new (Some row) }
+            → (row : Row) → IsEntryOfRow self.now.schema k file entry row
+            → Reads result (found_of self.now.schema k file row) area.old area.new (Some row) }
         ensures kept { OnErr result (area.new ≡ area.old) }
         ensures cause { IfErr result (IsCaused (P.HasFailed pages.old pages.new) ⊥) }
         ensures asked { (P.state pages.new).asked ≤ (P.state pages.old).asked + 2 * alt_height index + prime_height self.now.prime + 1 }
         ensures reads { P.Reads pages.old pages.new }
     {
-        let repeated = match index.first_after(pages, entry.value.as_slice(), entry.stamp)? {
-            Some(next) => next.value.as_slice() == entry.value.as_slice(),
-            None => false,
-        };
+        let repeated = self.is_followed(pages, k, index, entry.value.as_slice(), entry.stamp)?;
         self.tell(pages, entry, repeated, area)
     }
 
@@ -215,7 +215,7 @@ impl OpenFile {
         requires shaped { IsShaped self.now }
         requires area { length area.old ≡ self.now.schema.greatest }
         ensures found { IsTrue (P.state pages.new).is_honest → (file : File) → Stands self.now (P.state pages.old).live file
-            → (k : ℕ) (row : Row) → IsOf self.now.schema k file entry row → repeated ≡ is_repeated self.now.schema k row file
+            → (k : ℕ) (row : Row) → IsEntryOfRow self.now.schema k file entry row → repeated ≡ is_repeated self.now.schema k row file
             → Reads result (found_of self.now.schema k file row) area.old area.new (Some row) }
         ensures kept { OnErr result (area.new ≡ area.old) }
         ensures cause { IfErr result (IsCaused (P.HasFailed pages.old pages.new) ⊥) }
@@ -256,9 +256,9 @@ impl OpenFile {
         ensures asked { (P.state pages.new).asked ≤ (P.state pages.old).asked + prime_height self.now.prime + 1 }
         ensures reads { P.Reads pages.old pages.new }
     {
-        match self.prime.find(pages, prime)? {
+        match self.prime.place_of(pages, prime)? {
             None => Ok(None),
-            Some(entry) => Ok(Some(self.read(pages, entry.place, area)?)),
+            Some(place) => Ok(Some(self.read(pages, place, area)?)),
         }
     }
 

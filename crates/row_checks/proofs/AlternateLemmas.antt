@@ -25,7 +25,7 @@ use Rattle.key_index.specs.Rank.{rank_cmp}
 use Rattle.key_index.specs.declared.entry.AltEntry.{AltEntry}
 use Rattle.key_index.specs.declared.alt_index.AltIndex.{AltIndex}
 use Rattle.key_index.specs.Standing.{alt_key}
-use Rattle.key_index.specs.Stored.{alt_bytes, alt_entry, IsAltEntry}
+use Rattle.key_index.specs.Stored.{alt_bytes, alt_entry_in, IsAltEntry}
 use Rattle.key_index.proofs.KeyLemmas.{alt_key as key_bytes}
 use Rattle.key_index.proofs.OrderLemmas.{ranks}
 use Rattle.open_file.specs.InOrder.{put, in_order, alt_entry as entry_of, alt_entries}
@@ -101,8 +101,8 @@ entries_sorted schema k rows = sorted_map lower (below schema k) (entry_of schem
 
 -- the entry of so many bytes
 pub record EntryKept (w p : ℕ) (e : List ℕ) : Type 0 where
-  pub again : alt_bytes (alt_entry w e) ≡ e
-  pub fits : IsAltEntry w p (alt_entry w e)
+  pub again : alt_bytes (alt_entry_in w e) ≡ e
+  pub fits : IsAltEntry w p (alt_entry_in w e)
 
 entry_kept : (w p : ℕ) (e : List ℕ) → length e ≡ w + 8 + p → AreBytes e → EntryKept w p e
 entry_kept w p e long small = record {
@@ -117,29 +117,29 @@ entry_kept w p e long small = record {
 
 module _ (w p : ℕ) where
   -- tree keys are in the order of ranks
-  key_order : (x y : List ℕ) → EntryKept w p x → EntryKept w p y → less (take (w + 8) x) (take (w + 8) y) ≡ lower (alt_entry w x) (alt_entry w y)
+  key_order : (x y : List ℕ) → EntryKept w p x → EntryKept w p y → less (take (w + 8) x) (take (w + 8) y) ≡ lower (alt_entry_in w x) (alt_entry_in w y)
   unfolding less
   key_order x y a b =
-      let first : take (w + 8) x ≡ (alt_entry w x).value.items ++ bytes_high_first 8 (alt_entry w x).stamp = ap (take (w + 8)) (sym a.again) ∙ key_bytes w p (alt_entry w x) a.fits in
-      let second : take (w + 8) y ≡ (alt_entry w y).value.items ++ bytes_high_first 8 (alt_entry w y).stamp = ap (take (w + 8)) (sym b.again) ∙ key_bytes w p (alt_entry w y) b.fits in
+      let first : take (w + 8) x ≡ (alt_entry_in w x).value.items ++ bytes_high_first 8 (alt_entry_in w x).stamp = ap (take (w + 8)) (sym a.again) ∙ key_bytes w p (alt_entry_in w x) a.fits in
+      let second : take (w + 8) y ≡ (alt_entry_in w y).value.items ++ bytes_high_first 8 (alt_entry_in w y).stamp = ap (take (w + 8)) (sym b.again) ∙ key_bytes w p (alt_entry_in w y) b.fits in
       ap (λ (l : List ℕ). less l (take (w + 8) y)) first
-      ∙ ap (λ (l : List ℕ). less ((alt_entry w x).value.items ++ bytes_high_first 8 (alt_entry w x).stamp) l) second
-      ∙ ap is_lt (ranks (alt_entry w x).value.items (alt_entry w y).value.items (alt_entry w x).stamp (alt_entry w y).stamp (a.fits.long ∙ sym b.fits.long) a.fits.stamp b.fits.stamp)
+      ∙ ap (λ (l : List ℕ). less ((alt_entry_in w x).value.items ++ bytes_high_first 8 (alt_entry_in w x).stamp) l) second
+      ∙ ap is_lt (ranks (alt_entry_in w x).value.items (alt_entry_in w y).value.items (alt_entry_in w x).stamp (alt_entry_in w y).stamp (a.fits.long ∙ sym b.fits.long) a.fits.stamp b.fits.stamp)
 
   each_lower : (x : List ℕ) (ys : List (List ℕ)) → EntryKept w p x → Each (EntryKept w p) ys → Each (λ y. less (take (w + 8) x) (take (w + 8) y) ≡ true) ys
-      → Each (λ e. lower (alt_entry w x) e ≡ true) (map (alt_entry w) ys)
+      → Each (λ e. lower (alt_entry_in w x) e ≡ true) (map (alt_entry_in w) ys)
   each_lower x [] a all rises = tt
   each_lower x (y ∷ ys) a all rises = (sym (key_order x y a all.0) ∙ rises.0, each_lower x ys a all.1 rises.1)
 
-  entries_rise : (xs : List (List ℕ)) → Each (EntryKept w p) xs → Ascends (w + 8) xs → Rises lower (map (alt_entry w) xs)
+  entries_rise : (xs : List (List ℕ)) → Each (EntryKept w p) xs → Ascends (w + 8) xs → Rises lower (map (alt_entry_in w) xs)
   entries_rise [] all rises = tt
   entries_rise (x ∷ xs) all rises = (each_lower x xs all.0 all.1 rises.0, entries_rise xs all.1 rises.1)
 
-  all_again : (xs : List (List ℕ)) → Each (EntryKept w p) xs → map alt_bytes (map (alt_entry w) xs) ≡ xs
+  all_again : (xs : List (List ℕ)) → Each (EntryKept w p) xs → map alt_bytes (map (alt_entry_in w) xs) ≡ xs
   all_again [] all = refl
   all_again (x ∷ xs) all = let first = all.0.again in let rest = all_again xs all.1 in λ i. first i ∷ rest i
 
-  all_fit : (xs : List (List ℕ)) → Each (EntryKept w p) xs → Each (IsAltEntry w p) (map (alt_entry w) xs)
+  all_fit : (xs : List (List ℕ)) → Each (EntryKept w p) xs → Each (IsAltEntry w p) (map (alt_entry_in w) xs)
   all_fit [] all = tt
   all_fit (x ∷ xs) all = (all.0.fits, all_fit xs all.1)
 
@@ -172,7 +172,7 @@ module _ (opened : OpenFile) (list : List (List ℕ)) (primes : List Spot) (inde
   entries_kept (spot ∷ spots) all = (entry_kept index.width index.prime (entry_at index.tree.shape list spot) (all.0.long ∙ index.entries) all.0.bytes, entries_kept spots all.1)
 
   each_of_row : (spots : List Spot) → Each (HasRow opened list primes index) spots
-      → Each (λ e. IsOneOf (map (entry_of opened.schema (alt_key index)) (rows_in opened list primes)) e) (map (alt_entry index.width) (entries_at index.tree.shape list spots))
+      → Each (λ e. IsOneOf (map (entry_of opened.schema (alt_key index)) (rows_in opened list primes)) e) (map (alt_entry_in index.width) (entries_at index.tree.shape list spots))
   each_of_row [] all = tt
   each_of_row (spot ∷ spots) all =
       let h = all.0 in
@@ -189,10 +189,10 @@ module _ (opened : OpenFile) (list : List (List ℕ)) (primes : List Spot) (inde
       let rows = rows_in opened list primes in
       let bytes = entries_at index.tree.shape list spots in
       let kept = entries_kept spots all in
-      let es = map (alt_entry w) bytes in
+      let es = map (alt_entry_in w) bytes in
       let rise = entries_rise w index.prime bytes kept (subst (λ (n : ℕ). Ascends n bytes) index.keys rises) in
       let as_many : length es ≡ length (map (entry_of schema k) rows) =
-      length-map bytes (alt_entry w) ∙ length-map spots (entry_at index.tree.shape list) ∙ many ∙ sym (length-map primes (row_at opened list)) ∙ sym (length-map rows (entry_of schema k)) in
+      length-map bytes (alt_entry_in w) ∙ length-map spots (entry_at index.tree.shape list) ∙ many ∙ sym (length-map primes (row_at opened list)) ∙ sym (length-map rows (entry_of schema k)) in
       let sorted = (are_sorted lower onward itself decide es (map (entry_of schema k) rows) rise (each_of_row spots all)).are as_many in
       let is : alt_entries schema k rows ≡ es = sym (entries_sorted schema k rows) ∙ sorted in
       record {
@@ -204,8 +204,8 @@ module _ (opened : OpenFile) (list : List (List ℕ)) (primes : List Spot) (inde
 -- the entry of a row, by its parts
 pub entry_is : (opened : OpenFile) (list : List (List ℕ)) (leader : Spot) (stored e : List ℕ) (w k : ℕ) → slot_off opened.heap (pages_in list) (place_at opened list leader) ≡ Some stored
     → take w e ≡ value_of opened.schema k (row_off opened.schema (Some stored)).bytes → big_number 8 (drop w e) ≡ stamp_of k (row_off opened.schema (Some stored))
-    → drop (w + 8) e ≡ prime_of opened.schema (row_off opened.schema (Some stored)).bytes → alt_entry w e ≡ entry_of opened.schema k (row_at opened list leader)
+    → drop (w + 8) e ≡ prime_of opened.schema (row_off opened.schema (Some stored)).bytes → alt_entry_in w e ≡ entry_of opened.schema k (row_at opened list leader)
 entry_is opened list leader stored e w k there value stamp prime =
-    let same : alt_entry w e ≡ entry_of opened.schema k (row_off opened.schema (Some stored)) =
+    let same : alt_entry_in w e ≡ entry_of opened.schema k (row_off opened.schema (Some stored)) =
     λ i. record { value = record { items = value i }; stamp = stamp i; prime = record { items = prime i } } in
     same ∙ ap (entry_of opened.schema k) (ap (row_off opened.schema) (sym there))

@@ -9,7 +9,7 @@ use Rattle.byteorder.specs.Endian.{big_from, big_number, big_bytes}
 use Rattle.byteorder.specs.Numbers.{big_from-cons, big_from-take, length-bytes_high_first, big_from-lt, big_number-reads_back}
 use Rattle.page_bytes.specs.Each.{Each}
 use Rattle.record_layout.specs.declared.schema.KeyPart.{KeyPart}
-use Rattle.key_index.specs.Stored.{prime_bytes, alt_bytes, prime_entry, alt_entry}
+use Rattle.key_index.specs.Stored.{prime_bytes, alt_bytes, prime_entry_in, alt_entry_in}
 use Rattle.key_index.proofs.OrderLemmas.{by_order, bytes_small}
 use Rattle.open_file.specs.Stored.{stamp_bytes, stamps_length}
 use Rattle.open_file.specs.ReadOff.{stamps_off}
@@ -82,7 +82,7 @@ number_small n xs small = big_from-lt 0 n xs (small_at xs small)
 
 -- ---- entries
 
-pub prime_again : (w : ℕ) (e : List ℕ) → length e ≡ w + 6 → AreBytes e → prime_bytes (prime_entry w e) ≡ e
+pub prime_again : (w : ℕ) (e : List ℕ) → length e ≡ w + 6 → AreBytes e → prime_bytes (prime_entry_in w e) ≡ e
 prime_again w e long small =
     let rest = drop w e in
     let four : 4 ≤ length rest = rw length-drop (omega (arith, long)) in
@@ -94,7 +94,7 @@ prime_again w e long small =
     ∙ ap (λ (l : List ℕ). take w e ++ l) (take-append-drop 4 rest)
     ∙ take-append-drop w e
 
-pub alt_again : (w p : ℕ) (e : List ℕ) → length e ≡ w + 8 + p → AreBytes e → alt_bytes (alt_entry w e) ≡ e
+pub alt_again : (w p : ℕ) (e : List ℕ) → length e ≡ w + 8 + p → AreBytes e → alt_bytes (alt_entry_in w e) ≡ e
 alt_again w p e long small =
     let rest = drop w e in
     let eight : 8 ≤ length rest = rw length-drop (omega (arith, long)) in

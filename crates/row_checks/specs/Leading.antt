@@ -13,7 +13,7 @@ use Rattle.record_heap.specs.Chain.{IsOneOf}
 use Rattle.record_heap.specs.Standing.{slot_off}
 use Rattle.key_index.specs.declared.alt_index.AltIndex.{AltIndex}
 use Rattle.key_index.specs.Standing.{alt_key}
-use Rattle.key_index.specs.Stored.{alt_entry}
+use Rattle.key_index.specs.Stored.{alt_entry_in}
 use Rattle.open_file.specs.InOrder.{alt_entry as entry_of}
 use Rattle.open_file.specs.Stored.{stamps_length}
 use Rattle.open_file.specs.ReadOff.{row_off}
@@ -49,4 +49,4 @@ pub record HasRow (opened : OpenFile) (list : List (List ℕ)) (primes : List Sp
   pub bytes : Each (λ b. b < 256) (entry_at index.tree.shape list spot)
   pub leader : Spot
   pub one : IsOneOf primes leader
-  pub is : alt_entry index.width (entry_at index.tree.shape list spot) ≡ entry_of opened.schema (alt_key index) (row_at opened list leader)
+  pub is : alt_entry_in index.width (entry_at index.tree.shape list spot) ≡ entry_of opened.schema (alt_key index) (row_at opened list leader)

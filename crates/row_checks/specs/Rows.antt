@@ -12,7 +12,7 @@ use Rattle.page_walks.specs.Spots.{entry_at, entries_at}
 use Rattle.record_heap.specs.declared.shape.Place.{Place}
 use Rattle.record_heap.specs.Standing.{slot_off}
 use Rattle.record_heap.specs.Walk.{slots_of}
-use Rattle.key_index.specs.Stored.{prime_entry, prime_bytes, IsPrimeEntry}
+use Rattle.key_index.specs.Stored.{prime_entry_in, prime_bytes, IsPrimeEntry}
 use Rattle.open_file.specs.InOrder.{prime_entries}
 use Rattle.open_file.specs.ReadOff.{row_off}
 use Rattle.open_file.specs.Stands.{IsPlaced}
@@ -24,7 +24,7 @@ prime_at opened list spot = entry_at opened.prime.tree.shape list spot
 
 -- the place that it leads to
 abbrev pub place_at : OpenFile → List (List ℕ) → Spot → Place
-place_at opened list spot = (prime_entry opened.prime.width (prime_at opened list spot)).place
+place_at opened list spot = (prime_entry_in opened.prime.width (prime_at opened list spot)).place
 
 -- the row that is there
 abbrev pub row_at : OpenFile → List (List ℕ) → Spot → Row

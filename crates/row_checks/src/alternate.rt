@@ -4,7 +4,7 @@ ghost use Rattle.std.specs.Prelude.{◌≡◌, OnOk, IsTrue, All, length};
 ghost use Rattle.tree_node.specs.Order.{Ascends};
 ghost use Rattle.page_walks.specs.Spots.{entries_at};
 ghost use Rattle.key_index.specs.Standing.{alt_key};
-ghost use Rattle.key_index.specs.Stored.{alt_entry};
+ghost use Rattle.key_index.specs.Stored.{alt_entry_in};
 ghost use Rattle.open_file.specs.InOrder.{alt_entry as entry_of};
 ghost use Rattle.open_file.specs.Stands.{IsShaped};
 ghost use Rattle.row_checks.specs.Rows.{row_at};
@@ -35,7 +35,7 @@ fn is_of_row(
     requires shaped { IsShaped file.now }
     requires index { IsIndexFor file.now.schema index }
     requires long { length entry_bytes.now ≡ index.tree.shape.entry }
-    ensures { IsTrue result → alt_entry index.width entry_bytes.now ≡ entry_of file.now.schema (alt_key index) (row_at file.now pages.now leader) }
+    ensures { IsTrue result → alt_entry_in index.width entry_bytes.now ≡ entry_of file.now.schema (alt_key index) (row_at file.now pages.now leader) }
 {
     let Some(prime) = entry(pages, file.prime.tree.shape, leader) else {
         return false;

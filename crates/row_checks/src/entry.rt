@@ -4,7 +4,7 @@ ghost use Rattle.std.specs.Prelude.{◌≡◌, ◌+◌, ◌<◌, ◌≤◌, IfSo
 ghost use Rattle.page_bytes.specs.Each.{Each};
 ghost use Rattle.page_walks.specs.Spots.{entry_at};
 ghost use Rattle.record_heap.specs.Chain.{IsOneOf};
-ghost use Rattle.key_index.specs.Stored.{prime_entry};
+ghost use Rattle.key_index.specs.Stored.{prime_entry_in};
 
 use byteorder::{BigEndian, ByteOrder};
 use open_file::OpenFile;
@@ -31,7 +31,7 @@ pub fn entry<'a>(pages: &'a [[u8; PAGE_SIZE]], shape: Shape, spot: Spot) -> Opti
 /// The place in an entry of a prime index, behind a value of so many bytes.
 pub fn place_in(entry: &[u8], width: usize) -> Place
     requires { length entry.now ≡ width + 6 }
-    ensures { result ≡ (prime_entry width entry.now).place }
+    ensures { result ≡ (prime_entry_in width entry.now).place }
 {
     Place {
         page: BigEndian::read_u32(&entry[width..]),

@@ -3,7 +3,7 @@ use Rattle.std.proofs.Common.{◌≡◌, ℕ, ◌*◌, List, length, nat_lt, inl
 use Rattle.std.proofs.lemmas.Bool.{cases_Bool}
 use Rattle.indexed_file.specs.File.{File}
 use Rattle.indexed_file.specs.World.{Closed}
-use Rattle.page_store.specs.File.{File as Bytes, content, bytes_or_none}
+use Rattle.page_store.specs.DeviceFile.{DeviceFile, content, bytes_or_none}
 use Rattle.page_store.specs.Pages.{page_of}
 use Rattle.file_header.specs.declared.header.Header.{Header}
 use Rattle.file_header.specs.Reading.{header_in}
@@ -36,7 +36,7 @@ pub accepted_allowed : (bytes : List ℕ) (header : Header) → look_of (Some by
 accepted_allowed bytes header is = (read_first header (page_of bytes 0) (accepted_page bytes header is)).allowed
 
 -- the file is there
-pub accepted_there : (file : Bytes) (header : Header) → look_of file.seen ≡ Accepted header → file.seen ≡ Some (content file)
+pub accepted_there : (file : DeviceFile) (header : Header) → look_of file.seen ≡ Accepted header → file.seen ≡ Some (content file)
 accepted_there file header is = go file.seen is
   where
     go : (seen : Option (List ℕ)) → look_of seen ≡ Accepted header → seen ≡ Some (bytes_or_none seen)
@@ -53,7 +53,7 @@ pub named_by_header : (bytes : List ℕ) (header : Header) → look_of (Some byt
 named_by_header bytes header is = ap (named_by bytes) is
 
 -- what the name of a file that was accepted stands for
-pub accepted_named : (file : Bytes) (header : Header) → look_of file.seen ≡ Accepted header → named_of file.seen ≡ Closed header.schema (file_by header (live_in header (content file)))
+pub accepted_named : (file : DeviceFile) (header : Header) → look_of file.seen ≡ Accepted header → named_of file.seen ≡ Closed header.schema (file_by header (live_in header (content file)))
 accepted_named file header is =
     let there = accepted_there file header is in
     ap named_of there ∙ named_by_header (content file) header (ap look_of (sym there) ∙ is)

@@ -5,27 +5,27 @@ use Rattle.std.proofs.lemmas.List.{length-map}
 use Rattle.indexed_file.specs.File.{File}
 use Rattle.page_store.specs.Gate.{IsRefused}
 use Rattle.page_store.proofs.MomentLemmas.{throughout_weaker}
-use Rattle.page_store.specs.File.{File as Bytes, content}
+use Rattle.page_store.specs.DeviceFile.{DeviceFile, content}
 use Rattle.page_store.specs.Pages.{page_of}
 use Rattle.page_store.specs.ShelfState.{ShelfState}
 use Rattle.page_cache.specs.Cached.{pages_of}
 use Rattle.page_alloc.specs.Chain.{chain, used}
-use Rattle.page_alloc.specs.PagedFile.{IsClosedWith, ClosedWith, Closes as PagesClose}
+use Rattle.page_alloc.specs.PagedFile.{IsClosedWith, ClosedWith, ClosesPages}
 use Rattle.page_alloc.specs.Steps.{state_of}
 use Rattle.file_header.specs.declared.header.Header.{Header}
-use Rattle.file_header.specs.Bounds.{HasRoom, IsHeader}
+use Rattle.file_header.specs.Bounds.{FitsItsBytes, IsHeader}
 use Rattle.file_header.specs.FirstPage.{header_bytes, closed_page}
 use Rattle.file_header.specs.Reading.{header_in}
 use Rattle.file_header.proofs.ReadLemmas.{first_read}
 use Rattle.open_file.specs.Stands.{Stands}
-use Rattle.open_file.specs.Headers.{IsOf, Counts, IsOpenedBy}
+use Rattle.open_file.specs.Headers.{IsHeaderOf, Counts, IsOpenedBy}
 use Rattle.open_file.specs.declared.open_file.OpenFile.{OpenFile}
 use Rattle.open_file.proofs.HeaderLemmas.{alt_entries_many, prime_entries_many}
 use Rattle.shelf_file.specs.declared.shelf_file.ShelfFile.{ShelfFile}
 use Rattle.shelf_file.specs.declared.look.Look.TheVariants.{Accepted}
 use Rattle.shelf_file.specs.Standing.{IsReady, StandsFor}
 use Rattle.shelf_file.specs.Named.{look_of, look_by, free_in, live_in}
-use Rattle.shelf_file.specs.Shelves.{AreClosed, ClosedOrRefused, Closes}
+use Rattle.shelf_file.specs.Shelves.{AreClosed, ClosedFileOrRefused, Closes}
 use Rattle.shelf_file.proofs.PagesLemmas.{AreAlike, same_chain, same_live}
 use Rattle.shelf_file.proofs.ClosingLemmas.{closed_header}
 
@@ -46,7 +46,7 @@ unpathed_stands opened live file stands = record {
 }
 
 module _ (held : ShelfFile) (shelf : ShelfState) (file : File) (header : Header) (page : List ℕ) (ready : IsReady held shelf) (unbroken : IsFalse held.file.broken) (stood : StandsFor held shelf file)
-    (of : IsOf header held.file) (counts : Counts header held.pages.pager.count held.pages.pager.first held.pages.pager.free) (room : HasRoom header) (written : page ≡ header_bytes header) where
+    (of : IsHeaderOf header held.file) (counts : Counts header held.pages.pager.count held.pages.pager.first held.pages.pager.free) (room : FitsItsBytes header) (written : page ≡ header_bytes header) where
   allowed : IsHeader header
   allowed = closed_header held.file (pages_of held.pages.cache shelf) held.pages.pager.count held.pages.pager.first held.pages.pager.free file header stood.stands stood.sound ready.shaped of counts room
 
@@ -115,18 +115,18 @@ module _ (held : ShelfFile) (shelf : ShelfState) (file : File) (header : Header)
       };
     }
 
-  ends : (c : Option (List ℕ)) → IsRefused c ⊎ ((bytes : List ℕ) × (c ≡ Some bytes) × IsClosedWith page held.pages.cache shelf bytes) → ClosedOrRefused held.file.schema file c
+  ends : (c : Option (List ℕ)) → IsRefused c ⊎ ((bytes : List ℕ) × (c ≡ Some bytes) × IsClosedWith page held.pages.cache shelf bytes) → ClosedFileOrRefused held.file.schema file c
   ends c (inl refused) = inl refused
   ends c (inr is) = inr (is.0, is.1, are_closed is.0 is.2)
 
-  pub closes : {E : Type 0} (old new : Bytes) (result : Result (Unit {0}) E) → PagesClose page held.pages.cache shelf old new → OnOk result (ClosedWith page held.pages.cache shelf new)
+  pub closes : {E : Type 0} (old new : DeviceFile) (result : Result (Unit {0}) E) → ClosesPages page held.pages.cache shelf old new → OnOk result (ClosedWith page held.pages.cache shelf new)
       → Closes held.file.schema file old new result
   closes old new (Ok x) images closed = record {
-    images = throughout_weaker _ (ClosedOrRefused held.file.schema file) old new ends images;
+    images = throughout_weaker _ (ClosedFileOrRefused held.file.schema file) old new ends images;
     settled = closed.settled;
     closed = are_closed (content new) closed.bytes;
   }
-  closes old new (Err e) images closed = record { images = throughout_weaker _ (ClosedOrRefused held.file.schema file) old new ends images; settled = tt; closed = tt }
+  closes old new (Err e) images closed = record { images = throughout_weaker _ (ClosedFileOrRefused held.file.schema file) old new ends images; settled = tt; closed = tt }
 
 pub on_ok_at : {E P Q : Type 0} (result : Result (Unit {0}) E) → (P → Q) → OnOk result P → OnOk result Q
 on_ok_at (Ok x) f p = f p

@@ -7,17 +7,17 @@ use Rattle.record_layout.specs.Schema.{Schema, IsSchema}
 use Rattle.indexed_file.specs.File.{File}
 use Rattle.file_header.specs.declared.header.Header.{Header}
 use Rattle.file_header.specs.declared.header.TreeNumbers.{TreeNumbers}
-use Rattle.file_header.specs.Bounds.{IsTree, IsWithin, HasRoom, IsHeader}
+use Rattle.file_header.specs.Bounds.{AreTreeNumbers, AreLinksWithin, FitsItsBytes, IsHeader}
 use Rattle.bplus_tree.specs.declared.tree.Tree.{Tree}
 use Rattle.record_heap.specs.declared.shape.Place.{Place}
-use Rattle.record_heap.specs.Chain.{IsOf as IsPlaceOf, IsOneOf, IsFreeChain}
+use Rattle.record_heap.specs.Chain.{IsPlaceOf, IsOneOf, IsFreeChain}
 use Rattle.record_heap.specs.Standing.{IsPageChain}
 use Rattle.record_heap.proofs.StandLemmas.{chain_live}
 use Rattle.page_alloc.specs.Chain.{chain, used}
 use Rattle.page_alloc.proofs.ChainLemmas.{can_give, front_page_at}
-use Rattle.open_file.specs.Parts.{own_at}
+use Rattle.page_marks.specs.Parted.{own_at}
 use Rattle.open_file.specs.Stands.{Stands, IsShaped}
-use Rattle.open_file.specs.Headers.{tree_at, HasTree, IsOf, Counts}
+use Rattle.open_file.specs.Headers.{tree_at, HasTree, IsHeaderOf, Counts}
 use Rattle.open_file.specs.declared.open_file.OpenFile.{OpenFile}
 use Rattle.open_file.proofs.PartsLemmas.{each_map, found_at, same_default}
 use Rattle.shelf_file.proofs.PagesLemmas.{Bytes}
@@ -60,7 +60,7 @@ first_of_slots behind first (p ∷ ps) room own P count chained all low some =
 
 module _ (opened : OpenFile) (bytes : Bytes) (count first free : ℕ) (file : File) (header : Header)
     (stands : Stands opened (used bytes count (chain bytes count first free)) file) (sound : IsSome (chain bytes count first free))
-    (shaped : IsShaped opened) (of : IsOf header opened) (counts : Counts header count first free) (room : HasRoom header) where
+    (shaped : IsShaped opened) (of : IsHeaderOf header opened) (counts : Counts header count first free) (room : FitsItsBytes header) where
   live : (n : ℕ) → IsSome (used bytes count (chain bytes count first free) n) → (0 < n) × (n < count) × (free + 2 ≤ count)
   live n there = can_give bytes count n first free there
 
@@ -73,7 +73,7 @@ module _ (opened : OpenFile) (bytes : Bytes) (count first free : ℕ) (file : Fi
   keys_are : length header.schema.keys ≡ length opened.alternates.items + 1
   keys_are = sym (ap (λ (s : Schema). length s.keys) of.schema_is) ∙ shaped.keys
 
-  tree_within : (tree : Tree) (numbers : TreeNumbers) → HasTree tree numbers → 0 < tree.root → tree.root < count → IsTree header.pages numbers
+  tree_within : (tree : Tree) (numbers : TreeNumbers) → HasTree tree numbers → 0 < tree.root → tree.root < count → AreTreeNumbers header.pages numbers
   tree_within tree numbers has behind below =
       let root = has.root in
       let height = has.height in
@@ -81,17 +81,17 @@ module _ (opened : OpenFile) (bytes : Bytes) (count first free : ℕ) (file : Fi
       let pages = counts.pages_are in
       record { some = omega arith; low = omega arith; behind = omega arith; within = omega arith }
 
-  trees_within : (k : ℕ) (d : TreeNumbers) → k < length header.trees.items → IsTree header.pages (slice_index_or header.trees.items k d)
+  trees_within : (k : ℕ) (d : TreeNumbers) → k < length header.trees.items → AreTreeNumbers header.pages (slice_index_or header.trees.items k d)
   trees_within zero d low =
-      subst (IsTree header.pages) (same_default header.trees.items 0 (record { height = 0; root = 0 }) d low)
+      subst (AreTreeNumbers header.pages) (same_default header.trees.items 0 (record { height = 0; root = 0 }) d low)
       (tree_within opened.prime.tree (tree_at header 0) of.prime prime_page.0 prime_page.1)
   trees_within (suc j) d low =
       let within : j < length opened.alternates.items = let t = of.trees in let k = keys_are in omega arith in
       let index = found_at opened.alternates.items j within in
       let root = live index.0.tree.root (alternate_root opened.heap opened.prime opened.alternates.items _ stands.slots _ _ stands.parts j index.0 within index.1).live in
       let next : j + 1 ≡ suc j = omega arith in
-      subst (IsTree header.pages) (same_default header.trees.items (suc j) (record { height = 0; root = 0 }) d low)
-      (subst (λ k. IsTree header.pages (tree_at header k)) next (tree_within index.0.tree (tree_at header (j + 1)) (of.alternates j index.0 within index.1) root.0 root.1))
+      subst (AreTreeNumbers header.pages) (same_default header.trees.items (suc j) (record { height = 0; root = 0 }) d low)
+      (subst (λ k. AreTreeNumbers header.pages (tree_at header k)) next (tree_within index.0.tree (tree_at header (j + 1)) (of.alternates j index.0 within index.1) root.0 root.1))
 
   free_slot_below : opened.heap.free.page < count
   free_slot_below =
@@ -101,7 +101,7 @@ module _ (opened : OpenFile) (bytes : Bytes) (count first free : ℕ) (file : Fi
       first_of_slots _ opened.heap.free keeps.free _ own _ count keeps.chain keeps.free_are
       (each_map (λ n. IsSome (used bytes count (chain bytes count first free) n)) (λ n. n < count) (λ n here. (live n here).1) own there) some
 
-  within : IsWithin header
+  within : AreLinksWithin header
   within =
       let pages = counts.pages_are in
       let first_is = counts.first_is in

@@ -1,9 +1,9 @@
 -- What a look finds, from what the shelf answers.
 use Rattle.std.proofs.Common.{◌≡◌, ℕ, ◌≤◌, ◌*◌, Bool, true, false, List, length, take, drop, nat_lt, inl, inr, Option, Some, None, is_some, refl, ap, ◌∙◌, subst, arith}
 use Rattle.std.proofs.lemmas.Bool.{le-ltb, ltb-false, cases_Bool}
-use Rattle.page_store.specs.File.{File, bytes_or_none}
+use Rattle.page_store.specs.DeviceFile.{DeviceFile, bytes_or_none}
 use Rattle.page_store.specs.Pages.{page_of, HasPages}
-use Rattle.page_store.specs.ShelfState.{ShelfState, OnlyReads, unit_file}
+use Rattle.page_store.specs.ShelfState.{ShelfState, OnlyAnswers, unit_file}
 use Rattle.file_header.specs.declared.header.Header.{Header}
 use Rattle.file_header.specs.Reading.{header_in}
 use Rattle.file_header.specs.Bounds.{IsHeader}
@@ -12,7 +12,7 @@ use Rattle.shelf_file.specs.declared.look.Look.TheVariants.{NoFile, Refused, Acc
 use Rattle.shelf_file.specs.Named.{look_of, look_by}
 
 -- a call that only answers leaves the unit's file
-pub same_file : (old new : ShelfState) (unit : ℕ) → OnlyReads old new → unit_file new unit ≡ unit_file old unit
+pub same_file : (old new : ShelfState) (unit : ℕ) → OnlyAnswers old new → unit_file new unit ≡ unit_file old unit
 same_file old new unit only = rw (only.names, only.file) refl
 
 -- no file is there
@@ -38,7 +38,7 @@ read_look (Some bytes) there size page header look is so long whole read full fo
     rw enough (made bytes long ∙ ap (look_by bytes) (found ∙ ap header_in first))
 
 -- a file that is accepted has the pages that it counts
-pub accepted_pages : (file : File) (header : Header) → IsHeader header → look_of file.seen ≡ Accepted header → HasPages header.pages file
+pub accepted_pages : (file : DeviceFile) (header : Header) → IsHeader header → look_of file.seen ≡ Accepted header → HasPages header.pages file
 accepted_pages file header allowed is = go file.seen refl is
   where
     counted : 1 ≤ header.pages

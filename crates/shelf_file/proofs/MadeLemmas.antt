@@ -6,7 +6,7 @@ use Rattle.record_layout.specs.Schema.{Schema}
 use Rattle.indexed_file.specs.Room.{Pages}
 use Rattle.io_state.specs.declared.fault.Fault.{Fault}
 use Rattle.pages.specs.Cause.{IsCaused}
-use Rattle.page_store.specs.File.{File}
+use Rattle.page_store.specs.DeviceFile.{DeviceFile}
 use Rattle.page_store.specs.Moments.{Throughout, Quiet}
 use Rattle.page_store.specs.Gate.{AllOpen, AllRefused, WasOrRefused}
 use Rattle.page_store.proofs.OpenLemmas.{open_kept, all_refused}
@@ -14,11 +14,11 @@ use Rattle.page_store.specs.ShelfState.{ShelfState, unit_file}
 use Rattle.page_alloc.specs.declared.paged_file.PagedFile.{PagedFile}
 use Rattle.page_alloc.specs.Chain.{is_page}
 use Rattle.page_alloc.specs.Joining.{HasFailed, available_of}
-use Rattle.page_alloc.specs.PagedFile.{IsOpenOver, IsMade as ArePagesMade}
+use Rattle.page_alloc.specs.PagedFile.{IsOpenOver, IsNewPagedFile}
 use Rattle.page_alloc.specs.Steps.{Goes, state_of}
 use Rattle.page_alloc.specs.StepLaws.{failed_after}
 use Rattle.page_alloc.proofs.OpenLemmas.{made_quietly}
-use Rattle.open_file.specs.Creating.{IsNew, IsMade as AreParts}
+use Rattle.open_file.specs.Creating.{IsNew, IsNewOpenFile}
 use Rattle.open_file.specs.Faults.{IsCausedIn}
 use Rattle.open_file.specs.declared.open_file.OpenFile.{OpenFile}
 use Rattle.shelf_file.specs.Shelves.{IsMade}
@@ -28,7 +28,7 @@ none_counted : (n : ℕ) → is_page 1 n ≡ false
 none_counted zero = refl
 none_counted (suc n) = rw (lt-ltb 0 (suc n) (omega arith), le-ltb (suc n) 1 (omega arith)) refl
 
-module _ (unit limit : ℕ) (a b : PagedFile) (s t : ShelfState) (failed fails : ℕ) (made : ArePagesMade a unit limit) (ready : IsOpenOver a s) (goes : Goes a b s t failed fails) where
+module _ (unit limit : ℕ) (a b : PagedFile) (s t : ShelfState) (failed fails : ℕ) (made : IsNewPagedFile a unit limit) (ready : IsOpenOver a s) (goes : Goes a b s t failed fails) where
   all_open : IsTrue t.is_honest → AllOpen (unit_file s unit)
   all_open honest = subst (λ n. AllOpen (unit_file s n)) made.unit_is (ready.gate made.changed (goes.parts.quietly.others.honest honest))
 
@@ -36,7 +36,7 @@ module _ (unit limit : ℕ) (a b : PagedFile) (s t : ShelfState) (failed fails :
   quiet = subst (λ n. Quiet (unit_file s n) (unit_file t n)) made.unit_is goes.parts.quietly.quiet
 
   -- at each moment a crash leaves what it could leave before, or a refused file
-  pub made_images : (old : File) → (IsTrue s.is_honest → Throughout (WasOrRefused old) old (unit_file s unit)) → IsTrue t.is_honest → Throughout (WasOrRefused old) old (unit_file t unit)
+  pub made_images : (old : DeviceFile) → (IsTrue s.is_honest → Throughout (WasOrRefused old) old (unit_file s unit)) → IsTrue t.is_honest → Throughout (WasOrRefused old) old (unit_file t unit)
   made_images old images honest = made_quietly old (unit_file s unit) (unit_file t unit) (images (goes.parts.quietly.others.honest honest)) (all_open honest) quiet
 
   -- the gate is open
@@ -62,7 +62,7 @@ module _ (unit limit : ℕ) (a b : PagedFile) (s t : ShelfState) (failed fails :
     broken = λ is. absurd (cause.not_broken is);
   }
 
-  pub is_made : (file : OpenFile) (schema : Schema) → AreParts file schema → available_of b.pager + length schema.keys ≡ available_of a.pager
+  pub is_made : (file : OpenFile) (schema : Schema) → IsNewOpenFile file schema → available_of b.pager + length schema.keys ≡ available_of a.pager
       → (IsTrue t.is_honest → IsNew file (state_of b t).live (IsTrue (state_of b t).is_sound)) → IsMade (record { file = file; pages = b }) unit limit schema t
   is_made file schema parts spent new = record {
     unit_is = goes.parts.unit ∙ made.unit_is;

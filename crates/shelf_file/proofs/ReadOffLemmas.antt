@@ -12,7 +12,7 @@ use Rattle.file_header.specs.Bounds.{IsHeader}
 use Rattle.tree_node.specs.declared.shape.Shape.{Shape as TreeShape}
 use Rattle.key_index.specs.declared.prime_index.PrimeIndex.{PrimeIndex}
 use Rattle.key_index.specs.declared.entry.PrimeEntry.{PrimeEntry}
-use Rattle.key_index.specs.Stored.{prime_entry}
+use Rattle.key_index.specs.Stored.{prime_entry_in}
 use Rattle.key_index.specs.Standing.{prime_off}
 use Rattle.bplus_tree.specs.ReadOff.{entries_in}
 use Rattle.record_heap.specs.declared.shape.Shape.{Shape}
@@ -50,7 +50,7 @@ same_slots a b s l g = λ i. record {
 same_prime : (a b : PrimeIndex) (pages : PageMap) → a.width ≡ b.width → a.tree.root ≡ b.tree.root → a.tree.levels ≡ b.tree.levels → prime_off a pages ≡ prime_off b pages
 same_prime a b pages width root levels =
     let shape = same_shape a.tree.shape b.tree.shape (a.number ∙ sym b.number) (a.keys ∙ width ∙ sym b.keys) (a.entries ∙ ap (λ w. w + 6) width ∙ sym b.entries) in
-    λ i. map (prime_entry (width i)) (entries_in (shape i) pages (levels i) (root i))
+    λ i. map (prime_entry_in (width i)) (entries_in (shape i) pages (levels i) (root i))
 
 same_rows : (a b : Heap) (pages : PageMap) (schema : Schema) (entries : List PrimeEntry) → a.shape ≡ b.shape → rows_off schema a pages entries ≡ rows_off schema b pages entries
 same_rows a b pages schema [] shape = refl

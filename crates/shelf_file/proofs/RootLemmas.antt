@@ -8,8 +8,8 @@ use Rattle.page_bytes.specs.Each.{Each}
 use Rattle.pages.specs.PageMap.{PageMap}
 use Rattle.pages.specs.Owners.{IsOutside}
 use Rattle.bplus_tree.specs.declared.tree.Tree.{Tree}
-use Rattle.bplus_tree.specs.Tree.{TreeOf, page_of, pages_of}
-use Rattle.bplus_tree.specs.Standing.{Stands as TreeStands}
+use Rattle.tree_search.specs.Tree.{TreeOf, page_of, pages_of}
+use Rattle.bplus_tree.specs.Standing.{TreeStands}
 use Rattle.key_index.specs.declared.entry.PrimeEntry.{PrimeEntry}
 use Rattle.key_index.specs.declared.entry.AltEntry.{AltEntry}
 use Rattle.key_index.specs.declared.prime_index.PrimeIndex.{PrimeIndex}
@@ -17,7 +17,8 @@ use Rattle.key_index.specs.declared.alt_index.AltIndex.{AltIndex}
 use Rattle.key_index.proofs.LawLemmas.{prime_live, alt_live}
 use Rattle.record_heap.specs.declared.heap.Heap.{Heap}
 use Rattle.record_heap.specs.Chain.{Slots}
-use Rattle.open_file.specs.Parts.{own_at, Parts}
+use Rattle.open_file.specs.Parts.{Parts}
+use Rattle.page_marks.specs.Parted.{own_at}
 use Rattle.open_file.proofs.PartsLemmas.{found_at}
 use Rattle.page_alloc.specs.Chain.{is_among}
 

@@ -4,14 +4,14 @@ use Rattle.indexed_file.specs.File.{File}
 use Rattle.io_state.specs.declared.fault.Fault.{Fault}
 use Rattle.pages.specs.Answer.{IsAnswer}
 use Rattle.page_store.specs.ShelfState.{ShelfState}
-use Rattle.page_alloc.specs.Steps.{Reads}
+use Rattle.page_alloc.specs.Steps.{ReadsPages}
 use Rattle.shelf_file.specs.Standing.{IsReady, StandsFor}
 use Rattle.shelf_file.specs.declared.shelf_file.ShelfFile.{ShelfFile}
 
 -- a call that only reads: but for its path the file is as it was, and so are its pages
-pub record OnlyReads (old new : ShelfFile) (before after : ShelfState) (failed fails : ℕ) : Type 0 where
+pub record OnlyReadsFile (old new : ShelfFile) (before after : ShelfState) (failed fails : ℕ) : Type 0 where
   pub file : new.file ≡ record old.file { path = new.file.path }
-  pub pages : Reads old.pages new.pages before after failed fails
+  pub pages : ReadsPages old.pages new.pages before after failed fails
   pub ready : IsReady old before → IsReady new after
   pub stands : IsTrue after.is_honest → (file : File) → StandsFor old before file → StandsFor new after file
 
@@ -27,6 +27,6 @@ Changes old new before after answer made result =
 
 -- the file lacks room for a change that does not clash, and nothing is changed
 pub record IsFull (old new : ShelfFile) (before after : ShelfState) (failed fails : ℕ) (clashes lacks : File → Bool) : Type 0 where
-  pub reads : OnlyReads old new before after failed fails
+  pub reads : OnlyReadsFile old new before after failed fails
   pub no_clash : IsTrue after.is_honest → (file : File) → StandsFor old before file → IsFalse (clashes file)
   pub lacks_room : IsTrue after.is_honest → (file : File) → StandsFor old before file → IsTrue (lacks file)

@@ -3,7 +3,7 @@ use Rattle.std.specs.Prelude.{◌≡◌, ◌⊎◌, ℕ, List, Option, Some, tru
 use Rattle.indexed_file.specs.File.{File, empty_file}
 use Rattle.indexed_file.specs.Room.{room_of_new}
 use Rattle.record_layout.specs.Schema.{Schema}
-use Rattle.page_store.specs.File.{File as Bytes, content}
+use Rattle.page_store.specs.DeviceFile.{DeviceFile, content}
 use Rattle.page_store.specs.Images.{IsSettled}
 use Rattle.page_store.specs.Moments.{Throughout}
 use Rattle.page_store.specs.Gate.{IsRefused}
@@ -57,11 +57,11 @@ pub record AreClosed (schema : Schema) (file : File) (bytes : List ℕ) : Type 0
   pub stands : StandsIn header bytes file
 
 -- a crash leaves a file that is refused, or one that stands for this file
-abbrev pub ClosedOrRefused : Schema → File → Option (List ℕ) → Type 0
-ClosedOrRefused schema file c = IsRefused c ⊎ ((bytes : List ℕ) × (c ≡ Some bytes) × AreClosed schema file bytes)
+abbrev pub ClosedFileOrRefused : Schema → File → Option (List ℕ) → Type 0
+ClosedFileOrRefused schema file c = IsRefused c ⊎ ((bytes : List ℕ) × (c ≡ Some bytes) × AreClosed schema file bytes)
 
 -- closing a changed file that stood for this one: at each moment a crash leaves it closed or refused, and at the end it is closed
-pub record Closes {E : Type 0} (schema : Schema) (file : File) (old new : Bytes) (result : Result (Unit {0}) E) : Type 0 where
-  pub images : Throughout (ClosedOrRefused schema file) old new
+pub record Closes {E : Type 0} (schema : Schema) (file : File) (old new : DeviceFile) (result : Result (Unit {0}) E) : Type 0 where
+  pub images : Throughout (ClosedFileOrRefused schema file) old new
   pub settled : OnOk result (IsSettled new)
   pub closed : OnOk result (AreClosed schema file (content new))

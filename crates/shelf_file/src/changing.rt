@@ -12,7 +12,7 @@ ghost use Rattle.file_changes.specs.Adding.{file_after_add};
 ghost use Rattle.file_changes.specs.Replacing.{file_after_replace};
 ghost use Rattle.file_changes.specs.Removing.{file_after_remove};
 ghost use Rattle.shelf_file.specs.Standing.{IsReady, StandsFor, room_in};
-ghost use Rattle.shelf_file.specs.Calls.{OnlyReads, Changes, IsFull};
+ghost use Rattle.shelf_file.specs.Calls.{OnlyReadsFile, Changes, IsFull};
 
 use crate::shelf_file::ShelfFile;
 use indexed_file::{Added, Replaced};
@@ -30,14 +30,14 @@ impl ShelfFile {
         ensures added { Changes self.old self.new (S.state shelf.old) (S.state shelf.new)
             (added_answer self.old.file.schema bytes.now) (file_after_add self.old.file.schema bytes.now) result }
         ensures clash { result ≡ Ok Added.Clash
-            → OnlyReads self.old self.new (S.state shelf.old) (S.state shelf.new) (S.fault_count shelf.old) (S.fault_count shelf.new) }
+            → OnlyReadsFile self.old self.new (S.state shelf.old) (S.state shelf.new) (S.fault_count shelf.old) (S.fault_count shelf.new) }
         ensures gate { IfOk result (λ answer. answer ≢ Added.Clash → self.new.pages.changed ≡ true) }
         ensures room { IsTrue (S.state shelf.new).is_honest → (file : File) → StandsFor self.old (S.state shelf.old) file
             → OnOk result (IsTrue (clashes self.old.file.schema bytes.now file.rows || not (is_full_to_add (room_in self.old) file))) }
         ensures full { result ≡ Err Fault.Full → IsFull self.old self.new (S.state shelf.old) (S.state shelf.new) (S.fault_count shelf.old) (S.fault_count shelf.new)
             (λ file. clashes self.old.file.schema bytes.now file.rows) (is_full_to_add (room_in self.old)) }
         ensures broken { IsTrue self.old.file.broken → (result ≡ Err Fault.Broken)
-            × OnlyReads self.old self.new (S.state shelf.old) (S.state shelf.new) (S.fault_count shelf.old) (S.fault_count shelf.new) }
+            × OnlyReadsFile self.old self.new (S.state shelf.old) (S.state shelf.new) (S.fault_count shelf.old) (S.fault_count shelf.new) }
         ensures breaks { IfErr result (λ e. e ≢ Fault.Full → IsTrue self.new.file.broken) }
         ensures unbroken { OnOk result (IsFalse self.new.file.broken) }
         ensures cause { IfErr result (IsCausedIn self.old.file.broken (HasFailed (S.fault_count shelf.old) (S.fault_count shelf.new)) (IsFalse self.old.file.broken)) }
@@ -62,9 +62,9 @@ impl ShelfFile {
         ensures replaced { Changes self.old self.new (S.state shelf.old) (S.state shelf.new)
             (replaced_answer self.old.file.schema bytes.now) (file_after_replace self.old.file.schema bytes.now) result }
         ensures clash { result ≡ Ok Replaced.Clash
-            → OnlyReads self.old self.new (S.state shelf.old) (S.state shelf.new) (S.fault_count shelf.old) (S.fault_count shelf.new) }
+            → OnlyReadsFile self.old self.new (S.state shelf.old) (S.state shelf.new) (S.fault_count shelf.old) (S.fault_count shelf.new) }
         ensures gone { result ≡ Ok Replaced.Gone
-            → OnlyReads self.old self.new (S.state shelf.old) (S.state shelf.new) (S.fault_count shelf.old) (S.fault_count shelf.new) }
+            → OnlyReadsFile self.old self.new (S.state shelf.old) (S.state shelf.new) (S.fault_count shelf.old) (S.fault_count shelf.new) }
         ensures gate { IfOk result (λ answer. answer ≢ Replaced.Clash → answer ≢ Replaced.Gone → self.new.pages.changed ≡ true) }
         ensures room { IsTrue (S.state shelf.new).is_honest → (file : File) → StandsFor self.old (S.state shelf.old) file
             → OnOk result (IsTrue (clashes_with_others self.old.file.schema bytes.now file
@@ -72,7 +72,7 @@ impl ShelfFile {
         ensures full { result ≡ Err Fault.Full → IsFull self.old self.new (S.state shelf.old) (S.state shelf.new) (S.fault_count shelf.old) (S.fault_count shelf.new)
             (clashes_with_others self.old.file.schema bytes.now) (is_full_to_replace (room_in self.old) self.old.file.schema bytes.now) }
         ensures broken { IsTrue self.old.file.broken → (result ≡ Err Fault.Broken)
-            × OnlyReads self.old self.new (S.state shelf.old) (S.state shelf.new) (S.fault_count shelf.old) (S.fault_count shelf.new) }
+            × OnlyReadsFile self.old self.new (S.state shelf.old) (S.state shelf.new) (S.fault_count shelf.old) (S.fault_count shelf.new) }
         ensures breaks { IfErr result (λ e. e ≢ Fault.Full → IsTrue self.new.file.broken) }
         ensures unbroken { OnOk result (IsFalse self.new.file.broken) }
         ensures cause { IfErr result (IsCausedIn self.old.file.broken (HasFailed (S.fault_count shelf.old) (S.fault_count shelf.new)) (IsFalse self.old.file.broken)) }
@@ -94,10 +94,10 @@ impl ShelfFile {
         ensures removed { Changes self.old self.new (S.state shelf.old) (S.state shelf.new)
             (λ file. is_some (row_of self.old.file.schema key.now.items file)) (file_after_remove self.old.file.schema key.now.items) result }
         ensures gone { result ≡ Ok false
-            → OnlyReads self.old self.new (S.state shelf.old) (S.state shelf.new) (S.fault_count shelf.old) (S.fault_count shelf.new) }
+            → OnlyReadsFile self.old self.new (S.state shelf.old) (S.state shelf.new) (S.fault_count shelf.old) (S.fault_count shelf.new) }
         ensures gate { result ≡ Ok true → self.new.pages.changed ≡ true }
         ensures broken { IsTrue self.old.file.broken → (result ≡ Err Fault.Broken)
-            × OnlyReads self.old self.new (S.state shelf.old) (S.state shelf.new) (S.fault_count shelf.old) (S.fault_count shelf.new) }
+            × OnlyReadsFile self.old self.new (S.state shelf.old) (S.state shelf.new) (S.fault_count shelf.old) (S.fault_count shelf.new) }
         ensures breaks { IfErr result (λ e. IsTrue self.new.file.broken) }
         ensures unbroken { OnOk result (IsFalse self.new.file.broken) }
         ensures cause { IfErr result (IsCausedIn self.old.file.broken (HasFailed (S.fault_count shelf.old) (S.fault_count shelf.new)) ⊥) }

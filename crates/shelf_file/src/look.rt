@@ -1,7 +1,7 @@
 //! What a look at the first page finds.
 
 ghost use Rattle.std.specs.Prelude.{◌≡◌, ℕ, List, length, IsTrue, IfSome, IfOk};
-ghost use Rattle.page_store.specs.ShelfState.{HasUnit, unit_file, OnlyReads, HasCause};
+ghost use Rattle.page_store.specs.ShelfState.{HasUnit, unit_file, OnlyAnswers, FaultHasCause};
 ghost use Rattle.file_header.specs.Bounds.{IsHeader};
 ghost use Rattle.shelf_file.specs.Named.{look_of, look_by};
 ghost use Rattle.shelf_file.specs.Shelves.{HasHeader};
@@ -25,8 +25,8 @@ pub fn look_at<S: Shelf>(shelf: &mut S, unit: usize) -> Result<Look, Fault>
     requires unit { HasUnit (S.state shelf.old) unit }
     ensures found { IsTrue (S.state shelf.new).is_honest → IfOk result (λ look. look ≡ look_of (unit_file (S.state shelf.old) unit).seen) }
     ensures header { IfOk result HasHeader }
-    ensures only { OnlyReads (S.state shelf.old) (S.state shelf.new) }
-    ensures cause { HasCause (S.fault_count shelf.old) (S.fault_count shelf.new) result }
+    ensures only { OnlyAnswers (S.state shelf.old) (S.state shelf.new) }
+    ensures cause { FaultHasCause (S.fault_count shelf.old) (S.fault_count shelf.new) result }
 {
     if !shelf.exists(unit)? {
         return Ok(Look::NoFile);

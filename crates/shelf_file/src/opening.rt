@@ -4,12 +4,12 @@ ghost use Rattle.std.specs.Prelude.{◌≡◌, ◌≢◌, ◌+◌, ◌-◌, ◌�
 ghost use Rattle.indexed_file.specs.File.{File};
 ghost use Rattle.page_store.specs.Moments.{Throughout};
 ghost use Rattle.page_store.specs.Gate.{WasOrRefused};
-ghost use Rattle.page_store.specs.ShelfState.{HasUnit, unit_file, FileGoes, KeepsOthers, HasCause};
-ghost use Rattle.file_header.specs.Bounds.{HasRoom, IsHeader};
+ghost use Rattle.page_store.specs.ShelfState.{HasUnit, unit_file, FileGoes, KeepsOthers, FaultHasCause};
+ghost use Rattle.file_header.specs.Bounds.{FitsItsBytes, IsHeader};
 ghost use Rattle.page_alloc.specs.Joining.{HasFailed, available_of};
 ghost use Rattle.page_alloc.specs.PagedFile.{StandsOrRefused};
 ghost use Rattle.open_file.specs.Faults.{IsCausedIn};
-ghost use Rattle.open_file.specs.Headers.{IsOf, Counts};
+ghost use Rattle.open_file.specs.Headers.{IsHeaderOf, Counts};
 ghost use Rattle.open_file.specs.Stands.{IsShaped};
 ghost use Rattle.shelf_file.specs.Standing.{IsReady, StandsFor};
 ghost use Rattle.shelf_file.specs.Shelves.{IsOpened, IsMade, Closes};
@@ -122,9 +122,9 @@ impl ShelfFile {
     /// The header that the file is closed with.
     fn header(&self) -> Header
         requires { IsShaped self.now.file }
-        ensures told { IsOf result self.now.file }
+        ensures told { IsHeaderOf result self.now.file }
         ensures counts { let pager = self.now.pages.pager in Counts result pager.count pager.first pager.free }
-        ensures room { HasRoom result }
+        ensures room { FitsItsBytes result }
     {
         let pager = &self.pages.pager;
         self.file.header(pager.count, pager.first, pager.free)

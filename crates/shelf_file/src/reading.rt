@@ -10,7 +10,7 @@ ghost use Rattle.open_file.specs.Stands.{Stands};
 ghost use Rattle.open_file.specs.Faults.{IsCausedIn};
 ghost use Rattle.open_file.specs.Reading.{Delivers, Seeks};
 ghost use Rattle.shelf_file.specs.Standing.{IsReady, live_of, room_in};
-ghost use Rattle.shelf_file.specs.Calls.{OnlyReads};
+ghost use Rattle.shelf_file.specs.Calls.{OnlyReadsFile};
 
 use crate::shelf_file::ShelfFile;
 use indexed_file::Found;
@@ -37,7 +37,7 @@ impl ShelfFile {
         ensures broken { IsTrue self.old.file.broken → result ≡ Err Fault.Broken }
         ensures cause { IfErr result (IsCausedIn self.old.file.broken (HasFailed (S.fault_count shelf.old) (S.fault_count shelf.new)) ⊥) }
         ensures asked { self.new.pages.cache.asked ≤ self.old.pages.cache.asked + most_to_read (room_in self.old) k }
-        ensures reads { OnlyReads self.old self.new (S.state shelf.old) (S.state shelf.new) (S.fault_count shelf.old) (S.fault_count shelf.new) }
+        ensures reads { OnlyReadsFile self.old self.new (S.state shelf.old) (S.state shelf.new) (S.fault_count shelf.old) (S.fault_count shelf.new) }
     {
         let mut pages = FilePages {
             file: &mut self.pages,
@@ -64,7 +64,7 @@ impl ShelfFile {
         ensures broken { IsTrue self.old.file.broken → result ≡ Err Fault.Broken }
         ensures cause { IfErr result (IsCausedIn self.old.file.broken (HasFailed (S.fault_count shelf.old) (S.fault_count shelf.new)) ⊥) }
         ensures asked { self.new.pages.cache.asked ≤ self.old.pages.cache.asked + most_to_read (room_in self.old) k }
-        ensures reads { OnlyReads self.old self.new (S.state shelf.old) (S.state shelf.new) (S.fault_count shelf.old) (S.fault_count shelf.new) }
+        ensures reads { OnlyReadsFile self.old self.new (S.state shelf.old) (S.state shelf.new) (S.fault_count shelf.old) (S.fault_count shelf.new) }
     {
         let mut pages = FilePages {
             file: &mut self.pages,
@@ -88,7 +88,7 @@ impl ShelfFile {
         ensures broken { IsTrue self.old.file.broken → result ≡ Err Fault.Broken }
         ensures cause { IfErr result (IsCausedIn self.old.file.broken (HasFailed (S.fault_count shelf.old) (S.fault_count shelf.new)) ⊥) }
         ensures asked { self.new.pages.cache.asked ≤ self.old.pages.cache.asked + most_to_seek (room_in self.old) k }
-        ensures reads { OnlyReads self.old self.new (S.state shelf.old) (S.state shelf.new) (S.fault_count shelf.old) (S.fault_count shelf.new) }
+        ensures reads { OnlyReadsFile self.old self.new (S.state shelf.old) (S.state shelf.new) (S.fault_count shelf.old) (S.fault_count shelf.new) }
     {
         let mut pages = FilePages {
             file: &mut self.pages,
@@ -105,7 +105,7 @@ impl ShelfFile {
         ensures broken { IsTrue self.old.file.broken → result ≡ Err Fault.Broken }
         ensures cause { IfErr result (IsCausedIn self.old.file.broken (HasFailed (S.fault_count shelf.old) (S.fault_count shelf.new)) ⊥) }
         ensures asked { self.new.pages.cache.asked ≤ self.old.pages.cache.asked + most_to_seek (room_in self.old) 0 }
-        ensures reads { OnlyReads self.old self.new (S.state shelf.old) (S.state shelf.new) (S.fault_count shelf.old) (S.fault_count shelf.new) }
+        ensures reads { OnlyReadsFile self.old self.new (S.state shelf.old) (S.state shelf.new) (S.fault_count shelf.old) (S.fault_count shelf.new) }
     {
         let mut pages = FilePages {
             file: &mut self.pages,

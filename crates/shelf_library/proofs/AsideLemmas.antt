@@ -9,7 +9,7 @@ use Rattle.indexed_file.proofs.TestLemmas.{either}
 use Rattle.indexed_file.specs.File.{File}
 use Rattle.indexed_file.specs.World.{World, FileUnit, Named, Absent, Holding, Shut, Broken, Opened as HasOpened, holding_at, named_at, name_at, with_unit, OnlyAt}
 use Rattle.indexed_file.specs.Images.{Stays}
-use Rattle.page_store.specs.File.{File as Bytes, content}
+use Rattle.page_store.specs.DeviceFile.{DeviceFile, content}
 use Rattle.page_store.specs.ShelfState.{ShelfState, KeepsOthers, HasUnit, unit_name, unit_file}
 use Rattle.page_store.specs.Gate.{AllOpen}
 use Rattle.page_store.specs.Moments.{Throughout}
@@ -59,14 +59,14 @@ names_differ (name ∷ names) (suc u) (suc v) distinct lu lv other = names_diffe
 -- ---- an open file whose bytes are as they were
 
 module _ (file : ShelfFile) (old new : ShelfState) (same : unit_file new file.pages.cache.store.unit ≡ unit_file old file.pages.cache.store.unit) where
-  abbrev free_over : Bytes → Option (List ℕ)
+  abbrev free_over : DeviceFile → Option (List ℕ)
   free_over bytes = chain (pages_in file.pages.cache bytes) file.pages.pager.count file.pages.pager.first file.pages.pager.free
 
   pub same_live : live_of file new ≡ live_of file old
-  same_live = ap (λ (bytes : Bytes). used (pages_in file.pages.cache bytes) file.pages.pager.count (free_over bytes)) same
+  same_live = ap (λ (bytes : DeviceFile). used (pages_in file.pages.cache bytes) file.pages.pager.count (free_over bytes)) same
 
   pub same_sound : (state_of file.pages new).is_sound ≡ (state_of file.pages old).is_sound
-  same_sound = ap (λ (bytes : Bytes). is_some (free_over bytes)) same
+  same_sound = ap (λ (bytes : DeviceFile). is_some (free_over bytes)) same
 
   pub same_file_in : file_in file new ≡ file_in file old
   same_file_in = ap (λ live. file_off file.file live) same_live
@@ -87,14 +87,14 @@ module _ (file : ShelfFile) (old new : ShelfState) (same : unit_file new file.pa
             over = record {
               attached = record { attached = subst (λ (ns : List (List ℕ)). unit < length ns) (sym names) joined.over.attached.attached };
               counted = joined.over.counted;
-              pages = λ h. subst (λ (bytes : Bytes). HasPages file.pages.cache.store.pages bytes) (sym same) (joined.over.pages (honest h));
-              clean = λ h n frame is unchanged. joined.over.clean (honest h) n frame is unchanged ∙ ap (λ (bytes : Bytes). page_of (content bytes) n) (sym same);
+              pages = λ h. subst (λ (bytes : DeviceFile). HasPages file.pages.cache.store.pages bytes) (sym same) (joined.over.pages (honest h));
+              clean = λ h n frame is unchanged. joined.over.clean (honest h) n frame is unchanged ∙ ap (λ (bytes : DeviceFile). page_of (content bytes) n) (sym same);
             };
             counted = joined.counted;
             header = joined.header;
           };
           clean = ready.over.clean;
-          gate = λ changed h. subst (λ (bytes : Bytes). AllOpen bytes) (sym same) (ready.over.gate changed (honest h));
+          gate = λ changed h. subst (λ (bytes : DeviceFile). AllOpen bytes) (sym same) (ready.over.gate changed (honest h));
         };
         shaped = ready.shaped;
       }
@@ -150,7 +150,7 @@ module _ (u : ℕ) (one : Held) (old new : ShelfState) (held now : List Held) (a
   only_here = subst (λ (l : List Held). OnlyAt u (world_of old held) (world_of new l)) (sym call.holds)
       (only_at old new held u one call.attached are.many call.others.names call.others.others (λ v within other.
       let named : named_of (new.file (get_or old.names v [])).seen ≡ named_of (old.file (get_or old.names v [])).seen =
-      ap (λ (bytes : Bytes). named_of bytes.seen) (call.others.others (unit_name old v) (name_aside v within other)) in
+      ap (λ (bytes : DeviceFile). named_of bytes.seen) (call.others.others (unit_name old v) (name_aside v within other)) in
       let holding : holding_of new (held_at held v) ≡ holding_of old (held_at held v) = shows_aside v within other (held_at held v) refl in
       λ i. record { name = get_or old.names v []; named = named i; holding = holding i }))
 
@@ -191,7 +191,7 @@ module _ (u : ℕ) (one : Held) (old new : ShelfState) (held now : List Held) (a
       let lt : v < length old.names = let many = are.many in omega (arith, below, many) in
       record {
         allowed = was.allowed;
-        accepted = λ honest. ap (λ (bytes : Bytes). look_of bytes.seen) (file_aside v lt other) ∙ was.accepted (call.others.honest honest);
+        accepted = λ honest. ap (λ (bytes : DeviceFile). look_of bytes.seen) (file_aside v lt other) ∙ was.accepted (call.others.honest honest);
       }
 
   pub looked_after : Fits u one new → AreLooked new now
@@ -230,7 +230,7 @@ module _ (u : ℕ) (one : Held) (old new : ShelfState) (held now : List Held) (a
   truth_aside name other truly =
       let same : new.file name ≡ old.file name = call.others.others name other in
       record {
-        closed = λ header is. subst (λ (bytes : Bytes). IsTrulyClosed bytes header) (sym same) (truly.closed header (ap (λ (bytes : Bytes). look_of bytes.seen) (sym same) ∙ is));
+        closed = λ header is. subst (λ (bytes : DeviceFile). IsTrulyClosed bytes header) (sym same) (truly.closed header (ap (λ (bytes : DeviceFile). look_of bytes.seen) (sym same) ∙ is));
         opened = λ v file within named is unbroken.
             let lt : v < length old.names = subst (λ (ns : List (List ℕ)). v < length ns) call.others.names within in
             let named_was : unit_name old v ≡ name = ap (λ (ns : List (List ℕ)). get_or ns v []) (sym call.others.names) ∙ named in
@@ -240,7 +240,7 @@ module _ (u : ℕ) (one : Held) (old new : ShelfState) (held now : List Held) (a
             record {
               rows = was.rows;
               stands = stands_same file old new (open_aside v file lt apart held_was) was.rows was.stands;
-              closed = λ unchanged. subst (λ (bytes : Bytes). AreClosed file.file.schema was.rows (content bytes)) (sym same) (was.closed unchanged);
+              closed = λ unchanged. subst (λ (bytes : DeviceFile). AreClosed file.file.schema was.rows (content bytes)) (sym same) (was.closed unchanged);
             };
       }
 
@@ -273,6 +273,6 @@ module _ (u : ℕ) (one : Held) (old new : ShelfState) (held now : List Held) (a
 -- of a name whose file is as it was a crash leaves what it could leave before
 pub images_aside : {S : Type 0} (state : S → LibraryState) (old new : S) (name : List ℕ) → (state new).shelf.file name ≡ (state old).shelf.file name → Stays (shown_by state).Throughout old new name
 images_aside {S} state old new name same = record {
-  within = λ test all. subst (λ (bytes : Bytes). Throughout (Passes test) ((state old).shelf.file name) bytes) (sym same) all;
-  back = λ test all. subst (λ (bytes : Bytes). Throughout (Passes test) bytes bytes) same all;
+  within = λ test all. subst (λ (bytes : DeviceFile). Throughout (Passes test) ((state old).shelf.file name) bytes) (sym same) all;
+  back = λ test all. subst (λ (bytes : DeviceFile). Throughout (Passes test) bytes bytes) same all;
 }

@@ -5,7 +5,7 @@ use Rattle.std.specs.List.{IsDistinct}
 use Rattle.indexed_file.specs.Calls.{Keeps}
 use Rattle.indexed_file.specs.Images.{Stays}
 use Rattle.indexed_file.specs.World.{World, FileUnit, Named, Shut, named_in, attached}
-use Rattle.page_store.specs.File.{File as Bytes}
+use Rattle.page_store.specs.DeviceFile.{DeviceFile}
 use Rattle.page_store.specs.ShelfState.{ShelfState}
 use Rattle.shelf_file.specs.Named.{look_of, named_of}
 use Rattle.shelf_library.specs.declared.held.Held.{Held}
@@ -67,7 +67,7 @@ module _ (names : List (List ℕ)) (count : ℕ) (old new : LibraryState) (call 
   pub named_as_before : (name : List ℕ) → named_in (world_of new.shelf new.held) name ≡ named_in (world_of old.shelf old.held) name
   named_as_before name =
       named_anywhere new.shelf new.held name many
-      ∙ ap (λ (file : Bytes). named_of file.seen) (same_files name)
+      ∙ ap (λ (file : DeviceFile). named_of file.seen) (same_files name)
       ∙ sym (named_anywhere old.shelf old.held name call.units.many)
 
   pub world_attached : (world_of new.shelf new.held).units ≡ attached (world_of old.shelf old.held) names
@@ -76,11 +76,11 @@ module _ (names : List (List ℕ)) (count : ℕ) (old new : LibraryState) (call 
       (λ i. units_of new.shelf (same_names i) (held i))
       ∙ shut_units new.shelf names
       ∙ same_map (λ name. named_of (new.shelf.file name).seen) (λ name. named_in (world_of old.shelf old.held) name)
-      (λ name. ap (λ (file : Bytes). named_of file.seen) (same_files name) ∙ sym (named_anywhere old.shelf old.held name call.units.many)) names
+      (λ name. ap (λ (file : DeviceFile). named_of file.seen) (same_files name) ∙ sym (named_anywhere old.shelf old.held name call.units.many)) names
 
   pub still_shown : (name : List ℕ) → IsShownTruly old.shelf old.held name → IsShownTruly new.shelf new.held name
   still_shown name truly = record {
-    closed = λ header is. subst (λ (file : Bytes). IsTrulyClosed file header) (sym (same_files name)) (truly.closed header (ap (λ (file : Bytes). look_of file.seen) (sym (same_files name)) ∙ is));
+    closed = λ header is. subst (λ (file : DeviceFile). IsTrulyClosed file header) (sym (same_files name)) (truly.closed header (ap (λ (file : DeviceFile). look_of file.seen) (sym (same_files name)) ∙ is));
     opened = λ u file within named is. let e : Nothing ≡ Opened file = sym (holds_nothing u) ∙ is in absurd (cc);
   }
 

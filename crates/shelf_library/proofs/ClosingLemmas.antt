@@ -7,7 +7,7 @@ use Rattle.record_layout.specs.Schema.{Schema}
 use Rattle.indexed_file.specs.File.{File}
 use Rattle.indexed_file.specs.Moments.{Test}
 use Rattle.indexed_file.specs.World.{Closed, Unsound}
-use Rattle.page_store.specs.File.{File as Bytes, content, bytes_or_none}
+use Rattle.page_store.specs.DeviceFile.{DeviceFile, content, bytes_or_none}
 use Rattle.page_store.specs.Gate.{AllOpen}
 use Rattle.page_store.specs.Images.{IsSettled}
 use Rattle.page_store.specs.Moments.{Throughout}
@@ -19,7 +19,7 @@ use Rattle.file_header.specs.declared.header.Header.{Header}
 use Rattle.shelf_file.specs.declared.look.Look.TheVariants.{Accepted, Refused}
 use Rattle.shelf_file.specs.declared.shelf_file.ShelfFile.{ShelfFile}
 use Rattle.shelf_file.specs.Named.{look_of, named_of, StandsIn}
-use Rattle.shelf_file.specs.Shelves.{AreClosed, ClosedOrRefused, Closes}
+use Rattle.shelf_file.specs.Shelves.{AreClosed, ClosedFileOrRefused, Closes}
 use Rattle.shelf_library.specs.declared.held.Held.TheVariants.{Nothing}
 use Rattle.shelf_library.specs.Crashes.{Passes, PassesBy}
 use Rattle.shelf_library.specs.State.{LibraryState, IsReadyAt, held_at}
@@ -37,21 +37,21 @@ closed_passes test bytes schema rows closed passes =
     subst (PassesBy test bytes) (sym closed.accepted)
     (record { rows = rows; stands = closed.stands; passes = subst (λ (s : Schema). IsTrue (test (Closed s rows))) (sym closed.schema_is) passes })
 
-pub closing_passes : (test : Test) (c : Option (List ℕ)) (schema : Schema) (rows : File) → ClosedOrRefused schema rows c → IsTrue (test Unsound) → IsTrue (test (Closed schema rows)) → Passes test c
+pub closing_passes : (test : Test) (c : Option (List ℕ)) (schema : Schema) (rows : File) → ClosedFileOrRefused schema rows c → IsTrue (test Unsound) → IsTrue (test (Closed schema rows)) → Passes test c
 closing_passes test c schema rows (inl refused) unsound passes = refused_passes test c refused unsound
 closing_passes test c schema rows (inr closed) unsound passes = subst (Passes test) (sym closed.1) (closed_passes test closed.0 schema rows closed.2 passes)
 
 -- a crash leaves nothing else
-pub settled_passes : (test : Test) (file : Bytes) (schema : Schema) (rows : File) → IsSettled file → AreClosed schema rows (content file) → IsTrue (test (Closed schema rows)) → Throughout (Passes test) file file
+pub settled_passes : (test : Test) (file : DeviceFile) (schema : Schema) (rows : File) → IsSettled file → AreClosed schema rows (content file) → IsTrue (test (Closed schema rows)) → Throughout (Passes test) file file
 settled_passes test file schema rows settled closed passes =
     throughout_none (Passes test) file file refl (λ c may. subst (Passes test) (sym (settled c may)) (closed_passes test (content file) schema rows closed passes))
 
-pub closing_named : (c : Option (List ℕ)) (schema : Schema) (rows : File) → ClosedOrRefused schema rows c → (named_of c ≡ Closed schema rows) ⊎ (named_of c ≡ Unsound)
+pub closing_named : (c : Option (List ℕ)) (schema : Schema) (rows : File) → ClosedFileOrRefused schema rows c → (named_of c ≡ Closed schema rows) ⊎ (named_of c ≡ Unsound)
 closing_named c schema rows (inl refused) = inr (refused_named c refused)
 closing_named c schema rows (inr closed) = inl (ap named_of closed.1 ∙ closed_named closed.0 schema rows closed.2)
 
 -- where a look accepts the file, it stands for the rows
-closing_truly : (file : Bytes) (header : Header) (schema : Schema) (rows : File) → ClosedOrRefused schema rows file.seen → look_of file.seen ≡ Accepted header → IsTrulyClosed file header
+closing_truly : (file : DeviceFile) (header : Header) (schema : Schema) (rows : File) → ClosedFileOrRefused schema rows file.seen → look_of file.seen ≡ Accepted header → IsTrulyClosed file header
 closing_truly file header schema rows (inl refused) is = let clash : Refused ≡ Accepted header = sym (refused_look file.seen refused) ∙ is in absurd (cc)
 closing_truly file header schema rows (inr closed) is =
     let accepted : Accepted closed.2.header ≡ Accepted header = sym closed.2.accepted ∙ ap look_of (sym closed.1) ∙ is in
@@ -72,10 +72,10 @@ on_more (Err fault) P Q f p = tt
 -- ---- the file of the unit
 
 module _ (u : ℕ) (file : ShelfFile) (result : Result (Unit {0}) Fault) (old new : LibraryState) (call : ClosesAt u file result old new) where
-  pub before : Bytes
+  pub before : DeviceFile
   before = unit_file old.shelf u
 
-  pub after : Bytes
+  pub after : DeviceFile
   after = unit_file new.shelf u
 
   is_ready : IsReadyAt old.shelf u file
@@ -106,7 +106,7 @@ module _ (u : ℕ) (file : ShelfFile) (result : Result (Unit {0}) Fault) (old ne
 
     was_closed : file.pages.changed ≡ false → AreClosed file.file.schema known.rows (content (unit_file new.shelf u))
     was_closed unchanged =
-        subst (λ (bytes : Bytes). AreClosed file.file.schema known.rows (content bytes)) (sym (still (call.unchanged unchanged))) (known.closed unchanged)
+        subst (λ (bytes : DeviceFile). AreClosed file.file.schema known.rows (content bytes)) (sym (still (call.unchanged unchanged))) (known.closed unchanged)
 
     -- after a success it is closed
     pub closed_after : OnOk result (AreClosed file.file.schema known.rows (content (unit_file new.shelf u)))
@@ -116,10 +116,10 @@ module _ (u : ℕ) (file : ShelfFile) (result : Result (Unit {0}) Fault) (old ne
     ]
 
     -- after a fault too it is closed or refused
-    pub ends_closed : ClosedOrRefused file.file.schema known.rows (unit_file new.shelf u).seen
+    pub ends_closed : ClosedFileOrRefused file.file.schema known.rows (unit_file new.shelf u).seen
     ends_closed = elim (cases_Bool file.pages.changed) [
       | inl changed ↦
-          throughout_last (ClosedOrRefused file.file.schema known.rows) (unit_file old.shelf u) (unit_file new.shelf u) (closes_here changed).images (unit_file new.shelf u).seen (call.image_after honest)
+          throughout_last (ClosedFileOrRefused file.file.schema known.rows) (unit_file old.shelf u) (unit_file new.shelf u) (closes_here changed).images (unit_file new.shelf u).seen (call.image_after honest)
       | inr unchanged ↦
           let closed = was_closed unchanged in
           inr (content (unit_file new.shelf u), closed_there (unit_file new.shelf u) file.file.schema known.rows closed, closed)
@@ -143,7 +143,7 @@ module _ (u : ℕ) (file : ShelfFile) (result : Result (Unit {0}) Fault) (old ne
         either file.file.broken (IsTrulyClosed (unit_file new.shelf u) header)
         (λ broken.
         let same = still (call.nothing broken) in
-        subst (λ (bytes : Bytes). IsTrulyClosed bytes header) (sym same) (truly.closed header (ap (λ (bytes : Bytes). look_of bytes.seen) (sym same) ∙ is)))
+        subst (λ (bytes : DeviceFile). IsTrulyClosed bytes header) (sym same) (truly.closed header (ap (λ (bytes : DeviceFile). look_of bytes.seen) (sym same) ∙ is)))
         (λ works.
         let known = truly.opened file call.opened works in
         closing_truly (unit_file new.shelf u) header file.file.schema known.rows (ends_closed honest works known) is);

@@ -4,7 +4,7 @@ use Rattle.std.specs.Prelude.{slice_set, slice_index_or, Some}
 use Rattle.std.proofs.lemmas.List.{get_or_default}
 use Rattle.indexed_file.specs.Room.{Room}
 use Rattle.indexed_file.specs.UnitCalls.{RestartsCount}
-use Rattle.page_store.specs.File.{File as Bytes}
+use Rattle.page_store.specs.DeviceFile.{DeviceFile}
 use Rattle.page_store.specs.ShelfState.{ShelfState, KeepsOthers, unit_file}
 use Rattle.file_header.specs.declared.header.Header.{Header}
 use Rattle.page_cache.specs.declared.cache.Cache.{Cache}
@@ -73,7 +73,7 @@ recount_fits shelf held u (Opened file) are is = record {
   ready = λ other e. subst (λ f. IsReadyAt shelf u f) (same_open (recounted file) other e) (recounted_ready shelf u file (are.ready u file is));
 }
 
-recounted_truly : (shelf : ShelfState) (file : ShelfFile) (bytes : Bytes) → IsTrulyOpen shelf file bytes → IsTrulyOpen shelf (recounted file) bytes
+recounted_truly : (shelf : ShelfState) (file : ShelfFile) (bytes : DeviceFile) → IsTrulyOpen shelf file bytes → IsTrulyOpen shelf (recounted file) bytes
 recounted_truly shelf file bytes truly = record {
   rows = truly.rows;
   stands = record { stands = truly.stands.stands; sound = truly.stands.sound };

@@ -9,8 +9,8 @@ use Rattle.indexed_file.specs.Calls.{Keeps, MayFail, MayAnswerShut}
 use Rattle.indexed_file.specs.Images.{untouched}
 use Rattle.indexed_file.specs.UnitCalls.{OpensUnit}
 use Rattle.indexed_file.specs.World.{Holding, Shut, Looked as HasLooked, holding_at, named_at, name_at, is_broken}
-use Rattle.page_store.specs.File.{File as Bytes}
-use Rattle.page_store.specs.ShelfState.{ShelfState, KeepsOthers, HasCause, unit_name, unit_file}
+use Rattle.page_store.specs.DeviceFile.{DeviceFile}
+use Rattle.page_store.specs.ShelfState.{ShelfState, KeepsOthers, FaultHasCause, unit_name, unit_file}
 use Rattle.file_header.specs.declared.header.Header.{Header}
 use Rattle.shelf_file.specs.declared.look.Look.{Look}
 use Rattle.shelf_file.specs.declared.look.Look.TheVariants.{NoFile, Refused, Accepted}
@@ -60,7 +60,7 @@ looked_by (Ok (Accepted other)) header is = let same : other ≡ header = cc in 
 looked_by (Err fault) header is = absurd (cc)
 
 -- a fault that the shelf may answer
-look_fault : (is_honest : Bool) (truly : Type 0) (old new : ℕ) (look : Result Look Fault) → HasCause old new look → IfErr (seen_after look) (MayFail false is_honest truly old new)
+look_fault : (is_honest : Bool) (truly : Type 0) (old new : ℕ) (look : Result Look Fault) → FaultHasCause old new look → IfErr (seen_after look) (MayFail false is_honest truly old new)
 look_fault is_honest truly old new (Ok found) cause = tt
 look_fault is_honest truly old new (Err fault) cause = elim cause.kinds [
   | inl is ↦ let same : fault ≡ Device = cc in subst (MayFail false is_honest truly old new) (sym same) (has_risen old new (cause.device is))
@@ -84,7 +84,7 @@ module _ (u : ℕ) (look : Result Look Fault) (old new : LibraryState) (call : L
         let found = looked_by look header is in
         record {
           allowed = subst (λ l. IfOk l HasHeader) found call.header;
-          accepted = λ honest. ap (λ (file : Bytes). look_of file.seen) same_file ∙ sym (subst (λ l. IfOk l (λ look. look ≡ look_of (unit_file old.shelf u).seen)) found (call.found honest));
+          accepted = λ honest. ap (λ (file : DeviceFile). look_of file.seen) same_file ∙ sym (subst (λ l. IfOk l (λ look. look ≡ look_of (unit_file old.shelf u).seen)) found (call.found honest));
         };
     ready = λ file is. absurd (no_file look file is);
   }
@@ -94,7 +94,7 @@ module _ (u : ℕ) (look : Result Look Fault) (old new : LibraryState) (call : L
 
   still_true : IsTrulyHeld u (held_at old.held u) old.shelf → IsTrulyHeld u (held_after look) new.shelf
   still_true truly = record {
-    closed = λ header is. subst (λ (file : Bytes). IsTrulyClosed file header) (sym same_file) (truly.closed header (ap (λ (file : Bytes). look_of file.seen) (sym same_file) ∙ is));
+    closed = λ header is. subst (λ (file : DeviceFile). IsTrulyClosed file header) (sym same_file) (truly.closed header (ap (λ (file : DeviceFile). look_of file.seen) (sym same_file) ∙ is));
     opened = λ file is unbroken. absurd (no_file look file is);
   }
 
@@ -104,7 +104,7 @@ module _ (u : ℕ) (look : Result Look Fault) (old new : LibraryState) (call : L
   pub look_named : named_at (world_of new.shelf new.held) u ≡ named_at (world_of old.shelf old.held) u
   look_named =
       named_after u (held_after look) old.shelf new.shelf old.held new.held call.units look_changes
-      ∙ ap (λ (file : Bytes). named_of file.seen) same_file
+      ∙ ap (λ (file : DeviceFile). named_of file.seen) same_file
       ∙ sym (named_before u (held_after look) old.shelf new.shelf old.held new.held call.units look_changes)
 
   pub look_seen : IsTrue new.shelf.is_honest → IfOk (seen_after look) (λ seen. seen ≡ seen_of (named_at (world_of old.shelf old.held) u))

@@ -1,12 +1,12 @@
 -- What a call that may open the gate leaves of its unit.
 use Rattle.std.proofs.Common.{◌≡◌, ◌⊎◌, inl, inr, ℕ, ◌<◌, true, false, List, Option, length, IsTrue, refl, sym, ap, subst, ◌∙◌, bytes_eq}
 use Rattle.std.proofs.lemmas.Slice.Eq.{bytes_eq-Decides}
-use Rattle.indexed_file.specs.Images.{Trace, MayLeave, LeavesOnly, ImagesGo, unfinished}
+use Rattle.indexed_file.specs.Images.{Trace, LibraryMayLeave, LeavesOnly, ImagesGo, unfinished}
 use Rattle.indexed_file.specs.Moments.{Test}
 use Rattle.indexed_file.specs.World.{Unsound, name_at}
 use Rattle.std.specs.Prelude.{slice_set, slice_index_or}
 use Rattle.std.proofs.lemmas.Bool.{and_parts}
-use Rattle.page_store.specs.File.{File as Bytes, bytes_or_none}
+use Rattle.page_store.specs.DeviceFile.{DeviceFile, bytes_or_none}
 use Rattle.page_store.specs.Images.{Leaves}
 use Rattle.page_store.specs.Moments.{Throughout}
 use Rattle.page_store.proofs.MomentLemmas.{throughout_weaker, throughout_first}
@@ -18,7 +18,7 @@ use Rattle.page_alloc.specs.Steps.{Moves}
 use Rattle.file_header.specs.declared.header.Header.{Header}
 use Rattle.shelf_file.specs.declared.look.Look.TheVariants.{Accepted}
 use Rattle.shelf_file.specs.declared.shelf_file.ShelfFile.{ShelfFile}
-use Rattle.shelf_file.specs.Calls.{OnlyReads}
+use Rattle.shelf_file.specs.Calls.{OnlyReadsFile}
 use Rattle.shelf_file.specs.Standing.{IsReady}
 use Rattle.shelf_file.specs.Named.{look_of, named_of, StandsIn}
 use Rattle.shelf_library.specs.State.{LibraryState, IsReadyAt}
@@ -58,7 +58,7 @@ moves_at shelf held u one units attached read file is after later failed fails l
 }
 
 -- images that a crash could leave before, and refused ones
-pub was_or_refused : (test : Test) (old new : Bytes) → Throughout (WasOrRefused old) old new → Throughout (Passes test) old old → IsTrue (test Unsound) → Throughout (Passes test) old new
+pub was_or_refused : (test : Test) (old new : DeviceFile) → Throughout (WasOrRefused old) old new → Throughout (Passes test) old old → IsTrue (test Unsound) → Throughout (Passes test) old new
 was_or_refused test old new images passed unsound = throughout_weaker (WasOrRefused old) (Passes test) old new one images
   where
     one : (c : Option (List ℕ)) → WasOrRefused old c → Passes test c
@@ -66,14 +66,14 @@ was_or_refused test old new images passed unsound = throughout_weaker (WasOrRefu
     one c (inr refused) = refused_passes test c refused unsound
 
 -- bytes that a look accepts are those that it accepted before
-pub closed_kept : (old new : Bytes) → SameOrRefused old new → ((header : Header) → look_of old.seen ≡ Accepted header → IsTrulyClosed old header)
+pub closed_kept : (old new : DeviceFile) → SameOrRefused old new → ((header : Header) → look_of old.seen ≡ Accepted header → IsTrulyClosed old header)
     → (header : Header) → look_of new.seen ≡ Accepted header → IsTrulyClosed new header
 closed_kept old new (inl same) truly header accepted =
     let was = truly header (ap look_of (sym same) ∙ accepted) in
     record { rows = was.rows; stands = subst (λ seen. StandsIn header (bytes_or_none seen) was.rows) (sym same) was.stands }
 closed_kept old new (inr refused) truly header accepted = let found = refused_look new.seen refused in absurd (cc)
 
-pub named_kept : (old new : Bytes) → SameOrRefused old new → (named_of new.seen ≡ named_of old.seen) ⊎ (named_of new.seen ≡ Unsound)
+pub named_kept : (old new : DeviceFile) → SameOrRefused old new → (named_of new.seen ≡ named_of old.seen) ⊎ (named_of new.seen ≡ Unsound)
 named_kept old new (inl same) = inl (ap named_of same)
 named_kept old new (inr refused) = inr (refused_named new.seen refused)
 
@@ -97,7 +97,7 @@ module _ (u : ℕ) (file after : ShelfFile) (old new : LibraryState) (call : Mov
   }
 
   -- where it only read
-  pub reads_at : OnlyReads file after old.shelf new.shelf old.faults new.faults → ReadsAt u file after old new
+  pub reads_at : OnlyReadsFile file after old.shelf new.shelf old.faults new.faults → ReadsAt u file after old new
   reads_at reads = record {
     units = call.units;
     attached = call.attached;
@@ -152,7 +152,7 @@ differs a b miss same = let hit = (bytes_eq-Decides a b).1 (sym same) in let cla
 
 -- what the images of a name do in a call on the unit that has it
 pub images_of_unit : {S : Type 0} (state : S → LibraryState) (u : ℕ) (file after : ShelfFile) (old new : S) (trace : Trace) → MovesAt u file after (state old) (state new)
-    → MayLeave (shown_by state).Throughout trace.may old new (unit_name (state old).shelf u) → LeavesOnly (shown_by state).Throughout trace.only new (unit_name (state old).shelf u)
+    → LibraryMayLeave (shown_by state).Throughout trace.may old new (unit_name (state old).shelf u) → LeavesOnly (shown_by state).Throughout trace.only new (unit_name (state old).shelf u)
     → ImagesGo (shown_by state).Throughout (name_at (world_of (state old).shelf (state old).held) u) trace old new
 images_of_unit {S} state u file after old new trace call may only =
     subst (λ (name : List ℕ). ImagesGo (shown_by state).Throughout name trace old new)

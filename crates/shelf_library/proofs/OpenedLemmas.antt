@@ -8,7 +8,7 @@ use Rattle.record_layout.specs.Schema.{Schema}
 use Rattle.page_store.specs.Images.{Leaves}
 use Rattle.page_store.specs.ShelfState.{ShelfState, unit_name}
 use Rattle.shelf_file.specs.declared.shelf_file.ShelfFile.{ShelfFile}
-use Rattle.shelf_file.specs.Calls.{OnlyReads}
+use Rattle.shelf_file.specs.Calls.{OnlyReadsFile}
 use Rattle.shelf_file.specs.Standing.{IsReady, file_in}
 use Rattle.shelf_library.specs.State.{held_at}
 use Rattle.shelf_library.specs.Units.{world_of, holding_of}
@@ -63,7 +63,7 @@ module _ (shelf : ShelfState) (held : List Held) (u : ℕ) (one : Held) (many : 
 
     -- a call that only reads
     pub reads_at :
-        (after : ShelfFile) (later : ShelfState) (failed fails limit : ℕ) → AreUnits shelf held → OnlyReads file after shelf later failed fails
+        (after : ShelfFile) (later : ShelfState) (failed fails limit : ℕ) → AreUnits shelf held → OnlyReadsFile file after shelf later failed fails
         → ((name : List ℕ) → IsTrue shelf.is_honest → Leaves (shelf.file name) (shelf.file name).seen) → ((name : List ℕ) → IsTrue later.is_honest → Leaves (later.file name) (later.file name).seen)
         → ReadsAt u file after (record { shelf = shelf; held = held; faults = failed; limit = limit }) (record { shelf = later; held = slice_set held u (Opened after); faults = fails; limit = limit })
     reads_at after later failed fails limit units reads before after_it = record {

@@ -21,7 +21,7 @@ use Rattle.shelf_library.specs.OneUnit.{ChangesAt, Fits, IsTrulyHeld}
 use Rattle.indexed_file.specs.Images.{untouched}
 use Rattle.indexed_file.specs.UnitCalls.{OpensUnit}
 use Rattle.indexed_file.specs.World.{holding_at, named_at, name_at, schema_at, schema_in, is_open}
-use Rattle.page_store.specs.File.{File as Bytes}
+use Rattle.page_store.specs.DeviceFile.{DeviceFile}
 use Rattle.page_store.specs.ShelfState.{unit_name}
 use Rattle.shelf_library.specs.State.{LibraryState, IsLooked}
 use Rattle.shelf_library.specs.Units.{world_of}
@@ -137,7 +137,7 @@ module _ (u : ℕ) (header : Header) (r : Result ShelfFile Fault) (old new : Lib
   pub open_named : named_at (world_of new.shelf new.held) u ≡ named_at (world_of old.shelf old.held) u
   open_named =
       named_after u (held_open r) old.shelf new.shelf old.held new.held call.units changes
-      ∙ ap (λ (bytes : Bytes). named_of bytes.seen) same_file
+      ∙ ap (λ (bytes : DeviceFile). named_of bytes.seen) same_file
       ∙ sym (named_before u (held_open r) old.shelf new.shelf old.held new.held call.units changes)
 
   pub open_file : IsTrue new.shelf.is_honest → OnOk (answer_open r) (holding_at (world_of new.shelf new.held) u ≡ opened_from (named_at (world_of old.shelf old.held) u))

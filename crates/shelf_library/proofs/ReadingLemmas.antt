@@ -3,7 +3,7 @@ use Rattle.std.proofs.Common.{◌≡◌, ◌⊎◌, inl, inr, ℕ, true, false, 
 use Rattle.std.proofs.lemmas.Bool.{cases_Bool}
 use Rattle.indexed_file.specs.World.{Opened as HasOpened, Broken}
 use Rattle.record_layout.specs.Schema.{Schema}
-use Rattle.page_store.specs.File.{File as Bytes, content}
+use Rattle.page_store.specs.DeviceFile.{DeviceFile, content}
 use Rattle.page_store.proofs.OpenLemmas.{open_kept, refused_open}
 use Rattle.page_store.specs.Gate.{AllOpen}
 use Rattle.page_store.specs.ShelfState.{unit_file}
@@ -72,7 +72,7 @@ module _ (u : ℕ) (file after : ShelfFile) (old new : LibraryState) (call : Rea
   -- the name stands for what it stood for
   pub same_named : IsTrue new.shelf.is_honest → named_of (unit_file new.shelf u).seen ≡ named_of (unit_file old.shelf u).seen
   same_named honest = elim (still_or_open honest) [
-    | inl still ↦ ap (λ (bytes : Bytes). named_of bytes.seen) (same_file still)
+    | inl still ↦ ap (λ (bytes : DeviceFile). named_of bytes.seen) (same_file still)
     | inr goes ↦
         let seen = (unit_file old.shelf u).seen in
         let later = (unit_file new.shelf u).seen in
@@ -101,8 +101,8 @@ module _ (u : ℕ) (file after : ShelfFile) (old new : LibraryState) (call : Rea
     where
       closed : (header : Header) → look_of (unit_file new.shelf u).seen ≡ Accepted header → IsTrulyClosed (unit_file new.shelf u) header
       closed header accepted = elim (still_or_open honest) [
-        | inl still ↦ subst (λ (bytes : Bytes). IsTrulyClosed bytes header) (sym (same_file still))
-            (truly.closed header (ap (λ (bytes : Bytes). look_of bytes.seen) (sym (same_file still)) ∙ accepted))
+        | inl still ↦ subst (λ (bytes : DeviceFile). IsTrulyClosed bytes header) (sym (same_file still))
+            (truly.closed header (ap (λ (bytes : DeviceFile). look_of bytes.seen) (sym (same_file still)) ∙ accepted))
         | inr goes ↦
             let later = (unit_file new.shelf u).seen in
             let refused = refused_look later (refused_open later (goes.after later (call.image_after honest))) in
@@ -120,6 +120,6 @@ module _ (u : ℕ) (file after : ShelfFile) (old new : LibraryState) (call : Rea
             closed = λ unchanged.
                 let shut : file.pages.changed ≡ false = sym call.reads.pages.goes.gate ∙ unchanged in
                 let still = call.reads.pages.goes.still is_ready.ready.over shut in
-                subst (λ (bytes : Bytes). AreClosed after.file.schema was.rows (content bytes)) (sym (same_file still))
+                subst (λ (bytes : DeviceFile). AreClosed after.file.schema was.rows (content bytes)) (sym (same_file still))
                 (subst (λ (schema : Schema). AreClosed schema was.rows (content (unit_file old.shelf u))) (sym same_schema) (was.closed shut));
           })

@@ -7,7 +7,7 @@ use Rattle.indexed_file.specs.World.{holding_at, name_at, schema_in, is_open, is
 use Rattle.indexed_file.specs.Images.{Stays, ImagesGo, untouched}
 use Rattle.indexed_file.specs.Calls.{Keeps, OnlyReads as ReadsWorld, MayFail}
 use Rattle.indexed_file.specs.UnitCalls.{ReadsUnit}
-use Rattle.page_store.specs.File.{File as Bytes}
+use Rattle.page_store.specs.DeviceFile.{DeviceFile}
 use Rattle.page_store.specs.Moments.{Throughout}
 use Rattle.page_store.specs.ShelfState.{unit_name, unit_file}
 use Rattle.page_alloc.specs.Joining.{HasFailed}
@@ -52,14 +52,14 @@ module _ {S : Type 0} (state : S → LibraryState) (a b : S) (u : ℕ) (file aft
       let name : unit_name new.shelf u ≡ unit_name old.shelf u = name_same u (Opened after) old.shelf new.shelf old.held new.held call.units at in
       let is_g : g ≡ new.shelf.file (unit_name old.shelf u) = ap new.shelf.file name in
       record {
-        within = λ test all. subst (λ (bytes : Bytes). Throughout (Passes test) f bytes) is_g
+        within = λ test all. subst (λ (bytes : DeviceFile). Throughout (Passes test) f bytes) is_g
             (quiet_passes test f g (call.image_before (was_honest u file after old new call honest)) goes.before goes.quiet all);
-        back = λ test all. open_passes test f g (call.image_after honest) goes.before goes.after (subst (λ (bytes : Bytes). Throughout (Passes test) bytes bytes) (sym is_g) all);
+        back = λ test all. open_passes test f g (call.image_after honest) goes.before goes.after (subst (λ (bytes : DeviceFile). Throughout (Passes test) bytes bytes) (sym is_g) all);
       }
 
   stays : IsTrue new.shelf.is_honest → Stays (shown_by state).Throughout a b (unit_name old.shelf u)
   stays honest = elim (still_or_open u file after old new call honest) [
-    | inl still ↦ images_aside state a b (unit_name old.shelf u) (ap (λ (files : List ℕ → Bytes). files (unit_name old.shelf u)) still)
+    | inl still ↦ images_aside state a b (unit_name old.shelf u) (ap (λ (files : List ℕ → DeviceFile). files (unit_name old.shelf u)) still)
     | inr goes ↦ open_stays goes honest
   ]
 

@@ -6,7 +6,7 @@ use Rattle.indexed_file.specs.Moments.{Test}
 use Rattle.indexed_file.specs.World.{Unsound}
 use Rattle.file_header.specs.Reading.{header_in}
 use Rattle.file_header.proofs.ReadLemmas.{header_in_none}
-use Rattle.page_store.specs.File.{File as Bytes}
+use Rattle.page_store.specs.DeviceFile.{DeviceFile}
 use Rattle.page_store.specs.Images.{Leaves}
 use Rattle.page_store.specs.Moments.{Throughout, Quiet}
 use Rattle.page_store.proofs.MomentLemmas.{throughout_none, throughout_last, throughout_weaker}
@@ -49,13 +49,13 @@ passes_refused test None refused passes = absurd refused
 passes_refused test (Some bytes) refused passes = subst (PassesBy test bytes) (refused_look (Some bytes) refused) passes
 
 -- behind an open gate all images pass a test that they passed, however the file goes on quietly
-pub quiet_passes : (test : Test) (f g : Bytes) → Leaves f f.seen → AllOpen f → Quiet f g → Throughout (Passes test) f f → Throughout (Passes test) f g
+pub quiet_passes : (test : Test) (f g : DeviceFile) → Leaves f f.seen → AllOpen f → Quiet f g → Throughout (Passes test) f f → Throughout (Passes test) f g
 quiet_passes test f g read all quiet passes =
     let unsound : IsTrue (test Unsound) = passes_refused test f.seen (refused_open f.seen (all f.seen read)) (throughout_last (Passes test) f f passes f.seen read) in
     throughout_weaker IsOpen (Passes test) f g (λ c o. refused_passes test c (refused_open c o) unsound) (quiet_open f g all quiet)
 
 -- two files behind open gates pass the same tests
-pub open_passes : (test : Test) (f g : Bytes) → Leaves g g.seen → AllOpen f → AllOpen g → Throughout (Passes test) g g → Throughout (Passes test) f f
+pub open_passes : (test : Test) (f g : DeviceFile) → Leaves g g.seen → AllOpen f → AllOpen g → Throughout (Passes test) g g → Throughout (Passes test) f f
 open_passes test f g read all others passes =
     let unsound : IsTrue (test Unsound) = passes_refused test g.seen (refused_open g.seen (others g.seen read)) (throughout_last (Passes test) g g passes g.seen read) in
     throughout_none (Passes test) f f refl (λ c may. refused_passes test c (refused_open c (all c may)) unsound)

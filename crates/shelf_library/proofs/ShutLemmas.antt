@@ -11,14 +11,14 @@ use Rattle.indexed_file.specs.File.{File, empty_file}
 use Rattle.indexed_file.specs.Images.{Trace, ImagesGo, untouched, finishing, finished, trace_of_shut, trace_of_finish}
 use Rattle.indexed_file.specs.UnitCalls.{ShutsUnit}
 use Rattle.indexed_file.specs.World.{World, Holding, Opened as HasOpened, Broken, Named, Absent, Closed, Unsound, holding_at, named_at, name_at, schema_at, schema_in, file_at, file_in as rows_in, is_broken}
-use Rattle.page_store.specs.File.{File as Bytes}
+use Rattle.page_store.specs.DeviceFile.{DeviceFile}
 use Rattle.page_store.specs.Moments.{Throughout}
 use Rattle.page_store.proofs.MomentLemmas.{throughout_weaker}
 use Rattle.page_store.specs.ShelfState.{unit_name, unit_file}
 use Rattle.shelf_file.specs.declared.shelf_file.ShelfFile.{ShelfFile}
 use Rattle.shelf_file.specs.Named.{named_of}
 use Rattle.shelf_file.specs.Standing.{StandsFor, live_of}
-use Rattle.shelf_file.specs.Shelves.{ClosedOrRefused, Closes}
+use Rattle.shelf_file.specs.Shelves.{ClosedFileOrRefused, Closes}
 use Rattle.shelf_library.specs.declared.held.Held.TheVariants.{Nothing}
 use Rattle.shelf_library.specs.Crashes.{Passes}
 use Rattle.shelf_library.specs.Library.{shown_by}
@@ -62,7 +62,7 @@ module _ (u : ℕ) (file : ShelfFile) (result : Result (Unit {0}) Fault) (old ne
 
   -- its file is as it was
   named_stays : new.shelf.file ≡ old.shelf.file → named_at after u ≡ named_at before u
-  named_stays same = named_here ∙ ap (λ (bytes : Bytes). named_of bytes.seen) (still u file result old new call same) ∙ sym named_there
+  named_stays same = named_here ∙ ap (λ (bytes : DeviceFile). named_of bytes.seen) (still u file result old new call same) ∙ sym named_there
 
   pub shown_open : IsShownTruly old.shelf old.held (name_at before u) → IsFalse file.file.broken → IsTrulyOpen old.shelf file (unit_file old.shelf u)
   shown_open truly works =
@@ -160,30 +160,30 @@ module _ {S : Type 0} (state : S → LibraryState) (u : ℕ) (file : ShelfFile) 
   go_untouched : (state new).shelf.file ≡ (state old).shelf.file → ImagesGo (shown_by state).Throughout name untouched old new
   go_untouched same =
       images_at state u Nothing old new call.units changed_at untouched
-      (images_aside state old new (unit_name (state old).shelf u) (ap (λ (f : List ℕ → Bytes). f (unit_name (state old).shelf u)) same)) tt
+      (images_aside state old new (unit_name (state old).shelf u) (ap (λ (f : List ℕ → DeviceFile). f (unit_name (state old).shelf u)) same)) tt
 
   -- the gate is closed
   go_closed : (rows : File) (r : Result (Unit {0}) Fault) → Closes file.file.schema rows (unit_file (state old).shelf u) (unit_file (state new).shelf u) r
       → ImagesGo (shown_by state).Throughout name (trace_of_finish (Closed file.file.schema rows) r) old new
-  go_closed rows r closes = go r (subst (λ (bytes : Bytes). Closes file.file.schema rows (unit_file (state old).shelf u) bytes r) (file_is u file result (state old) (state new) call) closes)
+  go_closed rows r closes = go r (subst (λ (bytes : DeviceFile). Closes file.file.schema rows (unit_file (state old).shelf u) bytes r) (file_is u file result (state old) (state new) call) closes)
     where
-      f : Bytes
+      f : DeviceFile
       f = (state old).shelf.file (unit_name (state old).shelf u)
 
-      h : Bytes
+      h : DeviceFile
       h = (state new).shelf.file (unit_name (state old).shelf u)
 
       go : (r : Result (Unit {0}) Fault) → Closes file.file.schema rows f h r → ImagesGo (shown_by state).Throughout name (trace_of_finish (Closed file.file.schema rows) r) old new
       go (Err fault) closes =
           images_at state u Nothing old new call.units changed_at (finishing (Closed file.file.schema rows))
           (λ test passes all. let both = and_parts _ _ all in
-          throughout_weaker (ClosedOrRefused file.file.schema rows) (Passes test) f h
+          throughout_weaker (ClosedFileOrRefused file.file.schema rows) (Passes test) f h
           (λ c is. closing_passes test c file.file.schema rows is both.0 (and_parts _ _ both.1).0) closes.images)
           tt
       go (Ok done) closes =
           images_at state u Nothing old new call.units changed_at (finished (Closed file.file.schema rows))
           (λ test passes all. let both = and_parts _ _ all in
-          throughout_weaker (ClosedOrRefused file.file.schema rows) (Passes test) f h
+          throughout_weaker (ClosedFileOrRefused file.file.schema rows) (Passes test) f h
           (λ c is. closing_passes test c file.file.schema rows is both.0 (and_parts _ _ both.1).0) closes.images)
           (λ test passes. settled_passes test h file.file.schema rows closes.settled closes.closed passes)
 

@@ -2,7 +2,7 @@
 use Rattle.std.proofs.Common.{◌≡◌, ℕ, ◌≤◌, false, List, bytes_eq, Some, IsTrue, sym, ap, subst}
 use Rattle.std.proofs.lemmas.Slice.Eq.{bytes_eq-Decides}
 use Rattle.indexed_file.specs.Calls.{Keeps}
-use Rattle.indexed_file.specs.Images.{Trace, ImagesGo, MayLeave, LeavesOnly}
+use Rattle.indexed_file.specs.Images.{Trace, ImagesGo, LibraryMayLeave, LeavesOnly}
 use Rattle.indexed_file.specs.World.{name_at}
 use Rattle.page_store.specs.ShelfState.{unit_name}
 use Rattle.shelf_library.specs.State.{LibraryState, held_at}
@@ -30,7 +30,7 @@ module _ {S : Type 0} (state : S → LibraryState) (u : ℕ) (one : Held) (old n
   }
 
   -- the images of other names stay
-  pub images_at : (trace : Trace) → MayLeave (shown_by state).Throughout trace.may old new (unit_name (state old).shelf u)
+  pub images_at : (trace : Trace) → LibraryMayLeave (shown_by state).Throughout trace.may old new (unit_name (state old).shelf u)
       → LeavesOnly (shown_by state).Throughout trace.only new (unit_name (state old).shelf u)
       → ImagesGo (shown_by state).Throughout (name_at (world_of (state old).shelf (state old).held) u) trace old new
   images_at trace may only =

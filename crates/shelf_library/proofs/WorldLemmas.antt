@@ -7,7 +7,7 @@ use Rattle.std.proofs.lemmas.List.Folds.{list_any_at}
 use Rattle.std.proofs.lemmas.Slice.Eq.{bytes_eq-Decides}
 use Rattle.indexed_file.proofs.TestLemmas.{either}
 use Rattle.indexed_file.specs.World.{World, FileUnit, Named, Absent, Holding, Shut, name_in, named_in, unit_at, holding_at, named_at, name_at, with_unit, OnlyAt, attached}
-use Rattle.page_store.specs.File.{File as Bytes}
+use Rattle.page_store.specs.DeviceFile.{DeviceFile}
 use Rattle.page_store.specs.ShelfState.{ShelfState, unit_name, unit_file}
 use Rattle.shelf_file.specs.Named.{named_of}
 pub use Rattle.shelf_library.specs.WorldLaws.{named_anywhere, unit_now, name_now, holding_now, named_now}
@@ -75,7 +75,7 @@ elsewhere_same old new u within names others name =
     ∙ either (list_any (λ other. bytes_eq other name) old.names)
     ((if list_any (λ other. bytes_eq other name) old.names then Absent else named_of (new.file name).seen) ≡ elsewhere_of old name)
     (λ hit. rw hit refl)
-    (λ miss. rw miss (ap (λ (bytes : Bytes). named_of bytes.seen) (others name (λ is.
+    (λ miss. rw miss (ap (λ (bytes : DeviceFile). named_of bytes.seen) (others name (λ is.
     let same : bytes_eq (get_or old.names u []) name ≡ true = (bytes_eq-Decides (get_or old.names u []) name).1 (sym is) in
     let hit = list_any_at (λ other. bytes_eq other name) old.names u [] within same in
     let clash : true ≡ false = sym hit ∙ miss in cc))))

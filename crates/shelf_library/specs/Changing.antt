@@ -11,7 +11,7 @@ use Rattle.page_alloc.specs.Joining.{HasFailed}
 use Rattle.page_alloc.specs.Steps.{Moves}
 use Rattle.open_file.specs.Faults.{IsCausedIn}
 use Rattle.shelf_file.specs.declared.shelf_file.ShelfFile.{ShelfFile}
-use Rattle.shelf_file.specs.Calls.{OnlyReads, Changes}
+use Rattle.shelf_file.specs.Calls.{OnlyReadsFile, Changes}
 use Rattle.shelf_file.specs.Standing.{IsReady, room_in}
 use Rattle.shelf_library.specs.State.{LibraryState, held_at}
 use Rattle.shelf_library.specs.OneUnit.{AreUnits}
@@ -36,9 +36,9 @@ pub record ChangesFile {X : Type 0} (is_made : X → Bool) (answer : Schema → 
   pub changes : Changes file after old.shelf new.shelf (answer file.file.schema) (made file.file.schema) result
   pub gate : IfOk result (λ x. is_made x ≡ true → after.pages.changed ≡ true)
   -- where nothing is changed it has only read
-  pub rests : IfOk result (λ x. is_made x ≡ false → OnlyReads file after old.shelf new.shelf old.faults new.faults)
-  pub full : result ≡ Err Full → OnlyReads file after old.shelf new.shelf old.faults new.faults
-  pub broken : IsTrue file.file.broken → (result ≡ Err BrokenFile) × OnlyReads file after old.shelf new.shelf old.faults new.faults
+  pub rests : IfOk result (λ x. is_made x ≡ false → OnlyReadsFile file after old.shelf new.shelf old.faults new.faults)
+  pub full : result ≡ Err Full → OnlyReadsFile file after old.shelf new.shelf old.faults new.faults
+  pub broken : IsTrue file.file.broken → (result ≡ Err BrokenFile) × OnlyReadsFile file after old.shelf new.shelf old.faults new.faults
   pub breaks : IfErr result (λ e. e ≢ Full → IsTrue after.file.broken)
   pub unbroken : OnOk result (IsFalse after.file.broken)
   pub cause : IfErr result (IsCausedIn file.file.broken (HasFailed old.faults new.faults) LacksRoom)

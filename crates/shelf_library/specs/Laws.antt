@@ -10,7 +10,7 @@ use Rattle.indexed_file.specs.Sound.{is_file}
 use Rattle.indexed_file.specs.SoundWorld.{ShowsFiles, ShowsFilesAt, is_sound_named, is_sound_holding}
 use Rattle.indexed_file.specs.World.{FileUnit, Named, Absent, Closed, Unsound, Holding, Shut, Broken, Opened as HasOpened, unit_at, holding_at, name_at}
 use Rattle.record_layout.specs.Schema.{Schema}
-use Rattle.page_store.specs.File.{File as Bytes, content}
+use Rattle.page_store.specs.DeviceFile.{DeviceFile, content}
 use Rattle.page_store.proofs.MomentLemmas.{throughout_then, throughout_last, throughout_none, throughout_weaker}
 use Rattle.page_store.specs.ShelfState.{ShelfState, unit_name, unit_file}
 use Rattle.page_alloc.specs.Joining.{available_of}
@@ -53,7 +53,7 @@ widens test wider old new name weaker = throughout_weaker (Passes test) (Passes 
 
 -- ---- what is shown truly is a file
 
-closed_file : (bytes : Bytes) (header : Header) → look_of bytes.seen ≡ Accepted header → IsTrulyClosed bytes header → IsTrue (is_sound_named (named_of bytes.seen))
+closed_file : (bytes : DeviceFile) (header : Header) → look_of bytes.seen ≡ Accepted header → IsTrulyClosed bytes header → IsTrue (is_sound_named (named_of bytes.seen))
 closed_file bytes header is truly =
     let there = accepted_there bytes header is in
     let back = reads_back header (content bytes) truly.rows (ap look_of (sym there) ∙ is) truly.stands in
@@ -61,7 +61,7 @@ closed_file bytes header is truly =
     let sound : IsTrue (is_file header.schema truly.rows) = subst (λ (s : Schema). IsTrue (is_file s truly.rows)) schema truly.stands.stands.sound in
     subst (λ (named : Named). IsTrue (is_sound_named named)) (sym (accepted_named bytes header is ∙ ap (Closed header.schema) back)) sound
 
-named_files : (bytes : Bytes) → ((header : Header) → look_of bytes.seen ≡ Accepted header → IsTrulyClosed bytes header) → IsTrue (is_sound_named (named_of bytes.seen))
+named_files : (bytes : DeviceFile) → ((header : Header) → look_of bytes.seen ≡ Accepted header → IsTrulyClosed bytes header) → IsTrue (is_sound_named (named_of bytes.seen))
 named_files bytes truly = go bytes.seen refl
   where
     by_look : (seen : List ℕ) (look : Look) → look_of (Some seen) ≡ look → bytes.seen ≡ Some seen → IsTrue (is_sound_named (named_by seen look))

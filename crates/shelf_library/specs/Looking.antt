@@ -1,7 +1,7 @@
 -- What a look leaves of a library.
 use Rattle.std.specs.Prelude.{◌≡◌, ℕ, ◌<◌, List, length, slice_set, Result, IfOk, IsTrue}
 use Rattle.io_state.specs.declared.fault.Fault.{Fault}
-use Rattle.page_store.specs.ShelfState.{OnlyReads, HasCause, unit_file}
+use Rattle.page_store.specs.ShelfState.{OnlyAnswers, FaultHasCause, unit_file}
 use Rattle.shelf_file.specs.declared.look.Look.{Look}
 use Rattle.shelf_file.specs.Named.{look_of}
 use Rattle.shelf_file.specs.Shelves.{HasHeader}
@@ -18,5 +18,5 @@ pub record LooksAt (u : ℕ) (look : Result Look Fault) (old new : LibraryState)
   -- what the shelf answered
   pub found : IsTrue new.shelf.is_honest → IfOk look (λ look. look ≡ look_of (unit_file old.shelf u).seen)
   pub header : IfOk look HasHeader
-  pub only : OnlyReads old.shelf new.shelf
-  pub cause : HasCause old.faults new.faults look
+  pub only : OnlyAnswers old.shelf new.shelf
+  pub cause : FaultHasCause old.faults new.faults look

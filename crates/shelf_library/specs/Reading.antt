@@ -2,13 +2,13 @@
 use Rattle.std.specs.Prelude.{◌≡◌, ℕ, ◌<◌, length, slice_set, IsTrue}
 use Rattle.indexed_file.specs.File.{File}
 use Rattle.indexed_file.specs.World.{Opened as HasOpened, holding_at}
-use Rattle.page_store.specs.File.{File as Bytes}
+use Rattle.page_store.specs.DeviceFile.{DeviceFile}
 use Rattle.page_store.specs.Images.{Leaves}
 use Rattle.page_store.specs.Moments.{Quiet}
 use Rattle.page_store.specs.Gate.{AllOpen}
 use Rattle.page_store.specs.ShelfState.{unit_file}
 use Rattle.shelf_file.specs.declared.shelf_file.ShelfFile.{ShelfFile}
-use Rattle.shelf_file.specs.Calls.{OnlyReads}
+use Rattle.shelf_file.specs.Calls.{OnlyReadsFile}
 use Rattle.shelf_file.specs.Standing.{StandsFor}
 use Rattle.shelf_library.specs.State.{LibraryState, held_at}
 use Rattle.shelf_library.specs.Units.{world_of}
@@ -22,13 +22,13 @@ pub record ReadsAt (u : ℕ) (file after : ShelfFile) (old new : LibraryState) :
   pub opened : held_at old.held u ≡ Opened file
   pub holds : new.held ≡ slice_set old.held u (Opened after)
   pub limit : new.limit ≡ old.limit
-  pub reads : OnlyReads file after old.shelf new.shelf old.faults new.faults
+  pub reads : OnlyReadsFile file after old.shelf new.shelf old.faults new.faults
   -- what reads give is one of the images
   pub image_before : IsTrue old.shelf.is_honest → Leaves (unit_file old.shelf u) (unit_file old.shelf u).seen
   pub image_after : IsTrue new.shelf.is_honest → Leaves (unit_file new.shelf u) (unit_file new.shelf u).seen
 
 -- a file behind an open gate went on quietly
-pub record GoesOpen (old new : Bytes) : Type 0 where
+pub record GoesOpen (old new : DeviceFile) : Type 0 where
   pub before : AllOpen old
   pub after : AllOpen new
   pub quiet : Quiet old new

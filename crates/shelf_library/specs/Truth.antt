@@ -1,7 +1,7 @@
 -- When what a library over a shelf shows is what its files are.
 use Rattle.std.specs.Prelude.{◌≡◌, ℕ, ◌<◌, List, length, false, IsFalse}
 use Rattle.indexed_file.specs.File.{File}
-use Rattle.page_store.specs.File.{File as Bytes, content}
+use Rattle.page_store.specs.DeviceFile.{DeviceFile, content}
 use Rattle.page_store.specs.ShelfState.{ShelfState, unit_name}
 use Rattle.file_header.specs.declared.header.Header.{Header}
 use Rattle.shelf_file.specs.declared.look.Look.TheVariants.{Accepted}
@@ -14,12 +14,12 @@ use Rattle.shelf_library.specs.declared.held.Held.{Held}
 use Rattle.shelf_library.specs.declared.held.Held.TheVariants.{Opened}
 
 -- a file whose first page is accepted stands for some rows
-pub record IsTrulyClosed (bytes : Bytes) (header : Header) : Type 0 where
+pub record IsTrulyClosed (bytes : DeviceFile) (header : Header) : Type 0 where
   pub rows : File
   pub stands : StandsIn header (content bytes) rows
 
 -- an open file stands for some rows, and where it was not changed so does the closed one
-pub record IsTrulyOpen (shelf : ShelfState) (file : ShelfFile) (bytes : Bytes) : Type 0 where
+pub record IsTrulyOpen (shelf : ShelfState) (file : ShelfFile) (bytes : DeviceFile) : Type 0 where
   pub rows : File
   pub stands : StandsFor file shelf rows
   pub closed : file.pages.changed ≡ false → AreClosed file.file.schema rows (content bytes)

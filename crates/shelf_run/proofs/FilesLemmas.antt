@@ -3,7 +3,7 @@ use Rattle.std.proofs.Common.{◌≡◌, ℕ, ◌<◌, Bool, true, false, List, 
 use Rattle.std.specs.List.{list_all}
 use Rattle.indexed_file.specs.Moments.{Test}
 use Rattle.indexed_file.specs.World.{World, Named, named_in}
-use Rattle.page_store.specs.File.{File as Bytes, content, bytes_or_none}
+use Rattle.page_store.specs.DeviceFile.{DeviceFile, content, bytes_or_none}
 use Rattle.page_store.specs.Images.{Leaves}
 use Rattle.page_store.specs.ShelfState.{ShelfState, unit_name}
 use Rattle.file_header.specs.declared.header.Header.{Header}
@@ -17,7 +17,7 @@ use Rattle.shelf_library.specs.Truth.{IsShownTruly, IsTrulyClosed}
 use Rattle.shelf_library.specs.Units.{world_of}
 use Rattle.shelf_library.specs.WorldLaws.{named_anywhere}
 use Rattle.shelf_library.specs.declared.held.Held.{Held}
-use Rattle.shelf_run.specs.Files.{files_of, IsSound}
+use Rattle.shelf_run.specs.Files.{files_of, IsSoundImage}
 
 -- ---- what names stand for
 
@@ -35,11 +35,11 @@ named_same shelf held (name ∷ names) many =
 
 -- ---- what is sound
 
-pub sound_if_closed : (bytes : Bytes) → ((header : Header) → look_of bytes.seen ≡ Accepted header → IsTrulyClosed bytes header) → IsSound bytes.seen
+pub sound_if_closed : (bytes : DeviceFile) → ((header : Header) → look_of bytes.seen ≡ Accepted header → IsTrulyClosed bytes header) → IsSoundImage bytes.seen
 sound_if_closed bytes truly = λ header is. let closed = truly header is in (closed.rows, closed.stands)
 
 -- what is sound is shown truly by a library that holds nothing
-pub shown_truly : (shelf : ShelfState) (name : List ℕ) → shelf.names ≡ [] → IsSound (shelf.file name).seen → IsShownTruly shelf [] name
+pub shown_truly : (shelf : ShelfState) (name : List ℕ) → shelf.names ≡ [] → IsSoundImage (shelf.file name).seen → IsShownTruly shelf [] name
 shown_truly shelf name none sound = record {
   closed = λ header is. let rows = sound header is in record { rows = rows.0; stands = rows.1 };
   opened = λ u file within named is. absurd (let no = ap (λ (names : List (List ℕ)). length names) none in omega (arith, within, no));
@@ -55,16 +55,16 @@ pub all_any : (these : List Named) → IsTrue (list_all any these)
 all_any [] = refl
 all_any (one ∷ these) = all_any these
 
-passes_by : (bytes : List ℕ) (look : Look) → look_of (Some bytes) ≡ look → IsSound (Some bytes) → PassesBy any bytes look
+passes_by : (bytes : List ℕ) (look : Look) → look_of (Some bytes) ≡ look → IsSoundImage (Some bytes) → PassesBy any bytes look
 passes_by bytes NoFile is sound = refl
 passes_by bytes Refused is sound = refl
 passes_by bytes (Accepted header) is sound = let rows = sound header is in record { rows = rows.0; stands = rows.1; passes = refl }
 
 -- an image passes that test where it is sound
-pub image_passes : (c : Option (List ℕ)) → IsSound c → Passes any c
+pub image_passes : (c : Option (List ℕ)) → IsSoundImage c → Passes any c
 image_passes None sound = refl
 image_passes (Some bytes) sound = passes_by bytes (look_of (Some bytes)) refl sound
 
-pub image_sound : (c : Option (List ℕ)) → Passes any c → IsSound c
+pub image_sound : (c : Option (List ℕ)) → Passes any c → IsSoundImage c
 image_sound None passes = λ header is. absurd (cc)
 image_sound (Some bytes) passes = λ header is. let closed = subst (λ (look : Look). PassesBy any bytes look) is passes in (closed.rows, closed.stands)

@@ -14,7 +14,7 @@ use Rattle.deck_runner.specs.Steps.{AreStepsOf, until_stop, closes_from}
 use Rattle.shelf_library.specs.Crashes.{Passes, AllPass}
 use Rattle.shelf_library.specs.Laws.{joins}
 use Rattle.shelf_library.specs.State.{LibraryState}
-use Rattle.shelf_run.specs.Files.{IsSound, AreImagesSound, AreSoundThroughout}
+use Rattle.shelf_run.specs.Files.{IsSoundImage, AreImagesSound, AreSoundThroughout}
 use Rattle.shelf_run.specs.ShelfRun.{shown_in}
 use Rattle.shelf_run.proofs.FilesLemmas.{any, all_any, image_passes, image_sound}
 

@@ -4,7 +4,7 @@ use Rattle.std.proofs.lemmas.List.Elements.{All-weaker}
 use Rattle.std.specs.Io.KnownBytes.{Appends}
 use Rattle.indexed_file.specs.Calls.{Keeps}
 use Rattle.indexed_file.specs.World.{World, Named, named_in}
-use Rattle.page_store.specs.File.{File as Bytes}
+use Rattle.page_store.specs.DeviceFile.{DeviceFile}
 use Rattle.page_store.specs.Images.{Leaves}
 use Rattle.page_store.specs.Moments.{Throughout}
 use Rattle.page_store.proofs.MomentLemmas.{throughout_none, throughout_weaker}
@@ -24,7 +24,7 @@ use Rattle.shelf_library.specs.Truth.{IsShownTruly}
 use Rattle.shelf_library.specs.Units.{world_of}
 use Rattle.shelf_library.specs.WorldLaws.{named_anywhere}
 use Rattle.shelf_library.specs.declared.held.Held.{Held}
-use Rattle.shelf_run.specs.Files.{files_of, IsSound, AreSound, AreImagesSound, AreSoundThroughout}
+use Rattle.shelf_run.specs.Files.{files_of, IsSoundImage, AreSound, AreImagesSound, AreSoundThroughout}
 use Rattle.shelf_run.specs.ShelfRun.{OnShelf, IsExactRun, RunsBy, Runs, BreaksOff, LeavesFiles, StaysSound, shown_in, over}
 use Rattle.shelf_run.proofs.FilesLemmas.{world_at_first, named_same, sound_if_closed, shown_truly, any, image_passes, image_sound}
 use Rattle.shelf_run.proofs.StatesLemmas.{stays, runs_whole, runs_in_part}
@@ -36,7 +36,7 @@ module _ (old new : LibraryState) (none : old.shelf.names ≡ []) (empty : old.h
   first_world : world_of old.shelf old.held ≡ files_of old.shelf
   first_world = rw empty (world_at_first old.shelf none)
 
-  truly : (name : List ℕ) → IsSound (old.shelf.file name).seen → IsShownTruly old.shelf old.held name
+  truly : (name : List ℕ) → IsSoundImage (old.shelf.file name).seen → IsShownTruly old.shelf old.held name
   truly name sound = rw empty (shown_truly old.shelf name none sound)
 
   elsewhere : (deck : Deck) → SameElsewhere deck (world_of old.shelf old.held) (world_of new.shelf new.held) → SameElsewhere deck (files_of old.shelf) (files_of new.shelf)
@@ -55,7 +55,7 @@ module _ (old new : LibraryState) (none : old.shelf.names ≡ []) (empty : old.h
   -- ---- where the files were sound
 
   all_truly : (deck : Deck) → AreSound old.shelf deck → All (shown_in.IsShownTruly old) (file_names deck.files)
-  all_truly deck = All-weaker (λ name. IsSound (old.shelf.file name).seen) (shown_in.IsShownTruly old) truly (file_names deck.files)
+  all_truly deck = All-weaker (λ name. IsSoundImage (old.shelf.file name).seen) (shown_in.IsShownTruly old) truly (file_names deck.files)
 
   pub exact_run : (bytes : List ℕ) (written written_after : Option (List ℕ)) (end : RunEnd)
       → OfDeck shown_in bytes old new (λ deck. WhereFilesAreTrue shown_in old new deck
@@ -73,21 +73,21 @@ module _ (old new : LibraryState) (none : old.shelf.names ≡ []) (empty : old.h
 
   -- ---- what a crash may leave
 
-  real_at_first : (name : List ℕ) → ((c : Option (List ℕ)) → Leaves (old.shelf.file name) c → IsSound c) → AreReal old old name
+  real_at_first : (name : List ℕ) → ((c : Option (List ℕ)) → Leaves (old.shelf.file name) c → IsSoundImage c) → AreReal old old name
   real_at_first name sound = throughout_none _ (old.shelf.file name) (old.shelf.file name) refl (λ c leaves. image_passes c (sound c leaves))
 
-  sound_throughout : (name : List ℕ) → AreReal old new name → Throughout IsSound (old.shelf.file name) (new.shelf.file name)
-  sound_throughout name = throughout_weaker _ IsSound (old.shelf.file name) (new.shelf.file name) image_sound
+  sound_throughout : (name : List ℕ) → AreReal old new name → Throughout IsSoundImage (old.shelf.file name) (new.shelf.file name)
+  sound_throughout name = throughout_weaker _ IsSoundImage (old.shelf.file name) (new.shelf.file name) image_sound
 
   no_false_file : (deck : Deck) (AreSuch : Judged LibraryState → List Line → Judged LibraryState → Type 0) (lines : List Line)
       → ((name : List ℕ) (before after : Judged LibraryState) → AreReal old old name → AreSuch before lines after → AreReal old before.point.library name → AreReal old after.point.library name)
       → DeckRuns shown_in old new deck AreSuch lines → IsTrue new.shelf.is_honest → AreImagesSound old.shelf deck → AreSoundThroughout old.shelf new.shelf deck
   no_false_file deck AreSuch lines goes runs honest sound =
       let was = keeps.honest honest in
-      let now = All-weaker (λ name. (c : Option (List ℕ)) → Leaves (old.shelf.file name) c → IsSound c) (λ name. IsSound (old.shelf.file name).seen)
+      let now = All-weaker (λ name. (c : Option (List ℕ)) → Leaves (old.shelf.file name) c → IsSoundImage c) (λ name. IsSoundImage (old.shelf.file name).seen)
       (λ name all. all (old.shelf.file name).seen (an_image name was)) (file_names deck.files) sound in
       let is = runs.stretches honest (all_truly deck now) in
-      All-weaker (λ name. (c : Option (List ℕ)) → Leaves (old.shelf.file name) c → IsSound c) (λ name. Throughout IsSound (old.shelf.file name) (new.shelf.file name))
+      All-weaker (λ name. (c : Option (List ℕ)) → Leaves (old.shelf.file name) c → IsSoundImage c) (λ name. Throughout IsSoundImage (old.shelf.file name) (new.shelf.file name))
       (λ name all.
       let real = real_at_first name all in
       let begun : AreReal old is.0 name = (is.2.images name).within any real in

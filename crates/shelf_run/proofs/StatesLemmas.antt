@@ -1,6 +1,6 @@
 -- A run over a library, by the states of the library.
 use Rattle.std.proofs.Common.{◌≡◌, ◌⊎◌, ℕ, true, List, [], ◌∷◌, ◌++◌, slice_get, Option, Some, None, IsTrue, inl, inr, refl, ap}
-use Rattle.indexed_file.specs.Images.{Trace, Stays, MayLeave, LeavesOnly, ImagesGo}
+use Rattle.indexed_file.specs.Images.{Trace, Stays, LibraryMayLeave, LeavesOnly, ImagesGo}
 use Rattle.indexed_file.specs.World.{Named}
 use Rattle.io_state.specs.declared.statement.FileStatement.{FileStatement}
 use Rattle.procedure_division.specs.declared.statement.Statement.{Statement}
@@ -26,7 +26,7 @@ module _ {S : Type 0} (state : S → LibraryState) where
   pub stays : (old new : S) (name : List ℕ) → Stays (shown_by state).Throughout old new name → Stays shown_in.Throughout (state old) (state new) name
   stays old new name is = record { within = is.within; back = is.back }
 
-  may_leave : (these : List Named) (old new : S) (name : List ℕ) → MayLeave (shown_by state).Throughout these old new name → MayLeave shown_in.Throughout these (state old) (state new) name
+  may_leave : (these : List Named) (old new : S) (name : List ℕ) → LibraryMayLeave (shown_by state).Throughout these old new name → LibraryMayLeave shown_in.Throughout these (state old) (state new) name
   may_leave [] old new name may = stays old new name may
   may_leave (one ∷ these) old new name may = may
 

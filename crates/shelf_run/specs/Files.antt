@@ -2,7 +2,7 @@
 use Rattle.std.specs.Prelude.{◌≡◌, ℕ, List, [], All, Option}
 use Rattle.indexed_file.specs.File.{File}
 use Rattle.indexed_file.specs.World.{World}
-use Rattle.page_store.specs.File.{bytes_or_none}
+use Rattle.page_store.specs.DeviceFile.{bytes_or_none}
 use Rattle.page_store.specs.Images.{Leaves}
 use Rattle.page_store.specs.Moments.{Throughout}
 use Rattle.page_store.specs.ShelfState.{ShelfState}
@@ -17,17 +17,18 @@ abbrev pub files_of : ShelfState → World
 files_of shelf = record { units = []; elsewhere = λ name. named_of (shelf.file name).seen }
 
 -- there is no file, or its first page is refused, as that of a file whose gate is open; or its gate is closed, and it stands for rows
-abbrev pub IsSound : Option (List ℕ) → Type 0
-IsSound c = (header : Header) → look_of c ≡ Accepted header → (rows : File) × StandsIn header (bytes_or_none c) rows
+abbrev pub IsSoundImage : Option (List ℕ) → Type 0
+IsSoundImage c =
+    (header : Header) → look_of c ≡ Accepted header → (rows : File) × StandsIn header (bytes_or_none c) rows
 
 -- what a read gives of each of the deck's files is sound
 abbrev pub AreSound : ShelfState → Deck → Type 0
-AreSound shelf deck = All (λ name. IsSound (shelf.file name).seen) (file_names deck.files)
+AreSound shelf deck = All (λ name. IsSoundImage (shelf.file name).seen) (file_names deck.files)
 
 -- what a crash may leave of each of them now is sound
 abbrev pub AreImagesSound : ShelfState → Deck → Type 0
-AreImagesSound shelf deck = All (λ name. (c : Option (List ℕ)) → Leaves (shelf.file name) c → IsSound c) (file_names deck.files)
+AreImagesSound shelf deck = All (λ name. (c : Option (List ℕ)) → Leaves (shelf.file name) c → IsSoundImage c) (file_names deck.files)
 
 -- and so is what a crash may leave at each moment from the one shelf to the other
 abbrev pub AreSoundThroughout : ShelfState → ShelfState → Deck → Type 0
-AreSoundThroughout old new deck = All (λ name. Throughout IsSound (old.file name) (new.file name)) (file_names deck.files)
+AreSoundThroughout old new deck = All (λ name. Throughout IsSoundImage (old.file name) (new.file name)) (file_names deck.files)

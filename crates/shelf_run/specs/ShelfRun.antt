@@ -14,7 +14,7 @@ use Rattle.shelf_library.specs.Crashes.{AllPass}
 use Rattle.shelf_library.specs.Library.{shown_by}
 use Rattle.shelf_library.specs.State.{LibraryState}
 use Rattle.shelf_library.specs.declared.held.Held.{Held}
-use Rattle.shelf_run.specs.Files.{files_of, IsSound, AreSound, AreImagesSound, AreSoundThroughout}
+use Rattle.shelf_run.specs.Files.{files_of, IsSoundImage, AreSound, AreImagesSound, AreSoundThroughout}
 
 -- the bytes are a deck, this is so of it, and no name but those of its files is touched
 abbrev pub OnShelf : List ℕ → (old new : ShelfState) → (Deck → Type 0) → Type 0
@@ -58,4 +58,4 @@ pub record LeavesFiles (old new : ShelfState) : Type 0 where
 
 -- what is sound stays so: the promise at the end of a run is the premise of the next
 abbrev pub StaysSound : (old new : ShelfState) → Type 0
-StaysSound old new = IsTrue new.is_honest → (name : List ℕ) → IsSound (old.file name).seen → IsSound (new.file name).seen
+StaysSound old new = IsTrue new.is_honest → (name : List ℕ) → IsSoundImage (old.file name).seen → IsSoundImage (new.file name).seen

@@ -1,6 +1,6 @@
 //! The run.
 ghost use Rattle.std.specs.Prelude.{◌≡◌, ◌≢◌, ◌≤◌, [], true, IfOk, IfErr};
-ghost use Rattle.deck_runner.specs.DeckRun.{IsRefused};
+ghost use Rattle.deck_runner.specs.DeckRun.{IsRefusedDeck};
 ghost use Rattle.deck_runner.specs.RunEnd.{Told, ToldInPart};
 ghost use Rattle.shelf_run.specs.ShelfRun.{OnShelf, IsExactRun, Runs, BreaksOff, LeavesFiles, StaysSound};
 
@@ -37,7 +37,7 @@ pub fn run_on_shelf<S: Shelf, W: Write>(
         (BreaksOff limit (S.state shelf) (S.state result.0) (S.fault_count shelf) (S.fault_count result.0) deck))) }
     ensures nothing { IfErr result.1 (λ fault. fault ≢ RunFault.Output →
         (out.new ≡ out.old) × LeavesFiles (S.state shelf) (S.state result.0)) }
-    ensures refused { IfErr result.1 (IsRefused bytes.now) }
+    ensures refused { IfErr result.1 (IsRefusedDeck bytes.now) }
     ensures sound { StaysSound (S.state shelf) (S.state result.0) }
 {
     let mut library = ShelfLibrary::new(alloc, shelf, limit, frames);

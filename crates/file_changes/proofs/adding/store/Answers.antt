@@ -5,7 +5,7 @@ use Rattle.file_changes.proofs.adding.store.Goals as goal
 pub returns-clause-put : goal.returns-clause-put
 returns-clause-put g c honest sound slots primes entries p =
     let opened = c.args.opened.now in
-    let added = (rw (c.as_slice.ensures.value, c.stamped-slot.ensures.stored) at c.add.ensures.added) honest sound slots _ p.heap_stands in
+    let added = (rw (c.as_slice.ensures.value, c.new_stamps-stamps.ensures.stored c.args.bytes.now) at c.add.ensures.added) honest sound slots _ p.heap_stands in
     record {
       answer = if_ok c.add.result _ _ (λ place done. (
         record {

@@ -1,6 +1,6 @@
 use Rattle.std.proofs.Common.{refl, sym, subst, arith}
 use Rattle.record_heap.specs.Standing.{HeapStands}
-use Rattle.open_file.specs.Parts.{own_at}
+use Rattle.page_marks.specs.Parted.{own_at}
 use Rattle.open_file.specs.Stored.{stored}
 use Rattle.open_file.proofs.ExitLemmas.{fails}
 use Rattle.file_changes.proofs.FoundLemmas.{leads_to, old_is, none_is}

@@ -4,7 +4,7 @@ use Rattle.std.proofs.lemmas.Slice.Eq.{bytes_eq-Decides}
 use Rattle.byteorder.specs.Endian.{big_number}
 use Rattle.page_marks.specs.PageList.{pages_in}
 use Rattle.record_heap.specs.Standing.{slot_off}
-use Rattle.key_index.specs.Stored.{prime_entry}
+use Rattle.key_index.specs.Stored.{prime_entry_in}
 use Rattle.open_file.proofs.PartsLemmas.{from_eq}
 use Rattle.row_checks.specs.Rows.{place_at}
 use Rattle.row_checks.proofs.StampLemmas.{rest_from}
@@ -19,7 +19,7 @@ returns-then-read_u64-stamp c = λ yes. elim c.if-eq.branch [
       let list = c.args.pages.now in
       let e = c.args.entry_bytes.now in
       let width = c.args.index.width in
-      let place : place_at file list c.args.leader ≡ c.place_in.result = ap (λ (x : List ℕ). (prime_entry file.prime.width x).place) (sym c.in-Some.ensures.value) ∙ sym c.place_in.ensures in
+      let place : place_at file list c.args.leader ≡ c.place_in.result = ap (λ (x : List ℕ). (prime_entry_in file.prime.width x).place) (sym c.in-Some.ensures.value) ∙ sym c.place_in.ensures in
       let there : slot_off file.heap (pages_in list) (place_at file list c.args.leader) ≡ Some c.in-Some-stored_at.stored.now =
       ap (slot_off file.heap (pages_in list)) place ∙ sym c.stored_at.ensures.value ∙ ap (λ (o : Option (Bor (List ℕ))). option_copied o) c.in-Some-stored_at.is in
       let value = (bytes_eq-Decides (take width e) c.value.result.now).0 (sym c.eq.ensures ∙ w.if-eq.true) in

@@ -33,7 +33,7 @@ returns-in_err-deliver-clause-found g c honest file stands =
     let same = g.met.P.Pages.reads_live pages stepped c.step_in_alternate.ensures.reads before in
     let still = subst (λ (p : PageMap). Stands c.step_in_alternate.new.self p file) (sym same) (c.step_in_alternate.ensures.stands before file stands) in
     let found = (rw c.in-Some.is at c.in_ok-entry.ensures.found before file stands).answer in
-    let sound = alt_not_read c.args.self.now c.step_in_alternate.new.self c.args.k c.alternate-index.result c.step_in_alternate.ensures.rest c.requires.some c.requires.within c.alternate-index.ensures
+    let sound = alt_not_read c.args.self.now c.step_in_alternate.new.self c.args.k c.step_in_alternate.ensures.rest
     (g.P.Pages.state c.args.pages.now).live file stands c.args.position.now c.in-Some.entry (sym found) c.args.area.now c.deliver.new.area c.in_err-deliver.field-0.0 (c.in_err-deliver.ensures.found honest file still) in
     fails_reading c.from_residual-in_err-deliver.result _ c.from_residual-in_err-deliver.ensures.1 sound _ _ _ _
 
@@ -50,7 +50,7 @@ returns-clause-found g c honest file stands =
     let same = g.met.P.Pages.reads_live pages stepped c.step_in_alternate.ensures.reads before in
     let still = subst (λ (p : PageMap). Stands c.step_in_alternate.new.self p file) (sym same) (c.step_in_alternate.ensures.stands before file stands) in
     let found = (rw c.in-Some.is at c.in_ok-entry.ensures.found before file stands).answer in
-    alt_read c.args.self.now c.step_in_alternate.new.self c.args.k c.alternate-index.result c.step_in_alternate.ensures.rest c.requires.some c.requires.within c.alternate-index.ensures
+    alt_read c.args.self.now c.step_in_alternate.new.self c.args.k c.step_in_alternate.ensures.rest
     (g.P.Pages.state c.args.pages.now).live file stands c.args.position.now c.in-Some.entry (sym found) c.args.area.now c.deliver.new.area c.in_ok-deliver.field-0 (c.in_ok-deliver.ensures.found honest file still)
 
 pub returns-clause-stands : goal.returns-clause-stands

@@ -3,7 +3,7 @@ use Rattle.indexed_file.specs.Answers.{added_answer}
 use Rattle.indexed_file.specs.Room.{is_full_to_add}
 use Rattle.file_changes.specs.Adding.{file_after_add, HasAdded}
 use Rattle.shelf_file.specs.Standing.{room_in}
-use Rattle.shelf_file.specs.Calls.{OnlyReads, Changes, IsFull}
+use Rattle.shelf_file.specs.Calls.{OnlyReadsFile, Changes, IsFull}
 use Rattle.shelf_file.proofs.StepLemmas.{reads_same, answer_map, at_end}
 use Rattle.shelf_file.proofs.shelf_file.ShelfFile.add.Goals as goal
 
@@ -16,7 +16,7 @@ returns-clause-added g c =
 
 pub returns-clause-clash : goal.returns-clause-clash
 returns-clause-clash g c =
-    λ is. at_end (λ s. OnlyReads c.args.self.now (record { file = c.add.new.opened; pages = c.add.new.pages.file.now }) (g.S.Shelf.state c.args.shelf.now) (g.S.Shelf.state s) (g.S.Shelf.fault_count c.args.shelf.now) (g.S.Shelf.fault_count s))
+    λ is. at_end (λ s. OnlyReadsFile c.args.self.now (record { file = c.add.new.opened; pages = c.add.new.pages.file.now }) (g.S.Shelf.state c.args.shelf.now) (g.S.Shelf.state s) (g.S.Shelf.fault_count c.args.shelf.now) (g.S.Shelf.fault_count s))
     _ _ c.shelf-1.given.1 c.add.ensures.moves.1
     (reads_same c.args.self.now (record { file = c.add.new.opened; pages = c.add.new.pages.file.now }) _ _ _ _ (c.add.ensures.clash is).0 (c.add.ensures.clash is).1.2)
 
@@ -24,7 +24,7 @@ pub returns-clause-broken : goal.returns-clause-broken
 returns-clause-broken g c =
     λ is. (
       (c.add.ensures.broken is).0,
-      at_end (λ s. OnlyReads c.args.self.now (record { file = c.add.new.opened; pages = c.add.new.pages.file.now }) (g.S.Shelf.state c.args.shelf.now) (g.S.Shelf.state s) (g.S.Shelf.fault_count c.args.shelf.now) (g.S.Shelf.fault_count s))
+      at_end (λ s. OnlyReadsFile c.args.self.now (record { file = c.add.new.opened; pages = c.add.new.pages.file.now }) (g.S.Shelf.state c.args.shelf.now) (g.S.Shelf.state s) (g.S.Shelf.fault_count c.args.shelf.now) (g.S.Shelf.fault_count s))
           _ _ c.shelf-1.given.1 c.add.ensures.moves.1
           (reads_same c.args.self.now (record { file = c.add.new.opened; pages = c.add.new.pages.file.now }) _ _ _ _ (c.add.ensures.broken is).1 (c.add.ensures.broken is).2.2),
     )

@@ -2,7 +2,7 @@ use Rattle.std.proofs.Common.{IsTrue}
 use Rattle.indexed_file.specs.Rank.{has_value}
 use Rattle.open_file.specs.Reading.{Delivers}
 use Rattle.shelf_file.specs.Standing.{live_of}
-use Rattle.shelf_file.specs.Calls.{OnlyReads}
+use Rattle.shelf_file.specs.Calls.{OnlyReadsFile}
 use Rattle.shelf_file.proofs.StepLemmas.{only_reads, at_end}
 use Rattle.shelf_file.proofs.shelf_file.ShelfFile.by_key.Goals as goal
 
@@ -14,6 +14,6 @@ returns-clause-found g c =
 
 pub returns-clause-reads : goal.returns-clause-reads
 returns-clause-reads g c =
-    at_end (λ s. OnlyReads c.args.self.now (record { file = c.args.self.now.file; pages = c.by_key.new.pages.file.now }) (g.S.Shelf.state c.args.shelf.now) (g.S.Shelf.state s)
+    at_end (λ s. OnlyReadsFile c.args.self.now (record { file = c.args.self.now.file; pages = c.by_key.new.pages.file.now }) (g.S.Shelf.state c.args.shelf.now) (g.S.Shelf.state s)
     (g.S.Shelf.fault_count c.args.shelf.now) (g.S.Shelf.fault_count s))
     _ _ c.shelf-1.given.1 c.by_key.ensures.reads.1 (only_reads c.args.self.now.file _ _ _ _ _ _ c.by_key.ensures.reads.2)

@@ -1,4 +1,5 @@
-use Rattle.std.proofs.Common.{length, false, IsTrue, OnErr, IfErr, inr}
+use Rattle.std.proofs.Common.{◌≢◌, length, false, IsTrue, OnErr, IfErr, inr}
+use Rattle.io_state.specs.declared.fault.Fault.TheVariants.{Damage}
 use Rattle.page_store.specs.Gate.{WasOrRefused}
 use Rattle.page_store.specs.Moments.{Throughout}
 use Rattle.page_store.specs.ShelfState.{unit_file, FileGoes}
@@ -31,6 +32,17 @@ returns-in_err-file-clause-cause g c =
     (handed_on c.from_residual-in_err-file.result c.in_err-file.field-0.0 _ c.from_residual-in_err-file.ensures.1
     (made_cause c.args.unit c.args.limit c.in_ok-pages.pages _ _ _ _ _ c.in_ok-pages.ensures.made c.in_ok-pages.ensures.ready c.create-2.ensures.goes.2
     (g.S.Shelf.fault_count c.args.shelf.now) (length c.args.schema.now.keys) c.in_err-file.field-0.0 c.create.ensures.cause.no_fewer c.requires.limit c.key_count-keys.ensures.schema.few c.in_err-file.ensures.cause))
+
+pub returns-in_err-file-clause-damage : goal.returns-in_err-file-clause-damage
+returns-in_err-file-clause-damage g c =
+    let a = c.in_ok-pages.pages in
+    let made = c.in_ok-pages.ensures.made in
+    let ready = c.in_ok-pages.ensures.ready in
+    let goes = c.create-2.ensures.goes.2 in
+    at_end (λ s. IsTrue (g.S.Shelf.state s).is_honest → IfErr c.from_residual-in_err-file.result (λ e. e ≢ Damage))
+    _ _ c.shelf-1.given.1 c.create-2.ensures.goes.1
+    (λ honest. handed_on c.from_residual-in_err-file.result c.in_err-file.field-0.0 _ c.from_residual-in_err-file.ensures.1
+    (c.in_err-file.ensures.new honest (new_sound c.args.unit c.args.limit a c.create-2.new.pages.file.now (g.S.Shelf.state c.create.new.shelf) _ _ _ made ready goes) (new_free c.args.unit c.args.limit a c.create-2.new.pages.file.now (g.S.Shelf.state c.create.new.shelf) _ _ _ made ready goes)).no_damage)
 
 pub returns-clause-made : goal.returns-clause-made
 returns-clause-made g c =

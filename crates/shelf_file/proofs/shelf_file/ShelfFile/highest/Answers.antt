@@ -4,7 +4,7 @@ use Rattle.indexed_file.specs.Rank.{highest_of}
 use Rattle.pages.specs.Answer.{IsAnswer}
 use Rattle.open_file.specs.Stands.{Stands}
 use Rattle.shelf_file.specs.Standing.{live_of}
-use Rattle.shelf_file.specs.Calls.{OnlyReads}
+use Rattle.shelf_file.specs.Calls.{OnlyReadsFile}
 use Rattle.shelf_file.proofs.StepLemmas.{only_reads, at_end}
 use Rattle.shelf_file.proofs.shelf_file.ShelfFile.highest.Goals as goal
 
@@ -16,5 +16,5 @@ returns-clause-found g c =
 
 pub returns-clause-reads : goal.returns-clause-reads
 returns-clause-reads g c =
-    at_end (λ s. OnlyReads c.args.self.now (record { file = c.args.self.now.file; pages = c.highest.new.pages.file.now }) (g.S.Shelf.state c.args.shelf.now) (g.S.Shelf.state s) (g.S.Shelf.fault_count c.args.shelf.now) (g.S.Shelf.fault_count s))
+    at_end (λ s. OnlyReadsFile c.args.self.now (record { file = c.args.self.now.file; pages = c.highest.new.pages.file.now }) (g.S.Shelf.state c.args.shelf.now) (g.S.Shelf.state s) (g.S.Shelf.fault_count c.args.shelf.now) (g.S.Shelf.fault_count s))
     _ _ c.shelf-1.given.1 c.highest.ensures.reads.1 (only_reads c.args.self.now.file _ _ _ _ _ _ c.highest.ensures.reads.2)

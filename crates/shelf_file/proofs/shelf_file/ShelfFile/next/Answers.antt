@@ -2,7 +2,7 @@ use Rattle.std.proofs.Common.{IsTrue}
 use Rattle.indexed_file.specs.Rank.{admits}
 use Rattle.open_file.specs.Reading.{Delivers}
 use Rattle.shelf_file.specs.Standing.{live_of}
-use Rattle.shelf_file.specs.Calls.{OnlyReads}
+use Rattle.shelf_file.specs.Calls.{OnlyReadsFile}
 use Rattle.shelf_file.proofs.StepLemmas.{reads_but_path, at_end}
 use Rattle.shelf_file.proofs.shelf_file.ShelfFile.next.Goals as goal
 
@@ -14,6 +14,6 @@ returns-clause-found g c =
 
 pub returns-clause-reads : goal.returns-clause-reads
 returns-clause-reads g c =
-    at_end (λ s. OnlyReads c.args.self.now (record { file = c.next.new.self; pages = c.next.new.pages.file.now }) (g.S.Shelf.state c.args.shelf.now) (g.S.Shelf.state s) (g.S.Shelf.fault_count c.args.shelf.now) (g.S.Shelf.fault_count s))
+    at_end (λ s. OnlyReadsFile c.args.self.now (record { file = c.next.new.self; pages = c.next.new.pages.file.now }) (g.S.Shelf.state c.args.shelf.now) (g.S.Shelf.state s) (g.S.Shelf.fault_count c.args.shelf.now) (g.S.Shelf.fault_count s))
     _ _ c.shelf-1.given.1 c.next.ensures.reads.1
     (reads_but_path c.args.self.now (record { file = c.next.new.self; pages = c.next.new.pages.file.now }) _ _ _ _ c.next.ensures.rest c.next.ensures.stands c.next.ensures.reads.2)

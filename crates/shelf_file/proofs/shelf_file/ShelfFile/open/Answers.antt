@@ -1,5 +1,5 @@
 use Rattle.std.proofs.Common.{◌∙◌, IsSome, ap, subst, sym}
-use Rattle.page_store.specs.File.{content}
+use Rattle.page_store.specs.DeviceFile.{content}
 use Rattle.page_store.specs.ShelfState.{unit_file}
 use Rattle.open_file.specs.Stands.{Stands}
 use Rattle.open_file.specs.ReadOff.{file_off}

@@ -1,7 +1,7 @@
 use Rattle.std.proofs.Common.{is_some}
 use Rattle.indexed_file.specs.Change.{row_of}
 use Rattle.file_changes.specs.Removing.{file_after_remove, HasRemoved}
-use Rattle.shelf_file.specs.Calls.{OnlyReads, Changes}
+use Rattle.shelf_file.specs.Calls.{OnlyReadsFile, Changes}
 use Rattle.shelf_file.proofs.StepLemmas.{reads_same, answer_map, at_end}
 use Rattle.shelf_file.proofs.shelf_file.ShelfFile.remove.Goals as goal
 
@@ -14,7 +14,7 @@ returns-clause-removed g c =
 
 pub returns-clause-gone : goal.returns-clause-gone
 returns-clause-gone g c =
-    λ is. at_end (λ s. OnlyReads c.args.self.now (record { file = c.remove.new.opened; pages = c.remove.new.pages.file.now }) (g.S.Shelf.state c.args.shelf.now) (g.S.Shelf.state s) (g.S.Shelf.fault_count c.args.shelf.now) (g.S.Shelf.fault_count s))
+    λ is. at_end (λ s. OnlyReadsFile c.args.self.now (record { file = c.remove.new.opened; pages = c.remove.new.pages.file.now }) (g.S.Shelf.state c.args.shelf.now) (g.S.Shelf.state s) (g.S.Shelf.fault_count c.args.shelf.now) (g.S.Shelf.fault_count s))
     _ _ c.shelf-1.given.1 c.remove.ensures.moves.1
     (reads_same c.args.self.now (record { file = c.remove.new.opened; pages = c.remove.new.pages.file.now }) _ _ _ _ (c.remove.ensures.gone is).0 (c.remove.ensures.gone is).1.2)
 
@@ -22,7 +22,7 @@ pub returns-clause-broken : goal.returns-clause-broken
 returns-clause-broken g c =
     λ is. (
       (c.remove.ensures.broken is).0,
-      at_end (λ s. OnlyReads c.args.self.now (record { file = c.remove.new.opened; pages = c.remove.new.pages.file.now }) (g.S.Shelf.state c.args.shelf.now) (g.S.Shelf.state s) (g.S.Shelf.fault_count c.args.shelf.now) (g.S.Shelf.fault_count s))
+      at_end (λ s. OnlyReadsFile c.args.self.now (record { file = c.remove.new.opened; pages = c.remove.new.pages.file.now }) (g.S.Shelf.state c.args.shelf.now) (g.S.Shelf.state s) (g.S.Shelf.fault_count c.args.shelf.now) (g.S.Shelf.fault_count s))
           _ _ c.shelf-1.given.1 c.remove.ensures.moves.1
           (reads_same c.args.self.now (record { file = c.remove.new.opened; pages = c.remove.new.pages.file.now }) _ _ _ _ (c.remove.ensures.broken is).1 (c.remove.ensures.broken is).2.2),
     )

@@ -5,7 +5,7 @@ use Rattle.indexed_file.specs.Answers.{replaced_answer}
 use Rattle.indexed_file.specs.Room.{is_full_to_replace}
 use Rattle.file_changes.specs.Replacing.{file_after_replace, HasReplaced}
 use Rattle.shelf_file.specs.Standing.{StandsFor, room_in}
-use Rattle.shelf_file.specs.Calls.{OnlyReads, Changes, IsFull}
+use Rattle.shelf_file.specs.Calls.{OnlyReadsFile, Changes, IsFull}
 use Rattle.shelf_file.proofs.StepLemmas.{reads_same, answer_map, at_end}
 use Rattle.shelf_file.proofs.shelf_file.ShelfFile.replace.Goals as goal
 
@@ -18,13 +18,13 @@ returns-clause-replaced g c =
 
 pub returns-clause-clash : goal.returns-clause-clash
 returns-clause-clash g c =
-    λ is. at_end (λ s. OnlyReads c.args.self.now (record { file = c.replace.new.opened; pages = c.replace.new.pages.file.now }) (g.S.Shelf.state c.args.shelf.now) (g.S.Shelf.state s) (g.S.Shelf.fault_count c.args.shelf.now) (g.S.Shelf.fault_count s))
+    λ is. at_end (λ s. OnlyReadsFile c.args.self.now (record { file = c.replace.new.opened; pages = c.replace.new.pages.file.now }) (g.S.Shelf.state c.args.shelf.now) (g.S.Shelf.state s) (g.S.Shelf.fault_count c.args.shelf.now) (g.S.Shelf.fault_count s))
     _ _ c.shelf-1.given.1 c.replace.ensures.moves.1
     (reads_same c.args.self.now (record { file = c.replace.new.opened; pages = c.replace.new.pages.file.now }) _ _ _ _ (c.replace.ensures.clash is).0 (c.replace.ensures.clash is).1.2)
 
 pub returns-clause-gone : goal.returns-clause-gone
 returns-clause-gone g c =
-    λ is. at_end (λ s. OnlyReads c.args.self.now (record { file = c.replace.new.opened; pages = c.replace.new.pages.file.now }) (g.S.Shelf.state c.args.shelf.now) (g.S.Shelf.state s) (g.S.Shelf.fault_count c.args.shelf.now) (g.S.Shelf.fault_count s))
+    λ is. at_end (λ s. OnlyReadsFile c.args.self.now (record { file = c.replace.new.opened; pages = c.replace.new.pages.file.now }) (g.S.Shelf.state c.args.shelf.now) (g.S.Shelf.state s) (g.S.Shelf.fault_count c.args.shelf.now) (g.S.Shelf.fault_count s))
     _ _ c.shelf-1.given.1 c.replace.ensures.moves.1
     (reads_same c.args.self.now (record { file = c.replace.new.opened; pages = c.replace.new.pages.file.now }) _ _ _ _ (c.replace.ensures.gone is).0 (c.replace.ensures.gone is).1.2)
 
@@ -32,7 +32,7 @@ pub returns-clause-broken : goal.returns-clause-broken
 returns-clause-broken g c =
     λ is. (
       (c.replace.ensures.broken is).0,
-      at_end (λ s. OnlyReads c.args.self.now (record { file = c.replace.new.opened; pages = c.replace.new.pages.file.now }) (g.S.Shelf.state c.args.shelf.now) (g.S.Shelf.state s) (g.S.Shelf.fault_count c.args.shelf.now) (g.S.Shelf.fault_count s))
+      at_end (λ s. OnlyReadsFile c.args.self.now (record { file = c.replace.new.opened; pages = c.replace.new.pages.file.now }) (g.S.Shelf.state c.args.shelf.now) (g.S.Shelf.state s) (g.S.Shelf.fault_count c.args.shelf.now) (g.S.Shelf.fault_count s))
           _ _ c.shelf-1.given.1 c.replace.ensures.moves.1
           (reads_same c.args.self.now (record { file = c.replace.new.opened; pages = c.replace.new.pages.file.now }) _ _ _ _ (c.replace.ensures.broken is).1 (c.replace.ensures.broken is).2.2),
     )

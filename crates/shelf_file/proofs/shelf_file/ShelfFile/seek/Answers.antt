@@ -1,7 +1,7 @@
 use Rattle.std.proofs.Common.{IsTrue}
 use Rattle.open_file.specs.Reading.{Seeks}
 use Rattle.shelf_file.specs.Standing.{live_of}
-use Rattle.shelf_file.specs.Calls.{OnlyReads}
+use Rattle.shelf_file.specs.Calls.{OnlyReadsFile}
 use Rattle.shelf_file.proofs.StepLemmas.{only_reads, at_end}
 use Rattle.shelf_file.proofs.shelf_file.ShelfFile.seek.Goals as goal
 
@@ -12,5 +12,5 @@ returns-clause-found g c =
 
 pub returns-clause-reads : goal.returns-clause-reads
 returns-clause-reads g c =
-    at_end (λ s. OnlyReads c.args.self.now (record { file = c.args.self.now.file; pages = c.seek.new.pages.file.now }) (g.S.Shelf.state c.args.shelf.now) (g.S.Shelf.state s) (g.S.Shelf.fault_count c.args.shelf.now) (g.S.Shelf.fault_count s))
+    at_end (λ s. OnlyReadsFile c.args.self.now (record { file = c.args.self.now.file; pages = c.seek.new.pages.file.now }) (g.S.Shelf.state c.args.shelf.now) (g.S.Shelf.state s) (g.S.Shelf.fault_count c.args.shelf.now) (g.S.Shelf.fault_count s))
     _ _ c.shelf-1.given.1 c.seek.ensures.reads.1 (only_reads c.args.self.now.file _ _ _ _ _ _ c.seek.ensures.reads.2)

@@ -1,15 +1,14 @@
-use Rattle.std.proofs.Common.{◌≡◌, ◌+◌, ◌≤◌, ◌<◌, ◌++◌, false, length, drop, ap, sym, ◌∙◌, arith, length-append, length-drop}
+use Rattle.std.proofs.Common.{◌≡◌, ◌+◌, ◌≤◌, ◌<◌, ◌++◌, false, length, drop, ap, sym, ◌∙◌, arith, length-drop}
 use Rattle.byteorder.specs.Endian.{big_bytes}
 use Rattle.record_layout.specs.declared.schema.KeyPart.{KeyPart}
-use Rattle.open_file.proofs.StampedLemmas.{few_stamps, when_ok}
 use Rattle.file_changes.proofs.ChangedLemmas.{stamps_after, after_many, write_start, write_more, write_none, write_whole, write_room, stamp_of_duplicates}
-use Rattle.file_changes.proofs.changed.changed_slot.Goals as goal
-use Rattle.file_changes.proofs.changed.changed_slot.Goals.{then-part, else-part}
+use Rattle.file_changes.proofs.changed.changed_stamps.Goals as goal
+use Rattle.file_changes.proofs.changed.changed_stamps.Goals.{then-part, else-part}
 
 pub loop-j-init : goal.loop-j-init
 loop-j-init c =
     let u = c.args.opened.now in
-    rw c.new-slot.ensures (write_start u.schema.keys (stamps_after u.next_stamp c.args.old.now c.args.new.now (drop 1 u.schema.keys) c.args.stamps.now))
+    rw c.new-changed.ensures (write_start u.schema.keys (stamps_after u.next_stamp c.args.old.now c.args.new.now (drop 1 u.schema.keys) c.args.stamps.now))
 
 pub push_stamp-requires : goal.push_stamp-requires
 push_stamp-requires c =
@@ -19,7 +18,7 @@ push_stamp-requires c =
     let lt : c.loop-j.j + 1 < length keys = omega (arith, c.loop-j-test.true, c.len-j-end.ensures.value, c.requires.shaped.keys) in
     let many = ap (λ (part : KeyPart). part.duplicates) (sym c.part.ensures.part) ∙ c.if-part.true in
     let stamps = stamps_after u.next_stamp c.args.old.now c.args.new.now (drop 1 keys) c.args.stamps.now in
-    omega (arith, write_room keys d stamps c.loop-j.j c.loop-j.slot.items c.requires.shaped.is_schema.few lt many c.loop-j.invariant)
+    omega (arith, write_room keys d stamps c.loop-j.j c.loop-j.changed.items c.requires.shaped.is_schema.few lt many c.loop-j.invariant)
 
 pub loop-j-preserved : goal.loop-j-preserved
 loop-j-preserved c =
@@ -36,31 +35,26 @@ loop-j-preserved c =
       | then-part w ↦
           let many = ap (λ (part : KeyPart). part.duplicates) (sym c.part.ensures.part) ∙ w.if-part.true in
           let number = w.stamp_after.ensures ∙ stamp_of_duplicates u.schema u.next_stamp c.args.old.now c.args.new.now c.args.stamps.now j lt count many in
-          rw w.slot-is (write_more keys d stamps j c.loop-j.slot.items w.push_stamp.new.slot.items lt within many (w.push_stamp.ensures ∙ ap (λ s. c.loop-j.slot.items ++ big_bytes 8 s) number) c.loop-j.invariant)
+          rw w.changed-is (write_more keys d stamps j c.loop-j.changed.items w.push_stamp.new.stamps.items lt within many (w.push_stamp.ensures ∙ ap (λ s. c.loop-j.changed.items ++ big_bytes 8 s) number) c.loop-j.invariant)
       | else-part w ↦
           let one = ap (λ (part : KeyPart). part.duplicates) (sym c.part.ensures.part) ∙ w.if-part.false in
-          rw w.slot-is (write_none keys d stamps j c.loop-j.slot.items lt within one c.loop-j.invariant)
+          rw w.changed-is (write_none keys d stamps j c.loop-j.changed.items lt within one c.loop-j.invariant)
     ]
 
 pub returns-clause-stored : goal.returns-clause-stored
 returns-clause-stored c =
     let u = c.args.opened.now in
     let keys = u.schema.keys in
-    let is = c.requires.shaped.is_schema in
     let stamps = stamps_after u.next_stamp c.args.old.now c.args.new.now (drop 1 keys) c.args.stamps.now in
     let all : length keys ≤ c.loop-j.j + 1 = omega (arith, c.loop-j-test.false, c.len-j-end.ensures.value, c.requires.shaped.keys) in
-    let whole = write_whole keys stamps c.loop-j.j c.loop-j.slot.items all c.loop-j.invariant in
-    let fits : length c.loop-j.slot.items + length c.args.new.now ≤ 4064 = omega (arith, whole.1, few_stamps keys is.few, c.requires.greatest, is.limit) in
-    when_ok c.try_extend_from_slice.result _ (c.try_extend_from_slice.ensures.variant.1 fits) c.try_extend_from_slice.ensures.ok ∙ ap (λ bs. bs ++ c.args.new.now) whole.0
+    let whole = write_whole keys stamps c.loop-j.j c.loop-j.changed.items all c.loop-j.invariant in
+    ap (λ bs. bs ++ c.args.new.now) whole.0
 
 pub returns-clause-length : goal.returns-clause-length
 returns-clause-length c =
     let u = c.args.opened.now in
     let keys = u.schema.keys in
-    let is = c.requires.shaped.is_schema in
     let stamps = stamps_after u.next_stamp c.args.old.now c.args.new.now (drop 1 keys) c.args.stamps.now in
     let all : length keys ≤ c.loop-j.j + 1 = omega (arith, c.loop-j-test.false, c.len-j-end.ensures.value, c.requires.shaped.keys) in
-    let whole = write_whole keys stamps c.loop-j.j c.loop-j.slot.items all c.loop-j.invariant in
-    let fits : length c.loop-j.slot.items + length c.args.new.now ≤ 4064 = omega (arith, whole.1, few_stamps keys is.few, c.requires.greatest, is.limit) in
-    let items = when_ok c.try_extend_from_slice.result _ (c.try_extend_from_slice.ensures.variant.1 fits) c.try_extend_from_slice.ensures.ok in
-    ap length items ∙ length-append c.loop-j.slot.items c.args.new.now ∙ ap (λ n. n + length c.args.new.now) (whole.1 ∙ sym c.requires.shaped.stamps)
+    let whole = write_whole keys stamps c.loop-j.j c.loop-j.changed.items all c.loop-j.invariant in
+    whole.1 ∙ sym c.requires.shaped.stamps

@@ -1,0 +1,42 @@
+use Rattle.std.proofs.Common.{◌≤◌, ◌<◌, ◌++◌, false, length, ap, sym, ◌∙◌, arith}
+use Rattle.record_layout.specs.declared.schema.KeyPart.{KeyPart}
+use Rattle.open_file.proofs.StampedLemmas.{written_start, written_more, written_skip, written_whole, written_room}
+use Rattle.file_changes.proofs.stamps.new_stamps.Goals as goal
+use Rattle.file_changes.proofs.stamps.new_stamps.Goals.{then-part, else-part}
+
+pub loop-k-init : goal.loop-k-init
+loop-k-init c = rw c.new-stamps.ensures (written_start c.args.opened.now.schema.keys c.args.opened.now.next_stamp)
+
+pub loop-k-preserved : goal.loop-k-preserved
+loop-k-preserved c =
+    let keys = c.args.opened.now.schema.keys in
+    let stamp = c.args.opened.now.next_stamp in
+    let d : KeyPart = record { offset = 0; length = 0; duplicates = false } in
+    let lt : c.loop-k.k < length keys = omega (arith, c.loop-k-test.true, c.key_count-k-end.ensures.count) in
+    elim c.if-part.branch [
+      | then-part w ↦
+          let many = ap (λ (part : KeyPart). part.duplicates) (sym c.part.ensures.part) ∙ w.if-part.true in
+          rw w.stamps-is (written_more keys d stamp c.loop-k.k c.loop-k.stamps.items w.push_stamp.new.stamps.items lt many w.push_stamp.ensures c.loop-k.invariant)
+      | else-part w ↦ rw w.stamps-is (written_skip keys d stamp c.loop-k.k c.loop-k.stamps.items lt (ap (λ (part : KeyPart). part.duplicates) (sym c.part.ensures.part) ∙ w.if-part.false) c.loop-k.invariant)
+    ]
+
+pub returns-clause-stored : goal.returns-clause-stored
+returns-clause-stored c bytes =
+    let all : length c.args.opened.now.schema.keys ≤ c.loop-k.k = omega (arith, c.loop-k-test.false, c.key_count-k-end.ensures.count) in
+    let whole = written_whole c.args.opened.now.schema.keys c.args.opened.now.next_stamp c.loop-k.k c.loop-k.stamps.items all c.loop-k.invariant in
+    ap (λ bs. bs ++ bytes) whole.0
+
+pub returns-clause-length : goal.returns-clause-length
+returns-clause-length c =
+    let all : length c.args.opened.now.schema.keys ≤ c.loop-k.k = omega (arith, c.loop-k-test.false, c.key_count-k-end.ensures.count) in
+    let whole = written_whole c.args.opened.now.schema.keys c.args.opened.now.next_stamp c.loop-k.k c.loop-k.stamps.items all c.loop-k.invariant in
+    whole.1 ∙ sym c.requires.shaped.stamps
+
+pub push_stamp-requires : goal.push_stamp-requires
+push_stamp-requires c =
+    let keys = c.args.opened.now.schema.keys in
+    let d : KeyPart = record { offset = 0; length = 0; duplicates = false } in
+    let lt : c.loop-k.k < length keys = omega (arith, c.loop-k-test.true, c.key_count-k-end.ensures.count) in
+    let many = ap (λ (part : KeyPart). part.duplicates) (sym c.part.ensures.part) ∙ c.if-part.true in
+    let room = written_room keys d c.args.opened.now.next_stamp c.loop-k.k c.loop-k.stamps.items c.requires.shaped.is_schema.few lt many c.loop-k.invariant in
+    omega (arith, room)

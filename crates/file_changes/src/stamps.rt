@@ -1,0 +1,37 @@
+//! The stamps of a new record, which the heap keeps in front of it.
+
+ghost use Rattle.std.specs.Prelude.{◌≡◌, ◌+◌, ◌≤◌, ◌++◌, ℕ, List, length};
+ghost use Rattle.byteorder.specs.Endian.{big_bytes};
+ghost use Rattle.indexed_file.specs.Change.{new_row};
+ghost use Rattle.open_file.specs.Stored.{stored};
+ghost use Rattle.open_file.specs.Stands.{IsShaped};
+
+use arrayvec::ArrayVec;
+use byteorder::{BigEndian, ByteOrder};
+use open_file::OpenFile;
+
+/// The stamps of a new record, eight bytes for each alternate key of duplicates.
+pub(crate) fn new_stamps(opened: &OpenFile) -> ArrayVec<u8, 64>
+    requires shaped { IsShaped opened.now }
+    ensures stored { (bytes : List ℕ) → result.items ++ bytes
+        ≡ stored opened.now.schema (new_row opened.now.schema opened.now.next_stamp bytes) }
+    ensures length { length result.items ≡ opened.now.heap.shape.stamps }
+{
+    let mut stamps = ArrayVec::new();
+    for k in 1..opened.schema.key_count() {
+        if opened.schema.part(k as u8).duplicates {
+            push_stamp(&mut stamps, opened.next_stamp);
+        }
+    }
+    stamps
+}
+
+/// Puts one more stamp behind others.
+pub(crate) fn push_stamp(stamps: &mut ArrayVec<u8, 64>, stamp: u64)
+    requires { length stamps.old.items + 8 ≤ 64 }
+    ensures { stamps.new.items ≡ stamps.old.items ++ big_bytes 8 stamp }
+{
+    let mut bytes = [0; 8];
+    BigEndian::write_u64(&mut bytes, stamp);
+    let _ = stamps.try_extend_from_slice(&bytes);
+}
