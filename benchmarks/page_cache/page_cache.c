@@ -1,4 +1,5 @@
 // Pages behind a hash table and a list of their last use, and nothing else: page_cache FOLDER PAGES FRAMES ROUNDS.
+// The table is that of the header TABLE.
 #include <fcntl.h>
 #include <stdint.h>
 #include <stdio.h>
@@ -12,24 +13,21 @@ enum { PAGE = 4096 };
 struct frame {
     uint32_t number;
     int changed;
-    struct frame *next_in_bucket, *newer, *older;
+    struct frame *newer, *older;
     unsigned char *page;
+    struct frame *next_in_bucket;  // in a table of chains
 };
 
+#include TABLE
+
 static int file;
-static struct frame **buckets, ends;  // ends.older is the frame used last, ends.newer the one used longest ago
+static struct frame ends;  // ends.older is the frame used last, ends.newer the one used longest ago
 static uint32_t held, frames;
-static unsigned shift;
 
 static void stop(const char *what)
 {
     perror(what);
     exit(1);
-}
-
-static struct frame **bucket(uint32_t n)
-{
-    return &buckets[(n * 0x9E3779B97F4A7C15ull) >> shift];
 }
 
 static void leave_order(struct frame *f)
@@ -66,27 +64,23 @@ static struct frame *frame_for(uint32_t n)
         f = ends.newer;
         write_back(f);
         leave_order(f);
-        struct frame **p = bucket(f->number);
-        while (*p != f)
-            p = &(*p)->next_in_bucket;
-        *p = f->next_in_bucket;
+        table_remove(f->number);
     }
     f->number = n;
-    f->next_in_bucket = *bucket(n);
-    *bucket(n) = f;
+    table_put(n, f);
     to_front(f);
     return f;
 }
 
 static struct frame *find(uint32_t n)
 {
-    for (struct frame *f = *bucket(n); f; f = f->next_in_bucket)
-        if (f->number == n) {
-            leave_order(f);
-            to_front(f);
-            return f;
-        }
-    struct frame *f = frame_for(n);
+    struct frame *f = table_get(n);
+    if (f) {
+        leave_order(f);
+        to_front(f);
+        return f;
+    }
+    f = frame_for(n);
     if (pread(file, f->page, PAGE, (off_t)n * PAGE) != PAGE)
         stop("pread");
     return f;
@@ -137,9 +131,8 @@ int main(int count, char **args)
     file = open(path, O_RDWR | O_CREAT | O_EXCL | O_CLOEXEC, 0666);
     if (file < 0)
         stop("open");
-    for (shift = 64; (1ull << (64 - shift)) < 2ull * frames;)
-        shift--;
-    buckets = calloc(1ull << (64 - shift), sizeof *buckets);
+    if (!table_new(frames))
+        stop("malloc");
     ends.newer = ends.older = &ends;
     static unsigned char zeros[PAGE];
     if (pwrite(file, "D", 1, 0) != 1 || fsync(file) != 0 || pwrite(file, zeros + 1, PAGE - 1, 1) != PAGE - 1)
