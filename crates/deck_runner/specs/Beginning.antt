@@ -8,7 +8,7 @@ use Rattle.indexed_file.specs.Images.{Stays}
 use Rattle.indexed_file.specs.Shown.{Shown}
 use Rattle.verbs.specs.Connector.{closed_connector}
 use Rattle.verbs.specs.Held.{held_at_start}
-use Rattle.file_control.specs.Description.{FileDesc, LengthItem as LengthEntry}
+use Rattle.file_control.specs.Description.{FileDesc, LengthItem}
 use Rattle.file_control.specs.Described.{file_names}
 use Rattle.deck_reader.specs.declared.deck.Deck.{Deck}
 use Rattle.deck_runner.specs.Line.{Line}
@@ -40,7 +40,7 @@ file_before world file = record {
 }
 
 -- a length item of a deck: its value is 0
-abbrev pub item_before : LengthEntry → LengthValue
+abbrev pub item_before : LengthItem → LengthValue
 item_before item = record { digits = item.digits; value = 0 }
 
 abbrev pub run_before : World → Deck → Run

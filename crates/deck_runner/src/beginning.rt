@@ -7,13 +7,13 @@ ghost use Rattle.indexed_file.specs.Calls.{Keeps};
 ghost use Rattle.deck_reader.specs.Deck.{CanBeRun};
 ghost use Rattle.deck_runner.specs.Beginning.{running_before, item_before, IsUntouched, IsBegun};
 
-use crate::length_item::LengthItem;
 use crate::line::LineText;
 use crate::running_deck::RunningDeck;
 use crate::running_file::RunningFile;
+use crate::running_item::RunningItem;
 use arrayvec::ArrayVec;
 use deck_reader::Deck;
-use file_control::{FileDesc, LengthItem as LengthEntry};
+use file_control::{FileDesc, LengthItem};
 use indexed_file::Library;
 use io_state::{Fault, FileName};
 use record_layout::Layout;
@@ -60,13 +60,13 @@ fn files_before(alloc: Global, files: &[FileDesc]) -> Result<Vec<RunningFile>, A
 }
 
 /// The length items of a deck: each has the value 0.
-fn items_before(alloc: Global, items: &[LengthEntry]) -> Result<Vec<LengthItem>, AllocError>
+fn items_before(alloc: Global, items: &[LengthItem]) -> Result<Vec<RunningItem>, AllocError>
     requires { All (λ item. item.digits ≤ 18) items.now }
     ensures { IfOk result (λ running. running.items ≡ map item_before items.now) }
 {
     let mut running = Vec::new(alloc);
     for item in items {
-        running.push(LengthItem::new(item.digits as u8))?;
+        running.push(RunningItem::new(item.digits as u8))?;
     }
     Ok(running)
 }

@@ -8,10 +8,10 @@ ghost use Rattle.deck_runner.specs.State.{state, IsSafeIn, GoesOn};
 ghost use Rattle.deck_runner.specs.RunEnd.{MakesLine};
 ghost use Rattle.deck_runner.specs.Conditions.{CanPerform};
 
-use crate::length_item::LengthItem;
 use crate::line::make_line;
 use crate::running_deck::RunningDeck;
 use crate::running_file::RunningFile;
+use crate::running_item::RunningItem;
 use indexed_file::Library;
 use io_state::{FileStatement, Status};
 
@@ -33,7 +33,7 @@ fn is_clean(statement: &FileStatement, status: Status) -> bool
 }
 
 /// The length that WRITE and REWRITE give a record of the file; one that is too long for any file is cut.
-fn record_length(items: &[LengthItem], file: &RunningFile) -> u16
+fn record_length(items: &[RunningItem], file: &RunningFile) -> u16
     requires { IsPlace (length items.now) file.now.depends_on }
     ensures { result ≡ min (length_for items.now (schema_of file.now) file.now.depends_on) 65535 }
 {
@@ -44,7 +44,7 @@ fn record_length(items: &[LengthItem], file: &RunningFile) -> u16
 }
 
 /// Moves the length of a record that was delivered to the item that the file depends on.
-fn note_length(items: &mut [LengthItem], depends_on: Option<usize>, delivered: Option<&[u8]>)
+fn note_length(items: &mut [RunningItem], depends_on: Option<usize>, delivered: Option<&[u8]>)
     requires { IsPlace (length items.old) depends_on }
     ensures { items.new ≡ items_after_read depends_on (option_map (λ bytes. bytes.now) delivered.entry) items.old }
 {
