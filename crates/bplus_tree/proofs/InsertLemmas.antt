@@ -16,7 +16,7 @@ use Rattle.tree_node.proofs.InnerLemmas.{length_separators, length_children}
 use Rattle.tree_node.proofs.OrderLemmas.{Each-weaker}
 use Rattle.pages.specs.PageMap.{PageMap, Writes}
 use Rattle.pages.specs.Owners.{AreApart, ChangesPages}
-use Rattle.tree_search.specs.declared.descent.Step.{Step}
+use Rattle.tree_search.specs.declared.descent.StepDown.{StepDown}
 use Rattle.tree_search.specs.declared.descent.Look.{Look}
 use Rattle.node_balance.specs.declared.separator.Separator.{Separator}
 use Rattle.bplus_tree.specs.declared.insert.Grown.{Grown}
@@ -232,7 +232,7 @@ record ChildSplit (shape : Shape) (before after : PageMap) (k : ℕ) (low high :
   pub node : IsInnerAt shape after page t.1 (map (page_of k) t.2)
   pub leads : insert (map (page_of k) t.2) (i + 1) separator.child ≡ map (page_of k) xs
 
-child_split : (shape : Shape) (before after : PageMap) (k page : ℕ) (low high : Bound) (e : List ℕ) (t : TreeOf (suc k)) (step : Step) (separator : Separator)
+child_split : (shape : Shape) (before after : PageMap) (k page : ℕ) (low high : Bound) (e : List ℕ) (t : TreeOf (suc k)) (step : StepDown) (separator : Separator)
     → IsWhole shape before (suc k) page low high t → (child : Child shape before k page low high (take shape.width e) t step)
     → BecomesTwo shape before after k step.child child.row.from child.row.to (pages_of k child.row.here) (with_entry shape.width e (entries_of k child.row.here)) separator
     → ChildSplit shape before after k low high page t e step.place separator
@@ -281,7 +281,7 @@ child_split shape before after k page low high e t step separator whole child tw
     }
 
 -- a child has one more entry, and its page heads it still
-child_same : (shape : Shape) (before after : PageMap) (k page : ℕ) (low high : Bound) (e : List ℕ) (t : TreeOf (suc k)) (step : Step)
+child_same : (shape : Shape) (before after : PageMap) (k page : ℕ) (low high : Bound) (e : List ℕ) (t : TreeOf (suc k)) (step : StepDown)
     → IsWhole shape before (suc k) page low high t → (child : Child shape before k page low high (take shape.width e) t step)
     → Becomes shape before after k step.child child.row.from child.row.to (pages_of k child.row.here) (size_of k child.row.here) (with_entry shape.width e (entries_of k child.row.here))
     → Becomes shape before after (suc k) page low high (pages_of (suc k) t) (length t.1) (with_entry shape.width e (flat_map (entries_of k) t.2))
@@ -320,7 +320,7 @@ module _ (shape : Shape) (h k page : ℕ) (e : List ℕ) (one : h ≡ suc k) whe
       let a = step_of shape before k page low high (take shape.width e) t (Err fault) whole.stands steps in
       fails out fault (λ done. HasPutIf shape before after (suc k) page low high e t done × is_sound) was a.no_damage)
 
-  module _ (before mid : PageMap) (same : mid ≡ before) (step : Step) (steps : Steps shape before page (take shape.width e) (Ok step)) where
+  module _ (before mid : PageMap) (same : mid ≡ before) (step : StepDown) (steps : Steps shape before page (take shape.width e) (Ok step)) where
     child_at : (low high : Bound) (t : TreeOf (suc k)) → IsWhole shape before (suc k) page low high t → Child shape before k page low high (take shape.width e) t step
     child_at low high t whole =
         child_of_whole shape before k page low high (take shape.width e) t step whole (step_of shape before k page low high (take shape.width e) t (Ok step) whole.stands steps).answer

@@ -18,7 +18,7 @@ use Rattle.tree_node.specs.Order.{less, Ascends, IsRank}
 use Rattle.tree_node.proofs.InnerLemmas.{inner_room_some}
 use Rattle.tree_node.proofs.OrderLemmas.{Each-weaker, either}
 use Rattle.pages.specs.PageMap.{PageMap, Writes}
-use Rattle.tree_search.specs.declared.descent.Step.{Step}
+use Rattle.tree_search.specs.declared.descent.StepDown.{StepDown}
 use Rattle.tree_search.specs.declared.descent.Look.{Look}
 use Rattle.bplus_tree.specs.declared.remove.Shrunk.{Shrunk}
 use Rattle.bplus_tree.specs.declared.remove.Shrunk.TheVariants.{Absent, Taken}
@@ -250,7 +250,7 @@ replaced shape before after k low high page t front here new back tree apart is 
     }
 
 -- the child below which a key belongs, as a tree of its own
-pub record Child (shape : Shape) (before : PageMap) (k page : ℕ) (low high : Bound) (key : List ℕ) (t : TreeOf (suc k)) (step : Step) : Type 0 where
+pub record Child (shape : Shape) (before : PageMap) (k page : ℕ) (low high : Bound) (key : List ℕ) (t : TreeOf (suc k)) (step : StepDown) : Type 0 where
   pub row : RowAt shape.width (TreeOf k) (IsOrdered shape.width k) (entries_of k) low t.1 t.2 high key step.place
   pub whole : IsWhole shape before k step.child row.from row.to row.here
   pub size : least shape k ≤ size_of k row.here
@@ -261,7 +261,7 @@ pub full_rooted : (shape : Shape) (k : ℕ) (t : TreeOf k) → least shape k ≤
 full_rooted shape zero t h = tt
 full_rooted shape (suc k) t h = let room = inner_room_some shape in omega arith
 
-pub child_of_whole : (shape : Shape) (before : PageMap) (k page : ℕ) (low high : Bound) (key : List ℕ) (t : TreeOf (suc k)) (step : Step)
+pub child_of_whole : (shape : Shape) (before : PageMap) (k page : ℕ) (low high : Bound) (key : List ℕ) (t : TreeOf (suc k)) (step : StepDown)
     → IsWhole shape before (suc k) page low high t → IsStep shape.width key t.1 (map (page_of k) t.2) step → Child shape before k page low high key t step
 child_of_whole shape before k page low high key t step whole is =
     let b = below shape before k page low high key t step whole.stands is in
@@ -287,7 +287,7 @@ pub record WithChild (shape : Shape) (before after : PageMap) (k page : ℕ) (lo
   pub put : Replaced shape before after k low high page (pages_of (suc k) t) t.1 xs
   pub has : flat_map (entries_of k) xs ≡ without_key shape.width key (flat_map (entries_of k) t.2)
 
-pub with_child : (shape : Shape) (before after : PageMap) (k page : ℕ) (low high : Bound) (key : List ℕ) (t : TreeOf (suc k)) (step : Step)
+pub with_child : (shape : Shape) (before after : PageMap) (k page : ℕ) (low high : Bound) (key : List ℕ) (t : TreeOf (suc k)) (step : StepDown)
     → IsWhole shape before (suc k) page low high t → (child : Child shape before k page low high key t step)
     → (new : Becomes shape before after k step.child child.row.from child.row.to (pages_of k child.row.here) (size_of k child.row.here - 1) (without_key shape.width key (entries_of k child.row.here)))
     → WithChild shape before after k page low high key t (child.row.front ++ new.tree ∷ child.row.back)
@@ -322,7 +322,7 @@ module _ (shape : Shape) (h k page : ℕ) (key : List ℕ) (one : h ≡ suc k) w
       let a = step_of shape before k page low high key t (Err fault) whole.stands steps in
       fails out fault (λ done. HasTakenIf shape before after (suc k) page low high key t entry.items done × is_sound) was a.no_damage)
 
-  module _ (before mid : PageMap) (same : mid ≡ before) (step : Step) (steps : Steps shape before page key (Ok step)) where
+  module _ (before mid : PageMap) (same : mid ≡ before) (step : StepDown) (steps : Steps shape before page key (Ok step)) where
     child_at : (low high : Bound) (t : TreeOf (suc k)) → IsWhole shape before (suc k) page low high t → Child shape before k page low high key t step
     child_at low high t whole = child_of_whole shape before k page low high key t step whole (step_of shape before k page low high key t (Ok step) whole.stands steps).answer
 

@@ -10,7 +10,7 @@ use Rattle.tree_node.specs.Order.{less, Ascends, AreUpTo, AreAbove}
 use Rattle.tree_node.proofs.OrderLemmas.{Each-weaker}
 use Rattle.pages.specs.PageMap.{PageMap}
 use Rattle.pages.specs.Answer.{IsAnswer}
-use Rattle.tree_search.specs.declared.descent.Step.{Step}
+use Rattle.tree_search.specs.declared.descent.StepDown.{StepDown}
 use Rattle.tree_search.specs.Tree.{TreeOf, page_of, entries_of, Bound, IsRow, IsOrdered}
 use Rattle.tree_search.specs.Stored.{Holds, IsInnerAt}
 use Rattle.tree_search.specs.Calls.{entry_of, IsTree}
@@ -59,11 +59,11 @@ above_whole width key [] w h = tt
 above_whole width key (x ∷ xs) w h = (ap (less key) (sym w.0) ∙ h.0, above_whole width key xs w.1 h.1)
 
 -- the node and the child below which a key belongs
-pub record Below_ (shape : Shape) (pages : PageMap) (k page : ℕ) (low high : Bound) (key : List ℕ) (t : TreeOf (suc k)) (step : Step) : Type 0 where
+pub record Below_ (shape : Shape) (pages : PageMap) (k page : ℕ) (low high : Bound) (key : List ℕ) (t : TreeOf (suc k)) (step : StepDown) : Type 0 where
   pub row : RowAt shape.width (TreeOf k) (IsOrdered shape.width k) (entries_of k) low t.1 t.2 high key step.place
   pub child : IsTree shape pages k step.child row.from row.to row.here
 
-pub below : (shape : Shape) (pages : PageMap) (k page : ℕ) (low high : Bound) (key : List ℕ) (t : TreeOf (suc k)) (step : Step)
+pub below : (shape : Shape) (pages : PageMap) (k page : ℕ) (low high : Bound) (key : List ℕ) (t : TreeOf (suc k)) (step : StepDown)
     → IsTree shape pages (suc k) page low high t → IsStep shape.width key t.1 (map (page_of k) t.2) step → Below_ shape pages k page low high key t step
 below shape pages k page low high key t step tree is =
     let found = is.rank tree.ordered.0 in
@@ -94,7 +94,7 @@ entry_below width k key low high ss xs i row =
     ∙ find_before test (entries_of k row.here) (flat_map (entries_of k) row.back)
     (Each-weaker (λ e. less key (take width e) ≡ true) (λ e. test e ≡ false) (λ e b. differs_back (take width e) key b) (flat_map (entries_of k) row.back) row.above)
 
-pub step_of : (shape : Shape) (before : PageMap) (k page : ℕ) (low high : Bound) (key : List ℕ) (t : TreeOf (suc k)) (r : Result Step Fault) → IsTree shape before (suc k) page low high t → Steps shape before page key r
+pub step_of : (shape : Shape) (before : PageMap) (k page : ℕ) (low high : Bound) (key : List ℕ) (t : TreeOf (suc k)) (r : Result StepDown Fault) → IsTree shape before (suc k) page low high t → Steps shape before page key r
     → IsAnswer r (IsStep shape.width key t.1 (map (page_of k) t.2))
 step_of shape before k page low high key t r tree steps =
     steps t.1 (map (page_of k) t.2) (subst (λ (n : ℕ). IsInnerAt shape before n t.1 (map (page_of k) t.2)) tree.root tree.holds.0)

@@ -15,7 +15,7 @@ use Rattle.tree_node.proofs.OrderLemmas.{less_itself, not_less, Each-weaker}
 use Rattle.tree_node.proofs.LeafLemmas.{leaf_room_some}
 use Rattle.tree_node.proofs.InnerLemmas.{inner_room_some}
 use Rattle.pages.specs.PageMap.{PageMap}
-use Rattle.tree_search.specs.declared.descent.Step.{Step}
+use Rattle.tree_search.specs.declared.descent.StepDown.{StepDown}
 use Rattle.node_balance.specs.Fill.{least}
 use Rattle.tree_search.specs.Tree.{TreeOf, page_of, entries_of, size_of, IsHalfFull, Bound, IsRow, IsOrdered}
 use Rattle.tree_search.specs.Stored.{Holds, IsLeafAt, IsInnerAt}
@@ -154,7 +154,7 @@ module _ (shape : Shape) (pages : PageMap) (h k page : ℕ) (key : List ℕ) (on
   lead_fails fault out steps was = subst (λ (n : ℕ). Leads shape pages n page key out) (sym one) (λ t low high tree.
       fails out fault (IsLeafFor shape pages (suc k) key t) was (step_of shape pages k page low high key t (Err fault) tree steps).no_damage)
 
-  pub lead_inner : (mid : PageMap) (step : Step) (out : Result ℕ Fault) → mid ≡ pages → Steps shape pages page key (Ok step) → Leads shape mid k step.child key out → Leads shape pages h page key out
+  pub lead_inner : (mid : PageMap) (step : StepDown) (out : Result ℕ Fault) → mid ≡ pages → Steps shape pages page key (Ok step) → Leads shape mid k step.child key out → Leads shape pages h page key out
   lead_inner mid step out same steps leads = subst (λ (n : ℕ). Leads shape pages n page key out) (sym one) (λ t low high tree.
       let b = below shape pages k page low high key t step tree (step_of shape pages k page low high key t (Ok step) tree steps).answer in
       let child = subst (λ (m : PageMap). IsTree shape m k step.child b.row.from b.row.to b.row.here) (sym same) b.child in
@@ -197,7 +197,7 @@ pub record Behind (shape : Shape) (pages : PageMap) (k : ℕ) (below : List ℕ)
   pub filled : Each (λ c. (least shape k ≤ size_of k c) × IsHalfFull shape k c) back
   pub first : 0 < length back → slice_index below (i + 1) ≡ slice_index (map (page_of k) back) 0
 
-pub behind : (shape : Shape) (pages : PageMap) (k page : ℕ) (low high : Bound) (key : List ℕ) (t : TreeOf (suc k)) (step : Step) → IsTree shape pages (suc k) page low high t → IsHalfFull shape (suc k) t
+pub behind : (shape : Shape) (pages : PageMap) (k page : ℕ) (low high : Bound) (key : List ℕ) (t : TreeOf (suc k)) (step : StepDown) → IsTree shape pages (suc k) page low high t → IsHalfFull shape (suc k) t
     → (b : Below_ shape pages k page low high key t step) → Behind shape pages k (map (page_of k) t.2) step.place b.row.back
 behind shape pages k page low high key t step tree filled b =
     let row = b.row in
@@ -214,7 +214,7 @@ behind shape pages k page low high key t step tree filled b =
         let long : length (map (page_of k) front ++ page_of k here ∷ []) ≡ step.place + 1 = length-append (map (page_of k) front) (page_of k here ∷ []) ∙ ap (λ (n : ℕ). n + 1) (length-map front (page_of k) ∙ at) in
         ap (λ (l : List ℕ). slice_index l (step.place + 1)) split ∙ get_or_at (map (page_of k) front ++ page_of k here ∷ []) (page_of k y) (map (page_of k) back) 0 (step.place + 1) long
 
-pub back_length : (shape : Shape) (pages : PageMap) (k page : ℕ) (low high : Bound) (key : List ℕ) (t : TreeOf (suc k)) (step : Step) → IsTree shape pages (suc k) page low high t
+pub back_length : (shape : Shape) (pages : PageMap) (k page : ℕ) (low high : Bound) (key : List ℕ) (t : TreeOf (suc k)) (step : StepDown) → IsTree shape pages (suc k) page low high t
     → (b : Below_ shape pages k page low high key t step) → step.place + length b.row.back ≡ length t.1
 back_length shape pages k page low high key t step tree b =
     let row = b.row in
@@ -235,7 +235,7 @@ module _ (shape : Shape) (pages : PageMap) (h k page : ℕ) (key : List ℕ) (pa
   next_down_fails fault out steps was = subst (λ (n : ℕ). FindsFilled shape pages n page (first_of past shape.width key) out) (sym one) (λ t low high tree filled.
       fails out fault (IsFound (first_of past shape.width key) (entries_of (suc k) t)) was (step_of shape pages k page low high key t (Err fault) tree steps).no_damage)
 
-  module _ (mid : PageMap) (same : mid ≡ pages) (step : Step) (steps : Steps shape pages page key (Ok step)) where
+  module _ (mid : PageMap) (same : mid ≡ pages) (step : StepDown) (steps : Steps shape pages page key (Ok step)) where
     child_answer : (out : Result (Option (ArrayVec ℕ)) Fault) → FindsFilled shape mid k step.child (first_of past shape.width key) out → (low high : Bound) (t : TreeOf (suc k)) (tree : IsTree shape pages (suc k) page low high t) → IsHalfFull shape (suc k) t
         → (b : Below_ shape pages k page low high key t step) → IsAnswer out (IsFound (first_of past shape.width key) (entries_of k b.row.here))
     child_answer out finds low high t tree filled b =

@@ -9,7 +9,7 @@ use Rattle.tree_node.specs.declared.shape.Shape.{Shape}
 use Rattle.page_bytes.specs.Each.{Each}
 use Rattle.pages.specs.PageMap.{PageMap}
 use Rattle.pages.specs.Owners.{IsOutside}
-use Rattle.tree_search.specs.declared.descent.Step.{Step}
+use Rattle.tree_search.specs.declared.descent.StepDown.{StepDown}
 use Rattle.tree_search.specs.declared.spot.Spot.{Spot}
 use Rattle.node_balance.specs.Fill.{least}
 use Rattle.tree_search.specs.Tree.{TreeOf, page_of, entries_of, pages_of, size_of, IsHalfFull}
@@ -126,7 +126,7 @@ pub spots_fails : (shape : Shape) (pages : PageMap) (h page : ℕ) (spot : Spot)
 spots_fails shape pages h page spot fault (Ok found) was t low high tree filled = absurd was
 spots_fails shape pages h page spot fault (Err e) was t low high tree filled = tt
 
-module _ (shape : Shape) (pages : PageMap) (h k page : ℕ) (key : List ℕ) (one : h ≡ suc k) (step : Step) (steps : Steps shape pages page key (Ok step)) (spot : Spot) where
+module _ (shape : Shape) (pages : PageMap) (h k page : ℕ) (key : List ℕ) (one : h ≡ suc k) (step : StepDown) (steps : Steps shape pages page key (Ok step)) (spot : Spot) where
   pub spots_below : (mid : PageMap) (found : ArrayVec ℕ) → mid ≡ pages → Spots shape mid k step.child spot (Ok (Some found)) → Spots shape pages h page spot (Ok (Some found))
   spots_below mid found same spots = subst (λ (n : ℕ). Spots shape pages n page spot (Ok (Some found))) (sym one) (λ t low high tree filled.
       let b = below shape pages k page low high key t step tree (step_of shape pages k page low high key t (Ok step) tree steps).answer in

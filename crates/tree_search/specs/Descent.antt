@@ -4,21 +4,21 @@ use Rattle.io_state.specs.declared.fault.Fault.{Fault}
 use Rattle.tree_node.specs.declared.shape.Shape.{Shape}
 use Rattle.tree_node.specs.Order.{Ascends, IsRank, IsRankAfter}
 use Rattle.pages.specs.PageMap.{PageMap}
-use Rattle.tree_search.specs.declared.descent.Step.{Step}
+use Rattle.tree_search.specs.declared.descent.StepDown.{StepDown}
 use Rattle.tree_search.specs.declared.descent.Look.{Look}
 use Rattle.tree_search.specs.Stored.{IsLeafAt, IsInnerAt}
 use Rattle.pages.specs.Answer.{IsAnswer}
 use Rattle.tree_search.specs.Calls.{entry_of}
 
 -- the child to the right of all separators that are not above the key, and the one behind it
-pub record IsStep (width : ℕ) (key : List ℕ) (separators : List (List ℕ)) (below : List ℕ) (step : Step) : Type 0 where
+pub record IsStep (width : ℕ) (key : List ℕ) (separators : List (List ℕ)) (below : List ℕ) (step : StepDown) : Type 0 where
   pub rank : Ascends width separators → IsRankAfter width key separators step.place
   pub within : step.place ≤ length separators
   pub child : step.child ≡ slice_index below step.place
   pub next : step.place < length separators → step.next ≡ slice_index below (step.place + 1)
   pub count : step.count ≡ length separators
 
-abbrev pub Steps : Shape → PageMap → ℕ → List ℕ → Result Step Fault → Type 0
+abbrev pub Steps : Shape → PageMap → ℕ → List ℕ → Result StepDown Fault → Type 0
 Steps shape pages page key result =
     (separators : List (List ℕ)) (below : List ℕ) → IsInnerAt shape pages page separators below → IsAnswer result (IsStep shape.width key separators below)
 

@@ -15,7 +15,7 @@ use tree_node::{Entry, InnerView, LeafView, PAGE_SIZE, Shape, is_inner, is_leaf}
 /// The child of an inner node below which a key belongs: its place, its page, the page of the next one (or its own, where it is the last),
 /// and how many separators the node has.
 #[derive(Clone, Copy)]
-pub struct Step {
+pub struct StepDown {
     pub place: usize,
     pub child: u32,
     pub next: u32,
@@ -30,7 +30,12 @@ pub struct Look {
 }
 
 /// One step down, to where a key belongs.
-pub fn descend<P: Pages>(pages: &mut P, shape: Shape, page: u32, key: &[u8]) -> Result<Step, Fault>
+pub fn descend<P: Pages>(
+    pages: &mut P,
+    shape: Shape,
+    page: u32,
+    key: &[u8],
+) -> Result<StepDown, Fault>
     requires ready { P.IsReady pages.old }
     ensures down { IsTrue (P.state pages.new).is_honest → Steps shape (P.state pages.old).live page key.now result }
     ensures cause { IfErr result (IsCaused (P.HasFailed pages.old pages.new) ⊥) }
@@ -45,14 +50,14 @@ pub fn descend<P: Pages>(pages: &mut P, shape: Shape, page: u32, key: &[u8]) -> 
 }
 
 /// One step down from the bytes of an inner node.
-pub fn step_in(page: &[u8; PAGE_SIZE], shape: Shape, key: &[u8]) -> Step
+pub fn step_in(page: &[u8; PAGE_SIZE], shape: Shape, key: &[u8]) -> StepDown
     requires inner { IsInner shape page.now }
     ensures { IsStep shape.width key.now (separators shape page.now) (children shape page.now) result }
 {
     let node = InnerView { page, shape };
     let place = node.rank(key);
     let count = node.count();
-    Step {
+    StepDown {
         place,
         child: node.child(place),
         next: node.child((place + 1).min(count)),

@@ -7,7 +7,7 @@ ghost use Rattle.tree_node.specs.Order.{less};
 ghost use Rattle.pages.specs.Cause.{IsCaused};
 ghost use Rattle.tree_search.specs.Range.{FindsWithin, Sights, SightsInLeaf, IsSightFrom, Fronts, FrontsInLeaf, HasFront, IsFork, Forks, IsOpen, told_first, told_seen, seen, alone};
 
-use crate::descent::{Step, step_in};
+use crate::descent::{StepDown, step_in};
 use crate::search::first_child;
 use crate::spot::fill;
 use io_state::Fault;
@@ -33,7 +33,7 @@ pub enum Sight {
 /// One step down to where a range begins, and whether what stands behind that child lies past the range.
 #[derive(Clone, Copy)]
 pub struct Fork {
-    pub step: Step,
+    pub step: StepDown,
     pub past: bool,
 }
 
