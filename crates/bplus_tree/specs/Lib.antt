@@ -12,4 +12,3 @@ pub mod Split
 pub mod Grow
 pub mod Insert
 pub mod Raise
-pub mod MemoryPages

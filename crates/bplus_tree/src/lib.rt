@@ -23,6 +23,3 @@ mod tree;
 pub use cursor::Cursor;
 pub use law::{have_many_entries, reads_its_entries};
 pub use tree::Tree;
-
-#[cfg(test)]
-mod tests;

@@ -101,6 +101,3 @@ pub fn no_words_are_two_decks()
     one_description();
     one_procedure();
 }
-
-#[cfg(test)]
-mod tests;

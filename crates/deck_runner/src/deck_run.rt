@@ -76,6 +76,3 @@ pub fn run_deck<L: Library, W: Write>(
         Err(fault) => Err(RunFault::of(fault)),
     }
 }
-
-#[cfg(test)]
-mod tests;

@@ -54,6 +54,3 @@ pub fn one_reading()
     ensures faults { (bytes : List ℕ) (a b : DeckFault) → HasFault bytes a → HasFault bytes b →
         a.code ≢ 8 → b.code ≢ 8 → a ≡ b }
 {}
-
-#[cfg(test)]
-mod tests;

@@ -91,6 +91,3 @@ pub fn are_described()
 pub fn one_description()
     ensures { (a b : Description) (words : List Word) → IsDescription words a → IsDescription words b → a ≡ b }
 {}
-
-#[cfg(test)]
-mod tests;

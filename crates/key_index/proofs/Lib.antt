@@ -6,6 +6,5 @@ pub mod PlaceLemmas
 pub mod LookLemmas
 pub mod EditLemmas
 pub mod LawLemmas
-pub mod MemoryPagesLemmas
 pub mod CursorLemmas
 pub mod FirstLemmas

@@ -7,4 +7,3 @@ pub mod Cost
 pub mod Keys
 pub mod Laws
 pub mod Cursors
-pub mod MemoryPages

@@ -19,6 +19,3 @@ pub use cursor::{AltCursor, PrimeCursor};
 pub use entry::{AltEntry, AltFirst, PrimeEntry};
 pub use laws::{alt_laws, prime_laws};
 pub use prime_index::PrimeIndex;
-
-#[cfg(test)]
-mod tests;

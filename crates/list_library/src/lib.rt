@@ -12,8 +12,6 @@ mod list_row;
 mod list_unit;
 mod presence;
 mod scan;
-#[cfg(test)]
-mod tests;
 mod wanted;
 
 pub use library::ListLibrary;

@@ -8,8 +8,6 @@
 
 mod law;
 mod marks;
-#[cfg(test)]
-mod tests;
 mod walk_fault;
 
 pub use law::marks_part_the_pages;

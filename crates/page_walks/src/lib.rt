@@ -10,8 +10,6 @@ mod free_walk;
 mod law;
 mod order;
 mod spot;
-#[cfg(test)]
-mod tests;
 mod tree_walk;
 
 pub use free_walk::walk_free;

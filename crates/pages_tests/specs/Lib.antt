@@ -1,3 +1,1 @@
 pub mod Paired
-pub mod Alike
-pub mod Readable

@@ -1,43 +1,13 @@
-//! Customers with a number, a name that is of one alone, and a city that several may have; the calls on an open file of them.
+//! Calls on an open file of customers.
 
 ghost use Rattle.open_file.specs.Stands.{IsShaped};
 
-use crate::made::{key, part, schema};
 use indexed_file::{Added, Found, Replaced};
 use io_state::{Fault, Position, Relation};
 use open_file::OpenFile;
 use pages::Pages;
-use record_layout::Schema;
+use sample_records::key;
 use std::process::Abort;
-
-pub const NUMBER: u8 = 0;
-
-pub const NAME: u8 = 1;
-
-pub const CITY: u8 = 2;
-
-pub const NEW: Added = Added::Done { repeated: false };
-
-pub const AGAIN: Added = Added::Done { repeated: true };
-
-/// Their schema.
-pub fn customers(rt: &impl Abort) -> Result<Schema, Fault> {
-    let keys = [part(0, 4, false), part(4, 6, false), part(10, 6, true)];
-    schema(rt, 16, 16, &keys)
-}
-
-/// The customer of a number: 0001 N0001 OSLO, and so on.
-pub fn numbered(n: u32) -> [u8; 16] {
-    let mut record = *b"0000N0000 OSLO  ";
-    let mut rest = n;
-    for i in 0..4 {
-        let digit = b'0' + (rest % 10) as u8;
-        record[3 - i] = digit;
-        record[8 - i] = digit;
-        rest /= 10;
-    }
-    record
-}
 
 /// Adds a record.
 pub fn adds<P: Pages>(

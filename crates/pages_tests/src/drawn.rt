@@ -1,51 +1,18 @@
 //! Calls that are drawn, to a file in pages and to one in a list.
 
-ghost use Rattle.std.specs.Prelude.{◌≤◌, ◌<◌};
 ghost use Rattle.pages_tests.specs.Paired.{ArePaired};
 
-use crate::made::{new_pages, new_shelf, schema};
+use crate::made::{new_pages, new_shelf};
 use crate::paired::{adds, finds, goes_on, opens_list, reads_all, removes, replaces, seeks, tops};
-use crate::records::{Record, record_of, value_of};
 use indexed_file::Library;
 use io_state::{Fault, Position};
 use list_library::ListLibrary;
 use open_file::OpenFile;
 use page_alloc::FilePages;
 use pages::Pages;
-use record_layout::{KeyPart, Schema};
+use sample_records::{Draw, NARROW, WIDE, draws_record, schema, value_of};
 use std::process::Abort;
 use std::test::Fail;
-
-/// Numbers, one after another, that look as if they were drawn.
-#[derive(Drop)]
-pub struct Draw {
-    pub last: u64,
-}
-
-impl Draw {
-    /// A number below this one.
-    pub fn below(&mut self, end: u64) -> u64
-        ensures { 1 ≤ end → result < end }
-    {
-        self.last = self
-            .last
-            .wrapping_mul(6_364_136_223_846_793_005)
-            .wrapping_add(1_442_695_040_888_963_407);
-        (self.last >> 33) % end.max(1)
-    }
-}
-
-/// A record with a number and a code that are one record's alone.
-pub fn draws_record(schema: &Schema, draw: &mut Draw, primes: u64) -> Record {
-    let least = u64::from(schema.least());
-    let greatest = u64::from(schema.greatest());
-    let prime = draw.below(primes);
-    let code = draw.below(primes.saturating_mul(2));
-    let numbers = [prime, code, code / 10 % 100, draw.below(7)];
-    let lengths = greatest.saturating_sub(least).saturating_add(1);
-    let length = least.saturating_add(draw.below(lengths));
-    record_of(schema, &numbers, length as usize)
-}
 
 /// One call that changes both files.
 fn changes<P: Pages, L: Library>(
@@ -138,54 +105,6 @@ fn runs<P: Pages, L: Library>(
     Ok(most)
 }
 
-/// Records of 12 to 19 bytes: a code of four digits, its tens and hundreds, and one of seven values.
-pub const NARROW: [KeyPart; 4] = [
-    KeyPart {
-        offset: 2,
-        length: 3,
-        duplicates: false,
-    },
-    KeyPart {
-        offset: 5,
-        length: 4,
-        duplicates: false,
-    },
-    KeyPart {
-        offset: 6,
-        length: 2,
-        duplicates: true,
-    },
-    KeyPart {
-        offset: 9,
-        length: 3,
-        duplicates: true,
-    },
-];
-
-/// Keys of 250 bytes, of which a leaf holds eight.
-pub const WIDE: [KeyPart; 4] = [
-    KeyPart {
-        offset: 0,
-        length: 250,
-        duplicates: false,
-    },
-    KeyPart {
-        offset: 250,
-        length: 250,
-        duplicates: false,
-    },
-    KeyPart {
-        offset: 500,
-        length: 250,
-        duplicates: true,
-    },
-    KeyPart {
-        offset: 750,
-        length: 250,
-        duplicates: true,
-    },
-];
-
 #[test]
 fn drawn_calls_answer_as_those_of_a_list(rt: HostRuntime) -> Result<(), Fail> {
     let mut shelf = new_shelf(rt.alloc())?;
@@ -194,7 +113,7 @@ fn drawn_calls_answer_as_those_of_a_list(rt: HostRuntime) -> Result<(), Fail> {
         file: &mut held,
         shelf: &mut shelf,
     };
-    let schema = schema(&rt, 12, 19, &NARROW)?;
+    let schema = schema(12, 19, &NARROW)?;
     let mut opened = OpenFile::create(&mut pages, &schema)?;
     let mut list = ListLibrary::new(rt.alloc());
     opens_list(&rt, &mut list, &schema)?;
@@ -211,7 +130,7 @@ fn drawn_calls_with_wide_keys_answer_as_those_of_a_list(rt: HostRuntime) -> Resu
         file: &mut held,
         shelf: &mut shelf,
     };
-    let schema = schema(&rt, 1000, 1010, &WIDE)?;
+    let schema = schema(1000, 1010, &WIDE)?;
     let mut opened = OpenFile::create(&mut pages, &schema)?;
     let mut list = ListLibrary::new(rt.alloc());
     opens_list(&rt, &mut list, &schema)?;

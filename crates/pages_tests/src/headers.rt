@@ -4,13 +4,14 @@ ghost use Rattle.std.specs.Prelude.{IfSome};
 ghost use Rattle.file_header.specs.Bounds.{IsHeader};
 ghost use Rattle.open_file.specs.Stands.{IsShaped};
 
-use crate::made::{key, new_pages, new_shelf, part, schema};
+use crate::made::{new_pages, new_shelf};
 use file_header::Header;
 use indexed_file::Added;
 use io_state::{Fault, Key, Position};
 use open_file::OpenFile;
 use page_alloc::FilePages;
 use pages::Pages;
+use sample_records::{key, part, schema};
 use std::process::Abort;
 use std::test::Fail;
 
@@ -109,7 +110,7 @@ fn a_file_goes_on_by_its_header(rt: HostRuntime) -> Result<(), Fail> {
         file: &mut held,
         shelf: &mut shelf,
     };
-    let schema = schema(&rt, 6, 6, &[part(0, 2, false), part(2, 4, true)])?;
+    let schema = schema(6, 6, &[part(0, 2, false), part(2, 4, true)])?;
     let mut opened = OpenFile::create(&mut pages, &schema)?;
     fills(&rt, &mut opened, &mut pages)?;
     let header = reads_header(&opened, 4);

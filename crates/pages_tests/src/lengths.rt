@@ -2,9 +2,8 @@
 
 ghost use Rattle.pages_tests.specs.Paired.{ArePaired};
 
-use crate::made::{new_pages, new_shelf, part, schema};
+use crate::made::{new_pages, new_shelf};
 use crate::paired::{adds, finds, opens_list, reads_all, removes, replaces, seeks, tops};
-use crate::records::{record_of, value_of};
 use indexed_file::Library;
 use io_state::Fault;
 use list_library::ListLibrary;
@@ -12,6 +11,7 @@ use open_file::OpenFile;
 use page_alloc::FilePages;
 use pages::Pages;
 use record_layout::KeyPart;
+use sample_records::{part, record_of, schema, value_of};
 use std::alloc::Global;
 use std::process::Abort;
 use std::test::Fail;
@@ -85,7 +85,7 @@ fn runs(
         file: &mut held,
         shelf: &mut shelf,
     };
-    let schema = schema(rt, least, greatest, keys)?;
+    let schema = schema(least, greatest, keys)?;
     let mut opened = OpenFile::create(&mut pages, &schema)?;
     let mut list = ListLibrary::new(alloc);
     opens_list(rt, &mut list, &schema)?;

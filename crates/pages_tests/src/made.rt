@@ -1,17 +1,15 @@
-//! A file on a shelf in memory, and schemas by their numbers.
+//! A file on a shelf in memory.
 
 ghost use Rattle.std.specs.Prelude.{◌≡◌, true, IfOk};
 ghost use Rattle.page_store.specs.ShelfState.{HasUnit};
 ghost use Rattle.page_store.specs.MemShelves.{state_of};
 ghost use Rattle.page_alloc.specs.PagedFile.{IsOpenOver};
 
-use io_state::{Fault, FileName, Key};
+use io_state::{Fault, FileName};
 use page_alloc::PagedFile;
 use page_store::{MemShelf, Shelf};
-use record_layout::{KeyPart, Schema};
 use std::alloc::Global;
 use std::num::NonZeroUsize;
-use std::process::Abort;
 
 /// A shelf with a unit for one file.
 pub fn new_shelf(alloc: Global) -> Result<MemShelf, Fault>
@@ -32,32 +30,4 @@ pub fn new_pages(alloc: Global, shelf: &mut MemShelf, limit: u32) -> Result<Page
 {
     let frames = NonZeroUsize::new(4096).unwrap_or(NonZeroUsize::MIN);
     PagedFile::create(alloc, shelf, 0, frames, limit, &[0; 4096])
-}
-
-/// A part of a record.
-pub fn part(offset: u16, length: u16, duplicates: bool) -> KeyPart {
-    KeyPart {
-        offset,
-        length,
-        duplicates,
-    }
-}
-
-/// The schema of these numbers, which make one.
-pub fn schema(
-    rt: &impl Abort,
-    least: u16,
-    greatest: u16,
-    keys: &[KeyPart],
-) -> Result<Schema, Fault> {
-    let schema = Schema::from_parts(least, greatest, keys);
-    assert!(rt; schema.is_some());
-    schema.ok_or(Fault::Memory)
-}
-
-/// A value.
-pub fn key(bytes: &[u8]) -> Key {
-    let mut key = Key::new();
-    let _ = key.try_extend_from_slice(bytes);
-    key
 }

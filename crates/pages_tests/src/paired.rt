@@ -4,12 +4,12 @@ ghost use Rattle.std.specs.Prelude.{OnOk};
 ghost use Rattle.indexed_file.specs.Clients.{IsOpenWith};
 ghost use Rattle.pages_tests.specs.Paired.{ArePaired};
 
-use crate::made::key;
 use indexed_file::{Added, Found, Library, Replaced, Seen};
 use io_state::{Fault, FileName, Key, Position, Relation};
 use open_file::OpenFile;
 use pages::Pages;
 use record_layout::Schema;
+use sample_records::key;
 use std::process::Abort;
 
 /// Opens a new file in a list.

@@ -2,16 +2,14 @@
 
 ghost use Rattle.open_file.specs.Stands.{IsShaped};
 
-use crate::customers::{
-    AGAIN, CITY, NAME, NEW, NUMBER, adds, begins, comes_next, customers, has_key, numbered,
-    replaces,
-};
-use crate::made::{key, new_pages, new_shelf};
+use crate::customers::{adds, begins, comes_next, has_key, replaces};
+use crate::made::{new_pages, new_shelf};
 use indexed_file::{Added, Replaced};
 use io_state::{Fault, Position, Relation};
 use open_file::OpenFile;
 use page_alloc::FilePages;
 use pages::Pages;
+use sample_records::{AGAIN, CITY, NAME, NEW, NUMBER, customers, key, numbered};
 use std::process::Abort;
 use std::test::Fail;
 
@@ -87,7 +85,7 @@ fn a_city_is_read_to_its_end(rt: HostRuntime) -> Result<(), Fail> {
         file: &mut held,
         shelf: &mut shelf,
     };
-    let mut opened = OpenFile::create(&mut pages, &customers(&rt)?)?;
+    let mut opened = OpenFile::create(&mut pages, &customers()?)?;
     fills_g(&rt, &mut opened, &mut pages)?;
     reads_a_city_to_its_end(&rt, &mut opened, &mut pages)?;
     Ok(())
@@ -143,7 +141,7 @@ fn a_city_that_changes_comes_last(rt: HostRuntime) -> Result<(), Fail> {
         file: &mut held,
         shelf: &mut shelf,
     };
-    let mut opened = OpenFile::create(&mut pages, &customers(&rt)?)?;
+    let mut opened = OpenFile::create(&mut pages, &customers()?)?;
     fills_g(&rt, &mut opened, &mut pages)?;
     changes_a_city(&rt, &mut opened, &mut pages)?;
     reads_changed_cities(&rt, &mut opened, &mut pages)?;
@@ -186,7 +184,7 @@ fn a_start_compares_the_front_of_a_key(rt: HostRuntime) -> Result<(), Fail> {
         file: &mut held,
         shelf: &mut shelf,
     };
-    let mut opened = OpenFile::create(&mut pages, &customers(&rt)?)?;
+    let mut opened = OpenFile::create(&mut pages, &customers()?)?;
     fills_f(&rt, &mut opened, &mut pages)?;
     starts(&rt, &opened, &mut pages)?;
     let smith = Some((b"0002SMITH BERGEN", false));
@@ -242,7 +240,7 @@ fn a_name_is_free_again_where_its_record_is_removed(rt: HostRuntime) -> Result<(
         file: &mut held,
         shelf: &mut shelf,
     };
-    let mut opened = OpenFile::create(&mut pages, &customers(&rt)?)?;
+    let mut opened = OpenFile::create(&mut pages, &customers()?)?;
     assert!(rt; opened.highest(&mut pages)?.is_none());
     fills_f(&rt, &mut opened, &mut pages)?;
     clashes(&rt, &mut opened, &mut pages)?;
@@ -294,7 +292,7 @@ fn sixteen_pages_hold_227_customers(rt: HostRuntime) -> Result<(), Fail> {
         file: &mut held,
         shelf: &mut shelf,
     };
-    let mut opened = OpenFile::create(&mut pages, &customers(&rt)?)?;
+    let mut opened = OpenFile::create(&mut pages, &customers()?)?;
     assert_eq!(rt; pages.pages_left(), 12);
     adds(&rt, &mut opened, &mut pages, &numbered(1), NEW)?;
     assert_eq!(rt; pages.pages_left(), 11);

@@ -93,8 +93,3 @@ pub fn only_allowed()
     ensures { (names : Names) (list : List Statement) (words : List Word) →
         AreDescribed names.files names.items → (procedure names).Spells list words [] → All (IsAllowed names) list }
 {}
-
-#[cfg(test)]
-mod customers;
-#[cfg(test)]
-mod tests;

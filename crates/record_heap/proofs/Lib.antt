@@ -6,4 +6,3 @@ pub mod GrowLemmas
 pub mod HeapLemmas
 pub mod WalkLemmas
 pub mod SlotWalkLemmas
-pub mod MemoryPagesLemmas

@@ -13,8 +13,6 @@ mod laws;
 mod shape;
 mod slot;
 mod slots;
-#[cfg(test)]
-mod tests;
 mod walk;
 
 pub use heap::Heap;

@@ -100,6 +100,3 @@ impl Layout {
 pub fn one_outcome()
     ensures { (entries : List Entry) (layout : List PlacedItem) (fault : LayoutFault) → IsLayout entries layout → IsFirstFault [] 0 entries fault → ⊥ }
 {}
-
-#[cfg(test)]
-mod tests;

@@ -239,6 +239,3 @@ fn leading_key(keys: &[KeyPart], field: Field) -> Option<usize>
 {
     keys.iter().position(|part| part.offset == field.offset && field.length <= part.length)
 }
-
-#[cfg(test)]
-mod tests;

@@ -7,7 +7,5 @@
 #![tactic(auto)]
 
 mod shelf_run;
-#[cfg(test)]
-mod tests;
 
 pub use shelf_run::run_on_shelf;

@@ -1,0 +1,349 @@
+//! Descriptions of decks, and faulty ones.
+
+use deck_words::{DeckFault, Parser, words};
+use file_control::{Description, are_described, one_description, read_description};
+use io_state::Access;
+use record_layout::{Field, KeyPart};
+use std::alloc::Global;
+use std::test::Fail;
+
+fn description_of(alloc: Global, deck: &str) -> Result<Description, DeckFault> {
+    let words = words(deck.as_bytes())?;
+    read_description(alloc, &words)
+}
+
+fn field(offset: u16, length: u16, numeric: bool) -> Option<Field> {
+    Some(Field {
+        offset,
+        length,
+        numeric,
+    })
+}
+
+fn key(offset: u16, length: u16, duplicates: bool) -> KeyPart {
+    KeyPart {
+        offset,
+        length,
+        duplicates,
+    }
+}
+
+/// The optional words, clauses and punctuation that have no effect; small letters.
+const OPTIONAL_WORDS: &str = "identification division. program-id. shop.
+ENVIRONMENT DIVISION. INPUT-OUTPUT SECTION. FILE-CONTROL.
+    SELECT OPTIONAL CUST; ASSIGN 'Cust-1.dat', ACCESS DYNAMIC;
+        FILE STATUS IS CUST-STATUS,
+        ALTERNATE RECORD CUST-CITY DUPLICATES
+        ALTERNATE RECORD KEY CUST-NAME
+        INDEXED RECORD CUST-ID .
+DATA DIVISION. FILE SECTION.
+FD CUST
+    BLOCK CONTAINS 1 TO 10 RECORDS
+    RECORD CONTAINS 16 CHARACTERS
+    LABEL RECORDS ARE OMITTED.
+1 CUST-REC.
+  2 CUST-ID PICTURE IS 99(2)9.
+  2 CUST-NAME PIC x(5)X.
+  2 .
+    3 CUST-CITY PIC X(6).
+PROCEDURE DIVISION.";
+
+#[test]
+fn optional_words_have_no_effect(rt: HostRuntime) -> Result<(), Fail> {
+    let words = words(OPTIONAL_WORDS.as_bytes())?;
+    let description = read_description(rt.alloc(), &words)?;
+    let behind = words.skip(description.words);
+    assert!(rt; Parser::new(&behind).sees(b"PROCEDURE"));
+    assert_eq!(rt; description.items.as_slice().len(), 0);
+    let files = description.files.as_slice();
+    assert_eq!(rt; files.len(), 1);
+    let file = &files[0];
+    assert_eq!(rt; file.name.as_str(), "CUST");
+    assert_eq!(rt; file.file.as_str(), "Cust-1.dat");
+    assert_eq!(rt; file.access, Access::Dynamic);
+    assert_eq!(rt; file.optional, true);
+    assert_eq!(rt;
+        file.entry.is_some_and(|name| name.as_str() == "CUST-REC"),
+        true
+    );
+    assert_eq!(rt; file.layout.length(), 16);
+    assert_eq!(rt; file.layout.field("CUST-ID"), field(0, 4, true));
+    assert_eq!(rt; file.layout.field("CUST-CITY"), field(10, 6, false));
+    assert_eq!(rt; file.schema.least(), 16);
+    let keys = [key(0, 4, false), key(4, 6, false), key(10, 6, true)];
+    assert_eq!(rt; file.schema.keys(), keys.as_slice());
+    assert_eq!(rt; file.depends_on, None);
+    Ok(())
+}
+
+/// Records of 10 to 16 bytes, and a second file whose description stands first.
+const TWO_FILES: &str = "ENVIRONMENT DIVISION. INPUT-OUTPUT SECTION. FILE-CONTROL.
+    SELECT CUST ASSIGN TO 'cust.dat' ORGANIZATION IS INDEXED
+        RECORD KEY IS CUST-ID ALTERNATE RECORD KEY IS CUST-NAME.
+    SELECT STOCK ASSIGN TO 'stock.dat' INDEXED ACCESS RANDOM RECORD KEY IS STOCK-ID.
+DATA DIVISION. FILE SECTION.
+FD STOCK.
+01 STOCK-ID PIC 9(4).
+FD CUST
+    RECORD IS VARYING IN SIZE FROM 10 TO 16 CHARACTERS DEPENDING ON CUST-LEN.
+01 CUST-REC.
+    05 CUST-ID PIC 9(4).
+    05 CUST-NAME.
+        10 NAME-1 PIC X(1).
+        10 NAME-REST PIC X(5).
+    05 CUST-CITY PIC X(6).
+WORKING-STORAGE SECTION.
+77 SPARE PIC 9.
+77 CUST-LEN PIC 9(2).
+PROCEDURE DIVISION.";
+
+#[test]
+fn files_stand_in_the_order_of_their_entries(rt: HostRuntime) -> Result<(), Fail> {
+    let description = description_of(rt.alloc(), TWO_FILES)?;
+    let files = description.files.as_slice();
+    assert_eq!(rt; files.len(), 2);
+    let cust = &files[0];
+    assert_eq!(rt; cust.name.as_str(), "CUST");
+    assert_eq!(rt; cust.access, Access::Sequential);
+    assert_eq!(rt; cust.schema.least(), 10);
+    assert_eq!(rt; cust.schema.greatest(), 16);
+    assert_eq!(rt; cust.layout.field("CUST-NAME"), field(4, 6, false));
+    assert_eq!(rt; cust.depends_on, Some(1));
+    let stock = &files[1];
+    assert_eq!(rt; stock.name.as_str(), "STOCK");
+    assert_eq!(rt; stock.file.as_str(), "stock.dat");
+    assert_eq!(rt; stock.layout.length(), 4);
+    assert_eq!(rt; stock.depends_on, None);
+    let items = description.items.as_slice();
+    assert_eq!(rt; items.len(), 2);
+    let item = &items[1];
+    assert_eq!(rt; item.name.as_str(), "CUST-LEN");
+    assert_eq!(rt; item.digits, 2);
+    one_description();
+    are_described();
+    Ok(())
+}
+
+const DIVISIONS: &str = "ENVIRONMENT DIVISION. INPUT-OUTPUT SECTION. FILE-CONTROL. ";
+
+const SELECT: &str = "SELECT A ASSIGN 'a' INDEXED RECORD K.";
+
+const FD: &str = "FD A. 01 R. 05 K PIC 9. 05 T PIC X(9).";
+
+/// The fault of a deck of these entries and descriptions.
+fn fault_of(alloc: Global, entries: &str, descriptions: &str) -> Result<Option<DeckFault>, Fail> {
+    let mut deck = String::new(alloc);
+    deck.push_str(DIVISIONS)?;
+    deck.push_str(entries)?;
+    deck.push_str(" DATA DIVISION. FILE SECTION. ")?;
+    deck.push_str(descriptions)?;
+    Ok(description_of(alloc, deck.as_str()).err())
+}
+
+/// Each fault is told for the word behind the line feed.
+#[test]
+fn a_fault_of_the_words_is_told_at_its_word(rt: HostRuntime) -> Result<(), Fail> {
+    let decks = [
+        ("\nDATA", "", 2),
+        (
+            "SELECT A ASSIGN 'a' INDEXED RECORD K. SELECT\nA ASSIGN 'b' INDEXED RECORD L.",
+            FD,
+            4,
+        ),
+        (
+            "SELECT A ASSIGN 'a' INDEXED RECORD K. SELECT B ASSIGN\n'a' INDEXED RECORD L.",
+            FD,
+            4,
+        ),
+        (SELECT, "FD\nB. 01 K PIC 9. PROCEDURE", 3),
+        (SELECT, "FD A. 01 K PIC 9. FD\nA. 01 L PIC 9. PROCEDURE", 4),
+        (
+            SELECT,
+            "FD A LABEL RECORD STANDARD\nLABEL RECORDS ARE OMITTED. 01 K PIC 9. PROCEDURE",
+            4,
+        ),
+        (
+            SELECT,
+            "FD A BLOCK 1 RECORDS\nBLOCK CONTAINS 2 TO 4. 01 K PIC 9. PROCEDURE",
+            4,
+        ),
+        (
+            SELECT,
+            "FD A RECORD CONTAINS 1\nRECORD 1. 01 K PIC 9. PROCEDURE",
+            4,
+        ),
+        (
+            SELECT,
+            "FD A RECORD 1\nRECORD VARYING 1 TO 1 DEPENDING L. 01 K PIC 9. PROCEDURE",
+            4,
+        ),
+        (
+            SELECT,
+            "FD A BLOCK CONTAINS\n1234567890123456789. 01 K PIC 9. PROCEDURE",
+            6,
+        ),
+        (SELECT, "FD A. 01 R. 05 K PIC 9.\n005 T PIC X. PROCEDURE", 2),
+        (SELECT, "FD A. 01 R. 05\nK", 2),
+        (SELECT, "FD A.\nPROCEDURE DIVISION.", 2),
+        (
+            SELECT,
+            "FD A. 01 K PIC 9. WORKING-STORAGE SECTION. 77\nFILLER PIC 9. PROCEDURE",
+            2,
+        ),
+        (
+            SELECT,
+            "FD A. 01 K PIC 9. WORKING-STORAGE SECTION.\n78 L PIC 9. PROCEDURE",
+            2,
+        ),
+        (
+            SELECT,
+            "FD A. 01 K PIC 9.\nENVIRONMENT DIVISION. PROCEDURE",
+            2,
+        ),
+        (SELECT, "\nPROCEDURE DIVISION.", 2),
+    ];
+    for (entries, descriptions, code) in decks {
+        let fault = fault_of(rt.alloc(), entries, descriptions)?;
+        assert_eq!(rt;
+            fault,
+            Some(DeckFault { line: 2, code }),
+            "{entries:?} {descriptions:?}"
+        );
+    }
+    assert_eq!(rt;
+        description_of(rt.alloc(), "").err(),
+        Some(DeckFault { line: 1, code: 2 })
+    );
+    Ok(())
+}
+
+#[test]
+fn a_deck_has_at_most_eight_files(rt: HostRuntime) -> Result<(), Fail> {
+    let mut deck = String::new(rt.alloc());
+    deck.push_str(DIVISIONS)?;
+    for file in ["A", "B", "C", "D", "E", "F", "G", "H"] {
+        deck.push_str("SELECT ")?;
+        deck.push_str(file)?;
+        deck.push_str(" ASSIGN '")?;
+        deck.push_str(file)?;
+        deck.push_str("' INDEXED RECORD K. ")?;
+    }
+    deck.push_str("\nSELECT I ASSIGN 'I' INDEXED RECORD K.")?;
+    let fault = description_of(rt.alloc(), deck.as_str()).err();
+    assert_eq!(rt; fault, Some(DeckFault { line: 2, code: 6 }));
+    Ok(())
+}
+
+/// Each fault is told for the word SELECT or FD, or the level number, behind the line feed.
+#[test]
+fn a_fault_of_a_file_is_told_at_its_entry(rt: HostRuntime) -> Result<(), Fail> {
+    let decks = [
+        (
+            "SELECT A ASSIGN 'a' INDEXED RECORD K.\nSELECT B ASSIGN 'b' INDEXED RECORD L.",
+            "FD A. 01 K PIC 9. PROCEDURE",
+            3,
+        ),
+        (
+            "\nSELECT A ASSIGN 'a' INDEXED RECORD K ALTERNATE RECORD L.",
+            "FD A. 01 K PIC 9. PROCEDURE",
+            3,
+        ),
+        (
+            "\nSELECT A ASSIGN 'a' INDEXED RECORD L.",
+            "FD A. 01 K PIC 9(0). PROCEDURE",
+            3,
+        ),
+        (
+            "\nSELECT A ASSIGN 'a' INDEXED RECORD L. SELECT B ASSIGN 'b' INDEXED RECORD M.",
+            "FD B. 01 M PIC 9(19). FD A. 01 K PIC 9. PROCEDURE",
+            3,
+        ),
+        (SELECT, "\nFD A. 01 R. 05 K PIC 9. 10 T PIC X. PROCEDURE", 7),
+        (SELECT, "\nFD A. 01 K PIC Z(4). PROCEDURE", 7),
+        (SELECT, "\nFD A. 01 K. 05 K PIC 9. PROCEDURE", 7),
+        (
+            SELECT,
+            "\nFD A RECORD CONTAINS 2 CHARACTERS. 01 K PIC 9. PROCEDURE",
+            7,
+        ),
+        (
+            SELECT,
+            "\nFD A RECORD VARYING 0 TO 1 DEPENDING L. 01 K PIC 9. WORKING-STORAGE SECTION. 77 L PIC 9. PROCEDURE",
+            7,
+        ),
+        (
+            SELECT,
+            "\nFD A RECORD VARYING 2 TO 1 DEPENDING L. 01 K PIC 9. WORKING-STORAGE SECTION. 77 L PIC 9. PROCEDURE",
+            7,
+        ),
+        (
+            SELECT,
+            "\nFD A RECORD VARYING 1 TO 2 DEPENDING L. 01 K PIC 9. WORKING-STORAGE SECTION. 77 L PIC 9. PROCEDURE",
+            7,
+        ),
+        (
+            "SELECT A ASSIGN 'a' INDEXED RECORD K. SELECT B ASSIGN 'b' INDEXED RECORD L.",
+            "\nFD B. 01 L. 05 K PIC 9. FD A. 01 K PIC 9. PROCEDURE",
+            4,
+        ),
+        (
+            SELECT,
+            "\nFD A RECORD VARYING 1 TO 1 DEPENDING L. 01 K PIC 9. WORKING-STORAGE SECTION. 77 M PIC 9. PROCEDURE",
+            3,
+        ),
+        (
+            SELECT,
+            "\nFD A RECORD VARYING 1 TO 1 DEPENDING L. 01 K PIC 9. PROCEDURE",
+            3,
+        ),
+        (
+            SELECT,
+            "\nFD A RECORD VARYING 1 TO 1 DEPENDING L. 01 K PIC 9. WORKING-STORAGE SECTION. 77 L PIC X. PROCEDURE",
+            7,
+        ),
+        (
+            SELECT,
+            "\nFD A RECORD VARYING 1 TO 10 DEPENDING L. 01 R. 05 K PIC 9. 05 T PIC X(9). WORKING-STORAGE SECTION. 77 L PIC 9. PROCEDURE",
+            7,
+        ),
+        (
+            SELECT,
+            "FD A. 01 K PIC 9. WORKING-STORAGE SECTION. 77 L PIC 9.\n77 K PIC 9. PROCEDURE",
+            4,
+        ),
+        (
+            SELECT,
+            "FD A. 01 K PIC 9. WORKING-STORAGE SECTION. 77 L PIC 9.\n77 L PIC 9. PROCEDURE",
+            4,
+        ),
+        (
+            SELECT,
+            "FD A. 01 K PIC 9. WORKING-STORAGE SECTION. 77 L PIC 9.\n77 M PIC X. PROCEDURE",
+            7,
+        ),
+        (
+            "\nSELECT A ASSIGN 'a' INDEXED RECORD K ALTERNATE RECORD R.",
+            "FD A. 01 R. 05 K PIC 9. PROCEDURE",
+            7,
+        ),
+        (
+            "\nSELECT A ASSIGN 'a' INDEXED RECORD K ALTERNATE RECORD T.",
+            "FD A RECORD VARYING 1 TO 2 DEPENDING L. 01 R. 05 K PIC 9. 05 T PIC X. WORKING-STORAGE SECTION. 77 L PIC 9. PROCEDURE",
+            7,
+        ),
+        (
+            "\nSELECT A ASSIGN 'a' INDEXED RECORD K ALTERNATE RECORD T.",
+            "FD A. 01 R. 05 K PIC 9. 05 T PIC X(251). PROCEDURE",
+            7,
+        ),
+    ];
+    for (entries, descriptions, code) in decks {
+        let fault = fault_of(rt.alloc(), entries, descriptions)?;
+        assert_eq!(rt;
+            fault,
+            Some(DeckFault { line: 2, code }),
+            "{entries:?} {descriptions:?}"
+        );
+    }
+    Ok(())
+}

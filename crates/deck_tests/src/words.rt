@@ -1,0 +1,190 @@
+//! Decks and their words, and words read one by one.
+
+use deck_words::{
+    Cause, DECK_LIMIT, DeckFault, Parser, Refusal, Word, WordText, one_reading, words,
+};
+use record_layout::Bytes;
+use std::alloc::{AllocError, Global};
+use std::process::Abort;
+use std::test::Fail;
+
+/// A deck of so many spaces.
+fn spaces(alloc: Global, count: usize) -> Result<Vec<u8>, AllocError> {
+    let mut deck = Vec::new(alloc);
+    for _ in 0..count {
+        deck.push(b' ')?;
+    }
+    Ok(deck)
+}
+
+/// The text of a literal of so many letters, with its marks.
+fn literal_of(alloc: Global, count: usize) -> Result<Vec<u8>, AllocError> {
+    let mut deck = Vec::new(alloc);
+    deck.push(b'"')?;
+    for _ in 0..count {
+        deck.push(b'a')?;
+    }
+    deck.push(b'"')?;
+    Ok(deck)
+}
+
+const PLAIN: &str = "plain";
+
+const LITERAL: &str = "literal";
+
+const SIGN: &str = "sign";
+
+const PERIOD: &str = "period";
+
+/// What a word is, and its text.
+fn seen(alloc: Global, word: &Word<'_>) -> Result<(&'static str, Bytes), AllocError> {
+    let (kind, text) = match &word.text {
+        WordText::Plain(text) => (PLAIN, text.as_str().as_bytes().to_vec(alloc)?),
+        WordText::Literal(text) => return Ok((LITERAL, text.text(alloc)?)),
+        WordText::Sign(sign) => (SIGN, sign.text().to_vec(alloc)?),
+        WordText::Period => (PERIOD, b".".to_vec(alloc)?),
+    };
+    Ok((kind, Bytes::from_vec(text)))
+}
+
+/// The deck has these words, each with its line and what it is.
+fn shows(
+    rt: &impl Abort,
+    alloc: Global,
+    deck: &str,
+    expected: &[(u64, &str, &str)],
+) -> Result<(), Fail> {
+    let mut words = words(deck.as_bytes())?;
+    assert_eq!(rt; words.len(), expected.len(), "{deck:?}");
+    for (line, kind, text) in expected {
+        let Some(word) = words.next() else {
+            assert!(rt; false, "{deck:?}");
+            return Ok(());
+        };
+        let (seen_kind, seen_text) = seen(alloc, &word)?;
+        assert_eq!(rt; word.line, *line, "{deck:?}");
+        assert_eq!(rt; seen_kind, *kind, "{deck:?}");
+        assert_eq!(rt; seen_text.as_slice(), text.as_bytes(), "{deck:?}");
+    }
+    assert!(rt; words.next().is_none(), "{deck:?}");
+    Ok(())
+}
+
+#[test]
+fn a_deck_is_cut_into_words_with_their_lines(rt: HostRuntime) -> Result<(), Fail> {
+    let a = rt.alloc();
+    shows(&rt, a, "", &[])?;
+    shows(&rt, a, " \t\r\n", &[])?;
+    shows(
+        &rt,
+        a,
+        "STOP\nRUN.",
+        &[(1, PLAIN, "STOP"), (2, PLAIN, "RUN"), (2, PERIOD, ".")],
+    )?;
+    shows(&rt, a, "A\r\n\r\nB", &[(1, PLAIN, "A"), (3, PLAIN, "B")])?;
+    shows(&rt, a, "A\rB", &[(1, PLAIN, "A"), (1, PLAIN, "B")])?;
+    shows(&rt, a, "A, B; ,", &[(1, PLAIN, "A"), (1, PLAIN, "B")])?;
+    shows(&rt, a, ".", &[(1, PERIOD, ".")])?;
+    shows(
+        &rt,
+        a,
+        "pic x(10).",
+        &[(1, PLAIN, "PIC"), (1, PLAIN, "X(10)"), (1, PERIOD, ".")],
+    )?;
+    shows(&rt, a, "= >", &[(1, SIGN, "="), (1, SIGN, ">")])?;
+    shows(&rt, a, ">= <", &[(1, SIGN, ">="), (1, SIGN, "<")])?;
+    shows(
+        &rt,
+        a,
+        "\"cust.dat\".",
+        &[(1, LITERAL, "cust.dat"), (1, PERIOD, ".")],
+    )?;
+    shows(&rt, a, "'a \"b\" c',", &[(1, LITERAL, "a \"b\" c")])?;
+    shows(&rt, a, "\"say \"\"no\"\"\"", &[(1, LITERAL, "say \"no\"")])?;
+    shows(
+        &rt,
+        a,
+        "'it''s' \"'\"",
+        &[(1, LITERAL, "it's"), (1, LITERAL, "'")],
+    )?;
+    let longest = "A23456789-123456789-123456789-";
+    shows(&rt, a, longest, &[(1, PLAIN, longest)])?;
+    one_reading();
+    Ok(())
+}
+
+#[test]
+fn bytes_that_are_no_word_are_told_for_their_line(rt: HostRuntime) -> Result<(), Fail> {
+    let decks = [
+        ("A_B", 1),
+        ("A\nB:C", 2),
+        ("A,B", 1),
+        ("<=", 1),
+        ("A,.", 1),
+        ("A\n\n=.. B", 3),
+        ("A23456789-123456789-123456789-1", 1),
+        ("\n\"", 2),
+        ("\n\"\"", 2),
+        ("\"a\n\"", 1),
+        ("'a\"", 1),
+        ("A\"b\"", 1),
+        ("\"a\"B", 1),
+        ("\"a\"'b'", 1),
+        ("\"\"\"", 1),
+        ("\n\ncaf\u{e9}", 3),
+    ];
+    for (deck, line) in decks {
+        let fault = words(deck.as_bytes()).err();
+        assert_eq!(rt; fault, Some(DeckFault { line, code: 1 }), "{deck:?}");
+    }
+    Ok(())
+}
+
+#[test]
+fn a_literal_has_at_most_a_thousand_bytes(rt: HostRuntime) -> Result<(), Fail> {
+    let deck = literal_of(rt.alloc(), 1_000)?;
+    let mut parser = Parser::new(&words(deck.as_slice())?);
+    assert_eq!(rt; parser.left(), 1);
+    assert_eq!(rt; parser.literal(rt.alloc())?.as_slice().len(), 1_000);
+    let deck = literal_of(rt.alloc(), 1_001)?;
+    let fault = words(deck.as_slice()).err();
+    assert_eq!(rt; fault, Some(DeckFault { line: 1, code: 1 }));
+    Ok(())
+}
+
+#[test]
+fn a_deck_has_at_most_a_mebibyte(rt: HostRuntime) -> Result<(), Fail> {
+    let longest = spaces(rt.alloc(), DECK_LIMIT)?;
+    assert_eq!(rt; words(longest.as_slice())?.len(), 0);
+    let longer = spaces(rt.alloc(), 1_048_577)?;
+    let fault = words(longer.as_slice()).err();
+    assert_eq!(rt; fault, Some(DeckFault { line: 1, code: 6 }));
+    assert_eq!(rt; DECK_LIMIT, 1_048_576);
+    Ok(())
+}
+
+#[test]
+fn operands_are_read_where_they_stand(rt: HostRuntime) -> Result<(), Fail> {
+    let words = words(b"CUST-ID 'O''Hara' 0012 >= =\n1234567890123456789")?;
+    let mut parser = Parser::new(&words);
+    assert_eq!(rt; parser.name()?.as_str(), "CUST-ID");
+    assert!(rt; parser.sees_literal());
+    assert_eq!(rt;
+        parser.literal(rt.alloc())?.as_slice(),
+        b"O'Hara".as_slice()
+    );
+    assert!(rt; parser.sees_digits());
+    assert_eq!(rt; parser.digits()?.as_str(), "0012");
+    assert!(rt; !parser.eat_sign(b"="));
+    assert_eq!(rt; parser.expect_sign(b">="), Ok(()));
+    assert!(rt; parser.eat_sign(b"="));
+    assert_eq!(rt;
+        parser.digits().err(),
+        Some(Refusal::Fault(2, Cause::Limit))
+    );
+    assert_eq!(rt;
+        parser.name().err(),
+        Some(Refusal::Fault(2, Cause::Expected))
+    );
+    Ok(())
+}

@@ -1,0 +1,2 @@
+pub mod BothLemmas
+pub mod ShelfLemmas

@@ -1,2 +1,0 @@
-pub mod UnitLemmas
-pub mod ShelfLemmas

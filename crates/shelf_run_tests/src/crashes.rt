@@ -1,0 +1,92 @@
+//! A device that stops, and then a crash.
+
+use crate::failing::{Failing, fails_in_turn};
+use crate::left::{Crash, reads_as};
+use crate::running::{run_over, shelf_before};
+use page_store::{FuseShelf, Image, Kind, MemShelf};
+use std::alloc::Global;
+use std::process::Abort;
+use std::test::Fail;
+use worked_decks::{
+    A_DUPLICATE_REWRITTEN, PAYROLL, REPLACED, REPLACED_WHERE_REFUSED, SIDE_BY_SIDE,
+    WRITTEN_AND_READ_BACK, Worked, deck_of,
+};
+
+/// What a crash may leave: what reads give, what was synced, or these bytes wherever something was written since, that of a closed gate among them; or
+/// what was synced, but one page.
+const CRASHES: [Crash; 8] = [
+    Crash::Whole(Image::AsRead),
+    Crash::Whole(Image::Synced),
+    Crash::Whole(Image::Filled(0)),
+    Crash::Whole(Image::Filled(b'C')),
+    Crash::Whole(Image::Filled(0xff)),
+    Crash::OnePage(0),
+    Crash::OnePage(1),
+    Crash::OnePage(3),
+];
+
+/// The device stops at each change of a deck in turn, as each of its files meets it, before it is performed and after it, and a crash follows.
+fn stops_at_each_change(
+    rt: &impl Abort,
+    alloc: Global,
+    files: &[Worked],
+    before: &MemShelf,
+    frames: usize,
+) -> Result<(), Fail> {
+    for after in [false, true] {
+        let failing = Failing {
+            kind: Kind::Changes,
+            after,
+            for_good: true,
+        };
+        fails_in_turn(rt, alloc, files, before, frames, failing, &CRASHES)?;
+    }
+    Ok(())
+}
+
+/// What a shelf has after a device stopped before this change of a deck, counted from 1.
+fn stopped(alloc: Global, worked: &Worked, before: MemShelf, at: u64) -> Result<MemShelf, Fail> {
+    let deck = deck_of(alloc, worked.heading, worked.steps)?;
+    let fuse = FuseShelf::new(before, Kind::Changes, at, false, true);
+    let (fuse, _) = run_over(alloc, fuse, &deck, 64)?;
+    Ok(fuse.into_inner().crash(alloc, Image::AsRead)?)
+}
+
+#[test]
+fn a_crash_leaves_no_false_file_where_one_is_made_or_changed(rt: HostRuntime) -> Result<(), Fail> {
+    for worked in [WRITTEN_AND_READ_BACK, A_DUPLICATE_REWRITTEN] {
+        let before = shelf_before(rt.alloc(), &worked)?;
+        for frames in [1, 64] {
+            stops_at_each_change(&rt, rt.alloc(), &[worked], &before, frames)?;
+        }
+    }
+    Ok(())
+}
+
+#[test]
+fn a_crash_leaves_no_false_file_where_one_is_replaced(rt: HostRuntime) -> Result<(), Fail> {
+    let alloc = rt.alloc();
+    let before = shelf_before(alloc, &REPLACED)?;
+    stops_at_each_change(&rt, alloc, &[REPLACED], &before, 64)?;
+    // A file whose gate is open, and one without a byte.
+    let open = stopped(alloc, &REPLACED, before, 3)?;
+    let empty = stopped(alloc, &REPLACED, MemShelf::new(alloc), 2)?;
+    for before in [&open, &empty] {
+        let worked = REPLACED_WHERE_REFUSED;
+        assert!(rt; reads_as(alloc, before, worked.heading, worked.refused)?);
+        stops_at_each_change(&rt, alloc, &[worked], before, 64)?;
+    }
+    Ok(())
+}
+
+#[test]
+fn a_crash_leaves_no_false_file_behind_the_first_close(rt: HostRuntime) -> Result<(), Fail> {
+    let before = MemShelf::new(rt.alloc());
+    stops_at_each_change(&rt, rt.alloc(), &[PAYROLL], &before, 64)
+}
+
+#[test]
+fn a_crash_leaves_no_false_file_of_two(rt: HostRuntime) -> Result<(), Fail> {
+    let before = MemShelf::new(rt.alloc());
+    stops_at_each_change(&rt, rt.alloc(), SIDE_BY_SIDE, &before, 64)
+}

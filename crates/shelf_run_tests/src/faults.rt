@@ -1,0 +1,57 @@
+//! A device that fails.
+
+use crate::failing::{Failing, fails_in_turn};
+use crate::left::Crash;
+use crate::running::shelf_before;
+use page_store::{Image, Kind};
+use std::alloc::Global;
+use std::process::Abort;
+use std::test::Fail;
+use worked_decks::{
+    A_CLASH, A_DUPLICATE_REWRITTEN, A_NEW_TWIN, PAYROLL, SIDE_BY_SIDE, WRITTEN_AND_READ_BACK,
+    Worked,
+};
+
+/// Each read of a deck fails in turn, and each creation, write and sync, before it is performed and after it, once and for good.
+fn each_call_fails(rt: &impl Abort, alloc: Global, files: &[Worked]) -> Result<(), Fail> {
+    let [first, ..] = files else {
+        return Ok(());
+    };
+    let before = shelf_before(alloc, first)?;
+    for kind in [Kind::Reads, Kind::Changes] {
+        for (after, for_good) in [(false, false), (true, false), (false, true), (true, true)] {
+            let failing = Failing {
+                kind,
+                after,
+                for_good,
+            };
+            for frames in [1, 64] {
+                let crashes = [Crash::Whole(Image::AsRead)];
+                fails_in_turn(rt, alloc, files, &before, frames, failing, &crashes)?;
+            }
+        }
+    }
+    Ok(())
+}
+
+#[test]
+fn a_device_fails_while_a_file_is_made_and_read(rt: HostRuntime) -> Result<(), Fail> {
+    each_call_fails(&rt, rt.alloc(), &[WRITTEN_AND_READ_BACK])?;
+    each_call_fails(&rt, rt.alloc(), &[A_CLASH])
+}
+
+#[test]
+fn a_device_fails_while_a_file_is_changed(rt: HostRuntime) -> Result<(), Fail> {
+    each_call_fails(&rt, rt.alloc(), &[A_NEW_TWIN])?;
+    each_call_fails(&rt, rt.alloc(), &[A_DUPLICATE_REWRITTEN])
+}
+
+#[test]
+fn a_device_fails_while_a_file_is_made_and_changed(rt: HostRuntime) -> Result<(), Fail> {
+    each_call_fails(&rt, rt.alloc(), &[PAYROLL])
+}
+
+#[test]
+fn a_device_fails_while_two_files_are_open(rt: HostRuntime) -> Result<(), Fail> {
+    each_call_fails(&rt, rt.alloc(), SIDE_BY_SIDE)
+}

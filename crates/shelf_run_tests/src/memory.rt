@@ -1,0 +1,163 @@
+//! A shelf that wants memory in a run.
+
+use crate::answers::Fault;
+use crate::judged::judge;
+use crate::left::{Crash, is_allowed, reads_as};
+use crate::narrow_shelf::NarrowShelf;
+use crate::running::{run_over, run_over_lists, run_to_end, shelf_before};
+use deck_runner::{RunEnd, RunFault};
+use list_library::ListLibrary;
+use page_store::{Image, MemShelf};
+use std::alloc::Global;
+use std::process::Abort;
+use std::test::Fail;
+use worked_decks::{
+    A_CLASH, A_DUPLICATE_REWRITTEN, A_NEW_TWIN, PAYROLL, WRITTEN_AND_READ_BACK, Worked, deck_of,
+    transcript_of,
+};
+
+/// A run that has met want of memory: nothing is written, and the file is as it was, or the first line that is not the worked one has 90.
+fn has_wanted(
+    rt: &impl Abort,
+    alloc: Global,
+    worked: &Worked,
+    shelf: &MemShelf,
+    transcript: &str,
+    end: Result<RunEnd, RunFault>,
+    again: bool,
+) -> Result<(), Fail> {
+    if end.is_err() {
+        assert_eq!(rt; end, Err(RunFault::Memory));
+        assert!(rt; transcript.is_empty());
+        let reads = *worked.reads.first().unwrap_or(&[].as_slice());
+        let is_same = reads_as(alloc, shelf, worked.heading, reads)?;
+        assert!(rt; is_same);
+        return Ok(());
+    }
+    let fault = Fault {
+        answer: "90",
+        again,
+    };
+    let crashes = [Crash::Whole(Image::AsRead)];
+    let allowed = is_allowed(alloc, worked, transcript, fault, shelf, &crashes)?;
+    assert!(rt; allowed, "{transcript}");
+    Ok(())
+}
+
+/// Runs a deck over a shelf of which this call wants memory, counted from 1. It answers whether there was such a call.
+fn wants_memory(
+    rt: &impl Abort,
+    alloc: Global,
+    worked: &Worked,
+    before: &MemShelf,
+    at: u64,
+    for_good: bool,
+) -> Result<bool, Fail> {
+    let deck = deck_of(alloc, worked.heading, worked.steps)?;
+    let shelf = NarrowShelf::new(before.crash(alloc, Image::AsRead)?, at, for_good);
+    let (shelf, transcript, end) = run_to_end(alloc, shelf, &deck, 1)?;
+    let wanted = at <= shelf.calls();
+    let is_worked = transcript == transcript_of(alloc, worked.steps)?;
+    assert_eq!(rt; is_worked, !wanted, "{at}\n{transcript}");
+    if wanted {
+        let shelf = shelf.into_inner();
+        has_wanted(rt, alloc, worked, &shelf, &transcript, end, for_good)?;
+    }
+    Ok(wanted)
+}
+
+/// Each call of a run wants memory in turn, until there is no further one.
+fn wants_memory_in_turn(
+    rt: &impl Abort,
+    alloc: Global,
+    worked: &Worked,
+    for_good: bool,
+) -> Result<(), Fail> {
+    let before = shelf_before(alloc, worked)?;
+    // The first call forgets the units, before the run.
+    for at in 2..1000 {
+        if !wants_memory(rt, alloc, worked, &before, at, for_good)? {
+            assert!(rt; 2 < at);
+            return Ok(());
+        }
+    }
+    assert!(rt; false, "a run of 1000 calls");
+    Ok(())
+}
+
+#[test]
+fn each_call_of_a_shelf_wants_memory_in_turn(rt: HostRuntime) -> Result<(), Fail> {
+    for worked in [
+        WRITTEN_AND_READ_BACK,
+        A_CLASH,
+        A_NEW_TWIN,
+        A_DUPLICATE_REWRITTEN,
+    ] {
+        for for_good in [false, true] {
+            wants_memory_in_turn(&rt, rt.alloc(), &worked, for_good)?;
+        }
+    }
+    Ok(())
+}
+
+/// Runs a deck over a shelf in memory, and answers whether the run was the worked one. Where it was not, it has met want of memory.
+fn is_worked_over_pages(rt: &impl Abort, alloc: Global, worked: &Worked) -> Result<bool, Fail> {
+    let deck = deck_of(alloc, worked.heading, worked.before)?;
+    let (shelf, transcript) = run_over(alloc, MemShelf::new(alloc), &deck, 64)?;
+    if transcript != transcript_of(alloc, worked.before)? {
+        return Ok(false);
+    }
+    let deck = deck_of(alloc, worked.heading, worked.steps)?;
+    let expected = transcript_of(alloc, worked.steps)?;
+    let (shelf, transcript, end) = run_to_end(alloc, shelf, &deck, 1)?;
+    if transcript == expected {
+        return Ok(true);
+    }
+    has_wanted(rt, alloc, worked, &shelf, &transcript, end, false)?;
+    Ok(false)
+}
+
+/// The same over lists, whose files are not looked at.
+fn is_worked_over_lists(rt: &impl Abort, alloc: Global, worked: &Worked) -> Result<bool, Fail> {
+    let mut library = ListLibrary::new(alloc);
+    let deck = deck_of(alloc, worked.heading, worked.before)?;
+    let (transcript, _) = run_over_lists(alloc, &mut library, &deck)?;
+    if transcript != transcript_of(alloc, worked.before)? {
+        return Ok(false);
+    }
+    let deck = deck_of(alloc, worked.heading, worked.steps)?;
+    let expected = transcript_of(alloc, worked.steps)?;
+    let (transcript, end) = run_over_lists(alloc, &mut library, &deck)?;
+    if transcript == expected {
+        return Ok(true);
+    }
+    if end == Err(RunFault::Memory) {
+        assert!(rt; transcript.is_empty());
+        return Ok(false);
+    }
+    let fault = Fault {
+        answer: "90",
+        again: false,
+    };
+    assert!(rt; judge(worked, &transcript, fault).is_some(), "{transcript}");
+    Ok(false)
+}
+
+/// Where one request for memory is refused, as by `rt try --test --fail-alloc N`, one of two runs is the worked one, or what stands round a run has given up.
+#[test]
+fn a_run_wants_no_memory_that_is_there(rt: HostRuntime) -> Result<(), Fail> {
+    for worked in [
+        WRITTEN_AND_READ_BACK,
+        A_CLASH,
+        A_DUPLICATE_REWRITTEN,
+        PAYROLL,
+    ] {
+        let first = is_worked_over_pages(&rt, rt.alloc(), &worked)?;
+        let second = is_worked_over_pages(&rt, rt.alloc(), &worked)?;
+        assert!(rt; first || second);
+        let first = is_worked_over_lists(&rt, rt.alloc(), &worked)?;
+        let second = is_worked_over_lists(&rt, rt.alloc(), &worked)?;
+        assert!(rt; first || second);
+    }
+    Ok(())
+}

@@ -1,0 +1,288 @@
+//! What no clause says: numbers and bytes that a person reads off the format, and that each call can succeed.
+
+use crate::memory_pages::{MemoryPages, new_pages};
+use io_state::Fault;
+use page_marks::WalkFault;
+use record_heap::{Heap, Place, Shape, heap_laws, walk_heap};
+use std::process::Abort;
+use std::test::Fail;
+
+const FIXED: Shape = Shape {
+    stamps: 0,
+    least: 16,
+    greatest: 16,
+};
+
+const VARYING: Shape = Shape {
+    stamps: 0,
+    least: 10,
+    greatest: 16,
+};
+
+const STAMPED: Shape = Shape {
+    stamps: 8,
+    least: 10,
+    greatest: 16,
+};
+
+// Adds what begins with the stamps, and has the record behind them.
+fn add(
+    rt: &impl Abort,
+    heap: &mut Heap,
+    pages: &mut MemoryPages,
+    bytes: &[u8],
+) -> Result<Place, Fault> {
+    let shape = heap.shape;
+    assert!(rt; shape.stamps as usize <= bytes.len());
+    let (stamps, record) = bytes.split_at(shape.stamps as usize);
+    assert!(rt; shape.least as usize <= record.len() && record.len() <= shape.greatest as usize);
+    heap.add(pages, stamps, record)
+}
+
+// Sets a place to such bytes.
+fn set(
+    rt: &impl Abort,
+    heap: &Heap,
+    pages: &mut MemoryPages,
+    place: Place,
+    bytes: &[u8],
+) -> Result<(), Fault> {
+    let shape = heap.shape;
+    assert!(rt; shape.stamps as usize <= bytes.len());
+    let (stamps, record) = bytes.split_at(shape.stamps as usize);
+    assert!(rt; shape.least as usize <= record.len() && record.len() <= shape.greatest as usize);
+    heap.set(pages, place, stamps, record)
+}
+
+// Reads a place into an area of dots, and the record alone into another.
+fn get(
+    rt: &impl Abort,
+    heap: &Heap,
+    pages: &mut MemoryPages,
+    place: Place,
+) -> Result<(usize, [u8; 16]), Fault> {
+    let shape = heap.shape;
+    let mut area = [b'.'; 16];
+    assert!(rt; shape.stamps as usize + shape.greatest as usize <= area.len());
+    let n = heap.get(pages, place, &mut area)?;
+    let mut alone = [b'.'; 16];
+    let m = heap.get_record(pages, place, &mut alone)?;
+    let stamps = shape.stamps as usize;
+    assert!(rt; m <= 16 && stamps <= n && n <= 16);
+    assert!(rt; alone[..m] == area[stamps..n]);
+    Ok((n, area))
+}
+
+// Puts another byte into a page, and answers the one that stood there.
+fn put_byte(rt: &impl Abort, pages: &mut MemoryPages, n: usize, at: usize, byte: u8) -> u8 {
+    assert!(rt; n < pages.pages.len() && at < 4096);
+    let page = &mut pages.pages[n];
+    let was = page[at];
+    page[at] = byte;
+    was
+}
+
+// A record of 16 bytes that begins with a number.
+fn numbered(i: usize) -> [u8; 16] {
+    let mut record = [b' '; 16];
+    record[..8].copy_from_slice(&(i as u64).to_be_bytes());
+    record
+}
+
+#[test]
+fn slots_are_as_many_as_fit(rt: HostRuntime) {
+    let cases = [
+        (0, 16, 16, 17, 240),
+        (0, 10, 16, 19, 214),
+        (0, 10, 10, 11, 370),
+        (0, 1, 1, 7, 582),
+        (64, 4000, 4000, 4065, 1),
+        (64, 1, 4000, 4067, 1),
+    ];
+    for (stamps, least, greatest, size, room) in cases {
+        assert!(rt; least <= greatest && stamps <= 64 && greatest <= 4000);
+        let shape = Shape {
+            stamps,
+            least,
+            greatest,
+        };
+        assert_eq!(rt; shape.size(), size, "{shape:?}");
+        assert_eq!(rt; shape.room(), room, "{shape:?}");
+    }
+}
+
+#[test]
+fn freed_slots_are_taken_before_a_page_is(rt: HostRuntime) -> Result<(), Fail> {
+    heap_laws();
+    let mut pages = new_pages(rt.alloc(), 0, 3)?;
+    let mut heap = Heap::new(FIXED);
+    let mut places = Vec::new(rt.alloc());
+    for i in 0..500 {
+        places.push(add(&rt, &mut heap, &mut pages, &numbered(i))?)?;
+    }
+    assert_eq!(rt; pages.pages.len(), 4);
+    for (i, &place) in places.iter().enumerate() {
+        assert_eq!(rt;
+            get(&rt, &heap, &mut pages, place)?,
+            (16, numbered(i)),
+            "{place:?}"
+        );
+    }
+    for &place in places.iter() {
+        heap.free(&mut pages, place)?;
+    }
+    for i in 0..500 {
+        add(&rt, &mut heap, &mut pages, &numbered(i))?;
+    }
+    assert_eq!(rt; pages.pages.len(), 4);
+    Ok(())
+}
+
+#[test]
+fn a_shorter_record_leaves_the_rest_of_the_area(rt: HostRuntime) -> Result<(), Fail> {
+    let mut pages = new_pages(rt.alloc(), 0, 1)?;
+    let mut heap = Heap::new(VARYING);
+    let first = add(&rt, &mut heap, &mut pages, b"0002SVEN  ")?;
+    let second = add(&rt, &mut heap, &mut pages, b"0001SMITH OSLO  ")?;
+    assert_eq!(rt;
+        get(&rt, &heap, &mut pages, first)?,
+        (10, *b"0002SVEN  ......")
+    );
+    set(&rt, &heap, &mut pages, first, b"0002SVEN  MOSS  ")?;
+    set(&rt, &heap, &mut pages, second, b"0001SMITH ")?;
+    assert_eq!(rt;
+        get(&rt, &heap, &mut pages, first)?,
+        (16, *b"0002SVEN  MOSS  ")
+    );
+    assert_eq!(rt;
+        get(&rt, &heap, &mut pages, second)?,
+        (10, *b"0001SMITH ......")
+    );
+    heap.free(&mut pages, first)?;
+    for place in [
+        first,
+        Place { page: 0, slot: 0 },
+        Place { page: 1, slot: 214 },
+        Place { page: 2, slot: 0 },
+    ] {
+        assert_eq!(rt;
+            get(&rt, &heap, &mut pages, place),
+            Err(Fault::Damage),
+            "{place:?}"
+        );
+    }
+    assert_eq!(rt;
+        get(&rt, &heap, &mut pages, second)?,
+        (10, *b"0001SMITH ......")
+    );
+    Ok(())
+}
+
+#[test]
+fn a_heap_is_full_where_no_slot_and_no_page_is_left(rt: HostRuntime) -> Result<(), Fail> {
+    let mut pages = new_pages(rt.alloc(), 0, 1)?;
+    let mut heap = Heap::new(FIXED);
+    for i in 0..240 {
+        add(&rt, &mut heap, &mut pages, &numbered(i))?;
+    }
+    assert_eq!(rt;
+        add(&rt, &mut heap, &mut pages, &numbered(240)),
+        Err(Fault::Full)
+    );
+    heap.free(&mut pages, Place { page: 1, slot: 7 })?;
+    assert_eq!(rt;
+        add(&rt, &mut heap, &mut pages, &numbered(240)),
+        Ok(Place { page: 1, slot: 7 })
+    );
+    Ok(())
+}
+
+// The page of the first record: of a file of records of 10 bytes with one key, and of records of 10 to 16 bytes with two keys, and with a stamp.
+#[test]
+fn a_heap_page_is_written_byte_for_byte(rt: HostRuntime) -> Result<(), Fail> {
+    let ten = Shape {
+        stamps: 0,
+        least: 10,
+        greatest: 10,
+    };
+    let tens: [(usize, &[u8]); 5] = [
+        (0, b"H\0\0\0\0\0\0\0\0\0\0\0\0\0\0\0"),
+        (16, b"\x010001SMITH "),
+        (27, b"\0\0\0\0\x02\0\x02"),
+        (4064, b"\0\0\0\0\x02\x01\x71"),
+        (4075, b"\0\0\0\0\0\0\0"),
+    ];
+    let varying: [(usize, &[u8]); 5] = [
+        (0, b"H\0\0\0\0\0\0\0\0\0\0\0\0\0\0\0"),
+        (16, b"\x01\0\x0a0001SMITH "),
+        (35, b"\0\0\0\0\x03\0\x02"),
+        (4044, b"\0\0\0\0\x03\0\xd5"),
+        (4063, b"\0\0\0\0\0\0\0"),
+    ];
+    let stamped: [(usize, &[u8]); 5] = [
+        (0, b"H\0\0\0\0\0\0\0\0\0\0\0\0\0\0\0"),
+        (16, b"\x01\0\x0a\0\0\0\0\0\0\x02\x050001SMITH "),
+        (43, b"\0\0\0\0\x03\0\x02"),
+        (4039, b"\0\0\0\0\x03\0\x96"),
+        (4066, b"\0\0\0\0\0\0\0"),
+    ];
+    let smith: &[u8] = b"0001SMITH ";
+    let stamp_and_smith: &[u8] = b"\0\0\0\0\0\0\x02\x050001SMITH ";
+    for (shape, others, bytes, parts) in [
+        (ten, 1, smith, tens),
+        (VARYING, 2, smith, varying),
+        (STAMPED, 2, stamp_and_smith, stamped),
+    ] {
+        let mut pages = new_pages(rt.alloc(), others, 1)?;
+        let mut heap = Heap::new(shape);
+        let place = add(&rt, &mut heap, &mut pages, bytes)?;
+        assert_eq!(rt; place.page as usize, others + 1);
+        let page = pages.pages.last().expect(&rt, "a page");
+        for (at, bytes) in parts {
+            assert_eq!(rt;
+                page.get(at..at + bytes.len()),
+                Some(bytes),
+                "{shape:?} at {at}"
+            );
+        }
+    }
+    Ok(())
+}
+
+#[test]
+fn a_walk_finds_the_pages_of_a_heap_and_what_is_lost(rt: HostRuntime) -> Result<(), Fail> {
+    let mut pages = new_pages(rt.alloc(), 0, 2)?;
+    let mut heap = Heap::new(FIXED);
+    for i in 0..250 {
+        add(&rt, &mut heap, &mut pages, &numbered(i))?;
+    }
+    heap.free(&mut pages, Place { page: 1, slot: 7 })?;
+    let mut reached = [false; 3];
+    let own = walk_heap(rt.alloc(), &pages.pages, &heap, &mut reached)?;
+    assert_eq!(rt; own.as_slice(), [2, 1].as_slice());
+    assert_eq!(rt; reached, [false, true, true]);
+    let again = walk_heap(rt.alloc(), &pages.pages, &heap, &mut reached);
+    assert_eq!(rt; again.err(), Some(WalkFault::Shared));
+    let changes: [(usize, usize, u8, WalkFault, &str); 7] = [
+        (2, 7, 2, WalkFault::Shared, "a page that leads to itself"),
+        (2, 0, b'L', WalkFault::Chain, "a page of another kind"),
+        (1, 1, 1, WalkFault::Chain, "a byte that should be zero"),
+        (1, 7, 9, WalkFault::Chain, "a page that is not there"),
+        (1, 16, 2, WalkFault::Chain, "a mark that is none"),
+        (
+            1,
+            16,
+            0,
+            WalkFault::Chain,
+            "a free slot that nothing leads to",
+        ),
+        (1, 141, 9, WalkFault::Chain, "a link to a slot in use"),
+    ];
+    for (n, at, byte, fault, what) in changes {
+        let was = put_byte(&rt, &mut pages, n, at, byte);
+        let found = walk_heap(rt.alloc(), &pages.pages, &heap, &mut [false; 3]);
+        assert_eq!(rt; found.err(), Some(fault), "{what}");
+        put_byte(&rt, &mut pages, n, at, was);
+    }
+    Ok(())
+}

@@ -1,0 +1,152 @@
+//! Pages in memory.
+
+use io_state::Fault;
+use pages::Pages;
+use std::alloc::Global;
+use std::test::Fail;
+
+/// Pages by number, the free ones among them, and how many can be taken yet. Page 0 is never taken.
+#[derive(Drop)]
+pub struct MemoryPages {
+    pub pages: Vec<[u8; 4096]>,
+    pub free: Vec<u32>,
+    pub left: u64,
+}
+
+impl MemoryPages {
+    /// How many pages are taken.
+    pub fn taken(&self) -> usize {
+        self.pages
+            .len()
+            .saturating_sub(self.free.len())
+            .saturating_sub(1)
+    }
+}
+
+/// Page 0 and so many others, which are all taken, and room for so many more.
+pub fn new_pages(alloc: Global, others: usize, left: u64) -> Result<MemoryPages, Fail> {
+    let mut pages = Vec::new(alloc);
+    for _ in 0..others.saturating_add(1) {
+        pages.push([0; 4096])?;
+    }
+    Ok(MemoryPages {
+        pages,
+        free: Vec::new(alloc),
+        left,
+    })
+}
+
+// Nothing is claimed of what the pages hold: honesty is never true here, and what a test sees is what it asks.
+impl Pages for MemoryPages {
+    ghost use Rattle.std.specs.Prelude.{◌≡◌, ⊤, refl};
+    ghost use Rattle.std.proofs.Common.{◌∙◌};
+    ghost use Rattle.tree_tests.specs.MemoryPages.{unclaimed};
+
+    ghost state = { λ p. unclaimed p.left };
+
+    ghost IsReady = { λ p. ⊤ };
+
+    ghost CanChange = { λ p. ⊤ };
+
+    ghost Reads = { λ a b. b.left ≡ a.left };
+
+    ghost Goes = { λ a b. ⊤ };
+
+    ghost Moves = { λ a b. ⊤ };
+
+    ghost HasFailed = { λ a b. ⊥ };
+
+    ghost reads_nothing = { λ a. refl };
+
+    ghost reads_on = { λ a b c ab bc. bc ∙ ab };
+
+    ghost reads_goes = { λ a b reads. tt };
+
+    ghost reads_live = { λ a b reads honest. refl };
+
+    ghost reads_sound = { λ a b reads honest. refl };
+
+    ghost reads_available = { λ a b reads. reads };
+
+    ghost goes_nowhere = { λ a. tt };
+
+    ghost goes_on = { λ a b c ab bc. tt };
+
+    ghost goes_moves = { λ a b goes. tt };
+
+    ghost goes_honestly = { λ a b goes honest. honest };
+
+    ghost goes_ready = { λ a b goes ready. tt };
+
+    ghost goes_changing = { λ a b goes changing. tt };
+
+    ghost failed_before = { λ a b c failed goes. failed };
+
+    ghost failed_after = { λ a b c goes failed. failed };
+
+    ghost moves_on = { λ a b c ab bc. tt };
+
+    ghost moves_honestly = { λ a b moves honest. honest };
+
+    ghost moves_ready = { λ a b moves ready. tt };
+
+    ghost failed_earlier = { λ a b c failed moves. failed };
+
+    ghost failed_later = { λ a b c moves failed. failed };
+
+    fn page(&mut self, n: u32) -> Result<&[u8; 4096], Fault> {
+        match self.pages.get(n as usize) {
+            None => Err(Fault::Damage),
+            Some(page) => Ok(page),
+        }
+    }
+
+    fn page_mut(&mut self, n: u32) -> Result<&mut [u8; 4096], Fault> {
+        match self.pages.get_mut(n as usize) {
+            None => Err(Fault::Damage),
+            Some(page) => Ok(page),
+        }
+    }
+
+    fn take(&mut self) -> Result<u32, Fault> {
+        if self.left == 0 {
+            return Err(Fault::Full);
+        }
+        if let Some(n) = self.free.pop() {
+            self.left -= 1;
+            return Ok(n);
+        }
+        let n = self.pages.len();
+        if n > u32::MAX as usize {
+            return Err(Fault::Memory);
+        }
+        match self.pages.push([0; 4096]) {
+            Err(_) => Err(Fault::Memory),
+            Ok(()) => {
+                self.left -= 1;
+                Ok(n as u32)
+            }
+        }
+    }
+
+    fn give(&mut self, n: u32) -> Result<(), Fault> {
+        if self.left == u64::MAX {
+            return Err(Fault::Memory);
+        }
+        match self.free.push(n) {
+            Err(_) => Err(Fault::Memory),
+            Ok(()) => {
+                self.left += 1;
+                Ok(())
+            }
+        }
+    }
+
+    fn pages_left(&self) -> u64 {
+        self.left
+    }
+
+    fn begin(&mut self) -> Result<(), Fault> {
+        Ok(())
+    }
+}
