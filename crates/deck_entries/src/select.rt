@@ -270,6 +270,3 @@ fn is_assigned_name(earlier: &[Selected], file_name: &[u8]) -> bool
         .iter()
         .any(|selected| selected.file_name() == file_name)
 }
-
-#[cfg(test)]
-mod tests;

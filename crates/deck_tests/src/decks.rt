@@ -1,5 +1,6 @@
 //! Decks that are read whole, and faults that are seen in whole decks alone.
 
+use crate::checks::assert_equal;
 use deck_reader::{Deck, no_words_are_two_decks, one_deck, read_deck};
 use file_control::DeckFault;
 use io_state::{Access, FileStatement, OpenMode};
@@ -110,20 +111,20 @@ fn a_deck_is_its_files_its_items_and_its_statements(rt: HostRuntime) -> Result<(
     let files = deck.files.as_slice();
     assert_eq!(rt; files.len(), 2);
     let cust = &files[0];
-    assert_eq!(rt; cust.name.as_str(), "CUST");
-    assert_eq!(rt; cust.file.as_str(), "cust.dat");
-    assert_eq!(rt; cust.access, Access::Dynamic);
-    assert_eq!(rt; cust.schema.least(), 4);
-    assert_eq!(rt; cust.layout.length(), 10);
-    assert_eq!(rt; cust.depends_on, Some(1));
+    assert_equal(&rt, cust.name.as_str(), "CUST");
+    assert_equal(&rt, cust.file.as_str(), "cust.dat");
+    assert_equal(&rt, cust.access, Access::Dynamic);
+    assert_equal(&rt, cust.schema.least(), 4);
+    assert_equal(&rt, cust.layout.length(), 10);
+    assert_equal(&rt, cust.depends_on, Some(1));
     let parts = &files[1];
-    assert_eq!(rt; parts.name.as_str(), "PARTS");
-    assert_eq!(rt; parts.access, Access::Sequential);
+    assert_equal(&rt, parts.name.as_str(), "PARTS");
+    assert_equal(&rt, parts.access, Access::Sequential);
     let items = deck.items.as_slice();
     assert_eq!(rt; items.len(), 2);
     let item = &items[1];
-    assert_eq!(rt; item.name.as_str(), "CUST-LEN");
-    assert_eq!(rt; item.digits, 2);
+    assert_equal(&rt, item.name.as_str(), "CUST-LEN");
+    assert_equal(&rt, item.digits, 2);
     assert!(rt; has_shop_statements(&deck));
     one_deck();
     no_words_are_two_decks();

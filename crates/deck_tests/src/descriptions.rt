@@ -1,5 +1,6 @@
 //! Descriptions of decks, and faulty ones.
 
+use crate::checks::assert_equal;
 use deck_words::{DeckFault, Parser, words};
 use file_control::{Description, are_described, one_description, read_description};
 use io_state::Access;
@@ -58,21 +59,22 @@ fn optional_words_have_no_effect(rt: HostRuntime) -> Result<(), Fail> {
     let files = description.files.as_slice();
     assert_eq!(rt; files.len(), 1);
     let file = &files[0];
-    assert_eq!(rt; file.name.as_str(), "CUST");
-    assert_eq!(rt; file.file.as_str(), "Cust-1.dat");
-    assert_eq!(rt; file.access, Access::Dynamic);
-    assert_eq!(rt; file.optional, true);
-    assert_eq!(rt;
+    assert_equal(&rt, file.name.as_str(), "CUST");
+    assert_equal(&rt, file.file.as_str(), "Cust-1.dat");
+    assert_equal(&rt, file.access, Access::Dynamic);
+    assert_equal(&rt, file.optional, true);
+    assert_equal(
+        &rt,
         file.entry.is_some_and(|name| name.as_str() == "CUST-REC"),
-        true
+        true,
     );
-    assert_eq!(rt; file.layout.length(), 16);
-    assert_eq!(rt; file.layout.field("CUST-ID"), field(0, 4, true));
-    assert_eq!(rt; file.layout.field("CUST-CITY"), field(10, 6, false));
-    assert_eq!(rt; file.schema.least(), 16);
+    assert_equal(&rt, file.layout.length(), 16);
+    assert_equal(&rt, file.layout.field("CUST-ID"), field(0, 4, true));
+    assert_equal(&rt, file.layout.field("CUST-CITY"), field(10, 6, false));
+    assert_equal(&rt, file.schema.least(), 16);
     let keys = [key(0, 4, false), key(4, 6, false), key(10, 6, true)];
-    assert_eq!(rt; file.schema.keys(), keys.as_slice());
-    assert_eq!(rt; file.depends_on, None);
+    assert_equal(&rt, file.schema.keys(), keys.as_slice());
+    assert_equal(&rt, file.depends_on, None);
     Ok(())
 }
 
@@ -103,22 +105,22 @@ fn files_stand_in_the_order_of_their_entries(rt: HostRuntime) -> Result<(), Fail
     let files = description.files.as_slice();
     assert_eq!(rt; files.len(), 2);
     let cust = &files[0];
-    assert_eq!(rt; cust.name.as_str(), "CUST");
-    assert_eq!(rt; cust.access, Access::Sequential);
-    assert_eq!(rt; cust.schema.least(), 10);
-    assert_eq!(rt; cust.schema.greatest(), 16);
-    assert_eq!(rt; cust.layout.field("CUST-NAME"), field(4, 6, false));
-    assert_eq!(rt; cust.depends_on, Some(1));
+    assert_equal(&rt, cust.name.as_str(), "CUST");
+    assert_equal(&rt, cust.access, Access::Sequential);
+    assert_equal(&rt, cust.schema.least(), 10);
+    assert_equal(&rt, cust.schema.greatest(), 16);
+    assert_equal(&rt, cust.layout.field("CUST-NAME"), field(4, 6, false));
+    assert_equal(&rt, cust.depends_on, Some(1));
     let stock = &files[1];
-    assert_eq!(rt; stock.name.as_str(), "STOCK");
-    assert_eq!(rt; stock.file.as_str(), "stock.dat");
-    assert_eq!(rt; stock.layout.length(), 4);
-    assert_eq!(rt; stock.depends_on, None);
+    assert_equal(&rt, stock.name.as_str(), "STOCK");
+    assert_equal(&rt, stock.file.as_str(), "stock.dat");
+    assert_equal(&rt, stock.layout.length(), 4);
+    assert_equal(&rt, stock.depends_on, None);
     let items = description.items.as_slice();
     assert_eq!(rt; items.len(), 2);
     let item = &items[1];
-    assert_eq!(rt; item.name.as_str(), "CUST-LEN");
-    assert_eq!(rt; item.digits, 2);
+    assert_equal(&rt, item.name.as_str(), "CUST-LEN");
+    assert_equal(&rt, item.digits, 2);
     one_description();
     are_described();
     Ok(())
@@ -210,9 +212,10 @@ fn a_fault_of_the_words_is_told_at_its_word(rt: HostRuntime) -> Result<(), Fail>
             "{entries:?} {descriptions:?}"
         );
     }
-    assert_eq!(rt;
+    assert_equal(
+        &rt,
         description_of(rt.alloc(), "").err(),
-        Some(DeckFault { line: 1, code: 2 })
+        Some(DeckFault { line: 1, code: 2 }),
     );
     Ok(())
 }
@@ -230,7 +233,7 @@ fn a_deck_has_at_most_eight_files(rt: HostRuntime) -> Result<(), Fail> {
     }
     deck.push_str("\nSELECT I ASSIGN 'I' INDEXED RECORD K.")?;
     let fault = description_of(rt.alloc(), deck.as_str()).err();
-    assert_eq!(rt; fault, Some(DeckFault { line: 2, code: 6 }));
+    assert_equal(&rt, fault, Some(DeckFault { line: 2, code: 6 }));
     Ok(())
 }
 

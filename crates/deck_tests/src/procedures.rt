@@ -1,5 +1,6 @@
 //! Procedures, and faulty ones.
 
+use crate::checks::assert_equal;
 use crate::customers::{customers_and_parts, read};
 use deck_words::DeckFault;
 use io_state::{Access, FileStatement, OpenMode, Relation};
@@ -177,7 +178,7 @@ fn statements_stand_in_their_order(rt: HostRuntime) -> Result<(), Fail> {
         (1, FileStatement::Delete),
         (1, FileStatement::Write),
     ];
-    assert_eq!(rt; found.as_slice(), expected.as_slice());
+    assert_equal(&rt, found.as_slice(), expected.as_slice());
     assert_eq!(rt; list.as_slice().len(), 6);
     assert!(rt; matches!(list.as_slice()[4], Statement::StopRun));
     let none = read(rt.alloc(), &described, HEADING, "")??;
@@ -280,7 +281,7 @@ fn a_move_has_receivers_of_several_files(rt: HostRuntime) -> Result<(), Fail> {
                 field,
                 source,
             } => {
-                assert_eq!(rt; *field, count);
+                assert_equal(&rt, *field, count);
                 assert!(rt; found == 0 && is_sent(source, &seven));
             }
             Statement::MoveLength { item: 0, source } => {
@@ -291,7 +292,7 @@ fn a_move_has_receivers_of_several_files(rt: HostRuntime) -> Result<(), Fail> {
                 field,
                 source,
             } => {
-                assert_eq!(rt; *field, record);
+                assert_equal(&rt, *field, record);
                 assert!(rt; found == 2 && is_sent(source, &seven));
             }
             _ => assert!(rt; false),
@@ -409,6 +410,6 @@ fn a_fault_is_told_for_its_line(rt: HostRuntime) -> Result<(), Fail> {
     }
     let described = customers_and_parts(rt.alloc(), Access::Dynamic)?;
     let faulty_heading = read(rt.alloc(), &described, "PROCEDURE\nDIVISON.", "")?.err();
-    assert_eq!(rt; faulty_heading, Some(DeckFault { line: 2, code: 2 }));
+    assert_equal(&rt, faulty_heading, Some(DeckFault { line: 2, code: 2 }));
     Ok(())
 }

@@ -1,5 +1,6 @@
 //! Decks and their words, and words read one by one.
 
+use crate::checks::assert_equal;
 use deck_words::{
     Cause, DECK_LIMIT, DeckFault, Parser, Refusal, Word, WordText, one_reading, words,
 };
@@ -144,11 +145,11 @@ fn bytes_that_are_no_word_are_told_for_their_line(rt: HostRuntime) -> Result<(),
 fn a_literal_has_at_most_a_thousand_bytes(rt: HostRuntime) -> Result<(), Fail> {
     let deck = literal_of(rt.alloc(), 1_000)?;
     let mut parser = Parser::new(&words(deck.as_slice())?);
-    assert_eq!(rt; parser.left(), 1);
+    assert_equal(&rt, parser.left(), 1);
     assert_eq!(rt; parser.literal(rt.alloc())?.as_slice().len(), 1_000);
     let deck = literal_of(rt.alloc(), 1_001)?;
     let fault = words(deck.as_slice()).err();
-    assert_eq!(rt; fault, Some(DeckFault { line: 1, code: 1 }));
+    assert_equal(&rt, fault, Some(DeckFault { line: 1, code: 1 }));
     Ok(())
 }
 
@@ -158,8 +159,8 @@ fn a_deck_has_at_most_a_mebibyte(rt: HostRuntime) -> Result<(), Fail> {
     assert_eq!(rt; words(longest.as_slice())?.len(), 0);
     let longer = spaces(rt.alloc(), 1_048_577)?;
     let fault = words(longer.as_slice()).err();
-    assert_eq!(rt; fault, Some(DeckFault { line: 1, code: 6 }));
-    assert_eq!(rt; DECK_LIMIT, 1_048_576);
+    assert_equal(&rt, fault, Some(DeckFault { line: 1, code: 6 }));
+    assert_equal(&rt, DECK_LIMIT, 1_048_576);
     Ok(())
 }
 
@@ -167,24 +168,27 @@ fn a_deck_has_at_most_a_mebibyte(rt: HostRuntime) -> Result<(), Fail> {
 fn operands_are_read_where_they_stand(rt: HostRuntime) -> Result<(), Fail> {
     let words = words(b"CUST-ID 'O''Hara' 0012 >= =\n1234567890123456789")?;
     let mut parser = Parser::new(&words);
-    assert_eq!(rt; parser.name()?.as_str(), "CUST-ID");
+    assert_equal(&rt, parser.name()?.as_str(), "CUST-ID");
     assert!(rt; parser.sees_literal());
-    assert_eq!(rt;
+    assert_equal(
+        &rt,
         parser.literal(rt.alloc())?.as_slice(),
-        b"O'Hara".as_slice()
+        b"O'Hara".as_slice(),
     );
     assert!(rt; parser.sees_digits());
-    assert_eq!(rt; parser.digits()?.as_str(), "0012");
+    assert_equal(&rt, parser.digits()?.as_str(), "0012");
     assert!(rt; !parser.eat_sign(b"="));
-    assert_eq!(rt; parser.expect_sign(b">="), Ok(()));
+    assert_equal(&rt, parser.expect_sign(b">="), Ok(()));
     assert!(rt; parser.eat_sign(b"="));
-    assert_eq!(rt;
+    assert_equal(
+        &rt,
         parser.digits().err(),
-        Some(Refusal::Fault(2, Cause::Limit))
+        Some(Refusal::Fault(2, Cause::Limit)),
     );
-    assert_eq!(rt;
+    assert_equal(
+        &rt,
         parser.name().err(),
-        Some(Refusal::Fault(2, Cause::Expected))
+        Some(Refusal::Fault(2, Cause::Expected)),
     );
     Ok(())
 }

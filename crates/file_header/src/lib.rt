@@ -15,6 +15,3 @@ mod numbers;
 
 pub use header::{Header, PAGE_SIZE, TreeNumbers};
 pub use laws::{read_is_written, written_is_read};
-
-#[cfg(test)]
-mod tests;

@@ -12,8 +12,6 @@ mod free_page;
 mod header;
 mod paged_file;
 mod pager;
-#[cfg(test)]
-mod tests;
 
 pub use file_pages::FilePages;
 pub use paged_file::PagedFile;

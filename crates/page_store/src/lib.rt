@@ -20,8 +20,6 @@ mod pages;
 mod quiet;
 mod shelf;
 mod store;
-#[cfg(test)]
-mod tests;
 
 pub use crash::Image;
 pub use fuse::Kind;

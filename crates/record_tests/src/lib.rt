@@ -1,12 +1,14 @@
-//! Tests of the records of a file: pictures, the places of items, moves to the record area, and keys.
+//! Tests of the records of a file: pictures, the places of items, moves to the record area, keys, and the header of a file; and of statuses.
 //!
 //! What a clause says is proved and not tested again. Here descriptions, keys and moves of the standard's rules are worked out by hand, each fault among them.
 //!
-//! Read `layouts` for items and their places, and `schemas` for keys.
+//! Read `layouts` for items and their places, `schemas` for keys, and `headers` for the bytes of a file's first page.
 #![tactic(auto)]
 
 #[cfg(test)]
 mod entries;
+#[cfg(test)]
+mod headers;
 #[cfg(test)]
 mod layouts;
 #[cfg(test)]
@@ -15,3 +17,5 @@ mod moves;
 mod pictures;
 #[cfg(test)]
 mod schemas;
+#[cfg(test)]
+mod statuses;

@@ -1,11 +1,12 @@
 //! Pages taken, written, given back and read again, over a shelf in memory that may fail.
 ghost use Rattle.std.specs.Prelude.{◌≡◌, IfOk, IfSome, true};
 ghost use Rattle.page_store.specs.ShelfState.{HasUnit};
-ghost use Rattle.page_store.specs.MemShelves.{state_of};
 ghost use Rattle.page_alloc.specs.PagedFile.{IsOpenOver};
 
-use crate::{FilePages, PagedFile, Pager};
-use io_state::{Fault, FileName};
+use crate::checks::assert_equal;
+use crate::shelves::{name, new_shelf};
+use io_state::Fault;
+use page_alloc::{FilePages, PagedFile, Pager};
 use page_store::{FuseShelf, Kind, MemShelf, Shelf, Store};
 use pages::Pages;
 use std::alloc::Global;
@@ -20,20 +21,6 @@ enum Found {
     Refused,
     /// Closed, with so many pages that are as they were written, of so many.
     Closed(u32, u32),
-}
-
-fn name() -> FileName {
-    let mut name = FileName::new();
-    name.push_str("CUST");
-    name
-}
-
-fn new_shelf(alloc: Global) -> Result<MemShelf, Fault>
-    ensures unit { IfOk result (λ shelf. HasUnit (state_of shelf) 0) }
-{
-    let mut shelf = MemShelf::new(alloc);
-    shelf.attach(&[name()])?;
-    Ok(shelf)
 }
 
 // Writes the number of a page at both of its ends.
@@ -244,7 +231,11 @@ fn read_fails_at(
     }
     let mut inner = shelf.into_inner();
     inner.attach(&[name()])?;
-    assert_eq!(rt; find(alloc, &mut inner, frames(held))?, Found::Closed(8, 8));
+    assert_equal(
+        rt,
+        find(alloc, &mut inner, frames(held))?,
+        Found::Closed(8, 8),
+    );
     Ok(failed)
 }
 
@@ -288,18 +279,18 @@ fn a_limit_of_sixteen_leaves_twelve_pages_behind_four(rt: HostRuntime) -> Result
         file: &mut file,
         shelf: &mut shelf,
     };
-    assert_eq!(rt; fill(&mut pages, 3)?, 3);
-    assert_eq!(rt; pages.pages_left(), 12);
-    assert_eq!(rt; take_all(&mut pages)?, 12);
+    assert_equal(&rt, fill(&mut pages, 3)?, 3);
+    assert_equal(&rt, pages.pages_left(), 12);
+    assert_equal(&rt, take_all(&mut pages)?, 12);
     pages.give(7)?;
     pages.give(9)?;
-    assert_eq!(rt; pages.pages_left(), 2);
+    assert_equal(&rt, pages.pages_left(), 2);
     // The page given back last is taken first.
-    assert_eq!(rt; (pages.take()?, pages.take()?), (9, 7));
-    assert_eq!(rt; take_all(&mut pages)?, 0);
+    assert_equal(&rt, (pages.take()?, pages.take()?), (9, 7));
+    assert_equal(&rt, take_all(&mut pages)?, 0);
     let mut header = [0; 4096];
     file.cache.read_header(&mut shelf, &mut header)?;
-    assert_eq!(rt; (header[0], header[1], header[4095]), (b'D', 9, 9));
+    assert_equal(&rt, (header[0], header[1], header[4095]), (b'D', 9, 9));
     Ok(())
 }
 
@@ -333,14 +324,14 @@ fn a_page_is_read_once_while_it_is_held_and_written_when_the_file_is_closed(
         file: &mut file,
         shelf: &mut shelf,
     })?;
-    assert_eq!(rt; shelf.calls(Kind::Reads).wrapping_sub(reads), 8);
-    assert_eq!(rt; shelf.calls(Kind::Writes), writes);
-    assert_eq!(rt; (file.cache.asked(), file.cache.held_pages()), (80, 8));
+    assert_equal(&rt, shelf.calls(Kind::Reads).wrapping_sub(reads), 8);
+    assert_equal(&rt, shelf.calls(Kind::Writes), writes);
+    assert_equal(&rt, (file.cache.asked(), file.cache.held_pages()), (80, 8));
     file.close(&mut shelf, &[0; 4096])?;
     // Eight pages, the header and the gate.
-    assert_eq!(rt; shelf.calls(Kind::Writes).wrapping_sub(writes), 10);
+    assert_equal(&rt, shelf.calls(Kind::Writes).wrapping_sub(writes), 10);
     file.cache.restart_count();
-    assert_eq!(rt; file.cache.asked(), 0);
+    assert_equal(&rt, file.cache.asked(), 0);
     Ok(())
 }
 
@@ -383,7 +374,7 @@ fn a_page_inside_the_file_is_taken_without_a_read(rt: HostRuntime) -> Result<(),
             file: &mut file,
             shelf: &mut shelf,
         };
-        assert_eq!(rt; fill(&mut pages, 8)?, 8);
+        assert_equal(&rt, fill(&mut pages, 8)?, 8);
         let mut header = [0; 4096];
         Pager::fresh(1000).save(&mut header);
         file.close(&mut shelf, &header)?;
@@ -396,9 +387,9 @@ fn a_page_inside_the_file_is_taken_without_a_read(rt: HostRuntime) -> Result<(),
             file: &mut file,
             shelf: &mut shelf,
         };
-        assert_eq!(rt; take_next(&mut pages, 8)?, 8);
-        assert_eq!(rt; shelf.calls(Kind::Reads), reads);
-        assert_eq!(rt; file.cache.asked(), 8);
+        assert_equal(&rt, take_next(&mut pages, 8)?, 8);
+        assert_equal(&rt, shelf.calls(Kind::Reads), reads);
+        assert_equal(&rt, file.cache.asked(), 8);
         let mut pages = FilePages {
             file: &mut file,
             shelf: &mut shelf,
@@ -417,6 +408,6 @@ fn the_gate_is_opened_through_the_pages(rt: HostRuntime) -> Result<(), Fail> {
         shelf: &mut shelf,
     };
     pages.begin()?;
-    assert_eq!(rt; pages.pages_left(), 15);
+    assert_equal(&rt, pages.pages_left(), 15);
     Ok(())
 }

@@ -1,11 +1,12 @@
 //! Files written, stopped and read back over each shelf.
-ghost use Rattle.std.specs.Prelude.{◌≡◌, ◌<◌, ◌^◌, ◌-◌, None, IsTrue, IfOk};
+ghost use Rattle.std.specs.Prelude.{◌≡◌, ◌<◌, ◌^◌, ◌-◌, IsTrue};
 ghost use Rattle.page_store.specs.ShelfState.{HasUnit, unit_file};
-ghost use Rattle.page_store.specs.MemShelves.{state_of};
 ghost use Rattle.page_store.specs.Pages.{HasPages};
 
-use crate::{FuseShelf, Image, Kind, MemShelf, Shelf, Store};
-use io_state::{Fault, FileName};
+use crate::checks::assert_equal;
+use crate::shelves::{name, new_shelf};
+use io_state::Fault;
+use page_store::{FuseShelf, Image, Kind, MemShelf, Shelf, Store};
 use std::alloc::Global;
 use std::test::Fail;
 
@@ -17,12 +18,6 @@ enum Found {
     /// Closed, each page that of the file made from this byte, and so many pages.
     Closed(u8, u32),
     Mixed,
-}
-
-fn name() -> FileName {
-    let mut name = FileName::new();
-    name.push_str("CUST");
-    name
 }
 
 // Page n of the file made from a byte is full of this one.
@@ -119,21 +114,12 @@ fn find<S: Shelf>(shelf: &mut S) -> Result<Found, Fault>
     Ok(Found::Closed(byte, store.pages))
 }
 
-fn new_shelf(alloc: Global) -> Result<MemShelf, Fault>
-    ensures unit { IfOk result (λ shelf. HasUnit (state_of shelf) 0) }
-    ensures absent { IfOk result (λ shelf. (unit_file (state_of shelf) 0).seen ≡ None) }
-{
-    let mut shelf = MemShelf::new(alloc);
-    shelf.attach(&[name()])?;
-    Ok(shelf)
-}
-
 #[test]
 fn a_hundred_pages_are_read_as_written(rt: HostRuntime) -> Result<(), Fail> {
     let mut shelf = new_shelf(rt.alloc())?;
     make(&mut shelf, 100, 7)?;
-    assert_eq!(rt; find(&mut shelf)?, Found::Closed(7, 100));
-    assert_eq!(rt; shelf.faults(), 0);
+    assert_equal(&rt, find(&mut shelf)?, Found::Closed(7, 100));
+    assert_equal(&rt, shelf.faults(), 0);
     Ok(())
 }
 
@@ -211,7 +197,7 @@ fn a_stop_inside_make_leaves_no_file_a_refused_one_the_old_or_the_new(
                 let mut fuse = FuseShelf::new(shelf, Kind::Changes, at, after, true);
                 let done = make(&mut fuse, 2, 50).is_ok();
                 let stopped = fuse.faults() > 0;
-                assert_eq!(rt; done, !stopped);
+                assert_equal(&rt, done, !stopped);
                 assert!(rt;
                     holds_new(rt.alloc(), &fuse.into_inner(), found, done)?,
                     "{start} {at}"
@@ -235,7 +221,7 @@ fn a_stop_inside_a_change_leaves_the_old_file_a_refused_one_or_the_new(
             make(&mut shelf, 2, 10)?;
             let mut fuse = FuseShelf::new(shelf, Kind::Changes, at, after, true);
             let done = change(&mut fuse, 2, 50).is_ok();
-            assert_eq!(rt; done, fuse.faults() == 0);
+            assert_equal(&rt, done, fuse.faults() == 0);
             assert!(rt;
                 holds_new(rt.alloc(), &fuse.into_inner(), Found::Closed(10, 2), done)?,
                 "{at}"

@@ -1,4 +1,4 @@
-use Rattle.page_alloc.proofs.tests.take_all.Given as goal
+use Rattle.store_tests.proofs.paged_files.take_all.Given as goal
 
 abbrev pub invariant-loop-taken : goal.invariant-loop-taken
 invariant-loop-taken g l = g.P.Pages.Goes l.initial.pages l.pages

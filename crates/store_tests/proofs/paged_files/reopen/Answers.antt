@@ -3,7 +3,7 @@ use Rattle.page_store.specs.DeviceFile.{content, IsWithin}
 use Rattle.page_store.specs.Pages.{HasPages}
 use Rattle.page_store.specs.ShelfState.{ShelfState, HasUnit, OnlyAnswers, unit_file, unit_name, WhereHonest}
 use Rattle.page_store.proofs.ShelfLemmas.{same_place}
-use Rattle.page_alloc.proofs.tests.reopen.Goals as goal
+use Rattle.store_tests.proofs.paged_files.reopen.Goals as goal
 
 has_pages : (old new : ShelfState) (unit pages : _) → new.file ≡ old.file → new.names ≡ old.names → 0 < pages → IsWithin (4096 * pages) (unit_file old unit) → HasPages pages (unit_file new unit)
 has_pages old new unit pages file names some within =

@@ -1,4 +1,4 @@
-use Rattle.page_alloc.proofs.tests.change_often.Given as goal
+use Rattle.store_tests.proofs.paged_files.change_often.Given as goal
 
 abbrev pub invariant-loop : goal.invariant-loop
 invariant-loop g l = g.P.Pages.Goes l.initial.pages l.pages

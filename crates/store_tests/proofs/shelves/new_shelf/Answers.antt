@@ -2,7 +2,7 @@ use Rattle.std.proofs.Common.{◌∙◌, ℕ, List, ap}
 use Rattle.page_store.specs.DeviceFile.{DeviceFile}
 use Rattle.page_store.specs.ShelfState.{ShelfState, unit_name}
 use Rattle.page_store.specs.MemShelves.{state_of}
-use Rattle.page_store.proofs.tests.new_shelf.Goals as goal
+use Rattle.store_tests.proofs.shelves.new_shelf.Goals as goal
 
 pub returns-clause-absent : goal.returns-clause-absent
 returns-clause-absent c =

@@ -1,6 +1,6 @@
 //! The first pages of two files, byte for byte, and what one changed byte does.
 
-use crate::{Header, PAGE_SIZE, TreeNumbers};
+use file_header::{Header, PAGE_SIZE, TreeNumbers};
 use record_layout::KeyPart;
 use std::process::Abort;
 

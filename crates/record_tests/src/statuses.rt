@@ -1,0 +1,51 @@
+//! The digits of statuses, and what may be written in which mode.
+
+use io_state::{Access, OpenMode, Status, Verb, permits};
+
+// I-O status: a first digit 0 is successful completion.
+#[test]
+fn a_status_prints_its_two_digits(rt: HostRuntime) {
+    for (status, digits, success) in [
+        (Status::Successful, b"00", true),
+        (Status::Duplicate, b"02", true),
+        (Status::OptionalAbsent, b"05", true),
+        (Status::AtEnd, b"10", false),
+        (Status::RecordNotFound, b"23", false),
+        (Status::WrongLength, b"44", false),
+        (Status::ConnectorFailed, b"92", false),
+    ] {
+        assert_eq!(rt; status.digits(), *digits, "{status:?}");
+        assert_eq!(rt; status.is_success(), success, "{status:?}");
+    }
+}
+
+// OPEN statement, general rules: the table of permissible statements.
+#[test]
+fn writing_depends_on_access_and_mode(rt: HostRuntime) {
+    for (access, input, output, input_output, extend) in [
+        (Access::Sequential, false, true, false, true),
+        (Access::Random, false, true, true, false),
+        (Access::Dynamic, false, true, true, false),
+    ] {
+        assert_eq!(rt;
+            permits(access, OpenMode::Input, Verb::Write),
+            input,
+            "{access:?}"
+        );
+        assert_eq!(rt;
+            permits(access, OpenMode::Output, Verb::Write),
+            output,
+            "{access:?}"
+        );
+        assert_eq!(rt;
+            permits(access, OpenMode::InputOutput, Verb::Write),
+            input_output,
+            "{access:?}"
+        );
+        assert_eq!(rt;
+            permits(access, OpenMode::Extend, Verb::Write),
+            extend,
+            "{access:?}"
+        );
+    }
+}

@@ -1,0 +1,16 @@
+//! Tests of files on a shelf and of their pages: each call of a device may fail once or for good, and a crash may stop it.
+//!
+//! What a clause says is proved and not tested again. Here files are made, changed and stopped at each call in turn, and what they are found to be
+//! afterwards is looked at, page by page.
+//!
+//! Read `files` for a file and its gate, then `paged_files` for the pages that the cache holds and those that are free.
+#![tactic(auto)]
+
+#[cfg(test)]
+mod checks;
+#[cfg(test)]
+mod files;
+#[cfg(test)]
+mod paged_files;
+#[cfg(test)]
+mod shelves;

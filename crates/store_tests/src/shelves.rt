@@ -1,0 +1,23 @@
+//! A shelf in memory on which no file lies yet.
+ghost use Rattle.std.specs.Prelude.{◌≡◌, None, IfOk};
+ghost use Rattle.page_store.specs.ShelfState.{HasUnit, unit_file};
+ghost use Rattle.page_store.specs.MemShelves.{state_of};
+
+use io_state::{Fault, FileName};
+use page_store::{MemShelf, Shelf};
+use std::alloc::Global;
+
+pub fn name() -> FileName {
+    let mut name = FileName::new();
+    name.push_str("CUST");
+    name
+}
+
+pub fn new_shelf(alloc: Global) -> Result<MemShelf, Fault>
+    ensures unit { IfOk result (λ shelf. HasUnit (state_of shelf) 0) }
+    ensures absent { IfOk result (λ shelf. (unit_file (state_of shelf) 0).seen ≡ None) }
+{
+    let mut shelf = MemShelf::new(alloc);
+    shelf.attach(&[name()])?;
+    Ok(shelf)
+}
