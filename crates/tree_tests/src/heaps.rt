@@ -1,5 +1,6 @@
 //! What no clause says: numbers and bytes that a person reads off the format, and that each call can succeed.
 
+use crate::checks::assert_equal;
 use crate::memory_pages::{MemoryPages, new_pages};
 use io_state::Fault;
 use page_marks::WalkFault;
@@ -144,19 +145,22 @@ fn a_shorter_record_leaves_the_rest_of_the_area(rt: HostRuntime) -> Result<(), F
     let mut heap = Heap::new(VARYING);
     let first = add(&rt, &mut heap, &mut pages, b"0002SVEN  ")?;
     let second = add(&rt, &mut heap, &mut pages, b"0001SMITH OSLO  ")?;
-    assert_eq!(rt;
+    assert_equal(
+        &rt,
         get(&rt, &heap, &mut pages, first)?,
-        (10, *b"0002SVEN  ......")
+        (10, *b"0002SVEN  ......"),
     );
     set(&rt, &heap, &mut pages, first, b"0002SVEN  MOSS  ")?;
     set(&rt, &heap, &mut pages, second, b"0001SMITH ")?;
-    assert_eq!(rt;
+    assert_equal(
+        &rt,
         get(&rt, &heap, &mut pages, first)?,
-        (16, *b"0002SVEN  MOSS  ")
+        (16, *b"0002SVEN  MOSS  "),
     );
-    assert_eq!(rt;
+    assert_equal(
+        &rt,
         get(&rt, &heap, &mut pages, second)?,
-        (10, *b"0001SMITH ......")
+        (10, *b"0001SMITH ......"),
     );
     heap.free(&mut pages, first)?;
     for place in [
@@ -171,9 +175,10 @@ fn a_shorter_record_leaves_the_rest_of_the_area(rt: HostRuntime) -> Result<(), F
             "{place:?}"
         );
     }
-    assert_eq!(rt;
+    assert_equal(
+        &rt,
         get(&rt, &heap, &mut pages, second)?,
-        (10, *b"0001SMITH ......")
+        (10, *b"0001SMITH ......"),
     );
     Ok(())
 }
@@ -185,14 +190,16 @@ fn a_heap_is_full_where_no_slot_and_no_page_is_left(rt: HostRuntime) -> Result<(
     for i in 0..240 {
         add(&rt, &mut heap, &mut pages, &numbered(i))?;
     }
-    assert_eq!(rt;
+    assert_equal(
+        &rt,
         add(&rt, &mut heap, &mut pages, &numbered(240)),
-        Err(Fault::Full)
+        Err(Fault::Full),
     );
     heap.free(&mut pages, Place { page: 1, slot: 7 })?;
-    assert_eq!(rt;
+    assert_equal(
+        &rt,
         add(&rt, &mut heap, &mut pages, &numbered(240)),
-        Ok(Place { page: 1, slot: 7 })
+        Ok(Place { page: 1, slot: 7 }),
     );
     Ok(())
 }
@@ -236,7 +243,7 @@ fn a_heap_page_is_written_byte_for_byte(rt: HostRuntime) -> Result<(), Fail> {
         let mut pages = new_pages(rt.alloc(), others, 1)?;
         let mut heap = Heap::new(shape);
         let place = add(&rt, &mut heap, &mut pages, bytes)?;
-        assert_eq!(rt; place.page as usize, others + 1);
+        assert_equal(&rt, place.page as usize, others + 1);
         let page = pages.pages.last().expect(&rt, "a page");
         for (at, bytes) in parts {
             assert_eq!(rt;
@@ -259,10 +266,10 @@ fn a_walk_finds_the_pages_of_a_heap_and_what_is_lost(rt: HostRuntime) -> Result<
     heap.free(&mut pages, Place { page: 1, slot: 7 })?;
     let mut reached = [false; 3];
     let own = walk_heap(rt.alloc(), &pages.pages, &heap, &mut reached)?;
-    assert_eq!(rt; own.as_slice(), [2, 1].as_slice());
-    assert_eq!(rt; reached, [false, true, true]);
+    assert_equal(&rt, own.as_slice(), [2, 1].as_slice());
+    assert_equal(&rt, reached, [false, true, true]);
     let again = walk_heap(rt.alloc(), &pages.pages, &heap, &mut reached);
-    assert_eq!(rt; again.err(), Some(WalkFault::Shared));
+    assert_equal(&rt, again.err(), Some(WalkFault::Shared));
     let changes: [(usize, usize, u8, WalkFault, &str); 7] = [
         (2, 7, 2, WalkFault::Shared, "a page that leads to itself"),
         (2, 0, b'L', WalkFault::Chain, "a page of another kind"),

@@ -1,5 +1,6 @@
 //! What no clause says: the order of names that a person sees, the bytes of a leaf, and that each call can succeed.
 
+use crate::checks::assert_equal;
 use crate::memory_pages::{MemoryPages, new_pages};
 use io_state::Fault;
 use key_index::{AltEntry, AltFirst, AltIndex, PrimeEntry, PrimeIndex, alt_laws, prime_laws};
@@ -35,9 +36,9 @@ fn shows(rt: &impl Abort, found: Option<AltEntry>, name: &[u8], stamp: u64, prim
     match found {
         None => assert!(rt; false, "no entry"),
         Some(entry) => {
-            assert_eq!(rt; entry.value.as_slice(), name);
-            assert_eq!(rt; entry.stamp, stamp);
-            assert_eq!(rt; entry.prime.as_slice(), prime);
+            assert_equal(rt, entry.value.as_slice(), name);
+            assert_equal(rt, entry.stamp, stamp);
+            assert_equal(rt, entry.prime.as_slice(), prime);
         }
     }
 }
@@ -53,7 +54,7 @@ fn begins(
     match found {
         None => assert!(rt; false, "no entry"),
         Some(first) => {
-            assert_eq!(rt; first.followed, followed);
+            assert_equal(rt, first.followed, followed);
             shows(rt, Some(first.entry), name, stamp, prime);
         }
     }
@@ -63,8 +64,8 @@ fn is_at(rt: &impl Abort, found: Option<PrimeEntry>, value: &[u8], place: Place)
     match found {
         None => assert!(rt; false, "no entry"),
         Some(entry) => {
-            assert_eq!(rt; entry.value.as_slice(), value);
-            assert_eq!(rt; entry.place, place);
+            assert_equal(rt, entry.value.as_slice(), value);
+            assert_equal(rt, entry.place, place);
         }
     }
 }
@@ -76,14 +77,15 @@ fn a_leaf_is_written_byte_for_byte(rt: HostRuntime) -> Result<(), Fail> {
     let mut index = PrimeIndex::empty(&mut pages, 4)?;
     let place = Place { page: 2, slot: 0 };
     assert!(rt; add_place(&rt, &mut index, &mut pages, b"0001", place)?);
-    assert_eq!(rt; index.tree.root, 1);
+    assert_equal(&rt, index.tree.root, 1);
     assert_eq!(rt; pages.pages.len(), 2);
     let page = &pages.pages[1];
-    assert_eq!(rt;
-        page[..16],
-        *b"L\0\0\x01\0\0\0\0\0\0\0\0\0\0\0\0".as_slice()
+    assert_equal(
+        &rt,
+        &page[..16],
+        b"L\0\0\x01\0\0\0\0\0\0\0\0\0\0\0\0".as_slice(),
     );
-    assert_eq!(rt; page[16..26], *b"0001\0\0\0\x02\0\0".as_slice());
+    assert_equal(&rt, &page[16..26], b"0001\0\0\0\x02\0\0".as_slice());
     Ok(())
 }
 
@@ -98,9 +100,9 @@ fn a_prime_value_stands_once(rt: HostRuntime) -> Result<(), Fail> {
     assert!(rt; add_place(&rt, &mut index, &mut pages, b"0002", first)?);
     assert!(rt; add_place(&rt, &mut index, &mut pages, b"0001", second)?);
     assert!(rt; !add_place(&rt, &mut index, &mut pages, b"0002", second)?);
-    assert_eq!(rt; index.count(), 2);
+    assert_equal(&rt, index.count(), 2);
     is_at(&rt, index.find(&mut pages, b"0002")?, b"0002", first);
-    assert_eq!(rt; index.place_of(&mut pages, b"0001")?, Some(second));
+    assert_equal(&rt, index.place_of(&mut pages, b"0001")?, Some(second));
     assert!(rt; index.has(&mut pages, b"0002")?);
     is_at(&rt, index.first_from(&mut pages, b"0")?, b"0001", second);
     is_at(&rt, index.first_after(&mut pages, b"0001")?, b"0002", first);
@@ -110,9 +112,9 @@ fn a_prime_value_stands_once(rt: HostRuntime) -> Result<(), Fail> {
     assert!(rt; index.remove(&mut pages, b"0002")?);
     assert!(rt; !index.remove(&mut pages, b"0002")?);
     assert!(rt; index.find(&mut pages, b"0002")?.is_none());
-    assert_eq!(rt; index.place_of(&mut pages, b"0002")?, None);
+    assert_equal(&rt, index.place_of(&mut pages, b"0002")?, None);
     assert!(rt; !index.has(&mut pages, b"0002")?);
-    assert_eq!(rt; (index.count(), index.height()), (1, 1));
+    assert_equal(&rt, (index.count(), index.height()), (1, 1));
     Ok(())
 }
 
@@ -222,7 +224,7 @@ fn duplicates_come_in_the_order_of_their_stamps(rt: HostRuntime) -> Result<(), F
         256,
         b"03",
     );
-    assert_eq!(rt; (index.count(), index.height()), (2, 1));
+    assert_equal(&rt, (index.count(), index.height()), (2, 1));
     Ok(())
 }
 

@@ -1,5 +1,6 @@
 //! What no clause says: which faults are told, and that each call can succeed.
 
+use crate::checks::assert_equal;
 use page_marks::{WalkFault, all_marked, mark, marks_part_the_pages};
 use std::test::Fail;
 
@@ -8,7 +9,7 @@ fn a_page_has_one_mark(rt: HostRuntime) -> Result<(), Fail> {
     marks_part_the_pages();
     let mut reached = [false; 2];
     mark(&mut reached, 1)?;
-    assert_eq!(rt; reached, [false, true]);
+    assert_equal(&rt, reached, [false, true]);
     assert!(rt; !all_marked(&reached));
     for n in [1, 2, u32::MAX] {
         assert_eq!(rt; mark(&mut reached, n), Err(WalkFault::Shared), "page {n}");

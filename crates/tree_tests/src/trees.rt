@@ -1,5 +1,6 @@
 //! What no clause says: how many entries fit, that each call can succeed, and long series of changes beside a list in order.
 
+use crate::checks::assert_equal;
 use crate::memory_pages::{MemoryPages, new_pages};
 use bplus_tree::{Cursor, Tree, have_many_entries, reads_its_entries};
 use io_state::Fault;
@@ -82,9 +83,9 @@ fn is_there(
     let mut tail = [0; 508];
     let told = tree.find_tail(pages, &entry[..width], &mut tail[..size - width])?;
     if told {
-        assert_eq!(rt; tail[..size - width], entry[width..size]);
+        assert_equal(rt, &tail[..size - width], &entry[width..size]);
     }
-    assert_eq!(rt; tree.has(pages, &entry[..width])?, told);
+    assert_equal(rt, tree.has(pages, &entry[..width])?, told);
     Ok(told)
 }
 
@@ -250,19 +251,19 @@ fn fill_and_empty(
     for i in 0..3000 {
         assert!(rt; put(&mut tree, &mut pages, in_order(entering, i))?);
     }
-    assert_eq!(rt; count_filled(rt, alloc, &tree, &mut pages)?, 3000);
+    assert_equal(rt, count_filled(rt, alloc, &tree, &mut pages)?, 3000);
     let mut cursor = tree.cursor(b"");
     let mut number = None;
     for i in 0..3000 {
         number = after(&tree, &mut pages, number)?;
-        assert_eq!(rt; number, Some(i));
-        assert_eq!(rt; next(&mut cursor, &tree, &mut pages)?, Some(i));
+        assert_equal(rt, number, Some(i));
+        assert_equal(rt, next(&mut cursor, &tree, &mut pages)?, Some(i));
     }
-    assert_eq!(rt; next(&mut cursor, &tree, &mut pages)?, None);
+    assert_equal(rt, next(&mut cursor, &tree, &mut pages)?, None);
     for i in 0..3000 {
         assert!(rt; take(&mut tree, &mut pages, in_order(leaving, i))?);
     }
-    assert_eq!(rt; (tree.height(), tree.count, pages.taken()), (1, 0, 1));
+    assert_equal(rt, (tree.height(), tree.count, pages.taken()), (1, 0, 1));
     Ok(())
 }
 
@@ -349,7 +350,7 @@ fn a_cursor_tells_how_the_next_entry_begins_and_stays(rt: HostRuntime) -> Result
             !is_next(&cursor, &tree, &mut pages, i.wrapping_add(1))?,
             "{i}"
         );
-        assert_eq!(rt; next(&mut cursor, &tree, &mut pages)?, Some(i));
+        assert_equal(&rt, next(&mut cursor, &tree, &mut pages)?, Some(i));
     }
     assert!(rt; !cursor.next_begins_with(&tree, &mut pages, b"")?);
     assert!(rt; put(&mut tree, &mut pages, 20)?);
@@ -379,27 +380,27 @@ fn step(
     let there = behind == Some(number);
     match choice {
         0 => {
-            assert_eq!(rt; find(tree, pages, number)?.is_some(), there);
-            assert_eq!(rt; is_there(rt, tree, pages, number)?, there);
+            assert_equal(rt, find(tree, pages, number)?.is_some(), there);
+            assert_equal(rt, is_there(rt, tree, pages, number)?, there);
         }
-        1 => assert_eq!(rt; at_or_after(tree, pages, number)?, behind),
-        2 => assert_eq!(rt; last(tree, pages)?, list.last().copied()),
+        1 => assert_equal(rt, at_or_after(tree, pages, number)?, behind),
+        2 => assert_equal(rt, last(tree, pages)?, list.last().copied()),
         3 => {
             let to = number.saturating_add(4);
             let next = list.get(place.saturating_add(1)).copied();
             let first = behind
                 .filter(|&other| other <= to)
                 .map(|other| (other, next.is_some_and(|other| other <= to)));
-            assert_eq!(rt; first_within(tree, pages, number, to)?, first);
+            assert_equal(rt, first_within(tree, pages, number, to)?, first);
         }
         4 | 5 | 6 => {
-            assert_eq!(rt; put(tree, pages, number)?, !there);
+            assert_equal(rt, put(tree, pages, number)?, !there);
             if !there && place <= list.len() {
                 list.insert(place, number)?;
             }
         }
         _ => {
-            assert_eq!(rt; take(tree, pages, number)?, there);
+            assert_equal(rt, take(tree, pages, number)?, there);
             if there && place < list.len() {
                 list.remove(place);
             }

@@ -1,5 +1,6 @@
 //! What no clause says: which faults are told, and that each call can succeed. The pages are written byte by byte, as the format says.
 
+use crate::checks::assert_equal;
 use bplus_tree::Tree;
 use page_marks::{WalkFault, all_marked, mark};
 use page_walks::{Spot, trees_stay, walk_free, walk_tree, walks_part_the_file};
@@ -89,16 +90,17 @@ fn the_entries_of_a_tree_are_found_in_order(rt: HostRuntime) -> Result<(), Fail>
     let pages = two_leaves(&rt, rt.alloc())?;
     let mut reached = [false; 4];
     let spots = walk_tree(rt.alloc(), &pages, &tree(&rt, 1, 1, 8), &mut reached)?;
-    assert_eq!(rt; reached, [false, true, true, true]);
+    assert_equal(&rt, reached, [false, true, true, true]);
     let mut keys = Vec::new(rt.alloc());
     for spot in spots.iter() {
         let entry = spot.entry(&pages, LONGEST).expect(&rt, "an entry");
         assert_eq!(rt; entry.len(), 508);
         keys.push(entry[0])?;
     }
-    assert_eq!(rt;
+    assert_equal(
+        &rt,
         keys.as_slice(),
-        [10, 11, 12, 13, 20, 21, 22, 23].as_slice()
+        [10, 11, 12, 13, 20, 21, 22, 23].as_slice(),
     );
     for (page, place) in [(0, 0), (1, 0), (2, 4), (4, 0)] {
         let spot = Spot { page, place };
@@ -144,7 +146,11 @@ fn a_tree_of_three_levels_is_walked(rt: HostRuntime) -> Result<(), Fail> {
     let mut reached = [false; 20];
     mark(&mut reached, 0)?;
     let spots = walk_tree(rt.alloc(), &pages, &tree(&rt, 1, 2, 64), &mut reached)?;
-    assert_eq!(rt; spots.get(33).copied(), Some(Spot { page: 12, place: 1 }));
+    assert_equal(
+        &rt,
+        spots.get(33).copied(),
+        Some(Spot { page: 12, place: 1 }),
+    );
     assert!(rt; all_marked(&reached));
     let six = put(&rt, &mut pages, 2, 3, 6);
     let found = walk_tree(rt.alloc(), &pages, &tree(&rt, 1, 2, 60), &mut [false; 20]);
@@ -230,10 +236,11 @@ fn the_free_pages_are_walked(rt: HostRuntime) -> Result<(), Fail> {
     put(&rt, &mut pages, 1, 0, b'F');
     let mut reached = [false; 4];
     walk_free(&pages, 3, 2, &mut reached)?;
-    assert_eq!(rt; reached, [false, true, false, true]);
-    assert_eq!(rt;
+    assert_equal(&rt, reached, [false, true, false, true]);
+    assert_equal(
+        &rt,
         walk_free(&pages, 3, 2, &mut reached),
-        Err(WalkFault::Shared)
+        Err(WalkFault::Shared),
     );
     walk_free(&pages, 0, 0, &mut reached)?;
     for (first, count) in [(3, 1), (3, 3), (0, 1), (2, 1), (4, 1), (3, u32::MAX)] {
