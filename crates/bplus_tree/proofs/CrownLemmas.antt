@@ -12,7 +12,7 @@ use Rattle.tree_search.specs.Tree.{TreeOf, page_of, entries_of, pages_of, size_o
 use Rattle.tree_search.specs.Stored.{Holds, IsInnerAt}
 use Rattle.pages.specs.Owners.{IsOutside, AreApart, ChangesPages}
 use Rattle.tree_search.specs.Calls.{IsTree}
-use Rattle.bplus_tree.specs.Crown.{Crowns, HasCrown, Settles, IsSettled}
+use Rattle.bplus_tree.specs.Crown.{Crowns, HasCrown, Settles, HasSettledRoot}
 use Rattle.bplus_tree.proofs.PageLemmas.{holds_still}
 use Rattle.tree_search.proofs.AnswerLemmas.{fails}
 use Rattle.bplus_tree.proofs.RemoveLemmas.{full_rooted}
@@ -37,7 +37,7 @@ at_root : (shape : Shape) (before : PageMap) (k root : ℕ) (t : TreeOf (suc k))
 at_root shape before k root t tree = subst (λ (n : ℕ). IsInnerAt shape before n t.1 (map (page_of k) t.2)) tree.root tree.holds.0
 
 settled_child : (shape : Shape) (before after : PageMap) (is_sound : Type 0) (k root child : ℕ) (t : TreeOf (suc k)) → IsTree shape before (suc k) root None None t → AreApart (pages_of (suc k) t) → IsHalfFull shape (suc k) t
-    → HasCrown before after root t.1 (map (page_of k) t.2) (Some child) → IsSettled shape before after (suc k) t (record { root = child; levels = k })
+    → HasCrown before after root t.1 (map (page_of k) t.2) (Some child) → HasSettledRoot shape before after (suc k) t (record { root = child; levels = k })
 settled_child shape before after is_sound k root child t tree apart filled crown =
     let one = only (IsOrdered shape.width k) t.1 t.2 crown.0 tree.ordered.1 in
     let x = one.child in
@@ -75,7 +75,7 @@ changes_none before after own same apart = record {
 }
 
 settled_same : (shape : Shape) (before after : PageMap) (h root : ℕ) (t : TreeOf h) → after ≡ before → IsTree shape before h root None None t → AreApart (pages_of h t) → IsHalfFull shape h t → IsRooted h t
-    → IsSettled shape before after h t (record { root = root; levels = h })
+    → HasSettledRoot shape before after h t (record { root = root; levels = h })
 settled_same shape before after h root t same tree apart filled rooted =
     record {
       tree = t;
@@ -103,4 +103,4 @@ module _ (shape : Shape) (before after : PageMap) (is_sound : Type 0) (h k root 
   pub settles_fault : (fault : Fault) (out : Result Base Fault) → Crowns shape before after is_sound root (Err fault) → IsErrAnd out (λ e. e ≡ fault) → Settles shape before after is_sound h root out
   settles_fault fault out crowns was = subst (λ (n : ℕ). Settles shape before after is_sound n root out) (sym one) (λ t tree apart filled.
       let a = crowns t.1 (map (page_of k) t.2) (at_root shape before k root t tree) in
-      fails out fault (λ base. IsSettled shape before after (suc k) t base × is_sound) was a.no_damage)
+      fails out fault (λ base. HasSettledRoot shape before after (suc k) t base × is_sound) was a.no_damage)

@@ -17,7 +17,7 @@ use Rattle.pages.specs.Answer.{IsAnswer}
 use Rattle.pages.specs.Owners.{IsOutside}
 use Rattle.tree_search.specs.Stored.{IsLeafAt}
 use Rattle.tree_search.specs.Spot.{CopiesEntry, TellsStart, begins_with, StandsAt}
-use Rattle.bplus_tree.specs.Cursor.{IsAt, Belongs, HasNeighbour, IsBehind, HasMoved}
+use Rattle.bplus_tree.specs.Cursor.{IsCursorAt, Belongs, HasNeighbour, IsBehind, HasMoved}
 use Rattle.tree_search.proofs.SearchLemmas.{after_at}
 use Rattle.tree_search.proofs.DescentLemmas.{tree_ascends}
 
@@ -51,7 +51,7 @@ after_entry width key es i inside rises is =
     (record { within = omega arith; upto = upto_through width key es i [] here rises not_above; above = above_through width key es (suc i) [] inside rises above }) inside
 
 -- the entry behind that of the cursor in its leaf is the one behind it in the tree
-pub neighbour : (cursor : Cursor) (tree : Tree) (pages : PageMap) (entries : List (List ℕ)) (own : List ℕ) → TreeStands tree pages entries own → (is : IsAt cursor tree pages entries own) → cursor.spot.place + 1 < cursor.spot.count
+pub neighbour : (cursor : Cursor) (tree : Tree) (pages : PageMap) (entries : List (List ℕ)) (own : List ℕ) → TreeStands tree pages entries own → (is : IsCursorAt cursor tree pages entries own) → cursor.spot.place + 1 < cursor.spot.count
     → first_after tree.shape.width cursor.key.items entries ≡ Some (get_or is.stands.here (cursor.spot.place + 1) [])
 neighbour cursor tree pages entries own stands is more =
     let at = is.stands in
@@ -73,7 +73,7 @@ neighbour cursor tree pages entries own stands is more =
     ∙ ap Some (between at.before at.here at.behind (suc cursor.spot.place) inside)
     ∙ ap (λ (n : ℕ). Some (get_or at.here n [])) plus
 
-is_at : (cursor : Cursor) (tree : Tree) (pages : PageMap) (entries : List (List ℕ)) (own : List ℕ) → Belongs cursor tree pages entries own → HasNeighbour cursor tree → IsAt cursor tree pages entries own
+is_at : (cursor : Cursor) (tree : Tree) (pages : PageMap) (entries : List (List ℕ)) (own : List ℕ) → Belongs cursor tree pages entries own → HasNeighbour cursor tree → IsCursorAt cursor tree pages entries own
 is_at cursor tree pages entries own belongs near =
     let more = near.more in
     let some : 0 < cursor.spot.count = omega arith in

@@ -16,7 +16,7 @@ use Rattle.node_balance.specs.declared.separator.Separator.{Separator}
 use Rattle.tree_search.specs.Stored.{IsLeafAt, IsInnerAt}
 use Rattle.pages.specs.Answer.{IsAnswer}
 use Rattle.node_balance.specs.Put.{PutInLeaf, PutInInner}
-use Rattle.bplus_tree.specs.Split.{HasParts, WritesParts}
+use Rattle.bplus_tree.specs.Split.{IsSplitOrWhole, WritesParts}
 use Rattle.bplus_tree.specs.Grow.{HasAddedToLeaf, HasAddedToInner}
 
 if_ok : {X : Type 0} (r : Result X Fault) (P Q : X → Type 0) → ((x : X) → P x → Q x) → IfOk r P → IfOk r Q
@@ -28,7 +28,7 @@ pub answer_map : {X : Type 0} (r : Result X Fault) (P Q : X → Type 0) → ((x 
 answer_map r P Q f a = record { answer = if_ok r P Q f a.answer; no_damage = a.no_damage }
 
 module _ (shape : Shape) (before after : PageMap) (page : ℕ) (lower upper : List ℕ) where
-  leaf_parts : (entries : List (List ℕ)) (key : Option (ArrayVec ℕ)) (up : Option Separator) → PutInLeaf shape lower upper entries key → HasParts before after page lower upper key up
+  leaf_parts : (entries : List (List ℕ)) (key : Option (ArrayVec ℕ)) (up : Option Separator) → PutInLeaf shape lower upper entries key → IsSplitOrWhole before after page lower upper key up
       → option_map (λ (s : Separator). s.key) up ≡ key → HasAddedToLeaf shape before after page entries up
   leaf_parts entries None None put parts same =
       record { leaf = record { bytes = lower; there = parts.page; leaf = put.leaf; holds = put.has }; others = parts.others }
@@ -49,7 +49,7 @@ module _ (shape : Shape) (before after : PageMap) (page : ℕ) (lower upper : Li
   leaf_parts entries None (Some separator) put parts same = absurd parts
   leaf_parts entries (Some key) None put parts same = absurd parts
 
-  inner_parts : (seps : List (List ℕ)) (below : List ℕ) (key : Option (ArrayVec ℕ)) (up : Option Separator) → PutInInner shape lower upper seps below key → HasParts before after page lower upper key up
+  inner_parts : (seps : List (List ℕ)) (below : List ℕ) (key : Option (ArrayVec ℕ)) (up : Option Separator) → PutInInner shape lower upper seps below key → IsSplitOrWhole before after page lower upper key up
       → option_map (λ (s : Separator). s.key) up ≡ key → HasAddedToInner shape before after page seps below up
   inner_parts seps below None None put parts same =
       record { inner = record { bytes = lower; there = parts.page; inner = put.inner; rises = put.has; leads = put.leads }; others = parts.others }
@@ -86,7 +86,7 @@ both_ok (Err e) P Q R f a q = record { answer = tt; no_damage = a.no_damage }
 -- a copy of a node was changed and written back
 module _ (shape : Shape) (before mid after : PageMap) (is_sound : Type 0) (page place : ℕ) (bytes lower upper : List ℕ) (key : Option (ArrayVec ℕ)) (result : Result (Option Separator) Fault)
     (same : mid ≡ before) (there : before page ≡ Some bytes) (written : WritesParts mid after is_sound page lower upper key result) (keyed : IfOk result (λ up. option_map (λ (s : Separator). s.key) up ≡ key)) where
-  wrote : IsAnswer result (λ up. HasParts before after page lower upper key up × is_sound)
+  wrote : IsAnswer result (λ up. IsSplitOrWhole before after page lower upper key up × is_sound)
   wrote = (subst (λ (m : PageMap). WritesParts m after is_sound page lower upper key result) same written) (rw there refl)
 
   pub leaf_rebuilt : (e : List ℕ) (entries : List (List ℕ)) → IsLeafAt shape before page entries → PutInLeaf shape lower upper (insert (leaf_entries shape bytes) place e) key
@@ -95,7 +95,7 @@ module _ (shape : Shape) (before mid after : PageMap) (is_sound : Type 0) (page 
       let is : bytes ≡ at.bytes = cc (there, at.there) in
       let had : leaf_entries shape bytes ≡ entries = ap (leaf_entries shape) is ∙ at.holds in
       let put' = subst (λ (l : List (List ℕ)). PutInLeaf shape lower upper (insert l place e) key) had put in
-      both_ok result (λ up. HasParts before after page lower upper key up × is_sound) (λ up. option_map (λ (s : Separator). s.key) up ≡ key) (λ up. HasAddedToLeaf shape before after page (insert entries place e) up × is_sound)
+      both_ok result (λ up. IsSplitOrWhole before after page lower upper key up × is_sound) (λ up. option_map (λ (s : Separator). s.key) up ≡ key) (λ up. HasAddedToLeaf shape before after page (insert entries place e) up × is_sound)
       (λ up parts k. (leaf_parts shape before after page lower upper (insert entries place e) key up put' parts.0 k, parts.1)) wrote keyed
 
   pub inner_rebuilt : (new : Separator) (seps : List (List ℕ)) (below : List ℕ) → IsInnerAt shape before page seps below
@@ -107,7 +107,7 @@ module _ (shape : Shape) (before mid after : PageMap) (is_sound : Type 0) (page 
       let led : children shape bytes ≡ below = ap (children shape) is ∙ at.leads in
       let put' = subst (λ (l : List (List ℕ)). PutInInner shape lower upper (insert l place new.key.items) (insert below (place + 1) new.child) key) had
       (subst (λ (l : List ℕ). PutInInner shape lower upper (insert (separators shape bytes) place new.key.items) (insert l (place + 1) new.child) key) led put) in
-      both_ok result (λ up. HasParts before after page lower upper key up × is_sound) (λ up. option_map (λ (s : Separator). s.key) up ≡ key)
+      both_ok result (λ up. IsSplitOrWhole before after page lower upper key up × is_sound) (λ up. option_map (λ (s : Separator). s.key) up ≡ key)
       (λ up. HasAddedToInner shape before after page (insert seps place new.key.items) (insert below (place + 1) new.child) up × is_sound)
       (λ up parts k. (inner_parts shape before after page lower upper (insert seps place new.key.items) (insert below (place + 1) new.child) key up put' parts.0 k, parts.1)) wrote keyed
 

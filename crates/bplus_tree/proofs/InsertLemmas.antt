@@ -28,7 +28,7 @@ use Rattle.bplus_tree.specs.Edits.{with_entry}
 use Rattle.pages.specs.Answer.{IsAnswer}
 use Rattle.tree_search.specs.Calls.{entry_of, IsTree, IsWhole}
 use Rattle.tree_search.specs.Descent.{Steps, IsLook}
-use Rattle.bplus_tree.specs.Remove.{Becomes, IsFull}
+use Rattle.bplus_tree.specs.Remove.{Becomes, IsHalfFullWithRoot}
 use Rattle.bplus_tree.specs.Grow.{HasLeaf, HasLeaves, HasAddedToLeaf, AddsToLeaf, HasInner, HasInners, HasAddedToInner, AddsToInner}
 use Rattle.bplus_tree.specs.Insert.{BecomesTwo, HasInsertedBelow, Inserts, HasPutIf, PutsBelow, IsPutIf, HasPutInPlaceIf, PutsInPlace}
 use Rattle.tree_search.proofs.RowLemmas.{Inside, Each-append, row_split, row_rises}
@@ -138,7 +138,7 @@ put_leaf shape before after is_sound (suc h) page e out none puts t low high who
 pub record Parted (shape : Shape) (before after : PageMap) (k : ℕ) (low high : Bound) (page : ℕ) (old : List ℕ) (entries : List (List ℕ)) (ss : List (List ℕ)) (xs : List (TreeOf k)) : Type 0 where
   pub row : IsRow (IsOrdered shape.width k) low ss xs high
   pub holds : Each (Holds shape after k) xs
-  pub filled : Each (IsFull shape k) xs
+  pub filled : Each (IsHalfFullWithRoot shape k) xs
   pub has : flat_map (entries_of k) xs ≡ entries
   pub changes : ChangesPages before after (page ∷ old) (page ∷ flat_map (pages_of k) xs)
   pub there : IsSome (after page)
@@ -213,8 +213,8 @@ module _ (shape : Shape) (before after late : PageMap) (k : ℕ) (low high : Bou
           root = refl;
           ordered = (row_rises shape.width (IsOrdered shape.width k) (Some key) rs second high high_row (node_whole shape late separator.child rs (map (page_of k) second) at'), high_row);
         };
-        left_full = (put.full.0, each_take (IsFull shape k) (suc m) xs parted.filled);
-        right_full = (put.full.1, each_drop (IsFull shape k) (suc m) xs parted.filled);
+        left_full = (put.full.0, each_take (IsHalfFullWithRoot shape k) (suc m) xs parted.filled);
+        right_full = (put.full.1, each_drop (IsHalfFullWithRoot shape k) (suc m) xs parted.filled);
         has = sym (flat_map-append (entries_of k) first second) ∙ ap (flat_map (entries_of k)) (take-append-drop (suc m) xs) ∙ parted.has;
         changes = change_parted before after late page separator.child old (flat_map (pages_of k) first) (flat_map (pages_of k) second) change
             (parted.there, subst (Each (λ n. IsSome (after n))) cut_pages live) put.free put.others;
@@ -263,7 +263,7 @@ child_split shape before after k page low high e t step separator whole child tw
         holds = Each-append (Holds shape after k) row.front (two.left ∷ two.right ∷ row.back)
             (rows_still shape before after k row.front (each_left (Holds shape before k) row.front (row.here ∷ row.back) kids) within.same_front.1)
             (two.left_stands.holds, (two.right_stands.holds, rows_still shape before after k row.back (each_right (Holds shape before k) row.front (row.here ∷ row.back) kids).1 within.same_back));
-        filled = Each-append (IsFull shape k) row.front (two.left ∷ two.right ∷ row.back) child.in_front (two.left_full, (two.right_full, child.behind));
+        filled = Each-append (IsHalfFullWithRoot shape k) row.front (two.left ∷ two.right ∷ row.back) child.in_front (two.left_full, (two.right_full, child.behind));
         has = entry_within shape.width e (entries_of k) row.front row.here (two.left ∷ two.right ∷ []) row.back row.below row.above
             (ap (λ (l : List (List ℕ)). entries_of k two.left ++ l) (append-nil (entries_of k two.right)) ∙ two.has)
             ∙ ap (λ (l : List (TreeOf k)). with_entry shape.width e (flat_map (entries_of k) l)) (sym row.is);
@@ -295,7 +295,7 @@ child_same shape before after k page low high e t step whole child new =
     record {
       tree = (page, t.1, row.front ++ new.tree ∷ row.back);
       stands = put.stands;
-      filled = Each-append (IsFull shape k) row.front (new.tree ∷ row.back) child.in_front ((full, new.filled), child.behind);
+      filled = Each-append (IsHalfFullWithRoot shape k) row.front (new.tree ∷ row.back) child.in_front ((full, new.filled), child.behind);
       large = omega arith;
       has = entry_within shape.width e (entries_of k) row.front row.here (new.tree ∷ []) row.back row.below row.above (append-nil (entries_of k new.tree) ∙ new.has)
           ∙ ap (λ (l : List (TreeOf k)). with_entry shape.width e (flat_map (entries_of k) l)) (sym row.is);

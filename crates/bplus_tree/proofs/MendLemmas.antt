@@ -16,7 +16,7 @@ use Rattle.pages.specs.Owners.{AreApart, ChangesPages}
 use Rattle.tree_search.specs.Calls.{IsTree}
 use Rattle.node_balance.specs.Even.{IsNode, count_at, Joins, Shares, AreJoined, AreShared}
 use Rattle.bplus_tree.specs.Mend.{AreThree, HasJoined, HasShared, IsBeside, IsParent}
-use Rattle.bplus_tree.specs.Remove.{BecomesShort, AreFullBut, IsFull, LacksOne}
+use Rattle.bplus_tree.specs.Remove.{BecomesShort, AreFullBut, IsHalfFullWithRoot, LacksOne}
 use Rattle.tree_search.proofs.RowLemmas.{Each-append, row_rises}
 use Rattle.tree_search.proofs.RowLemmas.{each_left, each_right, row_length}
 use Rattle.bplus_tree.proofs.PageLemmas.{rows_still}
@@ -43,8 +43,8 @@ module _ {X : Type 0} (F L : X → Type 0) where
 
 -- two neighbours, one of which lacks one
 pub record Uneven (shape : Shape) (k : ℕ) (front : List (TreeOf k)) (left right : TreeOf k) (back : List (TreeOf k)) : Type 0 where
-  pub in_front : Each (IsFull shape k) front
-  pub behind : Each (IsFull shape k) back
+  pub in_front : Each (IsHalfFullWithRoot shape k) front
+  pub behind : Each (IsHalfFullWithRoot shape k) back
   pub filled_left : IsHalfFull shape k left
   pub filled_right : IsHalfFull shape k right
   pub near_left : least shape k ≤ size_of k left + 1
@@ -52,7 +52,7 @@ pub record Uneven (shape : Shape) (k : ℕ) (front : List (TreeOf k)) (left righ
   pub enough : least shape k ≤ size_of k left + size_of k right
   pub uneven : size_of k left ≡ size_of k right → 2 * least shape k ≤ size_of k left + size_of k right → ⊥
 
-uneven_first : (shape : Shape) (k : ℕ) (front : List (TreeOf k)) (left right : TreeOf k) (back : List (TreeOf k)) → Each (IsFull shape k) front × LacksOne shape k left × IsFull shape k right × Each (IsFull shape k) back
+uneven_first : (shape : Shape) (k : ℕ) (front : List (TreeOf k)) (left right : TreeOf k) (back : List (TreeOf k)) → Each (IsHalfFullWithRoot shape k) front × LacksOne shape k left × IsHalfFullWithRoot shape k right × Each (IsHalfFullWithRoot shape k) back
     → Uneven shape k front left right back
 uneven_first shape k front left right back h =
     let a = h.1.0 in
@@ -68,7 +68,7 @@ uneven_first shape k front left right back h =
       uneven = λ e f. omega arith;
     }
 
-uneven_second : (shape : Shape) (k : ℕ) (front : List (TreeOf k)) (left right : TreeOf k) (back : List (TreeOf k)) → Each (IsFull shape k) front × IsFull shape k left × LacksOne shape k right × Each (IsFull shape k) back
+uneven_second : (shape : Shape) (k : ℕ) (front : List (TreeOf k)) (left right : TreeOf k) (back : List (TreeOf k)) → Each (IsHalfFullWithRoot shape k) front × IsHalfFullWithRoot shape k left × LacksOne shape k right × Each (IsHalfFullWithRoot shape k) back
     → Uneven shape k front left right back
 uneven_second shape k front left right back h =
     let a = h.1.0 in
@@ -85,9 +85,9 @@ uneven_second shape k front left right back h =
     }
 
 uneven_at : (shape : Shape) (k : ℕ) (front : List (TreeOf k)) (left right : TreeOf k) (back : List (TreeOf k)) (place : ℕ) → (length front ≡ place) ⊎ (length front + 1 ≡ place)
-    → AreFullBut (IsFull shape k) (LacksOne shape k) place (front ++ left ∷ right ∷ back) → Uneven shape k front left right back
-uneven_at shape k front left right back place (inl e) h = uneven_first shape k front left right back (lacks_first (IsFull shape k) (LacksOne shape k) front left right back place e h)
-uneven_at shape k front left right back place (inr e) h = uneven_second shape k front left right back (lacks_second (IsFull shape k) (LacksOne shape k) front left right back place e h)
+    → AreFullBut (IsHalfFullWithRoot shape k) (LacksOne shape k) place (front ++ left ∷ right ∷ back) → Uneven shape k front left right back
+uneven_at shape k front left right back place (inl e) h = uneven_first shape k front left right back (lacks_first (IsHalfFullWithRoot shape k) (LacksOne shape k) front left right back place e h)
+uneven_at shape k front left right back place (inr e) h = uneven_second shape k front left right back (lacks_second (IsHalfFullWithRoot shape k) (LacksOne shape k) front left right back place e h)
 
 full_within : {X : Type 0} (F L : X → Type 0) (place : ℕ) (xs : List X) → AreFullBut F L place xs → place < length xs
 full_within F L zero [] h = absurd h
@@ -123,7 +123,7 @@ two_pages k front left right back p q u v is is' =
     ∙ ap (λ (l : List ℕ). flat_map (pages_of k) front ++ (p ∷ (u ++ (l ++ flat_map (pages_of k) back)))) is'
 
 pub chosen : (shape : Shape) (before : PageMap) (k page place : ℕ) (low high : Bound) (t : TreeOf (suc k)) (node : List ℕ) (pair : Pair)
-    → IsTree shape before (suc k) page low high t → AreApart (pages_of (suc k) t) → AreFullBut (IsFull shape k) (LacksOne shape k) place t.2
+    → IsTree shape before (suc k) page low high t → AreApart (pages_of (suc k) t) → AreFullBut (IsHalfFullWithRoot shape k) (LacksOne shape k) place t.2
     → before page ≡ Some node → IsBeside shape place node pair → Chosen shape before k page low high t pair
 chosen shape before k page place low high t node pair tree apart full there beside =
     let root : t.0 ≡ page = tree.root in
@@ -134,7 +134,7 @@ chosen shape before k page place low high t node pair tree apart full there besi
     let inside : pair.at < length t.1 = rw seps at beside.within in
     let row = pair_at (IsOrdered shape.width k) low t.1 t.2 high pair.at tree.ordered.1 inside in
     let long = row_length (IsOrdered shape.width k) low t.1 t.2 high tree.ordered.1 in
-    let few = full_within (IsFull shape k) (LacksOne shape k) place t.2 full in
+    let few = full_within (IsHalfFullWithRoot shape k) (LacksOne shape k) place t.2 full in
     let near : place ≤ length (separators shape node) = rw seps (omega arith) in
     let where_ = subst (λ (n : ℕ). (n ≡ place) ⊎ (n + 1 ≡ place)) (sym row.at) (beside.beside near) in
     let fill = uneven_at shape k row.front row.left row.right row.back place where_ (rw row.is at full) in
@@ -264,7 +264,7 @@ shared shape before late k page low high t pair node left right node_now left_no
           root = refl;
           ordered = (row_rises shape.width (IsOrdered shape.width k) low ss xs high row_now (node_whole shape late page ss (map (page_of k) xs) at), row_now);
         };
-        filled = Each-append (IsFull shape k) row.front (both.lower ∷ both.upper ∷ row.back) found.fill.in_front ((full.0, both.lower_filled), ((full.1, both.upper_filled), found.fill.behind));
+        filled = Each-append (IsHalfFullWithRoot shape k) row.front (both.lower ∷ both.upper ∷ row.back) found.fill.in_front ((full.0, both.lower_filled), ((full.1, both.upper_filled), found.fill.behind));
         large = rw (length-set t.1 pair.at key) (omega arith);
         has = two_flat (entries_of k) row.front both.lower both.upper row.back
             ∙ ap (λ (x : List (List ℕ)). flat_map (entries_of k) row.front ++ (x ++ flat_map (entries_of k) row.back)) both.has
@@ -340,7 +340,7 @@ joined shape before late k page low high t pair node left right node_now left_no
           root = refl;
           ordered = (row_rises shape.width (IsOrdered shape.width k) low ss xs high row_now (node_whole shape late page ss (map (page_of k) xs) at), row_now);
         };
-        filled = Each-append (IsFull shape k) row.front (one.tree ∷ row.back) found.fill.in_front ((full, one.filled), found.fill.behind);
+        filled = Each-append (IsHalfFullWithRoot shape k) row.front (one.tree ∷ row.back) found.fill.in_front ((full, one.filled), found.fill.behind);
         large = omega arith;
         has = flat_map-append (entries_of k) row.front (one.tree ∷ row.back)
             ∙ ap (λ (x : List (List ℕ)). flat_map (entries_of k) row.front ++ (x ++ flat_map (entries_of k) row.back)) one.has

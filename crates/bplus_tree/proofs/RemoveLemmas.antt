@@ -29,8 +29,8 @@ use Rattle.pages.specs.Owners.{AreApart, ChangesPages}
 use Rattle.bplus_tree.specs.Edits.{without_key}
 use Rattle.pages.specs.Answer.{IsAnswer}
 use Rattle.tree_search.specs.Calls.{entry_of, IsTree, IsWhole}
-use Rattle.tree_search.specs.Descent.{IsStep, Steps, IsLook}
-use Rattle.bplus_tree.specs.Remove.{Becomes, BecomesShort, HasRemovedBelow, Removes, HasTaken, HasTakenIf, TakesBelow, IsTakenIf, HasTakenInPlace, HasTakenInPlaceIf, TakesInPlace, AreFullBut, IsFull, LacksOne, Mends, TakesOut, OutOfLeaf}
+use Rattle.tree_search.specs.Descent.{IsDescentStep, Steps, IsLook}
+use Rattle.bplus_tree.specs.Remove.{Becomes, BecomesShort, HasRemovedBelow, Removes, HasTaken, HasTakenIf, TakesBelow, IsTakenIf, HasTakenInPlace, HasTakenInPlaceIf, TakesInPlace, AreFullBut, IsHalfFullWithRoot, LacksOne, Mends, TakesOut, OutOfLeaf}
 use Rattle.tree_search.proofs.FindLemmas.{differs, differs_back, found_past, missed_at, apart_behind}
 use Rattle.tree_search.proofs.RowLemmas.{RowAt, Inside, Each-append}
 use Rattle.bplus_tree.proofs.PageLemmas.{written_same, apart_left, apart_right, change_within, pages_live, rows_still}
@@ -254,19 +254,19 @@ pub record Child (shape : Shape) (before : PageMap) (k page : ℕ) (low high : B
   pub row : RowAt shape.width (TreeOf k) (IsOrdered shape.width k) (entries_of k) low t.1 t.2 high key step.place
   pub whole : IsWhole shape before k step.child row.from row.to row.here
   pub size : least shape k ≤ size_of k row.here
-  pub in_front : Each (IsFull shape k) row.front
-  pub behind : Each (IsFull shape k) row.back
+  pub in_front : Each (IsHalfFullWithRoot shape k) row.front
+  pub behind : Each (IsHalfFullWithRoot shape k) row.back
 
 pub full_rooted : (shape : Shape) (k : ℕ) (t : TreeOf k) → least shape k ≤ size_of k t → IsRooted k t
 full_rooted shape zero t h = tt
 full_rooted shape (suc k) t h = let room = inner_room_some shape in omega arith
 
 pub child_of_whole : (shape : Shape) (before : PageMap) (k page : ℕ) (low high : Bound) (key : List ℕ) (t : TreeOf (suc k)) (step : StepDown)
-    → IsWhole shape before (suc k) page low high t → IsStep shape.width key t.1 (map (page_of k) t.2) step → Child shape before k page low high key t step
+    → IsWhole shape before (suc k) page low high t → IsDescentStep shape.width key t.1 (map (page_of k) t.2) step → Child shape before k page low high key t step
 child_of_whole shape before k page low high key t step whole is =
     let b = below shape before k page low high key t step whole.stands is in
-    let fill = subst (Each (IsFull shape k)) b.row.is whole.filled in
-    let rest = each_right (IsFull shape k) b.row.front (b.row.here ∷ b.row.back) fill in
+    let fill = subst (Each (IsHalfFullWithRoot shape k)) b.row.is whole.filled in
+    let rest = each_right (IsHalfFullWithRoot shape k) b.row.front (b.row.here ∷ b.row.back) fill in
     let own = ap (flat_map (pages_of k)) b.row.is ∙ flat_map-append (pages_of k) b.row.front (b.row.here ∷ b.row.back) in
     let apart = subst AreApart own whole.apart.1 in
     record {
@@ -278,7 +278,7 @@ child_of_whole shape before k page low high key t step whole is =
         rooted = full_rooted shape k b.row.here rest.0.0;
       };
       size = rest.0.0;
-      in_front = each_left (IsFull shape k) b.row.front (b.row.here ∷ b.row.back) fill;
+      in_front = each_left (IsHalfFullWithRoot shape k) b.row.front (b.row.here ∷ b.row.back) fill;
       behind = rest.1;
     }
 
@@ -353,7 +353,7 @@ module _ (shape : Shape) (h k page : ℕ) (key : List ℕ) (one : h ≡ suc k) w
                   becomes = record {
                     tree = (page, t.1, child.row.front ++ new.tree ∷ child.row.back);
                     stands = w.put.stands;
-                    filled = Each-append (IsFull shape k) child.row.front (new.tree ∷ child.row.back) child.in_front ((full, new.filled), child.behind);
+                    filled = Each-append (IsHalfFullWithRoot shape k) child.row.front (new.tree ∷ child.row.back) child.in_front ((full, new.filled), child.behind);
                     large = omega arith;
                     has = w.has;
                     changes = w.put.changes;
@@ -394,7 +394,7 @@ module _ (shape : Shape) (h k page : ℕ) (key : List ℕ) (one : h ≡ suc k) w
                 becomes = record {
                   tree = (page, t.1, child.row.front ++ new.tree ∷ child.row.back);
                   stands = w.put.stands;
-                  filled = Each-append (IsFull shape k) child.row.front (new.tree ∷ child.row.back) child.in_front ((full, new.filled), child.behind);
+                  filled = Each-append (IsHalfFullWithRoot shape k) child.row.front (new.tree ∷ child.row.back) child.in_front ((full, new.filled), child.behind);
                   large = omega arith;
                   has = w.has;
                   changes = w.put.changes;
@@ -424,7 +424,7 @@ module _ (shape : Shape) (h k page : ℕ) (key : List ℕ) (one : h ≡ suc k) w
         let under : size_of k new.tree < least shape k = a.0.1.short_is.0 (rw lacks refl) in
         let one_less : least shape k ≡ size_of k new.tree + 1 = omega arith in
         let xs = child.row.front ++ new.tree ∷ child.row.back in
-        let but = but_here (IsFull shape k) (LacksOne shape k) child.row.front new.tree child.row.back step.place child.row.at child.in_front (one_less, new.filled) child.behind in
+        let but = but_here (IsHalfFullWithRoot shape k) (LacksOne shape k) child.row.front new.tree child.row.back step.place child.row.at child.in_front (one_less, new.filled) child.behind in
         let m = mends a.1 (page, t.1, xs) low high w.put.stands w.put.changes.apart but whole.rooted in
         record {
           no_damage = m.no_damage;

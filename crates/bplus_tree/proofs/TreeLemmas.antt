@@ -14,7 +14,7 @@ use Rattle.bplus_tree.specs.Remove.{HasRemovedBelow, HasTaken}
 use Rattle.pages.specs.PageMap.{Takes}
 use Rattle.tree_node.specs.declared.shape.Shape.{Shape}
 use Rattle.bplus_tree.specs.Start.{HasStarted}
-use Rattle.bplus_tree.specs.Standing.{TreeStands, HasRemoved, IsNew}
+use Rattle.bplus_tree.specs.Standing.{TreeStands, HasRemoved, IsNewTree}
 use Rattle.bplus_tree.proofs.RemoveLemmas.{changes_trans, taken_once}
 
 pub removed_absent : (before after : PageMap) (old : Tree) (key : List ℕ) (entries : List (List ℕ)) (own : List ℕ) (stands : TreeStands old before entries own)
@@ -74,7 +74,7 @@ not_free : (pages : PageMap) (m n : ℕ) → pages n ≡ None → IsSome (pages 
 not_free pages m n free some same = let there : IsSome (pages m) = some in let none : pages m ≡ None = ap pages same ∙ free in cc
 
 pub new_tree : (shape : Shape) (before mid after : PageMap) (n : ℕ) (bytes : List ℕ) (low : 0 < 20) → Takes before mid n bytes → HasStarted shape mid after n
-    → IsNew shape before after (record { shape = shape; root = n; levels = 0; count = 0; changes = 0; low = low })
+    → IsNewTree shape before after (record { shape = shape; root = n; levels = 0; count = 0; changes = 0; low = low })
 new_tree shape before mid after n bytes low takes started = record {
   changed = record {
     own_now = n ∷ [];

@@ -31,7 +31,7 @@ Crowns shape before after is_sound page result =
     → IsAnswer result (λ child. HasCrown before after page separators below child × is_sound)
 
 -- the tree, without a root that has one child only
-pub record IsSettled (shape : Shape) (before after : PageMap) (h : ℕ) (t : TreeOf h) (base : Base) : Type 0 where
+pub record HasSettledRoot (shape : Shape) (before after : PageMap) (h : ℕ) (t : TreeOf h) (base : Base) : Type 0 where
   pub tree : TreeOf base.levels
   pub whole : IsWhole shape after base.levels base.root None None tree
   pub has : entries_of base.levels tree ≡ entries_of h t
@@ -40,4 +40,4 @@ pub record IsSettled (shape : Shape) (before after : PageMap) (h : ℕ) (t : Tre
 abbrev pub Settles : Shape → PageMap → PageMap → Type 0 → ℕ → ℕ → Result Base Fault → Type 0
 Settles shape before after is_sound h root result =
     (t : TreeOf h) → IsTree shape before h root None None t → AreApart (pages_of h t) → IsHalfFull shape h t
-    → IsAnswer result (λ base. IsSettled shape before after h t base × is_sound)
+    → IsAnswer result (λ base. HasSettledRoot shape before after h t base × is_sound)

@@ -13,7 +13,7 @@ use Rattle.tree_search.specs.Spot.{StandsAt, FoundAt, begins_with}
 use Rattle.bplus_tree.specs.Standing.{TreeStands}
 
 -- the entry that the cursor gave last stands where the cursor says
-pub record IsAt (cursor : Cursor) (tree : Tree) (pages : PageMap) (entries : List (List ℕ)) (own : List ℕ) : Type 0 where
+pub record IsCursorAt (cursor : Cursor) (tree : Tree) (pages : PageMap) (entries : List (List ℕ)) (own : List ℕ) : Type 0 where
   pub entry : List ℕ
   pub stands : StandsAt tree.shape pages own entries cursor.spot entry
   pub key : take tree.shape.width entry ≡ cursor.key.items
@@ -21,7 +21,7 @@ pub record IsAt (cursor : Cursor) (tree : Tree) (pages : PageMap) (entries : Lis
 -- The cursor is one of this tree. Where the tree has not changed since the cursor gave an entry, the cursor is at that entry.
 pub record Belongs (cursor : Cursor) (tree : Tree) (pages : PageMap) (entries : List (List ℕ)) (own : List ℕ) : Type 0 where
   pub earlier : cursor.changes < 2 ^ 64 - 1 → cursor.changes ≤ tree.changes
-  pub at : cursor.changes ≡ tree.changes → cursor.changes < 2 ^ 64 - 1 → 0 < cursor.spot.count → IsAt cursor tree pages entries own
+  pub at : cursor.changes ≡ tree.changes → cursor.changes < 2 ^ 64 - 1 → 0 < cursor.spot.count → IsCursorAt cursor tree pages entries own
 
 -- there is an entry behind the one that was given last, in the same leaf, and the tree has not changed since
 pub record HasNeighbour (cursor : Cursor) (tree : Tree) : Type 0 where

@@ -68,7 +68,7 @@ AddsToInner shape before after is_sound page place new result =
     → IsAnswer result (λ separator. HasAddedToInner shape before after page (insert seps place new.key.items) (insert below (place + 1) new.child) separator × is_sound)
 
 -- an inner node of one separator, between this child and that to which the separator leads
-pub record IsOver (shape : Shape) (page : List ℕ) (left : ℕ) (separator : Separator) : Type 0 where
+pub record IsRootOver (shape : Shape) (page : List ℕ) (left : ℕ) (separator : Separator) : Type 0 where
   pub inner : IsInner shape page
   pub has : separators shape page ≡ separator.key.items ∷ []
   pub leads : children shape page ≡ left ∷ separator.child ∷ []

@@ -15,7 +15,7 @@ use Rattle.bplus_tree.specs.Split.{HasWidth}
 use Rattle.tree_search.specs.Stored.{IsLeafAt}
 use Rattle.bplus_tree.specs.Grow.{HasLeaf}
 use Rattle.tree_node.specs.Order.{Ascends}
-use Rattle.bplus_tree.specs.Remove.{Becomes, IsFull}
+use Rattle.bplus_tree.specs.Remove.{Becomes, IsHalfFullWithRoot}
 
 -- The page heads the first of two trees now, which have these entries together, and the separator leads to the second. Both are at least half full.
 pub record BecomesTwo (shape : Shape) (before after : PageMap) (h page : ℕ) (low high : Bound) (own : List ℕ) (entries : List (List ℕ)) (separator : Separator) : Type 0 where
@@ -25,8 +25,8 @@ pub record BecomesTwo (shape : Shape) (before after : PageMap) (h page : ℕ) (l
   pub over : Below high separator.key.items
   pub left_stands : IsTree shape after h page low (Some separator.key.items) left
   pub right_stands : IsTree shape after h separator.child (Some separator.key.items) high right
-  pub left_full : IsFull shape h left
-  pub right_full : IsFull shape h right
+  pub left_full : IsHalfFullWithRoot shape h left
+  pub right_full : IsHalfFullWithRoot shape h right
   pub has : entries_of h left ++ entries_of h right ≡ entries
   pub changes : ChangesPages before after own (pages_of h left ++ pages_of h right)
 

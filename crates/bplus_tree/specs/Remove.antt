@@ -44,12 +44,12 @@ Removes shape before after is_sound h page key result =
 
 -- all are at least half full, but for the one at this place, which lacks one entry or separator
 abbrev pub AreFullBut : {X : Type 0} → (X → Type 0) → (X → Type 0) → ℕ → List X → Type 0
-AreFullBut IsFull Lacks place [] = ⊥
-AreFullBut IsFull Lacks zero (x ∷ xs) = Lacks x × Each IsFull xs
-AreFullBut IsFull Lacks (suc place) (x ∷ xs) = IsFull x × AreFullBut IsFull Lacks place xs
+AreFullBut IsHalfFullWithRoot Lacks place [] = ⊥
+AreFullBut IsHalfFullWithRoot Lacks zero (x ∷ xs) = Lacks x × Each IsHalfFullWithRoot xs
+AreFullBut IsHalfFullWithRoot Lacks (suc place) (x ∷ xs) = IsHalfFullWithRoot x × AreFullBut IsHalfFullWithRoot Lacks place xs
 
-abbrev pub IsFull : Shape → (h : ℕ) → TreeOf h → Type 0
-IsFull shape h t = (least shape h ≤ size_of h t) × IsHalfFull shape h t
+abbrev pub IsHalfFullWithRoot : Shape → (h : ℕ) → TreeOf h → Type 0
+IsHalfFullWithRoot shape h t = (least shape h ≤ size_of h t) × IsHalfFull shape h t
 
 abbrev pub LacksOne : Shape → (h : ℕ) → TreeOf h → Type 0
 LacksOne shape h t = (least shape h ≡ size_of h t + 1) × IsHalfFull shape h t
@@ -58,7 +58,7 @@ LacksOne shape h t = (least shape h ≡ size_of h t + 1) × IsHalfFull shape h t
 abbrev pub Mends : Shape → PageMap → PageMap → Type 0 → ℕ → ℕ → ℕ → Result Bool Fault → Type 0
 Mends shape before after is_sound k page place result =
     (t : TreeOf (suc k)) (low high : Bound) → IsTree shape before (suc k) page low high t → AreApart (pages_of (suc k) t)
-    → AreFullBut (IsFull shape k) (LacksOne shape k) place t.2 → 1 ≤ length t.1
+    → AreFullBut (IsHalfFullWithRoot shape k) (LacksOne shape k) place t.2 → 1 ≤ length t.1
     → IsAnswer result (λ short. BecomesShort shape before after (suc k) page low high (pages_of (suc k) t) (length t.1 - 1) (entries_of (suc k) t) short × is_sound)
 
 -- the leaf has one entry less, and every other page is as it was

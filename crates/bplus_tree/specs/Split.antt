@@ -19,16 +19,16 @@ Splits before after is_sound page lower upper result =
     IsSome (before page) → IsAnswer result (λ right. HasSplit before after page lower upper right × is_sound)
 
 -- the page was split where there is a key, which goes up
-abbrev pub HasParts : PageMap → PageMap → ℕ → (lower upper : List ℕ) → Option (ArrayVec ℕ) → Option Separator → Type 0
-HasParts before after page lower upper None None = Writes before after page lower
-HasParts before after page lower upper (Some key) (Some separator) = HasSplit before after page lower upper separator.child
-HasParts before after page lower upper None (Some separator) = ⊥
-HasParts before after page lower upper (Some key) None = ⊥
+abbrev pub IsSplitOrWhole : PageMap → PageMap → ℕ → (lower upper : List ℕ) → Option (ArrayVec ℕ) → Option Separator → Type 0
+IsSplitOrWhole before after page lower upper None None = Writes before after page lower
+IsSplitOrWhole before after page lower upper (Some key) (Some separator) = HasSplit before after page lower upper separator.child
+IsSplitOrWhole before after page lower upper None (Some separator) = ⊥
+IsSplitOrWhole before after page lower upper (Some key) None = ⊥
 
 -- a page that is in use is written, in two parts where there is a key
 abbrev pub WritesParts : PageMap → PageMap → Type 0 → ℕ → (lower upper : List ℕ) → Option (ArrayVec ℕ) → Result (Option Separator) Fault → Type 0
 WritesParts before after is_sound page lower upper key result =
-    IsSome (before page) → IsAnswer result (λ separator. HasParts before after page lower upper key separator × is_sound)
+    IsSome (before page) → IsAnswer result (λ separator. IsSplitOrWhole before after page lower upper key separator × is_sound)
 
 -- where there is a separator, its key has this width
 abbrev pub HasWidth : ℕ → Option Separator → Type 0

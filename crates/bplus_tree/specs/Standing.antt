@@ -40,13 +40,13 @@ Tells Says tree pages key result =
     (entries : List (List ℕ)) (own : List ℕ) → TreeStands tree pages entries own → IsAnswer result (Says (entry_of tree.shape.width key entries))
 
 -- a new tree without entries
-pub record IsNew (shape : Shape) (before after : PageMap) (tree : Tree) : Type 0 where
+pub record IsNewTree (shape : Shape) (before after : PageMap) (tree : Tree) : Type 0 where
   pub changed : Changed before after tree [] []
   pub shape_is : tree.shape ≡ shape
   pub low : tree.levels ≡ 0
 
-abbrev pub Makes : Shape → PageMap → PageMap → Type 0 → Result Tree Fault → Type 0
-Makes shape before after is_sound result = IsAnswer result (λ tree. IsNew shape before after tree × is_sound)
+abbrev pub MakesTree : Shape → PageMap → PageMap → Type 0 → Result Tree Fault → Type 0
+MakesTree shape before after is_sound result = IsAnswer result (λ tree. IsNewTree shape before after tree × is_sound)
 
 abbrev pub HasInserted : PageMap → PageMap → Tree → Tree → List ℕ → List (List ℕ) → List ℕ → Option (ArrayVec ℕ) → Type 0
 HasInserted before after old new e entries own (Some found) =

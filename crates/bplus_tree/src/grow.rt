@@ -5,7 +5,7 @@ ghost use Rattle.tree_node.specs.Leaf.{IsLeaf, leaf_entries, leaf_room};
 ghost use Rattle.tree_node.specs.Inner.{IsInner, separators};
 ghost use Rattle.pages.specs.Cause.{IsCaused};
 ghost use Rattle.bplus_tree.specs.Split.{HasWidth};
-ghost use Rattle.bplus_tree.specs.Grow.{AddsToLeaf, AddsToInner, IsOver, AddsRoot};
+ghost use Rattle.bplus_tree.specs.Grow.{AddsToLeaf, AddsToInner, IsRootOver, AddsRoot};
 
 use crate::split::write_parts;
 use io_state::Fault;
@@ -132,7 +132,7 @@ pub fn add_root<P: Pages>(
 /// separator leads.
 fn write_over(page: &mut [u8; PAGE_SIZE], shape: Shape, left: u32, separator: &Separator)
     requires width { length separator.now.key.items ≡ shape.width }
-    ensures { IsOver shape page.new left separator.now }
+    ensures { IsRootOver shape page.new left separator.now }
 {
     write_inner(page, shape, left);
     InnerViewMut { page, shape }.insert_at(0, &separator.key, separator.child);

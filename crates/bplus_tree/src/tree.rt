@@ -32,8 +32,8 @@ pub struct Tree {
 
 impl Tree {
     ghost use Rattle.bplus_tree.specs.Within.{FindsWithin};
-    ghost use Rattle.bplus_tree.specs.Standing.{Answers, Tells, Makes, Inserts, Removes, one_more};
-    ghost use Rattle.tree_search.specs.Tail.{IsTail, IsThere};
+    ghost use Rattle.bplus_tree.specs.Standing.{Answers, Tells, MakesTree, Inserts, Removes, one_more};
+    ghost use Rattle.tree_search.specs.Tail.{IsTail, TellsPresence};
     ghost use Rattle.tree_search.specs.Calls.{entry_of, first_from, first_after, last_of};
 
     /// A tree without entries, in a page of its own. Full where no page is available.
@@ -41,7 +41,7 @@ impl Tree {
         requires ready { P.IsReady pages.old }
         requires open { P.CanChange pages.old }
         ensures made { IsTrue (P.state pages.new).is_honest → IsTrue (P.state pages.old).is_sound
-            → Makes shape (P.state pages.old).live (P.state pages.new).live (IsTrue (P.state pages.new).is_sound) result }
+            → MakesTree shape (P.state pages.old).live (P.state pages.new).live (IsTrue (P.state pages.new).is_sound) result }
         ensures shape { IfOk result (λ tree. (tree.shape ≡ shape) × (tree.levels ≡ 0)) }
         ensures few { (P.state pages.old).available ≤ (P.state pages.new).available + 1 }
         ensures one { OnOk result ((P.state pages.new).available + 1 ≡ (P.state pages.old).available) }
@@ -101,7 +101,7 @@ impl Tree {
     /// Whether a key, which may have any length, has an entry.
     pub fn has<P: Pages>(&self, pages: &mut P, key: &[u8]) -> Result<bool, Fault>
         requires ready { P.IsReady pages.old }
-        ensures told { IsTrue (P.state pages.new).is_honest → Tells IsThere self.now (P.state pages.old).live key.now result }
+        ensures told { IsTrue (P.state pages.new).is_honest → Tells TellsPresence self.now (P.state pages.old).live key.now result }
         ensures cause { IfErr result (IsCaused (P.HasFailed pages.old pages.new) ⊥) }
         ensures asked { (P.state pages.new).asked ≤ (P.state pages.old).asked + (self.now.levels + 1) }
         ensures reads { P.Reads pages.old pages.new }

@@ -3,7 +3,7 @@ ghost use Rattle.std.specs.Prelude.{◌≡◌, length, min, not, option_map};
 ghost use Rattle.verbs.specs.Faults.{is_unclean};
 ghost use Rattle.procedure_division.specs.declared.statement.Statement.TheVariants.{Perform as PerformStatement};
 ghost use Rattle.deck_runner.specs.Run.{items_after_read};
-ghost use Rattle.deck_runner.specs.Running.{IsPlace, schema_of, length_for};
+ghost use Rattle.deck_runner.specs.Running.{IsItemPlace, schema_of, length_for};
 ghost use Rattle.deck_runner.specs.State.{state, IsSafeIn, GoesOn};
 ghost use Rattle.deck_runner.specs.RunEnd.{MakesLine};
 ghost use Rattle.deck_runner.specs.Conditions.{CanPerform};
@@ -34,7 +34,7 @@ fn is_clean(statement: &FileStatement, status: Status) -> bool
 
 /// The length that WRITE and REWRITE give a record of the file; one that is too long for any file is cut.
 fn record_length(items: &[RunningItem], file: &RunningFile) -> u16
-    requires { IsPlace (length items.now) file.now.depends_on }
+    requires { IsItemPlace (length items.now) file.now.depends_on }
     ensures { result ≡ min (length_for items.now (schema_of file.now) file.now.depends_on) 65535 }
 {
     match file.depends_on() {
@@ -45,7 +45,7 @@ fn record_length(items: &[RunningItem], file: &RunningFile) -> u16
 
 /// Moves the length of a record that was delivered to the item that the file depends on.
 fn note_length(items: &mut [RunningItem], depends_on: Option<usize>, delivered: Option<&[u8]>)
-    requires { IsPlace (length items.old) depends_on }
+    requires { IsItemPlace (length items.old) depends_on }
     ensures { items.new ≡ items_after_read depends_on (option_map (λ bytes. bytes.now) delivered.entry) items.old }
 {
     if let (Some(item), Some(bytes)) = (depends_on, delivered) {

@@ -6,19 +6,19 @@ use Rattle.deck_words.specs.declared.fault.Cause.{Cause}
 use Rattle.deck_words.specs.declared.fault.Cause.TheVariants.{BadWord, Expected, Unknown, Twice, NotAllowed, Limit, Layout}
 use Rattle.deck_words.specs.declared.fault.Refusal.{Refusal}
 use Rattle.deck_words.specs.declared.fault.Refusal.TheVariants.{Memory, Fault}
-use Rattle.deck_words.specs.Words.{Piece, written, GivesWords, line_after, Rest, rest_of, IsCut, HasWordsUpTo, HasWords, IsStuck, RefusesWords}
+use Rattle.deck_words.specs.Words.{Piece, written, GivesWords, line_after, Rest, rest_of, IsCutIntoWords, HasWordsUpTo, HasWords, IsStuck, RefusesWords}
 use Rattle.deck_words.specs.Front.{Next, piece_at}
 use Rattle.deck_words.proofs.FrontLemmas.{piece_sound, piece_complete, none_at_end}
 
 -- ---- one piece more
 
 -- a piece behind others is cut off too
-one_more : (from end after : Rest) (pieces : List Piece) (words new : List Word) → IsCut from pieces words end → piece_at end ≡ Some (new, after) → (all : List Piece) × IsCut from all (words ++ new) after
+one_more : (from end after : Rest) (pieces : List Piece) (words new : List Word) → IsCutIntoWords from pieces words end → piece_at end ≡ Some (new, after) → (all : List Piece) × IsCutIntoWords from all (words ++ new) after
 one_more from end after [] words new c e =
     let front = piece_sound end (new, after) e in
     let same : rest_of (line_after end.line front.piece) after.bytes ≡ after = ap (λ line. rest_of line after.bytes) (sym front.line) in
-    let cut : IsCut end (front.piece ∷ []) new after = (new, [], after.bytes, front.there, front.gives, sym (append-nil new), (same, refl)) in
-    (front.piece ∷ [], subst (λ ws. IsCut from (front.piece ∷ []) (ws ++ new) after) (sym c.1) (subst (λ f. IsCut f (front.piece ∷ []) new after) (sym c.0) cut))
+    let cut : IsCutIntoWords end (front.piece ∷ []) new after = (new, [], after.bytes, front.there, front.gives, sym (append-nil new), (same, refl)) in
+    (front.piece ∷ [], subst (λ ws. IsCutIntoWords from (front.piece ∷ []) (ws ++ new) after) (sym c.1) (subst (λ f. IsCutIntoWords f (front.piece ∷ []) new after) (sym c.0) cut))
 one_more from end after (piece ∷ pieces) words new c e =
     let rest = one_more (rest_of (line_after from.line piece) c.2) end after pieces c.1 new c.6 e in
     (piece ∷ rest.0, (c.0, c.1 ++ new, c.2, c.3, c.4, ap (λ (ws : List Word). ws ++ new) c.5 ∙ append_assoc c.0 c.1 new, rest.1))
@@ -37,7 +37,7 @@ none_stands rest piece after new e s g =
     let k : ◌≡◌ {A = Option Next} None (Some (new, rest_of (line_after rest.line piece) after)) = sym e ∙ piece_complete rest piece after new s g in cc
 
 -- pieces up to where none stands are the only ones
-one_end : (from : Rest) (pieces : List Piece) (words : List Word) (end : Rest) → IsCut from pieces words end → IsLast end → (others : List Piece) (other_words : List Word) (last : Rest) → IsCut from others other_words last → IsLast last → IsSame words end other_words last
+one_end : (from : Rest) (pieces : List Piece) (words : List Word) (end : Rest) → IsCutIntoWords from pieces words end → IsLast end → (others : List Piece) (other_words : List Word) (last : Rest) → IsCutIntoWords from others other_words last → IsLast last → IsSame words end other_words last
 one_end from [] words end c e [] other_words last d f = (c.1 ∙ sym d.1, sym c.0 ∙ d.0)
 one_end from [] words end c e (q ∷ others) other_words last d f =
     absurd (none_stands from q d.2 d.0 (ap piece_at c.0 ∙ e) d.3 d.4)
@@ -45,7 +45,7 @@ one_end from (p ∷ pieces) words end c e [] other_words last d f =
     absurd (none_stands from p c.2 c.0 (ap piece_at d.0 ∙ f) c.3 c.4)
 one_end from (p ∷ pieces) words end c e (q ∷ others) other_words last d f =
     let same = same_Some {A = Next} (d.0, rest_of (line_after from.line q) d.2) (c.0, rest_of (line_after from.line p) c.2) (sym (piece_complete from q d.2 d.0 d.3 d.4) ∙ piece_complete from p c.2 c.0 c.3 c.4) in
-    let again = one_end (rest_of (line_after from.line p) c.2) pieces c.1 end c.6 e others d.1 last (subst (λ f. IsCut f others d.1 last) (ap (λ (n : Next). n.1) same) d.6) f in
+    let again = one_end (rest_of (line_after from.line p) c.2) pieces c.1 end c.6 e others d.1 last (subst (λ f. IsCutIntoWords f others d.1 last) (ap (λ (n : Next). n.1) same) d.6) f in
     (c.5 ∙ (ap (λ (ws : List Word). c.0 ++ ws) again.0 ∙ ap (λ (n : Next). n.0 ++ d.1) (sym same)) ∙ sym d.5, again.1)
 
 stuck_is_last_by : (rest : Rest) (next : Option Next) → piece_at rest ≡ next → IsStuck rest → next ≡ None

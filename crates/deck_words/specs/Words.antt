@@ -102,15 +102,15 @@ abbrev pub rest_of : ℕ → List ℕ → Rest
 rest_of line bytes = record { line = line; bytes = bytes }
 
 -- these pieces stand one after another up to the end, and give these words
-abbrev pub IsCut : Rest → List Piece → List Word → Rest → Type 0
-IsCut from [] words end = (from ≡ end) × (words ≡ [])
-IsCut from (piece ∷ pieces) words end =
+abbrev pub IsCutIntoWords : Rest → List Piece → List Word → Rest → Type 0
+IsCutIntoWords from [] words end = (from ≡ end) × (words ≡ [])
+IsCutIntoWords from (piece ∷ pieces) words end =
     (new : List Word) × (more : List Word) × (after : List ℕ) × (from.bytes ≡ written piece ++ after)
-    × GivesWords from.line piece after new × (words ≡ new ++ more) × IsCut (rest_of (line_after from.line piece) after) pieces more end
+    × GivesWords from.line piece after new × (words ≡ new ++ more) × IsCutIntoWords (rest_of (line_after from.line piece) after) pieces more end
 
 -- up to here a deck is cut into pieces, which give these words; it begins at line 1, and is not too long
 abbrev pub HasWordsUpTo : List ℕ → List Word → Rest → Type 0
-HasWordsUpTo bytes words end = (length bytes ≤ 1048576) × ((pieces : List Piece) × IsCut (rest_of 1 bytes) pieces words end)
+HasWordsUpTo bytes words end = (length bytes ≤ 1048576) × ((pieces : List Piece) × IsCutIntoWords (rest_of 1 bytes) pieces words end)
 
 -- a deck has these words
 abbrev pub HasWords : List ℕ → List Word → Type 0

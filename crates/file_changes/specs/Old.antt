@@ -35,7 +35,7 @@ HasFound schema slots primes file prime slot None = row_of schema prime file ≡
 HasFound schema slots primes file prime slot (Some old) = IsOld schema slots primes file prime slot old
 
 -- it is as long as a record, and has a stamp for each alternate key
-pub record IsWithin (shape : Shape) (alternates : List AltIndex) (old : OldRecord) : Type 0 where
+pub record HasRecordLength (shape : Shape) (alternates : List AltIndex) (old : OldRecord) : Type 0 where
   pub least : shape.stamps + shape.least ≤ old.end
   pub greatest : old.end ≤ shape.stamps + shape.greatest
   pub many : length old.stamps.items ≡ length alternates

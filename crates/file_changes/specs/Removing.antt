@@ -17,7 +17,7 @@ abbrev pub file_after_remove : Schema → List ℕ → File → File
 file_after_remove schema prime file = if is_some (row_of schema prime file) then removed schema prime file else file
 
 -- the answer is the one of the definitions, and the pages stand for the file that they leave
-pub record HasRemoved (new : OpenFile) (pages : PageMap) (is_sound : Type 0) (schema : Schema) (prime : List ℕ) (file : File) (answer : Bool) : Type 0 where
+pub record HasRemovedRow (new : OpenFile) (pages : PageMap) (is_sound : Type 0) (schema : Schema) (prime : List ℕ) (file : File) (answer : Bool) : Type 0 where
   pub answers : answer ≡ is_some (row_of schema prime file)
   pub stands : Stands new pages (file_after_remove schema prime file)
   pub sound : is_sound
@@ -27,7 +27,7 @@ abbrev pub AreThere : Schema → Row → ℕ → (ℕ → List AltEntry) → Typ
 AreThere schema row count entries = (j : ℕ) → j < count → IsSome (find (has_rank (value_of schema (j + 1) row.bytes) (stamp_of (j + 1) row)) (entries j))
 
 -- the heap has the row at this place, and each index has its entry
-pub record HasRow (schema : Schema) (row : Row) (place : Place) (count : ℕ) (slots : Slots) (primes : List PrimeEntry) (entries : ℕ → List AltEntry) : Type 0 where
+pub record HasRowAndEntries (schema : Schema) (row : Row) (place : Place) (count : ℕ) (slots : Slots) (primes : List PrimeEntry) (entries : ℕ → List AltEntry) : Type 0 where
   pub in_heap : IsSome (slots place)
   pub in_prime : IsSome (find (has_prime (prime_of schema row.bytes)) primes)
   pub in_alternates : AreThere schema row count entries

@@ -9,7 +9,7 @@ ghost use Rattle.open_file.specs.InOrder.{prime_entries};
 ghost use Rattle.open_file.specs.Stored.{stamps_length};
 ghost use Rattle.open_file.specs.ReadOff.{stamps_off};
 ghost use Rattle.open_file.specs.Stands.{Stands, IsShaped};
-ghost use Rattle.file_changes.specs.Old.{HasFound, IsWithin};
+ghost use Rattle.file_changes.specs.Old.{HasFound, HasRecordLength};
 
 use arrayvec::ArrayVec;
 use byteorder::{BigEndian, ByteOrder};
@@ -37,7 +37,7 @@ pub(crate) fn find_old<P: Pages>(
     requires shaped { IsShaped opened.now }
     ensures found { IsTrue (P.state pages.new).is_honest → (file : File) (stands : Stands opened.now (P.state pages.old).live file)
         → IsAnswer result (HasFound opened.now.schema stands.slots (prime_entries opened.now.schema stands.places file.rows) file prime.now slot.new) }
-    ensures within { IfOk result (λ found. IfSome found (IsWithin opened.now.heap.shape opened.now.alternates.items)) }
+    ensures within { IfOk result (λ found. IfSome found (HasRecordLength opened.now.heap.shape opened.now.alternates.items)) }
     ensures cause { IfErr result (IsCaused (P.HasFailed pages.old pages.new) ⊥) }
     ensures asked { (P.state pages.new).asked ≤ (P.state pages.old).asked + prime_height opened.now.prime + 1 }
     ensures reads { P.Reads pages.old pages.new }
@@ -57,7 +57,7 @@ pub(crate) fn find_old<P: Pages>(
 /// Its bytes, in the slot in which it was found.
 pub(crate) fn record_in<'a>(opened: &OpenFile, old: &OldRecord, slot: &'a [u8]) -> &'a [u8]
     requires shaped { IsShaped opened.now }
-    requires within { IsWithin opened.now.heap.shape opened.now.alternates.items old.now }
+    requires within { HasRecordLength opened.now.heap.shape opened.now.alternates.items old.now }
     requires room { opened.now.heap.shape.stamps + opened.now.heap.shape.greatest ≤ length slot.now }
     ensures bytes { result.now ≡ slice_range slot.now (stamps_length (drop 1 opened.now.schema.keys)) old.now.end }
     ensures least { opened.now.schema.least ≤ length result.now }

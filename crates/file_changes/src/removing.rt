@@ -14,7 +14,7 @@ ghost use Rattle.open_file.specs.Stands.{Stands, IsShaped, room_of};
 ghost use Rattle.open_file.specs.Faults.{IsCausedIn};
 ghost use Rattle.file_changes.specs.Adding.{levels_in};
 ghost use Rattle.file_changes.specs.Old.{row_with};
-ghost use Rattle.file_changes.specs.Removing.{HasRemoved, HasRow, AreThere, without_below};
+ghost use Rattle.file_changes.specs.Removing.{HasRemovedRow, HasRowAndEntries, AreThere, without_below};
 
 use crate::adding::put_at;
 use crate::old_record::{OldRecord, find_old, record_in};
@@ -32,7 +32,7 @@ pub fn remove<P: Pages>(opened: &mut OpenFile, pages: &mut P, key: &Key) -> Resu
     requires shaped { IsShaped opened.old }
     ensures removed { IsTrue (P.state pages.new).is_honest → IsTrue (P.state pages.old).is_sound → (file : File)
         → Stands opened.old (P.state pages.old).live file
-        → IsAnswer result (HasRemoved opened.new (P.state pages.new).live (IsTrue (P.state pages.new).is_sound) opened.old.schema key.now.items file) }
+        → IsAnswer result (HasRemovedRow opened.new (P.state pages.new).live (IsTrue (P.state pages.new).is_sound) opened.old.schema key.now.items file) }
     ensures gone { result ≡ Ok false → (opened.new ≡ opened.old) × P.Reads pages.old pages.new }
     ensures gate { result ≡ Ok true → P.CanChange pages.new }
     ensures broken { IsTrue opened.old.broken → (result ≡ Err Fault.Broken) × (opened.new ≡ opened.old) × P.Reads pages.old pages.new }
@@ -58,7 +58,7 @@ fn try_remove<P: Pages>(opened: &mut OpenFile, pages: &mut P, prime: &[u8]) -> R
     requires shaped { IsShaped opened.old }
     ensures removed { IsTrue (P.state pages.new).is_honest → IsTrue (P.state pages.old).is_sound → (file : File)
         → Stands opened.old (P.state pages.old).live file
-        → IsAnswer result (HasRemoved opened.new (P.state pages.new).live (IsTrue (P.state pages.new).is_sound) opened.old.schema prime.now file) }
+        → IsAnswer result (HasRemovedRow opened.new (P.state pages.new).live (IsTrue (P.state pages.new).is_sound) opened.old.schema prime.now file) }
     ensures gone { result ≡ Ok false → (opened.new ≡ opened.old) × P.Reads pages.old pages.new }
     ensures gate { result ≡ Ok true → P.CanChange pages.new }
     ensures cause { IfErr result (IsCaused (P.HasFailed pages.old pages.new) ⊥) }
@@ -92,7 +92,7 @@ fn take_out<P: Pages>(
     ensures out { IsTrue (P.state pages.new).is_honest → IsTrue (P.state pages.old).is_sound
         → (slots : Slots) (primes : List PrimeEntry) (entries : ℕ → List AltEntry)
         → Parts opened.old.heap opened.old.prime opened.old.alternates.items (P.state pages.old).live slots primes entries
-        → HasRow opened.old.schema (row_with bytes.now old.now.stamps.items) old.now.place (length opened.old.alternates.items) slots primes entries
+        → HasRowAndEntries opened.old.schema (row_with bytes.now old.now.stamps.items) old.now.place (length opened.old.alternates.items) slots primes entries
         → IsAnswer result (λ u. Parts opened.new.heap opened.new.prime opened.new.alternates.items (P.state pages.new).live
         (put slots old.now.place None) (without_prime (prime_of opened.old.schema bytes.now) primes)
         (without_below opened.old.schema (row_with bytes.now old.now.stamps.items) (length opened.old.alternates.items) entries)

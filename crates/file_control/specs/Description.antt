@@ -76,14 +76,14 @@ abbrev pub digit_count : ℕ → ℕ
 digit_count n = if nat_lt n 10 then 1 else if nat_lt n 100 then 2 else if nat_lt n 1000 then 3 else 4
 
 -- the item has digits enough for the length
-abbrev pub HasRoom : StorageEntry → ℕ → Type 0
-HasRoom entry greatest = (digits : ℕ) × HasDigits entry.picture digits × (digit_count greatest ≤ digits)
+abbrev pub HasDigitsFor : StorageEntry → ℕ → Type 0
+HasDigitsFor entry greatest = (digits : ℕ) × HasDigits entry.picture digits × (digit_count greatest ≤ digits)
 
 -- the item of this name is the entry of this place, and has digits enough for the length
 abbrev pub IsLengthItem : List StorageEntry → List ℕ → ℕ → ℕ → Type 0
 IsLengthItem storage name greatest place =
     (position (λ entry. bytes_eq entry.name name) storage ≡ Some place)
-    × ((entry : StorageEntry) × (slice_get storage place ≡ Some entry) × HasRoom entry greatest)
+    × ((entry : StorageEntry) × (slice_get storage place ≡ Some entry) × HasDigitsFor entry greatest)
 
 -- the place of the item that the length of a record depends on
 abbrev pub DependsOn : List StorageEntry → Option RecordLength → Option ℕ → Type 0

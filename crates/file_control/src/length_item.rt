@@ -1,7 +1,7 @@
 //! The 77-level items.
 ghost use Rattle.std.specs.Prelude.{◌≡◌, ℕ, IfSome, IfNone, IfOk, IfErr, IsTrue, IsFalse, position};
 ghost use Rattle.std.specs.Str.{bytes_eq};
-ghost use Rattle.file_control.specs.Description.{HasDigits, digit_count, HasRoom, IsLengthItem};
+ghost use Rattle.file_control.specs.Description.{HasDigits, digit_count, HasDigitsFor, IsLengthItem};
 
 use deck_entries::StorageItem;
 use deck_words::Cause;
@@ -55,8 +55,8 @@ pub fn digits_of_item(item: &StorageItem) -> Option<u16>
 
 /// Whether the item has digits enough for a record's length.
 fn has_room(item: &StorageItem, greatest: u64) -> bool
-    ensures yes { IsTrue result → HasRoom item.now greatest }
-    ensures no { IsFalse result → HasRoom item.now greatest → ⊥ }
+    ensures yes { IsTrue result → HasDigitsFor item.now greatest }
+    ensures no { IsFalse result → HasDigitsFor item.now greatest → ⊥ }
 {
     match digits_of_item(item) {
         Some(digits) => digit_count(greatest) <= digits,

@@ -6,8 +6,8 @@ use Rattle.file_header.specs.FirstPage.{closed_page}
 use Rattle.file_header.specs.Reading.{header_in, IsFirstPage}
 
 -- a page that was closed with a header is read as that header
-abbrev pub WrittenIsRead : Type 0
-WrittenIsRead = (header : Header) → IsHeader header → header_in (closed_page header) ≡ Some header
+abbrev pub WrittenHeaderIsRead : Type 0
+WrittenHeaderIsRead = (header : Header) → IsHeader header → header_in (closed_page header) ≡ Some header
 
 -- a page that is read as a header was closed with that header
 abbrev pub ReadIsWritten : Type 0

@@ -1,9 +1,9 @@
 //! What is true of every header and every page.
-ghost use Rattle.file_header.specs.Laws.{WrittenIsRead, ReadIsWritten};
+ghost use Rattle.file_header.specs.Laws.{WrittenHeaderIsRead, ReadIsWritten};
 
 /// A page that was closed with a header is read as that header.
 pub fn written_is_read()
-    ensures { WrittenIsRead }
+    ensures { WrittenHeaderIsRead }
 {}
 
 /// A page that is read as a header was closed with that header.

@@ -6,7 +6,7 @@ use Rattle.byteorder.specs.Endian.{big_number}
 use Rattle.page_bytes.specs.Each.{Each}
 use Rattle.record_heap.specs.declared.shape.Place.{Place}
 use Rattle.tree_search.specs.Calls.{entry_of}
-use Rattle.tree_search.specs.Tail.{filled_tail, IsTail, IsThere}
+use Rattle.tree_search.specs.Tail.{filled_tail, IsTail, TellsPresence}
 use Rattle.key_index.specs.Stored.{prime_bytes, place_in, IsPrimeEntry}
 use Rattle.key_index.specs.Entries.{has_prime}
 use Rattle.key_index.specs.declared.entry.PrimeEntry.{PrimeEntry}
@@ -41,5 +41,5 @@ module _ (index : PrimeIndex) (value : List ℕ) (entries : List PrimeEntry) (ea
   some_of None = refl
   some_of (Some e) = refl
 
-  pub told_there : (told : Bool) → IsThere (entry_of index.tree.shape.width value (map prime_bytes entries)) told → told ≡ is_some (find (has_prime value) entries)
+  pub told_there : (told : Bool) → TellsPresence (entry_of index.tree.shape.width value (map prime_bytes entries)) told → told ≡ is_some (find (has_prime value) entries)
   told_there told tells = tells ∙ ap is_some entry_is ∙ some_of (find (has_prime value) entries)

@@ -16,7 +16,7 @@ use Rattle.open_file.specs.declared.open_file.OpenFile.{OpenFile}
 use Rattle.open_file.specs.InOrder.{alt_entry, alt_entries, in_order}
 use Rattle.io_state.specs.declared.fault.Fault.{Fault}
 use Rattle.key_index.specs.Entries.{entry_has_value}
-use Rattle.open_file.specs.Reading.{Reads, IsEntryOfRow}
+use Rattle.open_file.specs.Reading.{ReadsRow, IsEntryOfRow}
 use Rattle.open_file.proofs.ByKeyLemmas.{prime_once, by_entry, entry_is_of}
 use Rattle.open_file.proofs.FirstLemmas.{same_bytes, first_passes, RowOf, row_of_entry}
 use Rattle.open_file.proofs.RowLemmas.{least_is_first}
@@ -29,7 +29,7 @@ index_at opened k some within = (omega (arith, some, within), omega (arith, some
 -- what is told, by the row that there is
 abbrev pub Tells : Schema → ℕ → File → List ℕ → Result (Option Found) Fault → List ℕ → List ℕ → Type 0
 Tells schema k file v result old new =
-    Reads result (option_map (found_of schema k file) (least schema k (has_value schema k v) file)) old new (least schema k (has_value schema k v) file)
+    ReadsRow result (option_map (found_of schema k file) (least schema k (has_value schema k v) file)) old new (least schema k (has_value schema k v) file)
 
 pub nothing : (schema : Schema) (k : ℕ) (file : File) (v old : List ℕ) → least schema k (has_value schema k v) file ≡ None → Tells schema k file v (Ok None) old old
 nothing schema k file v old none = rw none (record { answered = record { answer = refl; no_damage = tt }; area = refl })
@@ -50,15 +50,15 @@ first_row schema k file v first sound found =
 
 -- the row of the first entry of the value
 pub found_it : (schema : Schema) (k : ℕ) (file : File) (v : List ℕ) (entry : AltEntry) (r : RowOf schema k (λ row. entry_has_value v (alt_entry schema k row)) (in_order schema k file.rows) entry) → (answer : Found) (old new : List ℕ)
-    → Reads (Ok answer) (found_of schema k file r.row) old new (Some r.row) → Tells schema k file v (Ok (Some answer)) old new
+    → ReadsRow (Ok answer) (found_of schema k file r.row) old new (Some r.row) → Tells schema k file v (Ok (Some answer)) old new
 found_it schema k file v entry r answer old new found =
     let row : least schema k (has_value schema k v) file ≡ Some r.row = by_entry schema k v file entry r in
     rw row (record { answered = record { answer = ap Some found.answered.answer; no_damage = tt }; area = found.area })
 
 -- the row of a prime value
 prime_told : (schema : Schema) (file : File) (v : List ℕ) (key : ArrayVec ℕ) → key.items ≡ v → (n : ℕ) (old new : List ℕ) (found : Option Row) → least schema 0 (has_value schema 0 v) file ≡ found
-    → Reads (Ok (Some n)) (option_map (λ row. length row.bytes) found) old new found
-    → Reads (Ok (Some (record { key = key; length = n; stamp = 0; repeated = false }))) (option_map (found_of schema 0 file) found) old new found
+    → ReadsRow (Ok (Some n)) (option_map (λ row. length row.bytes) found) old new found
+    → ReadsRow (Ok (Some (record { key = key; length = n; stamp = 0; repeated = false }))) (option_map (found_of schema 0 file) found) old new found
 prime_told schema file v key same n old new None is told = absurd (no_some told.answered.answer)
   where
     no_some : {x : ℕ} → Some x ≡ None → ⊥
@@ -74,6 +74,6 @@ prime_told schema file v key same n old new (Some row) is told =
     }
 
 pub prime_row : (schema : Schema) (file : File) (v : List ℕ) (key : ArrayVec ℕ) → key.items ≡ v → (n : ℕ) (old new : List ℕ)
-    → Reads (Ok (Some n)) (option_map (λ row. length row.bytes) (row_of schema v file)) old new (row_of schema v file)
+    → ReadsRow (Ok (Some n)) (option_map (λ row. length row.bytes) (row_of schema v file)) old new (row_of schema v file)
     → Tells schema 0 file v (Ok (Some (record { key = key; length = n; stamp = 0; repeated = false }))) old new
 prime_row schema file v key same n old new found = prime_told schema file v key same n old new (row_of schema v file) refl found

@@ -12,15 +12,15 @@ use Rattle.key_index.specs.declared.entry.AltFirst.{AltFirst}
 use Rattle.key_index.specs.Entries.{after_rank, entry_has_value}
 use Rattle.key_index.specs.Calls.{IsAltFirst}
 use Rattle.open_file.specs.InOrder.{alt_entries}
-use Rattle.open_file.specs.Reading.{Reads, IsEntryOfRow}
+use Rattle.open_file.specs.Reading.{ReadsRow, IsEntryOfRow}
 use Rattle.open_file.proofs.RepeatLemmas.{next_tells}
 
 pub from_some : {X : Type 0} (x y : X) → Some x ≡ Some y → x ≡ y
 from_some x y e = cc
 
 pub told : (schema : Schema) (k : ℕ) (file : File) (entry : AltEntry) (row : Row) → IsEntryOfRow schema k file entry row → (n : ℕ) (repeated : Bool) (old new : List ℕ) → repeated ≡ is_repeated schema k row file
-    → Reads (Ok (Some n)) (option_map (λ row. length row.bytes) (row_of schema entry.prime.items file)) old new (row_of schema entry.prime.items file)
-    → Reads (Ok (record { key = entry.value; length = n; stamp = entry.stamp; repeated = repeated })) (found_of schema k file row) old new (Some row)
+    → ReadsRow (Ok (Some n)) (option_map (λ row. length row.bytes) (row_of schema entry.prime.items file)) old new (row_of schema entry.prime.items file)
+    → ReadsRow (Ok (record { key = entry.value; length = n; stamp = entry.stamp; repeated = repeated })) (found_of schema k file row) old new (Some row)
 told schema k file entry row is n repeated old new same found =
     let there = rw is.is_row at found in
     let long = from_some _ _ there.answered.answer in

@@ -8,7 +8,7 @@ use Rattle.pages.specs.Answer.{IsAnswer}
 use Rattle.pages.specs.Cause.{IsCaused}
 use Rattle.indexed_file.specs.File.{Row}
 use Rattle.open_file.specs.Faults.{IsCausedIn}
-use Rattle.open_file.specs.Reading.{Reads}
+use Rattle.open_file.specs.Reading.{ReadsRow}
 
 -- a fault that is no damage is handed on
 pub fails : {X : Type 0} (r : Result X Fault) (fault : Fault) → IsErrAnd r (λ e. e ≡ fault) → fault ≢ Damage → (P : X → Type 0) → IsAnswer r P
@@ -17,7 +17,7 @@ fails r fault was sound P =
     rw (p.1, p.2) (record { answer = tt; no_damage = sound })
 
 pub fails_reading : {X : Type 0} (r : Result X Fault) (fault : Fault) → IsErrAnd r (λ e. e ≡ fault) → fault ≢ Damage
-    → (answer : X) (old new : List ℕ) (row : Option Row) → Reads r answer old new row
+    → (answer : X) (old new : List ℕ) (row : Option Row) → ReadsRow r answer old new row
 fails_reading r fault was sound answer old new row =
     let p = err_from_is_err_and r was in
     rw (p.1, p.2) (record { answered = record { answer = tt; no_damage = sound }; area = tt })

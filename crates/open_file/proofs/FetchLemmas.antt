@@ -16,7 +16,7 @@ use Rattle.open_file.specs.InOrder.{prime_entries}
 use Rattle.open_file.specs.Stands.{Stands}
 use Rattle.page_marks.specs.Parted.{own_at}
 use Rattle.open_file.specs.Stored.{stamps_length}
-use Rattle.open_file.specs.Reading.{IsAt, Reads}
+use Rattle.open_file.specs.Reading.{IsRowAt, ReadsRow}
 use Rattle.open_file.proofs.FirstLemmas.{from_some}
 use Rattle.open_file.proofs.PlaceLemmas.{entry_leads, no_entry, find_each}
 use Rattle.open_file.proofs.RowLemmas.{row_is_first, each_row, both}
@@ -25,7 +25,7 @@ use Rattle.open_file.proofs.LengthLemmas.{is_made}
 pub record PlaceOf (u : OpenFile) (pages : PageMap) (file : File) (value : List ℕ) (place : Place) : Type 0 where
   pub row : Row
   pub is_row : row_of u.schema value file ≡ Some row
-  pub at : IsAt u.schema u.heap u.heap.shape.stamps pages place row
+  pub at : IsRowAt u.schema u.heap u.heap.shape.stamps pages place row
 
 place_of_row : (u : OpenFile) (pages after : PageMap) → u.heap.shape.stamps ≡ stamps_length (drop 1 u.schema.keys) → after ≡ pages → (file : File) (stands : Stands u pages file) (value : List ℕ) (entry : PrimeEntry)
     → find (has_prime value) (prime_entries u.schema stands.places file.rows) ≡ Some entry → PlaceOf u after file value entry.place
@@ -60,11 +60,11 @@ no_place None told = refl
 no_place (Some entry) told = absurd (cc)
 
 pub no_row : (u : OpenFile) (pages : PageMap) (file : File) (stands : Stands u pages file) (value old : List ℕ) → option_map (λ e. e.place) (find (has_prime value) (prime_entries u.schema stands.places file.rows)) ≡ None
-    → Reads (Ok None) (option_map (λ row. length row.bytes) (row_of u.schema value file)) old old (row_of u.schema value file)
+    → ReadsRow (Ok None) (option_map (λ row. length row.bytes) (row_of u.schema value file)) old old (row_of u.schema value file)
 no_row u pages file stands value old none =
     let missing = row_is_first u.schema file value stands.sound ∙ no_entry u.schema stands.slots value stands.places file.rows stands.placed.rows_at (no_place _ none) in
     rw missing (record { answered = record { answer = refl; no_damage = tt }; area = refl })
 
-pub found_row : (schema : Schema) (file : File) (value : List ℕ) (row : Row) → row_of schema value file ≡ Some row → (n : ℕ) (old new : List ℕ) → Reads (Ok n) (length row.bytes) old new (Some row)
-    → Reads (Ok (Some n)) (option_map (λ row. length row.bytes) (row_of schema value file)) old new (row_of schema value file)
+pub found_row : (schema : Schema) (file : File) (value : List ℕ) (row : Row) → row_of schema value file ≡ Some row → (n : ℕ) (old new : List ℕ) → ReadsRow (Ok n) (length row.bytes) old new (Some row)
+    → ReadsRow (Ok (Some n)) (option_map (λ row. length row.bytes) (row_of schema value file)) old new (row_of schema value file)
 found_row schema file value row is n old new found = rw is (record { answered = record { answer = ap Some found.answered.answer; no_damage = tt }; area = found.area })

@@ -28,7 +28,7 @@ use Rattle.open_file.specs.InOrder.{in_order, alt_entry, alt_entries, prime_entr
 use Rattle.open_file.specs.Stored.{stamps_length}
 use Rattle.page_marks.specs.Parted.{own_at}
 use Rattle.open_file.specs.Stands.{Stands}
-use Rattle.open_file.specs.Reading.{Reads, IsAt, IsEntryOfRow}
+use Rattle.open_file.specs.Reading.{ReadsRow, IsRowAt, IsEntryOfRow}
 use Rattle.open_file.specs.Steps.{admits_prime, admits_alt}
 use Rattle.open_file.proofs.RowLemmas.{least_is_first, each_row}
 use Rattle.open_file.proofs.PlaceLemmas.{find_each}
@@ -41,12 +41,12 @@ use Rattle.open_file.proofs.SeekLemmas.{in_prime_order}
 
 -- no row, and the area as it was
 pub nothing_read : (schema : Schema) (k : ℕ) (file : File) (row : Option Row) (old : List ℕ) → row ≡ None
-    → Reads {X = Option Found} (Ok None) (option_map (found_of schema k file) row) old old row
+    → ReadsRow {X = Option Found} (Ok None) (option_map (found_of schema k file) row) old old row
 nothing_read schema k file row old none = rw none (record { answered = record { answer = refl; no_damage = tt }; area = refl })
 
 -- a row, in the area
 pub row_read : (schema : Schema) (k : ℕ) (file : File) (found : Option Row) (row : Row) (told : Found) (old new : List ℕ) → found ≡ Some row
-    → Reads (Ok told) (found_of schema k file row) old new (Some row) → Reads (Ok (Some told)) (option_map (found_of schema k file) found) old new found
+    → ReadsRow (Ok told) (found_of schema k file row) old new (Some row) → ReadsRow (Ok (Some told)) (option_map (found_of schema k file) found) old new found
 row_read schema k file found row told old new is reads =
     rw is (record { answered = record { answer = ap Some reads.answered.answer; no_damage = tt }; area = reads.area })
 
@@ -88,16 +88,16 @@ alt_admitted opened pages file stands k position entry found =
 -- what is read of the row of an entry
 abbrev pub ReadsOf : OpenFile → ℕ → File → AltEntry → Result Found Fault → List ℕ → List ℕ → Type 0
 ReadsOf opened k file entry result old new =
-    (row : Row) → IsEntryOfRow opened.schema k file entry row → Reads result (found_of opened.schema k file row) old new (Some row)
+    (row : Row) → IsEntryOfRow opened.schema k file entry row → ReadsRow result (found_of opened.schema k file row) old new (Some row)
 
 module _ (opened after : OpenFile) (k : ℕ) (rest : after ≡ record opened { path = after.path }) (pages : PageMap) (file : File) (stands : Stands opened pages file) (position : Position) (entry : AltEntry)
     (found : find (admits_alt position) (alt_entries opened.schema k file.rows) ≡ Some entry) (old new : List ℕ) where
   -- another path changes nothing of it
-  delivered : (row : Row) (result : Result Found Fault) → IsEntryOfRow opened.schema k file entry row → ReadsOf after k file entry result old new → Reads result (found_of opened.schema k file row) old new (Some row)
+  delivered : (row : Row) (result : Result Found Fault) → IsEntryOfRow opened.schema k file entry row → ReadsOf after k file entry result old new → ReadsRow result (found_of opened.schema k file row) old new (Some row)
   delivered row result is_of reads = subst (λ (o : OpenFile). ReadsOf o k file entry result old new) rest reads row is_of
 
   pub alt_read : (answer : Found) → ReadsOf after k file entry (Ok answer) old new
-      → Reads (Ok (Some answer)) (option_map (found_of opened.schema k file) (least opened.schema k (admits opened.schema k position) file)) old new (least opened.schema k (admits opened.schema k position) file)
+      → ReadsRow (Ok (Some answer)) (option_map (found_of opened.schema k file) (least opened.schema k (admits opened.schema k position) file)) old new (least opened.schema k (admits opened.schema k position) file)
   alt_read answer reads =
       let next = alt_admitted opened pages file stands k position entry found in
       row_read opened.schema k file (least opened.schema k (admits opened.schema k position) file) next.row answer old new next.is_next
@@ -137,7 +137,7 @@ pub record NextAt (opened after : OpenFile) (now : PageMap) (position : Position
   pub row : Row
   pub is_next : least opened.schema 0 (admits opened.schema 0 position) file ≡ Some row
   pub value : entry.value.items ≡ prime_of opened.schema row.bytes
-  pub at : IsAt after.schema after.heap after.heap.shape.stamps now entry.place row
+  pub at : IsRowAt after.schema after.heap after.heap.shape.stamps now entry.place row
 
 pub prime_admitted : (opened after : OpenFile) (pages now : PageMap) (file : File) (stands : Stands opened pages file) (position : Position) (entry : PrimeEntry)
     → after ≡ record opened { path = after.path } → opened.heap.shape.stamps ≡ stamps_length (drop 1 opened.schema.keys) → now ≡ pages
@@ -147,7 +147,7 @@ prime_admitted opened after pages now file stands position entry rest stamps sam
     let leads = prime_some schema stands.slots (admits_prime position) (admits schema 0 position) (same_prime schema position) stands.places file.rows entry stands.placed.rows_at found in
     let each = each_row schema file.next_stamp file.rows (and_parts _ _ stands.sound).1 in
     let made = is_made schema file.next_stamp leads.row (find_each (λ row. is_row schema file.next_stamp row ≡ true) (admits schema 0 position) file.rows leads.row each leads.is_first) in
-    let at : IsAt schema opened.heap opened.heap.shape.stamps now entry.place leads.row = record {
+    let at : IsRowAt schema opened.heap opened.heap.shape.stamps now entry.place leads.row = record {
       slots = stands.slots;
       own = own_at stands.parts.owns 0;
       stands = subst (λ (p : PageMap). HeapStands opened.heap p stands.slots (own_at stands.parts.owns 0)) (sym same) stands.parts.heap_stands;
@@ -159,13 +159,13 @@ prime_admitted opened after pages now file stands position entry rest stamps sam
       row = leads.row;
       is_next = least_is_first schema 0 (admits schema 0 position) file.rows ∙ in_prime_order schema file (admits schema 0 position) stands.sound ∙ leads.is_first;
       value = leads.value;
-      at = subst (λ (o : OpenFile). IsAt o.schema o.heap o.heap.shape.stamps now entry.place leads.row) (sym rest) at;
+      at = subst (λ (o : OpenFile). IsRowAt o.schema o.heap o.heap.shape.stamps now entry.place leads.row) (sym rest) at;
     }
 
 -- what is told of it
 pub prime_told : (schema : Schema) (file : File) (row : Row) (value : ArrayVec ℕ) (n : ℕ) (old new : List ℕ) → value.items ≡ prime_of schema row.bytes
-    → Reads (Ok n) (length row.bytes) old new (Some row)
-    → Reads (Ok (record { key = value; stamp = 0; repeated = false; length = n })) (found_of schema 0 file row) old new (Some row)
+    → ReadsRow (Ok n) (length row.bytes) old new (Some row)
+    → ReadsRow (Ok (record { key = value; stamp = 0; repeated = false; length = n })) (found_of schema 0 file row) old new (Some row)
 prime_told schema file row value n old new same reads =
     let once = sym (prime_once schema row file) in
     record {

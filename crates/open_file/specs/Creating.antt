@@ -9,7 +9,7 @@ use Rattle.open_file.specs.Stands.{Stands, IsShaped, heights_of}
 use Rattle.open_file.specs.declared.open_file.OpenFile.{OpenFile}
 
 -- it stands for a file without rows
-pub record IsNew (opened : OpenFile) (pages : PageMap) (is_sound : Type 0) : Type 0 where
+pub record IsNewFile (opened : OpenFile) (pages : PageMap) (is_sound : Type 0) : Type 0 where
   pub stands : Stands opened pages empty_file
   pub sound : is_sound
 

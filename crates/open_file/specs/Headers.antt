@@ -58,12 +58,12 @@ is_read_back = (opened other : OpenFile) (header : Header) (pages : PageMap) (fi
 -- ---- its trees
 
 -- index j is the one of alternate key j + 1 that the header tells of
-pub record IsStored (header : Header) (j : ℕ) (index : AltIndex) : Type 0 where
+pub record IsIndexStored (header : Header) (j : ℕ) (index : AltIndex) : Type 0 where
   pub stored : IsAltStored index (key_at header.schema (j + 1)).length (key_at header.schema 0).length (tree_at header (j + 1)).root (tree_at header (j + 1)).height header.records
   pub number : alt_key index ≡ j + 1
 
 abbrev pub AreStored : Header → List AltIndex → Type 0
-AreStored header alternates = (j : ℕ) (index : AltIndex) → j < length alternates → index ≡ slice_index_or alternates j index → IsStored header j index
+AreStored header alternates = (j : ℕ) (index : AltIndex) → j < length alternates → index ≡ slice_index_or alternates j index → IsIndexStored header j index
 
 -- the numbers of the trees of these indexes
 abbrev pub numbers_of : Tree → TreeNumbers

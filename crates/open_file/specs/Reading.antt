@@ -22,7 +22,7 @@ use Rattle.open_file.specs.Stands.{Stands}
 use Rattle.open_file.specs.declared.open_file.OpenFile.{OpenFile}
 
 -- the answer, and the area with the record in its front; or as it was, where there is none
-pub record Reads {X : Type 0} (result : Result X Fault) (answer : X) (old new : List ℕ) (row : Option Row) : Type 0 where
+pub record ReadsRow {X : Type 0} (result : Result X Fault) (answer : X) (old new : List ℕ) (row : Option Row) : Type 0 where
   pub answered : IsAnswer result (λ x. x ≡ answer)
   pub area : OnOk result (new ≡ area_after old row)
 
@@ -30,7 +30,7 @@ pub record Reads {X : Type 0} (result : Result X Fault) (answer : X) (old new : 
 abbrev pub Delivers : OpenFile → PageMap → ℕ → (Row → Bool) → List ℕ → List ℕ → Result (Option Found) Fault → Type 0
 Delivers opened pages k test old new result =
     (file : File) → Stands opened pages file
-    → Reads result (option_map (found_of opened.schema k file) (least opened.schema k test file)) old new (least opened.schema k test file)
+    → ReadsRow result (option_map (found_of opened.schema k file) (least opened.schema k test file)) old new (least opened.schema k test file)
 
 -- the full value of key k of the first row whose value begins so related to the operand
 abbrev pub Seeks : OpenFile → PageMap → ℕ → Relation → List ℕ → Result (Option (ArrayVec ℕ)) Fault → Type 0
@@ -39,7 +39,7 @@ Seeks opened pages k relation operand result =
     → IsAnswer result (λ key. key ≡ option_map (key_of_row opened.schema k) (least opened.schema k (satisfies opened.schema k relation operand) file))
 
 -- the row stands at this place of the heap
-pub record IsAt (schema : Schema) (heap : Heap) (stamps : ℕ) (pages : PageMap) (place : Place) (row : Row) : Type 0 where
+pub record IsRowAt (schema : Schema) (heap : Heap) (stamps : ℕ) (pages : PageMap) (place : Place) (row : Row) : Type 0 where
   pub slots : Slots
   pub own : List ℕ
   pub stands : HeapStands heap pages slots own

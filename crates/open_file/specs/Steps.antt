@@ -59,8 +59,8 @@ GivesAlt opened pages k test result =
     (file : File) → Stands opened pages file → IsAnswer result (λ found. found ≡ find test (alt_entries opened.schema k file.rows))
 
 -- whether the first entry of the index of alternate key k that comes after a value and stamp has this value
-abbrev pub TellsNext : OpenFile → PageMap → ℕ → List ℕ → ℕ → Result Bool Fault → Type 0
-TellsNext opened pages k value stamp result =
+abbrev pub TellsNextOfKey : OpenFile → PageMap → ℕ → List ℕ → ℕ → Result Bool Fault → Type 0
+TellsNextOfKey opened pages k value stamp result =
     (file : File) → Stands opened pages file
     → IsAnswer result (λ told. told ≡ option_map_or (entry_has_value value) (find (after_rank value stamp) (alt_entries opened.schema k file.rows)) false)
 

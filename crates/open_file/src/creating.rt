@@ -7,7 +7,7 @@ ghost use Rattle.pages.specs.Cause.{IsCaused};
 ghost use Rattle.record_heap.specs.Chain.{no_slots};
 ghost use Rattle.open_file.specs.Stored.{stamps_length};
 ghost use Rattle.open_file.specs.Parts.{Parts};
-ghost use Rattle.open_file.specs.Creating.{IsNew, IsNewOpenFile, AreIndexesOf};
+ghost use Rattle.open_file.specs.Creating.{IsNewFile, IsNewOpenFile, AreIndexesOf};
 
 use crate::open_file::OpenFile;
 use arrayvec::ArrayVec;
@@ -26,7 +26,7 @@ impl OpenFile {
         requires open { P.CanChange pages.old }
         ensures new { IsTrue (P.state pages.new).is_honest → IsTrue (P.state pages.old).is_sound
             → ((n : ℕ) → (P.state pages.old).live n ≡ None)
-            → IsAnswer result (λ opened. IsNew opened (P.state pages.new).live (IsTrue (P.state pages.new).is_sound)) }
+            → IsAnswer result (λ opened. IsNewFile opened (P.state pages.new).live (IsTrue (P.state pages.new).is_sound)) }
         ensures made { IfOk result (λ opened. IsNewOpenFile opened schema.now) }
         ensures few { (P.state pages.old).available ≤ (P.state pages.new).available + length schema.now.keys }
         ensures spent { OnOk result ((P.state pages.new).available + length schema.now.keys ≡ (P.state pages.old).available) }

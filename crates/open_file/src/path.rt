@@ -11,7 +11,7 @@ ghost use Rattle.key_index.specs.Cursors.{PrimeBelongs, AltBelongs};
 ghost use Rattle.page_marks.specs.Parted.{own_at};
 ghost use Rattle.open_file.specs.Stands.{IsShaped};
 ghost use Rattle.open_file.specs.Paths.{IsOnPath};
-ghost use Rattle.open_file.specs.Steps.{admits_prime, admits_alt, GivesPrime, GivesAlt, TellsNext, StandsStill};
+ghost use Rattle.open_file.specs.Steps.{admits_prime, admits_alt, GivesPrime, GivesAlt, TellsNextOfKey, StandsStill};
 
 use crate::open_file::OpenFile;
 use io_state::{Fault, Position};
@@ -95,7 +95,7 @@ impl OpenFile {
         requires some { 1 ≤ k }
         requires within { k ≤ length self.now.alternates.items }
         requires index { index ≡ slice_index_or self.now.alternates.items (k - 1) index }
-        ensures told { IsTrue (P.state pages.new).is_honest → TellsNext self.now (P.state pages.old).live k value.now stamp result }
+        ensures told { IsTrue (P.state pages.new).is_honest → TellsNextOfKey self.now (P.state pages.old).live k value.now stamp result }
         ensures cause { IfErr result (IsCaused (P.HasFailed pages.old pages.new) ⊥) }
         ensures asked { (P.state pages.new).asked ≤ (P.state pages.old).asked + 2 * alt_height index }
         ensures alone { IsFalse (key_at self.now.schema k).duplicates → (P.state pages.new).asked ≤ (P.state pages.old).asked }

@@ -14,7 +14,7 @@ ghost use Rattle.key_index.specs.Standing.{prime_height, alt_height};
 ghost use Rattle.open_file.specs.Stands.{Stands, IsShaped, room_of, heights_of};
 ghost use Rattle.open_file.specs.InOrder.{alt_entries};
 ghost use Rattle.open_file.specs.Faults.{IsCausedIn};
-ghost use Rattle.open_file.specs.Reading.{Reads, Delivers, IsAt, IsEntryOfRow};
+ghost use Rattle.open_file.specs.Reading.{ReadsRow, Delivers, IsRowAt, IsEntryOfRow};
 
 use crate::open_file::OpenFile;
 use indexed_file::Found;
@@ -193,7 +193,7 @@ impl OpenFile {
         requires area { length area.old ≡ self.now.schema.greatest }
         ensures found { IsTrue (P.state pages.new).is_honest → (file : File) → Stands self.now (P.state pages.old).live file
             → (row : Row) → IsEntryOfRow self.now.schema k file entry row
-            → Reads result (found_of self.now.schema k file row) area.old area.new (Some row) }
+            → ReadsRow result (found_of self.now.schema k file row) area.old area.new (Some row) }
         ensures kept { OnErr result (area.new ≡ area.old) }
         ensures cause { IfErr result (IsCaused (P.HasFailed pages.old pages.new) ⊥) }
         ensures asked { (P.state pages.new).asked ≤ (P.state pages.old).asked + 2 * alt_height index + prime_height self.now.prime + 1 }
@@ -216,7 +216,7 @@ impl OpenFile {
         requires area { length area.old ≡ self.now.schema.greatest }
         ensures found { IsTrue (P.state pages.new).is_honest → (file : File) → Stands self.now (P.state pages.old).live file
             → (k : ℕ) (row : Row) → IsEntryOfRow self.now.schema k file entry row → repeated ≡ is_repeated self.now.schema k row file
-            → Reads result (found_of self.now.schema k file row) area.old area.new (Some row) }
+            → ReadsRow result (found_of self.now.schema k file row) area.old area.new (Some row) }
         ensures kept { OnErr result (area.new ≡ area.old) }
         ensures cause { IfErr result (IsCaused (P.HasFailed pages.old pages.new) ⊥) }
         ensures asked { (P.state pages.new).asked ≤ (P.state pages.old).asked + prime_height self.now.prime + 1 }
@@ -249,7 +249,7 @@ impl OpenFile {
         requires shaped { IsShaped self.now }
         requires area { length area.old ≡ self.now.schema.greatest }
         ensures fetched { IsTrue (P.state pages.new).is_honest → (file : File) → Stands self.now (P.state pages.old).live file
-            → Reads result (option_map (λ row. length row.bytes) (row_of self.now.schema prime.now file)) area.old area.new (row_of self.now.schema prime.now file) }
+            → ReadsRow result (option_map (λ row. length row.bytes) (row_of self.now.schema prime.now file)) area.old area.new (row_of self.now.schema prime.now file) }
         ensures none { result ≡ Ok None → area.new ≡ area.old }
         ensures kept { OnErr result (area.new ≡ area.old) }
         ensures cause { IfErr result (IsCaused (P.HasFailed pages.old pages.new) ⊥) }
@@ -273,8 +273,8 @@ impl OpenFile {
         requires shaped { IsShaped self.now }
         requires area { length area.old ≡ self.now.schema.greatest }
         ensures found { IsTrue (P.state pages.new).is_honest → (row : Row)
-            → IsAt self.now.schema self.now.heap self.now.heap.shape.stamps (P.state pages.old).live place row
-            → Reads result (length row.bytes) area.old area.new (Some row) }
+            → IsRowAt self.now.schema self.now.heap self.now.heap.shape.stamps (P.state pages.old).live place row
+            → ReadsRow result (length row.bytes) area.old area.new (Some row) }
         ensures kept { OnErr result (area.new ≡ area.old) }
         ensures cause { IfErr result (IsCaused (P.HasFailed pages.old pages.new) ⊥) }
         ensures asked { (P.state pages.new).asked ≤ (P.state pages.old).asked + 1 }

@@ -6,7 +6,7 @@ use Rattle.io_state.specs.declared.fault.Fault.TheVariants.{Device, Memory, Full
 use Rattle.page_store.specs.ShelfState.{ShelfState, FaultHasCause}
 use Rattle.page_cache.specs.declared.cache.Cache.{Cache}
 use Rattle.page_cache.specs.Cached.{frame_of, is_counted, pages_of, IsOver}
-use Rattle.page_cache.specs.Calls.{Keeps, Looks, KeepsPages}
+use Rattle.page_cache.specs.Calls.{KeepsStore, OnlyLooks, KeepsPages}
 use Rattle.page_cache.specs.Quietly.{GoesQuietly}
 use Rattle.page_cache.specs.Lending.{FrameSet, SameFrames}
 use Rattle.page_cache.proofs.OverLemmas.{over_same, pages_same, clean_same, held_page, set_page, set_others}
@@ -53,7 +53,7 @@ left n w c d e p s t set same honest = record {
     others : IsTrue t.is_honest → (k : ℕ) → k ≢ n → pages_of e t k ≡ pages_of c s k
     others h k differs = set_others n w d e set t k differs ∙ ap (λ pages. pages k) (same h)
 
-pub parts_after : (c d : Cache) (s t : ShelfState) (i j : ℕ) → Keeps c d → GoesQuietly c.store.unit s t → i ≤ j → PartsGo c d s t i j
+pub parts_after : (c d : Cache) (s t : ShelfState) (i j : ℕ) → KeepsStore c d → GoesQuietly c.store.unit s t → i ≤ j → PartsGo c d s t i j
 parts_after c d s t i j keeps quietly faults = record {
   unit = ap (λ x. x.unit) keeps.store;
   cap = keeps.cap;
@@ -62,7 +62,7 @@ parts_after c d s t i j keeps quietly faults = record {
   faults = faults;
 }
 
-pub looks_after : (c d e : Cache) (s t : ShelfState) → Looks c d s t → SameFrames d e → Looks c e s t
+pub looks_after : (c d e : Cache) (s t : ShelfState) → OnlyLooks c d s t → SameFrames d e → OnlyLooks c e s t
 looks_after c d e s t looks same = record { clean = λ clean. clean_same d e same.frames (looks.clean clean); file = looks.file }
 
 -- the same frames, in another order
@@ -90,7 +90,7 @@ pub over_after : (d e : Cache) (t : ShelfState) → SameFrames d e → IsOver d 
 over_after d e t same over = over_same d e t same.store same.frames over
 
 -- a page of the cache is lent, or could not be loaded
-pub reads_after : (a b : PagedFile) (s t : ShelfState) (i j : ℕ) → b.pager ≡ a.pager → b.changed ≡ a.changed → KeepsPages a.cache b.cache s t → Looks a.cache b.cache s t → i ≤ j → ReadsPages a b s t i j
+pub reads_after : (a b : PagedFile) (s t : ShelfState) (i j : ℕ) → b.pager ≡ a.pager → b.changed ≡ a.changed → KeepsPages a.cache b.cache s t → OnlyLooks a.cache b.cache s t → i ≤ j → ReadsPages a b s t i j
 reads_after a b s t i j pager gate kept looks faults = record {
   goes = record {
     parts = parts_after a.cache b.cache s t i j kept.keeps kept.goes faults;

@@ -12,7 +12,7 @@ use Rattle.page_store.specs.declared.store.Store.{Store}
 use Rattle.page_cache.specs.declared.frame.Frame.{Frame}
 use Rattle.page_cache.specs.declared.cache.Cache.{Cache}
 use Rattle.page_cache.specs.Cached.{frame_of, is_counted, pages_of, IsOver}
-use Rattle.page_cache.specs.Calls.{KeepsPages, Zeroed, GoesOn}
+use Rattle.page_cache.specs.Calls.{KeepsPages, Zeroed, MayGoOn}
 use Rattle.page_cache.specs.Quietly.{GoesQuietly}
 use Rattle.page_cache.proofs.QuietLemmas.{goes_then}
 use Rattle.page_cache.specs.Turning.{HasRoom}
@@ -105,7 +105,7 @@ absent_past c s n over last = go (frame_of c n) refl
 pub record Added (n : ℕ) (r : Result (Unit {0}) Fault) (c d : Cache) (s t : ShelfState) : Type 0 where
   pub zeroed : OnOk r (Zeroed n c d s t)
   pub kept : OnErr r (KeepsPages c d s t)
-  pub goes_on : GoesOn c d s t
+  pub goes_on : MayGoOn c d s t
 
 counted_same : (n k : ℕ) → k ≢ n → (ltb 0 k && ltb k (n + 1)) ≡ (ltb 0 k && ltb k n)
 counted_same n k differs = elim (cases_Bool (ltb k n)) [
@@ -189,7 +189,7 @@ module _ (c e d : Cache) (t u : ShelfState) (n : ℕ) (frame : Frame) (low : 0 <
     store = store ∙ added.zeroed.store;
   }
 
-  pub goes_on_put : GoesOn c d t u
+  pub goes_on_put : MayGoOn c d t u
   goes_on_put = record { over = held.over; cap = cap_kept e.frames e.frames d.frames _ r refl put kept ∙ added.goes_on.cap; goes = goes }
 
 pub zeroed_then : (n : ℕ) (old c d : Cache) (s t u : ShelfState) → KeepsPages old c s t → GoesQuietly c.store.unit t u → Zeroed n c d t u → Zeroed n old d s u
@@ -202,7 +202,7 @@ zeroed_then n old c d s t u before goes z = record {
     grown_same : {a b : Store} → b ≡ a → (record b { pages = max b.pages (n + 1) }) ≡ (record a { pages = max a.pages (n + 1) })
     grown_same same i = record (same i) { pages = max (same i).pages (n + 1) }
 
-pub goes_on_then : (old c d : Cache) (s t u : ShelfState) → KeepsPages old c s t → GoesOn c d t u → GoesOn old d s u
+pub goes_on_then : (old c d : Cache) (s t u : ShelfState) → KeepsPages old c s t → MayGoOn c d t u → MayGoOn old d s u
 goes_on_then old c d s t u before after = record {
   over = after.over;
   cap = after.cap ∙ before.keeps.cap;
@@ -210,5 +210,5 @@ goes_on_then old c d s t u before after = record {
 }
 
 -- pages kept are a step on
-pub goes_on_kept : (c d : Cache) (s t : ShelfState) → KeepsPages c d s t → GoesOn c d s t
+pub goes_on_kept : (c d : Cache) (s t : ShelfState) → KeepsPages c d s t → MayGoOn c d s t
 goes_on_kept c d s t kept = record { over = kept.over; cap = kept.keeps.cap; goes = kept.goes }

@@ -16,7 +16,7 @@ use Rattle.page_cache.specs.declared.frame.Frame.{Frame}
 use Rattle.page_cache.specs.declared.cache.Cache.{Cache}
 use Rattle.page_cache.specs.Cached.{frame_of, is_counted, pages_of, IsOver}
 use Rattle.page_cache.specs.Turning.{HasRoom, IsLastWritten}
-use Rattle.page_cache.specs.Calls.{Looks}
+use Rattle.page_cache.specs.Calls.{OnlyLooks}
 use Rattle.page_cache.specs.Rewrites.{Rewrites}
 
 pub fewer : (n pages : ℕ) (f : DeviceFile) → n ≤ pages → HasPages pages f → HasPages n f
@@ -135,7 +135,7 @@ last_written c t k frame last same = record {
 }
 
 -- the page was written, so the shelf is honest after where it was before
-pub nothing_clean : (c : Cache) (s t : ShelfState) (k : ℕ) (frame : Frame) → frame_of c k ≡ Some frame → frame.changed ≡ true → Looks c c s t
+pub nothing_clean : (c : Cache) (s t : ShelfState) (k : ℕ) (frame : Frame) → frame_of c k ≡ Some frame → frame.changed ≡ true → OnlyLooks c c s t
 nothing_clean c s t k frame is changed = record { clean = λ h. h; file = λ h. absurd (both_ways frame.changed (h.clean k frame is) changed) }
 
 pub by_result : {P Q G : Type 0} (r : Result (Unit {0}) Fault) → OnOk r P → OnErr r Q → (P → G) → (Q → G) → G

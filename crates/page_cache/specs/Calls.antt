@@ -7,7 +7,7 @@ use Rattle.page_cache.specs.Quietly.{GoesQuietly}
 use Rattle.page_cache.specs.Rewrites.{IsZeros}
 
 -- the same unit and pages, with as many frames
-pub record Keeps (old new : Cache) : Type 0 where
+pub record KeepsStore (old new : Cache) : Type 0 where
   pub store : new.store ≡ old.store
   pub cap : new.frames.cap ≡ old.frames.cap
 
@@ -20,7 +20,7 @@ pub record ShowsSame (old new : Cache) (before after : ShelfState) : Type 0 wher
 pub record KeepsPages (old new : Cache) (before after : ShelfState) : Type 0 where
   pub over : IsOver new after
   pub pages : IsTrue after.is_honest → pages_of new after ≡ pages_of old before
-  pub keeps : Keeps old new
+  pub keeps : KeepsStore old new
   pub goes : GoesQuietly old.store.unit before after
 
 -- page n holds zeros, and every other page what it held
@@ -30,12 +30,12 @@ pub record Zeroed (n : ℕ) (old new : Cache) (before after : ShelfState) : Type
   pub store : new.store ≡ record old.store { pages = max old.store.pages (n + 1) }
 
 -- it may go on over its shelf with as many frames, and nothing was written but quietly
-pub record GoesOn (old new : Cache) (before after : ShelfState) : Type 0 where
+pub record MayGoOn (old new : Cache) (before after : ShelfState) : Type 0 where
   pub over : IsOver new after
   pub cap : new.frames.cap ≡ old.frames.cap
   pub goes : GoesQuietly old.store.unit before after
 
 -- where no page was changed, nothing is written and no page becomes changed
-pub record Looks (old new : Cache) (before after : ShelfState) : Type 0 where
+pub record OnlyLooks (old new : Cache) (before after : ShelfState) : Type 0 where
   pub clean : IsClean old → IsClean new
   pub file : IsClean old → after.file ≡ before.file

@@ -6,7 +6,7 @@ ghost use Rattle.page_store.specs.DeviceFile.{content};
 ghost use Rattle.page_store.specs.Pages.{page_of, HasPages};
 ghost use Rattle.page_store.specs.ShelfState.{ShelfState, HasUnit, unit_file, WhereHonest, OnlyAnswers, FaultHasCause};
 ghost use Rattle.page_cache.specs.Cached.{frame_of, is_counted, pages_of, IsOver, IsClean};
-ghost use Rattle.page_cache.specs.Calls.{KeepsPages, Zeroed, GoesOn, Looks};
+ghost use Rattle.page_cache.specs.Calls.{KeepsPages, Zeroed, MayGoOn, OnlyLooks};
 ghost use Rattle.page_cache.specs.Lending.{SameFrames};
 ghost use Rattle.page_cache.specs.Turning.{HasRoom, IsLastWritten, settled, Turned};
 
@@ -82,7 +82,7 @@ impl Cache {
         ensures held { OnOk result (IsSome (frame_of self.new n)) }
         ensures kept { KeepsPages self.old self.new (S.state shelf.old) (S.state shelf.new) }
         ensures asked { self.new.asked ≡ min (self.old.asked + 1) (2 ^ 64 - 1) }
-        ensures looks { Looks self.old self.new (S.state shelf.old) (S.state shelf.new) }
+        ensures looks { OnlyLooks self.old self.new (S.state shelf.old) (S.state shelf.new) }
         ensures cause { FaultHasCause (S.fault_count shelf.old) (S.fault_count shelf.new) result }
     {
         self.asked = self.asked.saturating_add(1);
@@ -124,7 +124,7 @@ impl Cache {
         requires page { (0 < n) × (n ≤ self.old.store.pages) × (n < 2 ^ 32 - 1) }
         ensures zeroed { OnOk result (Zeroed n self.old self.new (S.state shelf.old) (S.state shelf.new)) }
         ensures kept { OnErr result (KeepsPages self.old self.new (S.state shelf.old) (S.state shelf.new)) }
-        ensures goes_on { GoesOn self.old self.new (S.state shelf.old) (S.state shelf.new) }
+        ensures goes_on { MayGoOn self.old self.new (S.state shelf.old) (S.state shelf.new) }
         ensures asked { self.new.asked ≡ min (self.old.asked + 1) (2 ^ 64 - 1) }
         ensures cause { FaultHasCause (S.fault_count shelf.old) (S.fault_count shelf.new) result }
     {
@@ -140,7 +140,7 @@ impl Cache {
         requires page { IsTrue (is_counted self.old n) }
         ensures zeroed { OnOk result (Zeroed n self.old self.new (S.state shelf.old) (S.state shelf.new)) }
         ensures kept { OnErr result (KeepsPages self.old self.new (S.state shelf.old) (S.state shelf.new)) }
-        ensures goes_on { GoesOn self.old self.new (S.state shelf.old) (S.state shelf.new) }
+        ensures goes_on { MayGoOn self.old self.new (S.state shelf.old) (S.state shelf.new) }
         ensures asked { self.new.asked ≡ min (self.old.asked + 1) (2 ^ 64 - 1) }
         ensures cause { FaultHasCause (S.fault_count shelf.old) (S.fault_count shelf.new) result }
     {
@@ -162,7 +162,7 @@ impl Cache {
         requires absent { frame_of self.old n ≡ None }
         ensures zeroed { OnOk result (Zeroed n self.old self.new (S.state shelf.old) (S.state shelf.new)) }
         ensures kept { OnErr result (KeepsPages self.old self.new (S.state shelf.old) (S.state shelf.new)) }
-        ensures goes_on { GoesOn self.old self.new (S.state shelf.old) (S.state shelf.new) }
+        ensures goes_on { MayGoOn self.old self.new (S.state shelf.old) (S.state shelf.new) }
         ensures asked { self.new.asked ≡ self.old.asked }
         ensures cause { FaultHasCause (S.fault_count shelf.old) (S.fault_count shelf.new) result }
     {
@@ -184,7 +184,7 @@ impl Cache {
         requires page { (0 < n) × (n ≡ self.old.store.pages) × (n < 2 ^ 32 - 1) }
         ensures zeroed { OnOk result (Zeroed n self.old self.new (S.state shelf.old) (S.state shelf.new)) }
         ensures kept { OnErr result (KeepsPages self.old self.new (S.state shelf.old) (S.state shelf.new)) }
-        ensures goes_on { GoesOn self.old self.new (S.state shelf.old) (S.state shelf.new) }
+        ensures goes_on { MayGoOn self.old self.new (S.state shelf.old) (S.state shelf.new) }
         ensures asked { self.new.asked ≡ min (self.old.asked + 1) (2 ^ 64 - 1) }
         ensures cause { FaultHasCause (S.fault_count shelf.old) (S.fault_count shelf.new) result }
     {
@@ -270,7 +270,7 @@ impl Cache {
         ensures held { OnOk result (IsSome (frame_of self.new n)) }
         ensures kept { KeepsPages self.old self.new (S.state shelf.old) (S.state shelf.new) }
         ensures asked { self.new.asked ≡ self.old.asked }
-        ensures looks { Looks self.old self.new (S.state shelf.old) (S.state shelf.new) }
+        ensures looks { OnlyLooks self.old self.new (S.state shelf.old) (S.state shelf.new) }
         ensures cause { FaultHasCause (S.fault_count shelf.old) (S.fault_count shelf.new) result }
     {
         self.make_room(shelf)?;
@@ -290,7 +290,7 @@ impl Cache {
         ensures room { OnOk result (HasRoom self.new (S.state shelf.new)) }
         ensures kept { KeepsPages self.old self.new (S.state shelf.old) (S.state shelf.new) }
         ensures same { self.new ≡ self.old }
-        ensures looks { Looks self.old self.new (S.state shelf.old) (S.state shelf.new) }
+        ensures looks { OnlyLooks self.old self.new (S.state shelf.old) (S.state shelf.new) }
         ensures cause { FaultHasCause (S.fault_count shelf.old) (S.fault_count shelf.new) result }
     {
         if self.frames.len() < self.frames.cap().get() {
@@ -305,7 +305,7 @@ impl Cache {
         ensures last { OnOk result (IsLastWritten self.old (S.state shelf.new)) }
         ensures kept { KeepsPages self.old self.new (S.state shelf.old) (S.state shelf.new) }
         ensures same { self.new ≡ self.old }
-        ensures looks { Looks self.old self.new (S.state shelf.old) (S.state shelf.new) }
+        ensures looks { OnlyLooks self.old self.new (S.state shelf.old) (S.state shelf.new) }
         ensures cause { FaultHasCause (S.fault_count shelf.old) (S.fault_count shelf.new) result }
     {
         let _held = self.frames.len();

@@ -5,40 +5,40 @@ use Rattle.std.proofs.lemmas.Bool.{cases_Bool, false_from_ne_true}
 use Rattle.std.proofs.lemmas.Slice.Eq.{bytes_eq-Decides}
 use Rattle.page_store.specs.DeviceFile.{FileStep, DeviceFile, absent, IsWithin}
 use Rattle.page_store.specs.Events.{steps}
-use Rattle.page_store.specs.MemFiles.{has_name, file_of, file_in, index_of, IsAt, Found, Changed}
+use Rattle.page_store.specs.MemFiles.{has_name, file_of, file_in, index_of, IsFirstNamedAt, Found, ChangedMemFile}
 use Rattle.page_store.specs.declared.memory_file.MemFile.{MemFile}
 
 step : (r : Option ℕ) (i : ℕ) → option_map (λ n. n + 1) r ≡ Some i → (j : ℕ) × (r ≡ Some j) × (suc j ≡ i)
 step None i e = absurd (cc)
 step (Some j) i e = let same : j + 1 ≡ i = cc in (j, refl, sym (add-one j) ∙ same)
 
-pub at_from : (fs : List MemFile) (name : List ℕ) (i : ℕ) → index_of fs name ≡ Some i → IsAt fs name i
+pub at_from : (fs : List MemFile) (name : List ℕ) (i : ℕ) → index_of fs name ≡ Some i → IsFirstNamedAt fs name i
 at_from [] name i is = absurd (cc)
 at_from (f ∷ fs) name i is =
     elim (cases_Bool (has_name f name)) [
-      | inl e ↦ let at : Some 0 ≡ Some i = rw e at is in let same : 0 ≡ i = cc in subst (λ (n : ℕ). IsAt (f ∷ fs) name n) same e
+      | inl e ↦ let at : Some 0 ≡ Some i = rw e at is in let same : 0 ≡ i = cc in subst (λ (n : ℕ). IsFirstNamedAt (f ∷ fs) name n) same e
       | inr e ↦
           let at : option_map (λ n. n + 1) (index_of fs name) ≡ Some i = rw e at is in
           let s = step (index_of fs name) i at in
-          subst (λ (n : ℕ). IsAt (f ∷ fs) name n) s.2 (e, at_from fs name s.0 s.1)
+          subst (λ (n : ℕ). IsFirstNamedAt (f ∷ fs) name n) s.2 (e, at_from fs name s.0 s.1)
     ]
 
-pub file_at : (fs : List MemFile) (name : List ℕ) (i : ℕ) (d : MemFile) → IsAt fs name i → file_in fs name ≡ file_of (get_or fs i d)
+pub file_at : (fs : List MemFile) (name : List ℕ) (i : ℕ) (d : MemFile) → IsFirstNamedAt fs name i → file_in fs name ≡ file_of (get_or fs i d)
 file_at [] name i d at = absurd at
 file_at (f ∷ fs) name zero d at = rw at refl
 file_at (f ∷ fs) name (suc i) d at = rw at.0 (file_at fs name i d at.1)
 
-pub named_at : (fs : List MemFile) (name : List ℕ) (i : ℕ) (d : MemFile) → IsAt fs name i → has_name (get_or fs i d) name ≡ true
+pub named_at : (fs : List MemFile) (name : List ℕ) (i : ℕ) (d : MemFile) → IsFirstNamedAt fs name i → has_name (get_or fs i d) name ≡ true
 named_at [] name i d at = absurd at
 named_at (f ∷ fs) name zero d at = at
 named_at (f ∷ fs) name (suc i) d at = named_at fs name i d at.1
 
-pub within_at : (fs : List MemFile) (name : List ℕ) (i : ℕ) → IsAt fs name i → i < length fs
+pub within_at : (fs : List MemFile) (name : List ℕ) (i : ℕ) → IsFirstNamedAt fs name i → i < length fs
 within_at [] name i at = absurd at
 within_at (f ∷ fs) name zero at = omega arith
 within_at (f ∷ fs) name (suc i) at = let l = within_at fs name i at.1 in omega arith
 
-pub file_set : (fs : List MemFile) (name : List ℕ) (i : ℕ) (g : MemFile) → IsAt fs name i → has_name g name ≡ true → file_in (set fs i g) name ≡ file_of g
+pub file_set : (fs : List MemFile) (name : List ℕ) (i : ℕ) (g : MemFile) → IsFirstNamedAt fs name i → has_name g name ≡ true → file_in (set fs i g) name ≡ file_of g
 file_set [] name i g at is = absurd at
 file_set (f ∷ fs) name zero g at is = rw is refl
 file_set (f ∷ fs) name (suc i) g at is = rw at.0 (file_set fs name i g at.1 is)
@@ -46,7 +46,7 @@ file_set (f ∷ fs) name (suc i) g at is = rw at.0 (file_set fs name i g at.1 is
 other_name : (f : MemFile) (name other : List ℕ) → has_name f name ≡ true → ¬ (other ≡ name) → has_name f other ≡ false
 other_name f name other is not = false_from_ne_true (has_name f other) (λ also. not (sym ((bytes_eq-Decides f.name.bytes other).0 also) ∙ (bytes_eq-Decides f.name.bytes name).0 is))
 
-pub others_set : (fs : List MemFile) (name : List ℕ) (i : ℕ) (g : MemFile) (other : List ℕ) → IsAt fs name i → has_name g name ≡ true → ¬ (other ≡ name) → file_in (set fs i g) other ≡ file_in fs other
+pub others_set : (fs : List MemFile) (name : List ℕ) (i : ℕ) (g : MemFile) (other : List ℕ) → IsFirstNamedAt fs name i → has_name g name ≡ true → ¬ (other ≡ name) → file_in (set fs i g) other ≡ file_in fs other
 others_set [] name i g other at is not = absurd at
 others_set (f ∷ fs) name zero g other at is not = rw (other_name g name other is not, other_name f name other at not) refl
 others_set (f ∷ fs) name (suc i) g other at is not =
@@ -118,7 +118,7 @@ placed fs name (Some i) is = found_from fs name i (sym is)
 pub file_is : (f : MemFile) (seen : List ℕ) (log : List FileStep) → f.bytes.items ≡ seen → steps f.log.items ≡ log → file_of f ≡ record { seen = Some seen; log = log }
 file_is f seen log a b = ap (λ (s : List ℕ). record { seen = Some s; log = steps f.log.items }) a ∙ ap (λ (l : List FileStep). record { seen = Some seen; log = l }) b
 
-pub changed : (fs : List MemFile) (name : List ℕ) (i : ℕ) (f g : MemFile) → Found fs name i → f ≡ get_or fs i f → g.name ≡ f.name → Changed fs name i f g
+pub changed : (fs : List MemFile) (name : List ℕ) (i : ℕ) (f g : MemFile) → Found fs name i → f ≡ get_or fs i f → g.name ≡ f.name → ChangedMemFile fs name i f g
 changed fs name i f g found is same =
     let named : has_name f name ≡ true = subst (λ (x : MemFile). has_name x name ≡ true) (sym is) (found.named f) in
     let still : has_name g name ≡ true = ap (λ (n : _). bytes_eq n.bytes name) same ∙ named in

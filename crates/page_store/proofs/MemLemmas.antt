@@ -7,7 +7,7 @@ use Rattle.page_store.specs.Images.{Leaves}
 use Rattle.page_store.proofs.ImageLemmas.{only_synced}
 use Rattle.page_store.specs.CrashImages.{Crashed, image_of}
 use Rattle.page_store.proofs.CrashImageLemmas.{crash_image, absent_only, image_of_absent}
-use Rattle.page_store.specs.MemFiles.{has_name, file_of, file_in, index_of, IsAt}
+use Rattle.page_store.specs.MemFiles.{has_name, file_of, file_in, index_of, IsFirstNamedAt}
 use Rattle.page_store.proofs.MemFilesLemmas.{file_push, others_push, none_from, absent_from, at_from}
 use Rattle.page_store.specs.declared.memory_file.MemFile.{MemFile}
 use Rattle.page_store.specs.declared.crash.Image.{Image}
@@ -61,7 +61,7 @@ crash_step image fs f new after so none this others n =
       | inr isnt ↦ rw (push_other fs f n isnt, others n isnt) (so n)
     ]
 
-found_stays : (fs : List MemFile) (f : MemFile) (name : List ℕ) (i : ℕ) → IsAt fs name i → file_in (fs ++ f ∷ []) name ≡ file_in fs name
+found_stays : (fs : List MemFile) (f : MemFile) (name : List ℕ) (i : ℕ) → IsFirstNamedAt fs name i → file_in (fs ++ f ∷ []) name ≡ file_in fs name
 found_stays [] f name i at = absurd at
 found_stays (g ∷ fs) f name zero at = rw at refl
 found_stays (g ∷ fs) f name (suc i) at = rw at.0 (found_stays fs f name i at.1)

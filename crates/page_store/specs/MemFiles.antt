@@ -22,20 +22,20 @@ index_of [] name = None
 index_of (f ∷ fs) name = if has_name f name then Some 0 else option_map (λ i. i + 1) (index_of fs name)
 
 -- the first with this name is at i
-abbrev pub IsAt : List MemFile → List ℕ → ℕ → Type 0
-IsAt [] name i = ⊥
-IsAt (f ∷ fs) name zero = has_name f name ≡ true
-IsAt (f ∷ fs) name (suc i) = (has_name f name ≡ false) × IsAt fs name i
+abbrev pub IsFirstNamedAt : List MemFile → List ℕ → ℕ → Type 0
+IsFirstNamedAt [] name i = ⊥
+IsFirstNamedAt (f ∷ fs) name zero = has_name f name ≡ true
+IsFirstNamedAt (f ∷ fs) name (suc i) = (has_name f name ≡ false) × IsFirstNamedAt fs name i
 
 -- what is known of a file that was found
 pub record Found (fs : List MemFile) (name : List ℕ) (i : ℕ) : Type 0 where
-  pub at : IsAt fs name i
+  pub at : IsFirstNamedAt fs name i
   pub file : (d : MemFile) → file_in fs name ≡ file_of (get_or fs i d)
   pub named : (d : MemFile) → has_name (get_or fs i d) name ≡ true
   pub within : (d : MemFile) (n : ℕ) → IsWithin n (file_in fs name) → n ≤ length (get_or fs i d).bytes.items
 
 -- one file is changed in its place
-pub record Changed (fs : List MemFile) (name : List ℕ) (i : ℕ) (f g : MemFile) : Type 0 where
+pub record ChangedMemFile (fs : List MemFile) (name : List ℕ) (i : ℕ) (f g : MemFile) : Type 0 where
   pub was : file_in fs name ≡ file_of f
   pub this : file_in (set fs i g) name ≡ file_of g
   pub others : (other : List ℕ) → ¬ (other ≡ name) → file_in (set fs i g) other ≡ file_in fs other

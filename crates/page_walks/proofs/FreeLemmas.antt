@@ -7,9 +7,9 @@ use Rattle.page_alloc.specs.FreePage.{is_free}
 use Rattle.page_alloc.specs.Chain.{is_page, is_among, chain}
 use Rattle.page_marks.specs.Marks.{Marks}
 use Rattle.page_marks.proofs.MarksLemmas.{marks_none, marks_on}
-use Rattle.page_walks.specs.FreeWalk.{page_in, IsFreeAt, IsFreePath, FreeFront, FreeWalked}
+use Rattle.page_walks.specs.FreeWalk.{page_in, IsFreePageAt, IsFreePagePath, FreeFront, FreeWalked}
 
-path_more : (list : List (List ℕ)) (first : ℕ) (own : List ℕ) (n next : ℕ) → IsFreePath list first own n → IsFreeAt list n next → IsFreePath list first (own ++ n ∷ []) next
+path_more : (list : List (List ℕ)) (first : ℕ) (own : List ℕ) (n next : ℕ) → IsFreePagePath list first own n → IsFreePageAt list n next → IsFreePagePath list first (own ++ n ∷ []) next
 path_more list first [] n next path at = (path, (next, at, refl))
 path_more list first (m ∷ ms) n next path at = (path.0, (path.1.0, path.1.1, path_more list path.1.0 ms n next path.1.2 at))
 
@@ -18,7 +18,7 @@ pub free_none : (list : List (List ℕ)) (first : ℕ) (marks : ℕ → Bool) �
 free_none list first marks = record { own = []; path = refl; as_many = refl; marks = marks_none marks }
 
 -- one more is walked
-pub free_more : (list : List (List ℕ)) (first at next count : ℕ) (a b c : ℕ → Bool) → FreeFront list first at count a b → IsFreeAt list at next → Marks b c (at ∷ [])
+pub free_more : (list : List (List ℕ)) (first at next count : ℕ) (a b c : ℕ → Bool) → FreeFront list first at count a b → IsFreePageAt list at next → Marks b c (at ∷ [])
     → FreeFront list first next (suc count) a c
 free_more list first at next count a b c front here marks = record {
   own = front.own ++ at ∷ [];
@@ -31,12 +31,12 @@ pub not_among : (n : ℕ) (ns : List ℕ) → IsOutside ns n → is_among n ns �
 not_among n [] out = refl
 not_among n (m ∷ ms) out = rw (ne_eqb n m out.0, not_among n ms out.1) refl
 
-free_page : (list : List (List ℕ)) (n next : ℕ) → IsFreeAt list n next → (is_page (length list) n && is_free (page_in list n)) ≡ true
+free_page : (list : List (List ℕ)) (n next : ℕ) → IsFreePageAt list n next → (is_page (length list) n && is_free (page_in list n)) ≡ true
 free_page list n next at =
     and_from (is_page (length list) n) (is_free (page_in list n)) (and_from (ltb 0 n) (ltb n (length list)) (lt-ltb 0 n at.some) (lt-ltb n (length list) at.inside)) at.free
 
 -- a path to page 0 is the chain
-path_is : (list : List (List ℕ)) (first : ℕ) (own : List ℕ) → IsFreePath list first own 0 → AreApart own → chain (page_in list) (length list) first (length own) ≡ Some own
+path_is : (list : List (List ℕ)) (first : ℕ) (own : List ℕ) → IsFreePagePath list first own 0 → AreApart own → chain (page_in list) (length list) first (length own) ≡ Some own
 path_is list first [] path apart = rw path refl
 path_is list first (n ∷ ns) path apart =
     let at = path.1.1 in

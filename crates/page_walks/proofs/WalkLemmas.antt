@@ -20,19 +20,19 @@ use Rattle.page_walks.specs.Order.{AreBetween}
 use Rattle.bplus_tree.specs.declared.tree.Tree.{Tree}
 use Rattle.page_walks.specs.declared.spot.Spot.{Spot}
 use Rattle.page_walks.specs.Spots.{entry_at}
-use Rattle.page_walks.specs.TreeWalk.{Reach, TreeWalked, reach_of, Walked, LeafFits, InnerFits, WalkedFront, IsFront, bound_at}
+use Rattle.page_walks.specs.TreeWalk.{Reach, TreeWalked, reach_of, Walked, LeafFits, InnerFits, WalkedFront, AreFirstMembers, bound_at}
 
 pub there : (list : List (List ℕ)) (n : ℕ) → n < length list → pages_in list n ≡ Some (slice_index_or list n [])
 there list n inside = let yes : nat_lt n (length list) ≡ true = lt-ltb n (length list) inside in rw yes refl
 
 module _ {X : Type 0} (P : Bound → Bound → X → Type 0) where
-  front_more : (low : Bound) (ss : List (List ℕ)) (xs : List X) (x : X) → IsFront P low ss xs → length xs < length ss
-      → P (bound_at low ss (length xs)) (Some (get_or ss (length xs) [])) x → IsFront P low ss (xs ++ x ∷ [])
+  front_more : (low : Bound) (ss : List (List ℕ)) (xs : List X) (x : X) → AreFirstMembers P low ss xs → length xs < length ss
+      → P (bound_at low ss (length xs)) (Some (get_or ss (length xs) [])) x → AreFirstMembers P low ss (xs ++ x ∷ [])
   front_more low [] xs x front few p = absurd (omega arith)
   front_more low (s ∷ ss) [] x front few p = (p, tt)
   front_more low (s ∷ ss) (y ∷ ys) x front few p = (front.0, front_more (Some s) ss ys x front.1 (omega arith) p)
 
-  row_done : (low high : Bound) (ss : List (List ℕ)) (xs : List X) (x : X) → AreBetween low ss high → IsFront P low ss xs → length xs ≡ length ss
+  row_done : (low high : Bound) (ss : List (List ℕ)) (xs : List X) (x : X) → AreBetween low ss high → AreFirstMembers P low ss xs → length xs ≡ length ss
       → P (bound_at low ss (length ss)) high x → IsRow P low ss (xs ++ x ∷ []) high
   row_done low high [] [] x keys front same p = p
   row_done low high [] (y ∷ ys) x keys front same p = absurd front

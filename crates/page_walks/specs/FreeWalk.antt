@@ -15,20 +15,20 @@ pub record FreeWalked (list : List (List ℕ)) (first count : ℕ) (before after
   pub marks : Marks before after own
 
 -- the page is free, and this is the next one
-pub record IsFreeAt (list : List (List ℕ)) (n next : ℕ) : Type 0 where
+pub record IsFreePageAt (list : List (List ℕ)) (n next : ℕ) : Type 0 where
   pub some : 0 < n
   pub inside : n < length list
   pub free : is_free (page_in list n) ≡ true
   pub leads : next_of (page_in list n) ≡ next
 
 -- these free pages lead from the first one to this
-abbrev pub IsFreePath : List (List ℕ) → ℕ → List ℕ → ℕ → Type 0
-IsFreePath list first [] at = first ≡ at
-IsFreePath list first (n ∷ ns) at = (first ≡ n) × ((next : ℕ) × IsFreeAt list n next × IsFreePath list next ns at)
+abbrev pub IsFreePagePath : List (List ℕ) → ℕ → List ℕ → ℕ → Type 0
+IsFreePagePath list first [] at = first ≡ at
+IsFreePagePath list first (n ∷ ns) at = (first ≡ n) × ((next : ℕ) × IsFreePageAt list n next × IsFreePagePath list next ns at)
 
 -- so many free pages were reached from the first one, and this one is next
 pub record FreeFront (list : List (List ℕ)) (first at count : ℕ) (before after : ℕ → Bool) : Type 0 where
   pub own : List ℕ
-  pub path : IsFreePath list first own at
+  pub path : IsFreePagePath list first own at
   pub as_many : length own ≡ count
   pub marks : Marks before after own

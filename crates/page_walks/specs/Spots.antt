@@ -12,7 +12,7 @@ abbrev pub entries_at : Shape → List (List ℕ) → List Spot → List (List �
 entries_at shape list = map (entry_at shape list)
 
 -- the page is a leaf that has an entry there
-pub record IsThere (shape : Shape) (list : List (List ℕ)) (spot : Spot) : Type 0 where
+pub record IsSpotThere (shape : Shape) (list : List (List ℕ)) (spot : Spot) : Type 0 where
   pub page : spot.page < length list
   pub leaf : IsLeaf shape (slice_index_or list spot.page [])
   pub place : spot.place < length (leaf_entries shape (slice_index_or list spot.page []))

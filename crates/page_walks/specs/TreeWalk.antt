@@ -63,10 +63,10 @@ bound_at low [] (suc i) = low
 bound_at low (s ∷ ss) (suc i) = bound_at (Some s) ss i
 
 -- the first members of a row, each with a separator to its right
-abbrev pub IsFront : {X : Type 0} → (Bound → Bound → X → Type 0) → Bound → List (List ℕ) → List X → Type 0
-IsFront Between low ss [] = ⊤
-IsFront Between low [] (x ∷ xs) = ⊥
-IsFront Between low (s ∷ ss) (x ∷ xs) = Between low (Some s) x × IsFront Between (Some s) ss xs
+abbrev pub AreFirstMembers : {X : Type 0} → (Bound → Bound → X → Type 0) → Bound → List (List ℕ) → List X → Type 0
+AreFirstMembers Between low ss [] = ⊤
+AreFirstMembers Between low [] (x ∷ xs) = ⊥
+AreFirstMembers Between low (s ∷ ss) (x ∷ xs) = Between low (Some s) x × AreFirstMembers Between (Some s) ss xs
 
 -- so many children of a node with these separators were walked, from the first one on
 pub record WalkedFront (shape : Shape) (pages : PageMap) (k : ℕ) (low : Bound) (ss : List (List ℕ)) (below : List ℕ) (i : ℕ) (before after : Reach) : Type 0 where
@@ -74,7 +74,7 @@ pub record WalkedFront (shape : Shape) (pages : PageMap) (k : ℕ) (low : Bound)
   pub as_many : length trees ≡ i
   pub leads : map (page_of k) trees ≡ take i below
   pub holds : Each (Holds shape pages k) trees
-  pub ordered : IsFront (IsOrdered shape.width k) low ss trees
+  pub ordered : AreFirstMembers (IsOrdered shape.width k) low ss trees
   pub filled : Each (λ c. (least shape k ≤ size_of k c) × IsHalfFull shape k c) trees
   pub marks : Marks before.marks after.marks (flat_map (pages_of k) trees)
   pub adds : after.entries ≡ before.entries ++ flat_map (entries_of k) trees

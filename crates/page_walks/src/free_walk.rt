@@ -7,7 +7,7 @@
 
 ghost use Rattle.std.specs.Prelude.{◌≡◌, IfOk, OnOk};
 ghost use Rattle.page_marks.specs.Marks.{marked_in};
-ghost use Rattle.page_walks.specs.FreeWalk.{IsFreeAt, FreeWalked};
+ghost use Rattle.page_walks.specs.FreeWalk.{IsFreePageAt, FreeWalked};
 
 use byteorder::{BigEndian, ByteOrder};
 use page_marks::{WalkFault, mark};
@@ -23,7 +23,7 @@ const NEXT_END: usize = 8;
 
 /// The page behind a free page.
 fn behind(pages: &[[u8; PAGE_SIZE]], n: u32) -> Result<u32, WalkFault>
-    ensures { IfOk result (λ next. IsFreeAt pages.now n next) }
+    ensures { IfOk result (λ next. IsFreePageAt pages.now n next) }
 {
     if n == 0 || n as usize >= pages.len() {
         return Err(WalkFault::Chain);

@@ -40,8 +40,8 @@ abbrev pub behind : List Statement → Rule (List Statement) → Rule (List Stat
 behind before rule = where_it_gives (joined before) rule
 
 -- the statements that are read are added to those before
-abbrev pub Adds : Rule (List Statement) → List Statement → List Word → Result (List Statement) Refusal → List Word → Type 0
-Adds rule before words result rest = Reads ((behind before rule).reads words) result rest
+abbrev pub AddsStatements : Rule (List Statement) → List Statement → List Word → Result (List Statement) Refusal → List Word → Type 0
+AddsStatements rule before words result rest = Reads ((behind before rule).reads words) result rest
 
 -- the statements of a rule, once or more
 abbrev pub some_of : Rule (List Statement) → Rule (List Statement)

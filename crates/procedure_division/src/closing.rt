@@ -1,6 +1,6 @@
 //! The CLOSE statement.
 ghost use Rattle.deck_words.specs.Reading.{Reads};
-ghost use Rattle.procedure_division.specs.StatementRules.{Adds, some_of, lock, closed, close_statement};
+ghost use Rattle.procedure_division.specs.StatementRules.{AddsStatements, some_of, lock, closed, close_statement};
 
 use crate::file_name::file;
 use crate::names::Names;
@@ -30,7 +30,7 @@ fn closed(
     names: &Names<'_>,
     statements: StatementList,
 ) -> Result<StatementList, Refusal>
-    ensures { Adds (closed names.now) statements parser.old result parser.new }
+    ensures { AddsStatements (closed names.now) statements parser.old result parser.new }
 {
     let file = file(parser, names)?;
     let lock = lock(parser)?;
@@ -46,7 +46,7 @@ fn all_closed(
     names: &Names<'_>,
     statements: StatementList,
 ) -> Result<StatementList, Refusal>
-    ensures { Adds (some_of (closed names.now)) statements parser.old result parser.new }
+    ensures { AddsStatements (some_of (closed names.now)) statements parser.old result parser.new }
 {
     let mut statements = closed(parser, names, statements)?;
     'more: while parser.sees_name() {
@@ -61,7 +61,7 @@ pub fn close_statement(
     names: &Names<'_>,
     statements: StatementList,
 ) -> Result<StatementList, Refusal>
-    ensures { Adds (close_statement names.now) statements parser.old result parser.new }
+    ensures { AddsStatements (close_statement names.now) statements parser.old result parser.new }
 {
     parser.expect(b"CLOSE")?;
     all_closed(parser, names, statements)

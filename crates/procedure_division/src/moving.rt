@@ -4,7 +4,7 @@ ghost use Rattle.std.specs.List.{list_all};
 ghost use Rattle.std.specs.Char.{is_ascii_digit};
 ghost use Rattle.record_layout.specs.Area.{is_taken_by, sent};
 ghost use Rattle.deck_words.specs.Reading.{Reads};
-ghost use Rattle.procedure_division.specs.StatementRules.{Adds, some_of, figure, source, sent_by_literal};
+ghost use Rattle.procedure_division.specs.StatementRules.{AddsStatements, some_of, figure, source, sent_by_literal};
 ghost use Rattle.procedure_division.specs.StatementRules.{receiver, receivers, move_statement};
 
 use crate::names::Names;
@@ -96,7 +96,7 @@ fn receiver(
     source: &Source<&[u8]>,
     statements: StatementList,
 ) -> Result<StatementList, Refusal>
-    ensures { Adds (receiver names.now (sent source.now)) statements parser.old result parser.new }
+    ensures { AddsStatements (receiver names.now (sent source.now)) statements parser.old result parser.new }
 {
     let unknown = parser.fault(Cause::Unknown);
     let not_allowed = parser.fault(Cause::NotAllowed);
@@ -130,7 +130,7 @@ fn all_receivers(
     source: &Source<&[u8]>,
     statements: StatementList,
 ) -> Result<StatementList, Refusal>
-    ensures { Adds (some_of (receiver names.now (sent source.now))) statements parser.old result parser.new }
+    ensures { AddsStatements (some_of (receiver names.now (sent source.now))) statements parser.old result parser.new }
 {
     let mut statements = receiver(alloc, parser, names, source, statements)?;
     'more: while parser.sees_name() {
@@ -147,7 +147,7 @@ fn receivers(
     source: &Source<&[u8]>,
     statements: StatementList,
 ) -> Result<StatementList, Refusal>
-    ensures { Adds (receivers names.now (sent source.now)) statements parser.old result parser.new }
+    ensures { AddsStatements (receivers names.now (sent source.now)) statements parser.old result parser.new }
 {
     parser.expect(b"TO")?;
     all_receivers(alloc, parser, names, source, statements)
@@ -160,7 +160,7 @@ pub fn move_statement(
     names: &Names<'_>,
     statements: StatementList,
 ) -> Result<StatementList, Refusal>
-    ensures { Adds (move_statement names.now) statements parser.old result parser.new }
+    ensures { AddsStatements (move_statement names.now) statements parser.old result parser.new }
 {
     parser.expect(b"MOVE")?;
     let source = source(alloc, parser)?;

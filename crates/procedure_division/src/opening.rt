@@ -2,7 +2,7 @@
 ghost use Rattle.std.specs.Prelude.{◌≡◌};
 ghost use Rattle.deck_words.specs.Class.{begins};
 ghost use Rattle.procedure_division.specs.Names.{Names};
-ghost use Rattle.procedure_division.specs.StatementRules.{Adds, some_of};
+ghost use Rattle.procedure_division.specs.StatementRules.{AddsStatements, some_of};
 ghost use Rattle.procedure_division.specs.StatementRules.{opened, opening, open_statement};
 
 use crate::names::Names;
@@ -19,7 +19,7 @@ fn opened(
     mode: OpenMode,
     statements: StatementList,
 ) -> Result<StatementList, Refusal>
-    ensures { Adds (opened names.now mode) statements parser.old result parser.new }
+    ensures { AddsStatements (opened names.now mode) statements parser.old result parser.new }
 {
     let unknown = parser.fault(Cause::Unknown);
     let not_allowed = parser.fault(Cause::NotAllowed);
@@ -43,7 +43,7 @@ fn all_opened(
     mode: OpenMode,
     statements: StatementList,
 ) -> Result<StatementList, Refusal>
-    ensures { Adds (some_of (opened names.now mode)) statements parser.old result parser.new }
+    ensures { AddsStatements (some_of (opened names.now mode)) statements parser.old result parser.new }
 {
     let mut statements = opened(parser, names, mode, statements)?;
     'more: while parser.sees_name() {
@@ -59,7 +59,7 @@ fn opening(
     names: &Names<'_>,
     statements: StatementList,
 ) -> Result<StatementList, Refusal>
-    ensures { Adds (opening names.now) statements parser.old result parser.new }
+    ensures { AddsStatements (opening names.now) statements parser.old result parser.new }
 {
     if parser.eat(b"INPUT") {
         return all_opened(parser, names, OpenMode::Input, statements);
@@ -88,7 +88,7 @@ fn all_openings(
     names: &Names<'_>,
     statements: StatementList,
 ) -> Result<StatementList, Refusal>
-    ensures { Adds (some_of (opening names.now)) statements parser.old result parser.new }
+    ensures { AddsStatements (some_of (opening names.now)) statements parser.old result parser.new }
 {
     let mut statements = opening(parser, names, statements)?;
     'more: while sees_mode(parser) {
@@ -103,7 +103,7 @@ pub fn open_statement(
     names: &Names<'_>,
     statements: StatementList,
 ) -> Result<StatementList, Refusal>
-    ensures { Adds (open_statement names.now) statements parser.old result parser.new }
+    ensures { AddsStatements (open_statement names.now) statements parser.old result parser.new }
 {
     parser.expect(b"OPEN")?;
     all_openings(parser, names, statements)

@@ -1,7 +1,7 @@
 //! The READ statement.
 ghost use Rattle.std.specs.Prelude.{◌≡◌};
 ghost use Rattle.deck_words.specs.Reading.{Reads};
-ghost use Rattle.procedure_division.specs.StatementRules.{Adds, next, key, key_phrase, read_by};
+ghost use Rattle.procedure_division.specs.StatementRules.{AddsStatements, next, key, key_phrase, read_by};
 ghost use Rattle.procedure_division.specs.StatementRules.{read_operand, read_phrases, read_statement};
 
 use crate::file_name::file;
@@ -83,7 +83,7 @@ fn read_operand(
     sequential: bool,
     statements: StatementList,
 ) -> Result<StatementList, Refusal>
-    ensures { Adds (read_operand names.now file sequential) statements parser.old result parser.new }
+    ensures { AddsStatements (read_operand names.now file sequential) statements parser.old result parser.new }
 {
     parser.eat(b"RECORD");
     let key = key_phrase(parser, names, file, sequential)?;
@@ -101,7 +101,7 @@ fn read_phrases(
     file: usize,
     statements: StatementList,
 ) -> Result<StatementList, Refusal>
-    ensures { Adds (read_phrases names.now file) statements parser.old result parser.new }
+    ensures { AddsStatements (read_phrases names.now file) statements parser.old result parser.new }
 {
     let sequential = next(parser, names.access(file))?;
     read_operand(parser, names, file, sequential, statements)
@@ -113,7 +113,7 @@ pub fn read_statement(
     names: &Names<'_>,
     statements: StatementList,
 ) -> Result<StatementList, Refusal>
-    ensures { Adds (read_statement names.now) statements parser.old result parser.new }
+    ensures { AddsStatements (read_statement names.now) statements parser.old result parser.new }
 {
     parser.expect(b"READ")?;
     let file = file(parser, names)?;

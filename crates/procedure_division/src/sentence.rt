@@ -4,7 +4,7 @@ ghost use Rattle.deck_words.specs.Class.{begins, names};
 ghost use Rattle.deck_words.specs.Reading.{Reads};
 ghost use Rattle.deck_words.specs.Scanning.{map_result};
 ghost use Rattle.procedure_division.specs.Names.{Names};
-ghost use Rattle.procedure_division.specs.StatementRules.{Adds, some_of, stop_statement};
+ghost use Rattle.procedure_division.specs.StatementRules.{AddsStatements, some_of, stop_statement};
 ghost use Rattle.procedure_division.specs.Procedure.{statement, sentence, paragraph, paragraph_or_sentence};
 
 use crate::closing::close_statement;
@@ -24,7 +24,7 @@ fn stop_statement(
     parser: &mut Parser<'_>,
     statements: StatementList,
 ) -> Result<StatementList, Refusal>
-    ensures { Adds stop_statement statements parser.old result parser.new }
+    ensures { AddsStatements stop_statement statements parser.old result parser.new }
 {
     parser.expect(b"STOP")?;
     parser.expect(b"RUN")?;
@@ -48,7 +48,7 @@ fn statement(
     names: &Names<'_>,
     statements: StatementList,
 ) -> Result<StatementList, Refusal>
-    ensures { Adds (statement names.now) statements parser.old result parser.new }
+    ensures { AddsStatements (statement names.now) statements parser.old result parser.new }
 {
     if parser.sees(b"OPEN") {
         return open_statement(parser, names, statements);
@@ -84,7 +84,7 @@ fn all_statements(
     names: &Names<'_>,
     statements: StatementList,
 ) -> Result<StatementList, Refusal>
-    ensures { Adds (some_of (statement names.now)) statements parser.old result parser.new }
+    ensures { AddsStatements (some_of (statement names.now)) statements parser.old result parser.new }
 {
     let mut statements = statement(alloc, parser, names, statements)?;
     'more: while sees_statement(parser) {
@@ -100,7 +100,7 @@ fn sentence(
     names: &Names<'_>,
     statements: StatementList,
 ) -> Result<StatementList, Refusal>
-    ensures { Adds (sentence names.now) statements parser.old result parser.new }
+    ensures { AddsStatements (sentence names.now) statements parser.old result parser.new }
 {
     let statements = all_statements(alloc, parser, names, statements)?;
     parser.period()?;
@@ -131,7 +131,7 @@ pub fn paragraph_or_sentence(
     names: &Names<'_>,
     statements: StatementList,
 ) -> Result<StatementList, Refusal>
-    ensures { Adds (paragraph_or_sentence names.now) statements parser.old result parser.new }
+    ensures { AddsStatements (paragraph_or_sentence names.now) statements parser.old result parser.new }
 {
     if sees_paragraph(parser) {
         paragraph(parser)?;

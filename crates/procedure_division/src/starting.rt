@@ -1,7 +1,7 @@
 //! The START statement.
 ghost use Rattle.std.specs.Prelude.{◌≡◌};
 ghost use Rattle.deck_words.specs.Reading.{Reads};
-ghost use Rattle.procedure_division.specs.StatementRules.{Adds, greater, not_less, relation};
+ghost use Rattle.procedure_division.specs.StatementRules.{AddsStatements, greater, not_less, relation};
 ghost use Rattle.procedure_division.specs.StatementRules.{file_to_start, led_key};
 ghost use Rattle.procedure_division.specs.StatementRules.{start_by, start_phrase, start_operand, start_statement};
 
@@ -142,7 +142,7 @@ fn start_operand(
     file: usize,
     statements: StatementList,
 ) -> Result<StatementList, Refusal>
-    ensures { Adds (start_operand names.now file) statements parser.old result parser.new }
+    ensures { AddsStatements (start_operand names.now file) statements parser.old result parser.new }
 {
     let operand = start_phrase(parser, names, file)?;
     Ok(statements.with(Statement::Perform {
@@ -157,7 +157,7 @@ pub fn start_statement(
     names: &Names<'_>,
     statements: StatementList,
 ) -> Result<StatementList, Refusal>
-    ensures { Adds (start_statement names.now) statements parser.old result parser.new }
+    ensures { AddsStatements (start_statement names.now) statements parser.old result parser.new }
 {
     parser.expect(b"START")?;
     let file = file_to_start(parser, names)?;

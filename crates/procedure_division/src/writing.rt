@@ -1,5 +1,5 @@
 //! The WRITE, REWRITE and DELETE statements.
-ghost use Rattle.procedure_division.specs.StatementRules.{Adds, write_statement, rewrite_statement};
+ghost use Rattle.procedure_division.specs.StatementRules.{AddsStatements, write_statement, rewrite_statement};
 ghost use Rattle.procedure_division.specs.StatementRules.{delete_statement};
 
 use crate::file_name::{file, record_name};
@@ -15,7 +15,7 @@ pub fn write_statement(
     names: &Names<'_>,
     statements: StatementList,
 ) -> Result<StatementList, Refusal>
-    ensures { Adds (write_statement names.now) statements parser.old result parser.new }
+    ensures { AddsStatements (write_statement names.now) statements parser.old result parser.new }
 {
     parser.expect(b"WRITE")?;
     let file = record_name(parser, names)?;
@@ -31,7 +31,7 @@ pub fn rewrite_statement(
     names: &Names<'_>,
     statements: StatementList,
 ) -> Result<StatementList, Refusal>
-    ensures { Adds (rewrite_statement names.now) statements parser.old result parser.new }
+    ensures { AddsStatements (rewrite_statement names.now) statements parser.old result parser.new }
 {
     parser.expect(b"REWRITE")?;
     let file = record_name(parser, names)?;
@@ -47,7 +47,7 @@ pub fn delete_statement(
     names: &Names<'_>,
     statements: StatementList,
 ) -> Result<StatementList, Refusal>
-    ensures { Adds (delete_statement names.now) statements parser.old result parser.new }
+    ensures { AddsStatements (delete_statement names.now) statements parser.old result parser.new }
 {
     parser.expect(b"DELETE")?;
     let file = file(parser, names)?;

@@ -10,7 +10,7 @@ use Rattle.record_heap.specs.declared.shape.Place.{Place}
 use Rattle.record_heap.specs.declared.heap.Heap.{Heap}
 use Rattle.record_heap.specs.Slot.{room, used_in, behind_in}
 use Rattle.record_heap.specs.Chain.{Slots, put, KeepsSlots}
-use Rattle.record_heap.specs.Calls.{used_at, behind_at, IsHeapAt, Rewrites, Rewriting, Refilling, Gets, GetsRecord}
+use Rattle.record_heap.specs.Calls.{used_at, behind_at, IsHeapAt, RewritesSlot, Rewriting, Refilling, Gets, GetsRecord}
 use Rattle.pages.specs.Answer.{IsAnswer}
 use Rattle.record_heap.specs.Standing.{HeapStands}
 use Rattle.record_heap.specs.Found.{HeapHas, Got, GotRecord, Sets, Adds, MakesRoom}
@@ -64,7 +64,7 @@ gets_record heap pages place old new result reads slots own bytes stands here =
 -- the first free slot holds a record now
 pub heap_refilled : (heap : Heap) (before after : PageMap) (slots : Slots) (own bytes : List ℕ) (next : Place) → HeapStands heap before slots own → 1 ≤ heap.free.page
     → (f : Front (room heap.shape) own (used_at heap.shape before) (behind_at heap.shape before) slots heap.free)
-    → Rewrites heap.shape before after heap.free (λ slot. (next ≡ f.next) × (used_in heap.shape slot ≡ Some bytes))
+    → RewritesSlot heap.shape before after heap.free (λ slot. (next ≡ f.next) × (used_in heap.shape slot ≡ Some bytes))
     → HeapHas before after (record heap { free = next }) own (put slots heap.free (Some bytes))
 heap_refilled heap before after slots own bytes next stands some f w =
     let r = slot_rewritten heap before after slots own heap.free (λ slot. (next ≡ f.next) × (used_in heap.shape slot ≡ Some bytes)) stands f.of.page w in

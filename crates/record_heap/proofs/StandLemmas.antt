@@ -11,7 +11,7 @@ use Rattle.record_heap.specs.declared.shape.Place.{Place}
 use Rattle.record_heap.specs.declared.heap.Heap.{Heap}
 use Rattle.record_heap.specs.Slot.{room, used_in, behind_in}
 use Rattle.record_heap.specs.Chain.{Slots, put, IsOneOf, IsPlaceOf, KeepsSlots}
-use Rattle.record_heap.specs.Calls.{slot_of, used_at, behind_at, IsHeapAt, Rewrites}
+use Rattle.record_heap.specs.Calls.{slot_of, used_at, behind_at, IsHeapAt, RewritesSlot}
 use Rattle.record_heap.specs.Standing.{IsPageChain, HeapStands, slot_off}
 use Rattle.std.specs.Option.{option_map_or}
 use Rattle.record_heap.specs.Slots.{slot_at, Edits, IsHeapPage}
@@ -51,7 +51,7 @@ slot_still shape before after p e = ap (λ (o : Option (List ℕ)). option_map_o
 -- bytes alone, to pages alone: one slot of a lent page was written
 pub rewritten : (shape : Shape) (before after : PageMap) (place : Place) (old new : List ℕ) (P : List ℕ → Type 0)
     → before place.page ≡ Some old → after place.page ≡ Some new → ((n : ℕ) → n ≢ place.page → after n ≡ before n) → Edits shape old new place.slot P → place.slot < room shape
-    → Rewrites shape before after place P
+    → RewritesSlot shape before after place P
 rewritten shape before after place old new P lent there others e within =
     record {
       is = subst P (sym (slot_there shape after place place.page new refl there ∙ edited_here shape old new place.slot P e within)) e.is;
@@ -69,7 +69,7 @@ rewritten shape before after place old new P lent there others e within =
 
 -- a free slot was written, and the one behind it is known
 pub refills : (shape : Shape) (before after : PageMap) (place : Place) (bytes : List ℕ) (answer behind : Place) → answer ≡ behind
-    → Rewrites shape before after place (λ slot. used_in shape slot ≡ Some bytes) → Rewrites shape before after place (λ slot. (answer ≡ behind) × (used_in shape slot ≡ Some bytes))
+    → RewritesSlot shape before after place (λ slot. used_in shape slot ≡ Some bytes) → RewritesSlot shape before after place (λ slot. (answer ≡ behind) × (used_in shape slot ≡ Some bytes))
 refills shape before after place bytes answer behind same w = record { is = (same, w.is); heap = w.heap; others = w.others; pages = w.pages }
 
 -- a page of a heap that stands, at a place in use
@@ -141,7 +141,7 @@ pub record Rewritten (heap : Heap) (before after : PageMap) (own : List ℕ) (pl
   pub changes : ChangesPages before after own own
 
 pub slot_rewritten : (heap : Heap) (before after : PageMap) (slots : Slots) (own : List ℕ) (place : Place) (P : List ℕ → Type 0) → HeapStands heap before slots own
-    → IsOneOf own place.page → Rewrites heap.shape before after place P → Rewritten heap before after own place
+    → IsOneOf own place.page → RewritesSlot heap.shape before after place P → Rewritten heap before after own place
 slot_rewritten heap before after slots own place P stands of w =
     let p = page_of_chain before heap.first own place.page stands.chain of in
     record {
@@ -152,7 +152,7 @@ slot_rewritten heap before after slots own place P stands of w =
 
 -- a place in use was made free
 pub heap_freed : (heap : Heap) (before after : PageMap) (slots : Slots) (own : List ℕ) (place : Place) (bytes : List ℕ) → HeapStands heap before slots own → slots place ≡ Some bytes
-    → Rewrites heap.shape before after place (λ slot. behind_in slot ≡ Some heap.free) → HeapHas before after (record heap { free = place }) own (put slots place None)
+    → RewritesSlot heap.shape before after place (λ slot. behind_in slot ≡ Some heap.free) → HeapHas before after (record heap { free = place }) own (put slots place None)
 heap_freed heap before after slots own place bytes stands here w =
     let of = (stands.keeps.used_are place bytes here).0 in
     let r = slot_rewritten heap before after slots own place (λ slot. behind_in slot ≡ Some heap.free) stands of.page w in
@@ -169,7 +169,7 @@ heap_freed heap before after slots own place bytes stands here w =
 
 -- a place in use holds other bytes now
 pub heap_set : (heap : Heap) (before after : PageMap) (slots : Slots) (own : List ℕ) (place : Place) (old bytes : List ℕ) → HeapStands heap before slots own → slots place ≡ Some old
-    → Rewrites heap.shape before after place (λ slot. used_in heap.shape slot ≡ Some bytes) → HeapHas before after heap own (put slots place (Some bytes))
+    → RewritesSlot heap.shape before after place (λ slot. used_in heap.shape slot ≡ Some bytes) → HeapHas before after heap own (put slots place (Some bytes))
 heap_set heap before after slots own place old bytes stands here w =
     let of = (stands.keeps.used_are place old here).0 in
     let r = slot_rewritten heap before after slots own place (λ slot. used_in heap.shape slot ≡ Some bytes) stands of.page w in

@@ -29,7 +29,7 @@ pub record IsHeapAt (pages : PageMap) (n next : ℕ) : Type 0 where
   pub heap : IsHeapPage next bytes
 
 -- The slot at a place has other bytes now, of which P holds; its page is a heap page still. Every other slot and every other page is as it was.
-pub record Rewrites (shape : Shape) (before after : PageMap) (place : Place) (P : List ℕ → Type 0) : Type 0 where
+pub record RewritesSlot (shape : Shape) (before after : PageMap) (place : Place) (P : List ℕ → Type 0) : Type 0 where
   pub is : P (slot_of shape after place)
   pub heap : (next : ℕ) → IsHeapAt before place.page next → IsHeapAt after place.page next
   pub others : (q : Place) → q ≢ place → slot_of shape after q ≡ slot_of shape before q
@@ -39,7 +39,7 @@ pub record Rewrites (shape : Shape) (before after : PageMap) (place : Place) (P 
 abbrev pub Rewriting : {X : Type 0} → Shape → PagesState → PagesState → Place → (X → List ℕ → Type 0) → Result X Fault → Type 0
 Rewriting shape before after place P result =
     IsTrue after.is_honest → IsTrue before.is_sound → (next : ℕ) → IsHeapAt before.live place.page next → place.slot < room shape
-    → IsAnswer result (λ x. Rewrites shape before.live after.live place (P x) × IsTrue after.is_sound)
+    → IsAnswer result (λ x. RewritesSlot shape before.live after.live place (P x) × IsTrue after.is_sound)
 
 -- a call that rewrites a free slot, and answers the place of the one behind it
 abbrev pub Refilling : Shape → PagesState → PagesState → Place → List ℕ → Result Place Fault → Type 0

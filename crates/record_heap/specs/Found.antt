@@ -41,8 +41,8 @@ pub record TakesFew (heap : Heap) (before after : PagesState) : Type 0 where
   pub none : heap.free.page ≢ 0 → after.available ≡ before.available
 
 -- no slot is free, and no page can be taken
-abbrev pub LacksRoom : Heap → PagesState → Type 0
-LacksRoom heap pages = (heap.free.page ≡ 0) × (pages.available ≡ 0)
+abbrev pub LacksSlot : Heap → PagesState → Type 0
+LacksSlot heap pages = (heap.free.page ≡ 0) × (pages.available ≡ 0)
 
 -- the heap has a free slot now, and the records that it had
 abbrev pub MakesRoom : PagesState → PagesState → Heap → Heap → Result ⊤ Fault → Type 0

@@ -21,7 +21,7 @@ impl Heap {
     ghost use Rattle.record_heap.specs.Chain.{no_slots};
     ghost use Rattle.record_heap.specs.Calls.{FillsFront};
     ghost use Rattle.record_heap.specs.Standing.{HeapStands};
-    ghost use Rattle.record_heap.specs.Found.{Got, GotRecord, Adds, MakesRoom, Sets, TakesFew, LacksRoom};
+    ghost use Rattle.record_heap.specs.Found.{Got, GotRecord, Adds, MakesRoom, Sets, TakesFew, LacksSlot};
 
     /// A heap without records and without pages.
     pub fn new(shape: Shape) -> Heap
@@ -92,7 +92,7 @@ impl Heap {
         ensures shape { self.new.shape ≡ self.old.shape }
         ensures few { TakesFew self.old (P.state pages.old) (P.state pages.new) }
         ensures cause { IfErr result (IsCaused (P.HasFailed pages.old pages.new)
-            (LacksRoom self.old (P.state pages.old))) }
+            (LacksSlot self.old (P.state pages.old))) }
         ensures asked { (P.state pages.new).asked ≤ (P.state pages.old).asked + 3 }
         ensures goes { P.Goes pages.old pages.new }
     {
@@ -154,7 +154,7 @@ impl Heap {
         ensures shape { self.new.shape ≡ self.old.shape }
         ensures few { TakesFew self.old (P.state pages.old) (P.state pages.new) }
         ensures cause { IfErr result (IsCaused (P.HasFailed pages.old pages.new)
-            (LacksRoom self.old (P.state pages.old))) }
+            (LacksSlot self.old (P.state pages.old))) }
         ensures asked { (P.state pages.new).asked ≤ (P.state pages.old).asked + 2 }
         ensures goes { P.Goes pages.old pages.new }
     {

@@ -11,7 +11,7 @@ use Rattle.std.proofs.lemmas.Bool.{false≢true, eqb-true, ltb-true}
 use Rattle.std.proofs.lemmas.Bool.Decides.{nat_tests}
 use Rattle.record_layout.specs.declared.picture.Picture.{Picture}
 use Rattle.record_layout.specs.Picture.{is_symbol, number, IsGroup, AreGroups, Means, IsPicture}
-use Rattle.record_layout.specs.Reading.{behind_close, size_at, behind_symbol, group_at, capped, IsCut}
+use Rattle.record_layout.specs.Reading.{behind_close, size_at, behind_symbol, group_at, capped, IsCappedCut}
 
 both_true : (a b : Bool) → (a && b) ≡ true → (a ≡ true) × (b ≡ true)
 both_true true b e = (refl, e)
@@ -162,11 +162,11 @@ pub record SoFar (numeric : Bool) (text : List ℕ) (total : ℕ) (rest : List �
 pub start : (numeric : Bool) (text : List ℕ) → 0 < length text → SoFar numeric text 0 text
 start numeric text some = record { done = 0; total_is = refl; onward = λ sizes g. (sizes, g, omega arith); back = λ all g. (all, g, omega arith); some = some }
 
-found_cut : (cut : Option (ℕ × List ℕ)) (found : ℕ × Bor (List ℕ)) → IsCut cut (Some found) → (g : ℕ × List ℕ) × (cut ≡ Some g) × (found.0 ≡ capped g.0) × (found.1.now ≡ g.1)
+found_cut : (cut : Option (ℕ × List ℕ)) (found : ℕ × Bor (List ℕ)) → IsCappedCut cut (Some found) → (g : ℕ × List ℕ) × (cut ≡ Some g) × (found.0 ≡ capped g.0) × (found.1.now ≡ g.1)
 found_cut None found h = absurd h
 found_cut (Some g) found h = (g, refl, h.0, h.1)
 
-none_cut : (cut : Option (ℕ × List ℕ)) → IsCut cut None → cut ≡ None
+none_cut : (cut : Option (ℕ × List ℕ)) → IsCappedCut cut None → cut ≡ None
 none_cut None h = refl
 none_cut (Some g) h = absurd h
 
@@ -174,7 +174,7 @@ head_size : (numeric : Bool) (b : ℕ) (rest sizes : List ℕ) → AreGroups num
 head_size numeric b rest [] g = let k = g in absurd (cc)
 head_size numeric b rest (n ∷ sizes) g = (n, sizes, refl)
 
-pub step : (numeric : Bool) (text : List ℕ) (total : ℕ) (rest : List ℕ) (found : ℕ × Bor (List ℕ)) → SoFar numeric text total rest → 0 < length rest → IsCut (group_at numeric rest) (Some found) → SoFar numeric text (capped (total + found.0)) found.1.now
+pub step : (numeric : Bool) (text : List ℕ) (total : ℕ) (rest : List ℕ) (found : ℕ × Bor (List ℕ)) → SoFar numeric text total rest → 0 < length rest → IsCappedCut (group_at numeric rest) (Some found) → SoFar numeric text (capped (total + found.0)) found.1.now
 step numeric text total rest found so long h =
     let k = some_front rest long in
     let c = found_cut (group_at numeric rest) found h in
@@ -211,7 +211,7 @@ finish numeric text total [] so e =
     (so.done, (o.0, not_none numeric text o.0 o.1 so.some, o.1, omega (arith, o.2)), so.total_is)
 finish numeric text total (b ∷ rest) so e = absurd (omega (arith, e))
 
-pub refused : (numeric : Bool) (text : List ℕ) (total : ℕ) (rest : List ℕ) → SoFar numeric text total rest → 0 < length rest → IsCut (group_at numeric rest) None → (n : ℕ) → Means numeric text n → ⊥
+pub refused : (numeric : Bool) (text : List ℕ) (total : ℕ) (rest : List ℕ) → SoFar numeric text total rest → 0 < length rest → IsCappedCut (group_at numeric rest) None → (n : ℕ) → Means numeric text n → ⊥
 refused numeric text total rest so long h n m =
     let front = some_front rest long in
     let o = so.back m.0 m.2 in

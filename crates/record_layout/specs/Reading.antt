@@ -30,8 +30,8 @@ abbrev pub capped : ℕ → ℕ
 capped n = min n 4001
 
 -- the size, capped, and the rest are those that are read
-abbrev pub IsCut : Option (ℕ × List ℕ) → Option (ℕ × Bor (List ℕ)) → Type 0
-IsCut None None = Unit {0}
-IsCut None (Some _) = ⊥
-IsCut (Some _) None = ⊥
-IsCut (Some cut) (Some found) = (found.0 ≡ capped cut.0) × (found.1.now ≡ cut.1)
+abbrev pub IsCappedCut : Option (ℕ × List ℕ) → Option (ℕ × Bor (List ℕ)) → Type 0
+IsCappedCut None None = Unit {0}
+IsCappedCut None (Some _) = ⊥
+IsCappedCut (Some _) None = ⊥
+IsCappedCut (Some cut) (Some found) = (found.0 ≡ capped cut.0) × (found.1.now ≡ cut.1)

@@ -4,7 +4,7 @@ ghost use Rattle.std.specs.List.{prefix_len};
 ghost use Rattle.std.specs.Char.{is_ascii_digit};
 ghost use Rattle.record_layout.specs.Picture.{is_symbol, number, Means, IsPicture, IsTooLong, IsBad};
 ghost use Rattle.record_layout.specs.declared.picture.Picture.{Picture};
-ghost use Rattle.record_layout.specs.Reading.{group_at, size_at, capped, IsCut};
+ghost use Rattle.record_layout.specs.Reading.{group_at, size_at, capped, IsCappedCut};
 
 use crate::LayoutFault;
 
@@ -79,7 +79,7 @@ fn total(numeric: bool, text: &[u8]) -> Option<u64>
 
 /// The size of the group at the front, and the rest.
 fn group(numeric: bool, bytes: &[u8]) -> Option<(u64, &[u8])>
-    ensures group { IsCut (group_at numeric bytes.now) result }
+    ensures group { IsCappedCut (group_at numeric bytes.now) result }
     ensures bounds { IfSome result (λ cut. (length cut.1.now < length bytes.now) × (cut.0 ≤ 4001)) }
 {
     let (symbol, rest) = bytes.split_first()?;
@@ -104,7 +104,7 @@ fn is_symbol_byte(numeric: bool, byte: u8) -> bool
 
 /// The size behind an opening parenthesis, and the rest behind the closing one.
 fn size(bytes: &[u8]) -> Option<(u64, &[u8])>
-    ensures size { IsCut (size_at bytes.now) result }
+    ensures size { IsCappedCut (size_at bytes.now) result }
     ensures bounds { IfSome result (λ cut. (length cut.1.now ≤ length bytes.now) × (cut.0 ≤ 4001)) }
 {
     let end = digits_len(bytes);

@@ -22,7 +22,7 @@ use Rattle.open_file.specs.declared.open_file.OpenFile.{OpenFile}
 use Rattle.row_checks.specs.Rows.{prime_at, place_at, places_in, row_at}
 
 -- stamps, and a record of a length that the file has
-pub record IsStored (opened : OpenFile) (stored : List ℕ) : Type 0 where
+pub record IsStoredRecord (opened : OpenFile) (stored : List ℕ) : Type 0 where
   pub least : stamps_length (drop 1 opened.schema.keys) + opened.schema.least ≤ length stored
   pub greatest : length stored ≤ stamps_length (drop 1 opened.schema.keys) + opened.schema.greatest
   pub bytes : Each (λ b. b < 256) stored
@@ -33,7 +33,7 @@ pub record LeadsToRow (opened : OpenFile) (list : List (List ℕ)) (marks : List
   pub bytes : Each (λ b. b < 256) (prime_at opened list spot)
   pub stored : List ℕ
   pub there : slot_off opened.heap (pages_in list) (place_at opened list spot) ≡ Some stored
-  pub fits : IsStored opened stored
+  pub fits : IsStoredRecord opened stored
   pub own : marked_in marks (place_at opened list spot).page ≡ true
   pub within : (place_at opened list spot).slot < room opened.heap.shape
   pub row : IsTrue (is_row opened.schema opened.next_stamp (row_off opened.schema (Some stored)))

@@ -8,7 +8,7 @@ ghost use Rattle.record_heap.specs.Slots.{slot_at};
 ghost use Rattle.record_heap.specs.Standing.{slot_off};
 ghost use Rattle.page_marks.specs.PageList.{pages_in};
 ghost use Rattle.open_file.specs.Stands.{IsShaped};
-ghost use Rattle.row_checks.specs.Leading.{IsStored};
+ghost use Rattle.row_checks.specs.Leading.{IsStoredRecord};
 
 use crate::entry::bytes_fit;
 use byteorder::{BigEndian, ByteOrder};
@@ -73,7 +73,7 @@ pub fn stored_at<'a>(
     requires { IsShaped file.now }
     ensures value { option_copied result ≡ slot_off file.now.heap (pages_in pages.now) place }
     ensures within { IfSome result (λ stored. place.slot < room file.now.heap.shape) }
-    ensures fits { IfSome result (λ stored. IsStored file.now stored.now) }
+    ensures fits { IfSome result (λ stored. IsStoredRecord file.now stored.now) }
 {
     let shape = file.heap.shape;
     let i = place.slot as usize;

@@ -7,7 +7,7 @@ ghost use Rattle.indexed_file.specs.Sound.{is_row};
 ghost use Rattle.open_file.specs.Stored.{stamps_length};
 ghost use Rattle.open_file.specs.ReadOff.{row_off};
 ghost use Rattle.open_file.specs.Stands.{IsShaped};
-ghost use Rattle.row_checks.specs.Leading.{IsStored};
+ghost use Rattle.row_checks.specs.Leading.{IsStoredRecord};
 
 use crate::stamps::{are_stamps, stamp_at};
 use open_file::OpenFile;
@@ -15,7 +15,7 @@ use open_file::OpenFile;
 /// The record behind the stamps.
 fn record_of<'a>(file: &OpenFile, stored: &'a [u8]) -> &'a [u8]
     requires shaped { IsShaped file.now }
-    requires fits { IsStored file.now stored.now }
+    requires fits { IsStoredRecord file.now stored.now }
     ensures value { result.now ≡ drop (stamps_length (drop 1 file.now.schema.keys)) stored.now }
     ensures least { file.now.schema.least ≤ length result.now }
 {
@@ -25,7 +25,7 @@ fn record_of<'a>(file: &OpenFile, stored: &'a [u8]) -> &'a [u8]
 /// Stamps and record are those of a row of the file.
 pub fn is_row(file: &OpenFile, stored: &[u8]) -> bool
     requires shaped { IsShaped file.now }
-    requires fits { IsStored file.now stored.now }
+    requires fits { IsStoredRecord file.now stored.now }
     ensures { IsTrue result → IsTrue (is_row file.now.schema file.now.next_stamp (row_off file.now.schema (Some stored.now))) }
 {
     are_stamps(&file.schema.keys()[1..], stored, file.next_stamp)
@@ -34,7 +34,7 @@ pub fn is_row(file: &OpenFile, stored: &[u8]) -> bool
 /// The value of key k.
 pub fn value<'a>(file: &OpenFile, stored: &'a [u8], k: u8) -> &'a [u8]
     requires shaped { IsShaped file.now }
-    requires fits { IsStored file.now stored.now }
+    requires fits { IsStoredRecord file.now stored.now }
     requires key { k < length file.now.schema.keys }
     ensures { result.now ≡ value_of file.now.schema k (row_off file.now.schema (Some stored.now)).bytes }
 {
@@ -44,7 +44,7 @@ pub fn value<'a>(file: &OpenFile, stored: &'a [u8], k: u8) -> &'a [u8]
 /// The stamp in alternate key k, 0 in a unique one.
 pub fn stamp(file: &OpenFile, stored: &[u8], k: u8) -> u64
     requires shaped { IsShaped file.now }
-    requires fits { IsStored file.now stored.now }
+    requires fits { IsStoredRecord file.now stored.now }
     requires some { 1 ≤ k }
     requires key { k < length file.now.schema.keys }
     ensures { result ≡ stamp_of k (row_off file.now.schema (Some stored.now)) }

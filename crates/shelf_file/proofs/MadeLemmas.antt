@@ -18,7 +18,7 @@ use Rattle.page_alloc.specs.PagedFile.{IsOpenOver, IsNewPagedFile}
 use Rattle.page_alloc.specs.Steps.{Goes, state_of}
 use Rattle.page_alloc.specs.StepLaws.{failed_after}
 use Rattle.page_alloc.proofs.OpenLemmas.{made_quietly}
-use Rattle.open_file.specs.Creating.{IsNew, IsNewOpenFile}
+use Rattle.open_file.specs.Creating.{IsNewFile, IsNewOpenFile}
 use Rattle.open_file.specs.Faults.{IsCausedIn}
 use Rattle.open_file.specs.declared.open_file.OpenFile.{OpenFile}
 use Rattle.shelf_file.specs.Shelves.{IsMade}
@@ -63,7 +63,7 @@ module _ (unit limit : ℕ) (a b : PagedFile) (s t : ShelfState) (failed fails :
   }
 
   pub is_made : (file : OpenFile) (schema : Schema) → IsNewOpenFile file schema → available_of b.pager + length schema.keys ≡ available_of a.pager
-      → (IsTrue t.is_honest → IsNew file (state_of b t).live (IsTrue (state_of b t).is_sound)) → IsMade (record { file = file; pages = b }) unit limit schema t
+      → (IsTrue t.is_honest → IsNewFile file (state_of b t).live (IsTrue (state_of b t).is_sound)) → IsMade (record { file = file; pages = b }) unit limit schema t
   is_made file schema parts spent new = record {
     unit_is = goes.parts.unit ∙ made.unit_is;
     schema_is = parts.schema_is;

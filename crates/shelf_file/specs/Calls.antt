@@ -21,8 +21,8 @@ pub record HasChanged {X : Type 0} (new : ShelfFile) (after : ShelfState) (answe
   pub stands : StandsFor new after file
 
 -- where the shelf is honest and the pages stood for a file, the answer and the file after it are these
-abbrev pub Changes : {X : Type 0} → ShelfFile → ShelfFile → ShelfState → ShelfState → (File → X) → (File → File) → Result X Fault → Type 0
-Changes old new before after answer made result =
+abbrev pub ChangesShelfFile : {X : Type 0} → ShelfFile → ShelfFile → ShelfState → ShelfState → (File → X) → (File → File) → Result X Fault → Type 0
+ChangesShelfFile old new before after answer made result =
     IsTrue after.is_honest → (file : File) → StandsFor old before file → IsAnswer result (HasChanged new after (answer file) (made file))
 
 -- the file lacks room for a change that does not clash, and nothing is changed

@@ -12,7 +12,7 @@ ghost use Rattle.file_changes.specs.Adding.{file_after_add};
 ghost use Rattle.file_changes.specs.Replacing.{file_after_replace};
 ghost use Rattle.file_changes.specs.Removing.{file_after_remove};
 ghost use Rattle.shelf_file.specs.Standing.{IsReady, StandsFor, room_in};
-ghost use Rattle.shelf_file.specs.Calls.{OnlyReadsFile, Changes, IsFull};
+ghost use Rattle.shelf_file.specs.Calls.{OnlyReadsFile, ChangesShelfFile, IsFull};
 
 use crate::shelf_file::ShelfFile;
 use indexed_file::{Added, Replaced};
@@ -27,7 +27,7 @@ impl ShelfFile {
         requires ready { IsReady self.old (S.state shelf.old) }
         requires least { self.old.file.schema.least ≤ length bytes.now }
         requires greatest { length bytes.now ≤ self.old.file.schema.greatest }
-        ensures added { Changes self.old self.new (S.state shelf.old) (S.state shelf.new)
+        ensures added { ChangesShelfFile self.old self.new (S.state shelf.old) (S.state shelf.new)
             (added_answer self.old.file.schema bytes.now) (file_after_add self.old.file.schema bytes.now) result }
         ensures clash { result ≡ Ok Added.Clash
             → OnlyReadsFile self.old self.new (S.state shelf.old) (S.state shelf.new) (S.fault_count shelf.old) (S.fault_count shelf.new) }
@@ -59,7 +59,7 @@ impl ShelfFile {
         requires ready { IsReady self.old (S.state shelf.old) }
         requires least { self.old.file.schema.least ≤ length bytes.now }
         requires greatest { length bytes.now ≤ self.old.file.schema.greatest }
-        ensures replaced { Changes self.old self.new (S.state shelf.old) (S.state shelf.new)
+        ensures replaced { ChangesShelfFile self.old self.new (S.state shelf.old) (S.state shelf.new)
             (replaced_answer self.old.file.schema bytes.now) (file_after_replace self.old.file.schema bytes.now) result }
         ensures clash { result ≡ Ok Replaced.Clash
             → OnlyReadsFile self.old self.new (S.state shelf.old) (S.state shelf.new) (S.fault_count shelf.old) (S.fault_count shelf.new) }
@@ -91,7 +91,7 @@ impl ShelfFile {
     /// Takes out the record of a prime value, and tells whether there was one. After a fault the file is broken.
     pub fn remove<S: Shelf>(&mut self, shelf: &mut S, key: &Key) -> Result<bool, Fault>
         requires ready { IsReady self.old (S.state shelf.old) }
-        ensures removed { Changes self.old self.new (S.state shelf.old) (S.state shelf.new)
+        ensures removed { ChangesShelfFile self.old self.new (S.state shelf.old) (S.state shelf.new)
             (λ file. is_some (row_of self.old.file.schema key.now.items file)) (file_after_remove self.old.file.schema key.now.items) result }
         ensures gone { result ≡ Ok false
             → OnlyReadsFile self.old self.new (S.state shelf.old) (S.state shelf.new) (S.fault_count shelf.old) (S.fault_count shelf.new) }

@@ -33,7 +33,7 @@ use Rattle.shelf_library.specs.declared.held.Held.TheVariants.{Nothing, Looked, 
 use Rattle.shelf_library.specs.State.{LibraryState, held_at, IsLooked, AreLooked, IsReadyAt, AreReady}
 use Rattle.shelf_library.specs.Units.{unit_of, holding_of, world_of}
 use Rattle.shelf_library.specs.Truth.{IsTrulyClosed, IsTrulyOpen, IsShownTruly}
-use Rattle.shelf_library.specs.OneUnit.{AreUnits, ChangesAt, Fits, IsTrulyHeld}
+use Rattle.shelf_library.specs.OneUnit.{AreUnits, ChangesAt, FitsItsFile, IsTrulyHeld}
 use Rattle.shelf_library.specs.Crashes.{Passes, AllPass}
 use Rattle.shelf_library.specs.Library.{shown_by}
 use Rattle.shelf_library.proofs.WorldLemmas.{ShowsSame, only_at, set_here, set_aside, set_long, name_now, holding_now, named_now}
@@ -194,14 +194,14 @@ module _ (u : ℕ) (one : Held) (old new : ShelfState) (held now : List Held) (a
         accepted = λ honest. ap (λ (bytes : DeviceFile). look_of bytes.seen) (file_aside v lt other) ∙ was.accepted (call.others.honest honest);
       }
 
-  pub looked_after : Fits u one new → AreLooked new now
+  pub looked_after : FitsItsFile u one new → AreLooked new now
   looked_after fits v header is =
       either (v == u) (IsLooked new v header)
       (λ hit. let at : v ≡ u = eqb-true v u hit in
       subst (λ (w : ℕ). IsLooked new w header) (sym at) (fits.looked header (sym held_here ∙ ap (λ (w : ℕ). held_at now w) (sym at) ∙ is)))
       (λ miss. let other : v ≢ u = eqb-false v u miss in looked_at_other v header other (sym (held_aside v other) ∙ is))
 
-  pub ready_after : Fits u one new → AreReady new now
+  pub ready_after : FitsItsFile u one new → AreReady new now
   ready_after fits v file is =
       either (v == u) (IsReadyAt new v file)
       (λ hit. let at : v ≡ u = eqb-true v u hit in
@@ -216,7 +216,7 @@ module _ (u : ℕ) (one : Held) (old new : ShelfState) (held now : List Held) (a
         ready = ready_same file old new (open_aside v file lt other held_was) call.others.names call.others.honest was.ready;
       })
 
-  pub are_after : Fits u one new → AreUnits new now
+  pub are_after : FitsItsFile u one new → AreUnits new now
   are_after fits = record {
     many = long_after;
     distinct = subst (λ (ns : List (List ℕ)). IsDistinct bytes_eq ns) (sym call.others.names) are.distinct;

@@ -25,7 +25,7 @@ use Rattle.shelf_library.specs.Crashes.{Passes, PassesBy}
 use Rattle.shelf_library.specs.State.{LibraryState, IsReadyAt, held_at}
 use Rattle.shelf_library.specs.Truth.{IsTrulyClosed, IsTrulyOpen}
 use Rattle.shelf_library.specs.OneUnit.{ChangesAt, IsTrulyHeld}
-use Rattle.shelf_library.specs.Closing.{ClosesAt}
+use Rattle.shelf_library.specs.Closing.{ClosesUnitAt}
 use Rattle.shelf_library.proofs.RefusedLemmas.{refused_look, refused_named, refused_passes}
 use Rattle.shelf_library.proofs.AcceptedLemmas.{closed_named, closed_there}
 
@@ -71,7 +71,7 @@ on_more (Err fault) P Q f p = tt
 
 -- ---- the file of the unit
 
-module _ (u : ℕ) (file : ShelfFile) (result : Result (Unit {0}) Fault) (old new : LibraryState) (call : ClosesAt u file result old new) where
+module _ (u : ℕ) (file : ShelfFile) (result : Result (Unit {0}) Fault) (old new : LibraryState) (call : ClosesUnitAt u file result old new) where
   pub before : DeviceFile
   before = unit_file old.shelf u
 

@@ -15,7 +15,7 @@ use Rattle.shelf_library.specs.declared.held.Held.TheVariants.{Nothing, Looked, 
 use Rattle.shelf_library.specs.State.{LibraryState, held_at, IsLooked, IsReadyAt}
 use Rattle.shelf_library.specs.Units.{holding_of, room_of_held, asked_of}
 use Rattle.shelf_library.specs.Truth.{IsTrulyOpen}
-use Rattle.shelf_library.specs.OneUnit.{AreUnits, ChangesAt, Fits, IsTrulyHeld}
+use Rattle.shelf_library.specs.OneUnit.{AreUnits, ChangesAt, FitsItsFile, IsTrulyHeld}
 use Rattle.shelf_library.specs.Library.{shown_by}
 use Rattle.shelf_library.proofs.AsideLemmas.{held_here, held_aside, world_same, truth_after, held_truly, images_aside}
 use Rattle.std.proofs.Common.{◌==◌}
@@ -65,7 +65,7 @@ recounted_ready shelf u file at =
       };
     }
 
-pub recount_fits : (shelf : ShelfState) (held : List Held) (u : ℕ) (one : Held) → AreUnits shelf held → held_at held u ≡ one → Fits u (recount one) shelf
+pub recount_fits : (shelf : ShelfState) (held : List Held) (u : ℕ) (one : Held) → AreUnits shelf held → held_at held u ≡ one → FitsItsFile u (recount one) shelf
 recount_fits shelf held u Nothing are is = record { looked = λ header e. absurd (cc); ready = λ file e. absurd (cc) }
 recount_fits shelf held u (Looked header) are is = record { looked = λ other e. are.looked u other (is ∙ e); ready = λ file e. absurd (cc) }
 recount_fits shelf held u (Opened file) are is = record {

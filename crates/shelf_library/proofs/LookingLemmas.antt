@@ -25,7 +25,7 @@ use Rattle.shelf_library.specs.Truth.{IsTrulyClosed}
 use Rattle.shelf_library.specs.Units.{world_of, holding_of}
 use Rattle.shelf_library.specs.Library.{shown_by}
 use Rattle.shelf_library.specs.Looking.{LooksAt}
-use Rattle.shelf_library.specs.OneUnit.{AreUnits, ChangesAt, Fits, IsTrulyHeld}
+use Rattle.shelf_library.specs.OneUnit.{AreUnits, ChangesAt, FitsItsFile, IsTrulyHeld}
 use Rattle.shelf_library.proofs.AsideLemmas.{only_here, holding_after, named_before, named_after, are_after, images_aside}
 use Rattle.shelf_library.proofs.FaultLemmas.{has_risen}
 use Rattle.shelf_library.proofs.UnitLemmas.{keeps_at, images_at}
@@ -78,7 +78,7 @@ module _ (u : ℕ) (look : Result Look Fault) (old new : LibraryState) (call : L
   same_file : unit_file new.shelf u ≡ unit_file old.shelf u
   same_file = λ i. (call.only.file i) (unit_name (record { names = call.only.names i; file = call.only.file i; is_honest = false }) u)
 
-  fits : Fits u (held_after look) new.shelf
+  fits : FitsItsFile u (held_after look) new.shelf
   fits = record {
     looked = λ header is.
         let found = looked_by look header is in

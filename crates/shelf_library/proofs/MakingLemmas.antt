@@ -23,7 +23,7 @@ use Rattle.shelf_library.specs.Told.{held_open, answer_open}
 use Rattle.shelf_library.specs.Truth.{IsTrulyOpen, IsShownTruly}
 use Rattle.shelf_library.specs.Units.{world_of, holding_of, room_of_held}
 use Rattle.shelf_library.specs.Library.{shown_by}
-use Rattle.shelf_library.specs.OneUnit.{AreUnits, ChangesAt, Fits, IsTrulyHeld}
+use Rattle.shelf_library.specs.OneUnit.{AreUnits, ChangesAt, FitsItsFile, IsTrulyHeld}
 use Rattle.shelf_library.specs.Opening.{MakesAt}
 use Rattle.shelf_library.proofs.AsideLemmas.{are_after, name_before, name_same, held_here, holding_after, named_before, named_after, truth_here}
 use Rattle.shelf_library.proofs.RefusedLemmas.{refused_look, refused_named}
@@ -55,7 +55,7 @@ module _ (u : ℕ) (schema : Schema) (r : Result ShelfFile Fault) (old new : Lib
   changes : ChangesAt u (held_open r) old.shelf new.shelf old.held new.held
   changes = record { attached = call.attached; others = call.others; holds = call.holds }
 
-  fits : (x : Result ShelfFile Fault) → IfOk x (λ file. IsMade file u new.limit schema new.shelf) → Fits u (held_open x) new.shelf
+  fits : (x : Result ShelfFile Fault) → IfOk x (λ file. IsMade file u new.limit schema new.shelf) → FitsItsFile u (held_open x) new.shelf
   fits (Ok file) made = open_fits u file new.shelf (record { unit_is = made.unit_is; ready = made.ready })
   fits (Err fault) made = nothing_fits u new.shelf
 

@@ -26,7 +26,7 @@ use Rattle.shelf_library.specs.Truth.{IsTrulyClosed}
 use Rattle.shelf_library.specs.Crashes.{Passes}
 use Rattle.shelf_library.specs.Library.{shown_by}
 use Rattle.shelf_library.specs.Units.{world_of}
-use Rattle.shelf_library.specs.OneUnit.{AreUnits, ChangesAt, Fits}
+use Rattle.shelf_library.specs.OneUnit.{AreUnits, ChangesAt, FitsItsFile}
 use Rattle.shelf_library.specs.Reading.{ReadsAt}
 use Rattle.shelf_library.specs.Changing.{MovesAt}
 use Rattle.shelf_library.specs.declared.held.Held.{Held}
@@ -90,7 +90,7 @@ module _ (u : ℕ) (file after : ShelfFile) (old new : LibraryState) (call : Mov
   pub changes_at : ChangesAt u (Opened after) old.shelf new.shelf old.held new.held
   changes_at = record { attached = call.attached; others = others; holds = call.holds }
 
-  pub fits : Fits u (Opened after) new.shelf
+  pub fits : FitsItsFile u (Opened after) new.shelf
   fits = record {
     looked = λ header is. absurd (cc);
     ready = λ held is. subst (λ held. IsReadyAt new.shelf u held) (opened_is after held is) (record { unit_is = unit_after; ready = call.ready });

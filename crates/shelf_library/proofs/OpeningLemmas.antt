@@ -17,7 +17,7 @@ use Rattle.shelf_library.specs.State.{held_at}
 use Rattle.shelf_library.specs.Told.{held_open, answer_open}
 use Rattle.shelf_library.specs.Truth.{IsTrulyOpen}
 use Rattle.shelf_library.specs.Units.{holding_of}
-use Rattle.shelf_library.specs.OneUnit.{ChangesAt, Fits, IsTrulyHeld}
+use Rattle.shelf_library.specs.OneUnit.{ChangesAt, FitsItsFile, IsTrulyHeld}
 use Rattle.indexed_file.specs.Images.{untouched}
 use Rattle.indexed_file.specs.UnitCalls.{OpensUnit}
 use Rattle.indexed_file.specs.World.{holding_at, named_at, name_at, schema_at, schema_in, is_open}
@@ -52,7 +52,7 @@ want_of_memory is_honest truly old new (Err fault) is =
     subst (λ (e : Fault). MayFail false is_honest truly old new e) (sym same) refl
 
 module _ (u : ℕ) (shelf : ShelfState) (header : Header) (has : HasUnit shelf u) (accepted : IsTrue shelf.is_honest → HasAccepted shelf u header) where
-  pub opened_fits : (r : Result ShelfFile Fault) → IfOk r (λ held. IsOpened held u header) → Fits u (held_open r) shelf
+  pub opened_fits : (r : Result ShelfFile Fault) → IfOk r (λ held. IsOpened held u header) → FitsItsFile u (held_open r) shelf
   opened_fits (Ok file) opened = open_fits u file shelf (record { unit_is = opened.unit_is; ready = opened.ready shelf has accepted })
   opened_fits (Err fault) opened = nothing_fits u shelf
 

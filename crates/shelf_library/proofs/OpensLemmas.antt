@@ -16,7 +16,7 @@ use Rattle.shelf_library.specs.State.{LibraryState, IsReadyAt}
 use Rattle.shelf_library.specs.Told.{held_open, answer_open}
 use Rattle.shelf_library.specs.Units.{world_of, holding_of}
 use Rattle.shelf_library.specs.Library.{shown_by}
-use Rattle.shelf_library.specs.OneUnit.{AreUnits, ChangesAt, Fits}
+use Rattle.shelf_library.specs.OneUnit.{AreUnits, ChangesAt, FitsItsFile}
 use Rattle.shelf_library.proofs.AsideLemmas.{only_here, holding_after}
 
 -- ---- what a unit holds
@@ -24,10 +24,10 @@ use Rattle.shelf_library.proofs.AsideLemmas.{only_here, holding_after}
 pub same_open : (a b : ShelfFile) → Opened a ≡ Opened b → a ≡ b
 same_open a b e = cc
 
-pub nothing_fits : (u : ℕ) (shelf : ShelfState) → Fits u Nothing shelf
+pub nothing_fits : (u : ℕ) (shelf : ShelfState) → FitsItsFile u Nothing shelf
 nothing_fits u shelf = record { looked = λ header is. absurd (cc); ready = λ file is. absurd (cc) }
 
-pub open_fits : (u : ℕ) (file : ShelfFile) (shelf : ShelfState) → IsReadyAt shelf u file → Fits u (Opened file) shelf
+pub open_fits : (u : ℕ) (file : ShelfFile) (shelf : ShelfState) → IsReadyAt shelf u file → FitsItsFile u (Opened file) shelf
 open_fits u file shelf ready = record { looked = λ header is. absurd (cc); ready = λ other is. subst (IsReadyAt shelf u) (same_open file other is) ready }
 
 -- a file that is not broken is open

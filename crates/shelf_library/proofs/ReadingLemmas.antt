@@ -20,7 +20,7 @@ use Rattle.shelf_file.specs.Standing.{live_of, file_in}
 use Rattle.shelf_library.specs.State.{LibraryState, IsReadyAt}
 use Rattle.shelf_library.specs.Units.{holding_of}
 use Rattle.shelf_library.specs.Truth.{IsTrulyClosed, IsTrulyOpen}
-use Rattle.shelf_library.specs.OneUnit.{AreUnits, ChangesAt, Fits, IsTrulyHeld}
+use Rattle.shelf_library.specs.OneUnit.{AreUnits, ChangesAt, FitsItsFile, IsTrulyHeld}
 use Rattle.shelf_library.specs.Reading.{ReadsAt, GoesOpen}
 use Rattle.shelf_library.specs.declared.held.Held.TheVariants.{Opened}
 use Rattle.shelf_library.proofs.AsideLemmas.{are_after}
@@ -42,7 +42,7 @@ module _ (u : ℕ) (file after : ShelfFile) (old new : LibraryState) (call : Rea
   pub changes_at : ChangesAt u (Opened after) old.shelf new.shelf old.held new.held
   changes_at = record { attached = call.attached; others = quietly.others; holds = call.holds }
 
-  pub fits : Fits u (Opened after) new.shelf
+  pub fits : FitsItsFile u (Opened after) new.shelf
   fits = record {
     looked = λ header is. absurd (cc);
     ready = λ held is.

@@ -26,7 +26,7 @@ use Rattle.shelf_library.specs.State.{LibraryState}
 use Rattle.shelf_library.specs.Truth.{IsTrulyOpen, IsShownTruly}
 use Rattle.shelf_library.specs.Units.{world_of}
 use Rattle.shelf_library.specs.OneUnit.{AreUnits, ChangesAt}
-use Rattle.shelf_library.specs.Closing.{ClosesAt}
+use Rattle.shelf_library.specs.Closing.{ClosesUnitAt}
 use Rattle.shelf_library.proofs.AsideLemmas.{lies, name_before, are_after, only_here, name_same, holding_after, named_before as named_was, named_after, images_aside}
 use Rattle.open_file.proofs.ReadOffLemmas.{reads_as}
 use Rattle.shelf_library.proofs.ShownLemmas.{holding_shown, broken_shown}
@@ -41,7 +41,7 @@ if_any (Err fault) P p = p fault
 
 -- ---- the unit's name, in the world
 
-module _ (u : ℕ) (file : ShelfFile) (result : Result (Unit {0}) Fault) (old new : LibraryState) (call : ClosesAt u file result old new) where
+module _ (u : ℕ) (file : ShelfFile) (result : Result (Unit {0}) Fault) (old new : LibraryState) (call : ClosesUnitAt u file result old new) where
   abbrev before : World
   before = world_of old.shelf old.held
 
@@ -150,7 +150,7 @@ module _ (u : ℕ) (file : ShelfFile) (result : Result (Unit {0}) Fault) (old ne
 
 -- ---- what the call promises
 
-module _ {S : Type 0} (state : S → LibraryState) (u : ℕ) (file : ShelfFile) (result : Result (Unit {0}) Fault) (old new : S) (call : ClosesAt u file result (state old) (state new)) where
+module _ {S : Type 0} (state : S → LibraryState) (u : ℕ) (file : ShelfFile) (result : Result (Unit {0}) Fault) (old new : S) (call : ClosesUnitAt u file result (state old) (state new)) where
   changed_at : ChangesAt u Nothing (state old).shelf (state new).shelf (state old).held (state new).held
   changed_at = changes u file result (state old) (state new) call
 

@@ -11,7 +11,7 @@ use Rattle.page_alloc.specs.Joining.{HasFailed}
 use Rattle.page_alloc.specs.Steps.{Moves}
 use Rattle.open_file.specs.Faults.{IsCausedIn}
 use Rattle.shelf_file.specs.declared.shelf_file.ShelfFile.{ShelfFile}
-use Rattle.shelf_file.specs.Calls.{OnlyReadsFile, Changes}
+use Rattle.shelf_file.specs.Calls.{OnlyReadsFile, ChangesShelfFile}
 use Rattle.shelf_file.specs.Standing.{IsReady, room_in}
 use Rattle.shelf_library.specs.State.{LibraryState, held_at}
 use Rattle.shelf_library.specs.OneUnit.{AreUnits}
@@ -33,7 +33,7 @@ pub record MovesAt (u : ℕ) (file after : ShelfFile) (old new : LibraryState) :
 -- what each of the calls that change records leaves of the file
 pub record ChangesFile {X : Type 0} (is_made : X → Bool) (answer : Schema → File → X) (made : Schema → File → File) (LacksRoom : Type 0)
     (file after : ShelfFile) (old new : LibraryState) (result : Result X Fault) : Type 0 where
-  pub changes : Changes file after old.shelf new.shelf (answer file.file.schema) (made file.file.schema) result
+  pub changes : ChangesShelfFile file after old.shelf new.shelf (answer file.file.schema) (made file.file.schema) result
   pub gate : IfOk result (λ x. is_made x ≡ true → after.pages.changed ≡ true)
   -- where nothing is changed it has only read
   pub rests : IfOk result (λ x. is_made x ≡ false → OnlyReadsFile file after old.shelf new.shelf old.faults new.faults)

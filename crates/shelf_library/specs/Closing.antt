@@ -15,7 +15,7 @@ use Rattle.shelf_library.specs.OneUnit.{AreUnits}
 use Rattle.shelf_library.specs.declared.held.Held.TheVariants.{Nothing, Opened}
 
 -- unit u had this file open, the file was closed, and the unit holds nothing
-pub record ClosesAt (u : ℕ) (file : ShelfFile) (result : Result (Unit {0}) Fault) (old new : LibraryState) : Type 0 where
+pub record ClosesUnitAt (u : ℕ) (file : ShelfFile) (result : Result (Unit {0}) Fault) (old new : LibraryState) : Type 0 where
   pub units : AreUnits old.shelf old.held
   pub attached : u < length old.held
   pub opened : held_at old.held u ≡ Opened file

@@ -25,7 +25,7 @@ pub record ChangesAt (u : ℕ) (one : Held) (old new : ShelfState) (held now : L
   pub holds : now ≡ slice_set held u one
 
 -- what unit u holds now fits its file
-pub record Fits (u : ℕ) (one : Held) (shelf : ShelfState) : Type 0 where
+pub record FitsItsFile (u : ℕ) (one : Held) (shelf : ShelfState) : Type 0 where
   pub looked : (header : Header) → one ≡ Looked header → IsLooked shelf u header
   pub ready : (file : ShelfFile) → one ≡ Opened file → IsReadyAt shelf u file
 

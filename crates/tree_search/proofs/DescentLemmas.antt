@@ -14,7 +14,7 @@ use Rattle.tree_search.specs.declared.descent.StepDown.{StepDown}
 use Rattle.tree_search.specs.Tree.{TreeOf, page_of, entries_of, Bound, IsRow, IsOrdered}
 use Rattle.tree_search.specs.Stored.{Holds, IsInnerAt}
 use Rattle.tree_search.specs.Calls.{entry_of, IsTree}
-use Rattle.tree_search.specs.Descent.{IsStep, Steps}
+use Rattle.tree_search.specs.Descent.{IsDescentStep, Steps}
 use Rattle.tree_search.proofs.FindLemmas.{find_behind, find_before, differs, differs_back}
 use Rattle.tree_search.proofs.RowLemmas.{ascends_join, Inside, row_bounded, RowAt, row_at}
 
@@ -64,7 +64,7 @@ pub record Below_ (shape : Shape) (pages : PageMap) (k page : ℕ) (low high : B
   pub child : IsTree shape pages k step.child row.from row.to row.here
 
 pub below : (shape : Shape) (pages : PageMap) (k page : ℕ) (low high : Bound) (key : List ℕ) (t : TreeOf (suc k)) (step : StepDown)
-    → IsTree shape pages (suc k) page low high t → IsStep shape.width key t.1 (map (page_of k) t.2) step → Below_ shape pages k page low high key t step
+    → IsTree shape pages (suc k) page low high t → IsDescentStep shape.width key t.1 (map (page_of k) t.2) step → Below_ shape pages k page low high key t step
 below shape pages k page low high key t step tree is =
     let found = is.rank tree.ordered.0 in
     let whole = node_whole shape pages t.0 t.1 (map (page_of k) t.2) tree.holds.0 in
@@ -95,7 +95,7 @@ entry_below width k key low high ss xs i row =
     (Each-weaker (λ e. less key (take width e) ≡ true) (λ e. test e ≡ false) (λ e b. differs_back (take width e) key b) (flat_map (entries_of k) row.back) row.above)
 
 pub step_of : (shape : Shape) (before : PageMap) (k page : ℕ) (low high : Bound) (key : List ℕ) (t : TreeOf (suc k)) (r : Result StepDown Fault) → IsTree shape before (suc k) page low high t → Steps shape before page key r
-    → IsAnswer r (IsStep shape.width key t.1 (map (page_of k) t.2))
+    → IsAnswer r (IsDescentStep shape.width key t.1 (map (page_of k) t.2))
 step_of shape before k page low high key t r tree steps =
     steps t.1 (map (page_of k) t.2) (subst (λ (n : ℕ). IsInnerAt shape before n t.1 (map (page_of k) t.2)) tree.root tree.holds.0)
 

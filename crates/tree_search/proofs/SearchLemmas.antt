@@ -22,7 +22,7 @@ use Rattle.tree_search.specs.Stored.{Holds, IsLeafAt, IsInnerAt}
 use Rattle.pages.specs.Answer.{IsAnswer}
 use Rattle.tree_search.specs.Calls.{entry_of, first_from, first_after, last_of, IsTree}
 use Rattle.tree_search.specs.Descent.{Steps}
-use Rattle.tree_search.specs.Search.{first_of, head_of, IsFound, Finds, FindsFilled, FindsInLeaf, FindsFirst, FirstOfLeaf, FirstChild, FindsLast, LastOfLeaf, LastChild, IsLeafFor, Leads, FillsFromLeaf, filled}
+use Rattle.tree_search.specs.Search.{first_of, head_of, IsFound, Finds, FindsFilled, FindsInLeaf, FindsFirst, FirstOfLeaf, FirstChild, FindsLast, LastOfLeaf, LastChild, IsLeafFor, LeadsToLeaf, FillsFromLeaf, filled}
 use Rattle.tree_search.proofs.FindLemmas.{find_behind}
 use Rattle.tree_search.proofs.RowLemmas.{RowAt}
 use Rattle.tree_search.proofs.RowLemmas.{each_right}
@@ -141,7 +141,7 @@ module _ (shape : Shape) (pages : PageMap) (h k page : ℕ) (one : h ≡ suc k) 
 
 -- ---- the entry of a key
 
-pub lead_leaf : (shape : Shape) (pages : PageMap) (h page : ℕ) (key : List ℕ) → h ≡ 0 → Leads shape pages h page key (Ok page)
+pub lead_leaf : (shape : Shape) (pages : PageMap) (h page : ℕ) (key : List ℕ) → h ≡ 0 → LeadsToLeaf shape pages h page key (Ok page)
 lead_leaf shape pages zero page key none t low high tree =
     record {
       answer = record { entries = t.1; at = subst (λ (n : ℕ). IsLeafAt shape pages n t.1) tree.root tree.holds; rises = tree.ordered.0; same = refl };
@@ -150,12 +150,12 @@ lead_leaf shape pages zero page key none t low high tree =
 lead_leaf shape pages (suc h) page key none t low high tree = absurd (omega arith)
 
 module _ (shape : Shape) (pages : PageMap) (h k page : ℕ) (key : List ℕ) (one : h ≡ suc k) where
-  pub lead_fails : (fault : Fault) (out : Result ℕ Fault) → Steps shape pages page key (Err fault) → IsErrAnd out (λ e. e ≡ fault) → Leads shape pages h page key out
-  lead_fails fault out steps was = subst (λ (n : ℕ). Leads shape pages n page key out) (sym one) (λ t low high tree.
+  pub lead_fails : (fault : Fault) (out : Result ℕ Fault) → Steps shape pages page key (Err fault) → IsErrAnd out (λ e. e ≡ fault) → LeadsToLeaf shape pages h page key out
+  lead_fails fault out steps was = subst (λ (n : ℕ). LeadsToLeaf shape pages n page key out) (sym one) (λ t low high tree.
       fails out fault (IsLeafFor shape pages (suc k) key t) was (step_of shape pages k page low high key t (Err fault) tree steps).no_damage)
 
-  pub lead_inner : (mid : PageMap) (step : StepDown) (out : Result ℕ Fault) → mid ≡ pages → Steps shape pages page key (Ok step) → Leads shape mid k step.child key out → Leads shape pages h page key out
-  lead_inner mid step out same steps leads = subst (λ (n : ℕ). Leads shape pages n page key out) (sym one) (λ t low high tree.
+  pub lead_inner : (mid : PageMap) (step : StepDown) (out : Result ℕ Fault) → mid ≡ pages → Steps shape pages page key (Ok step) → LeadsToLeaf shape mid k step.child key out → LeadsToLeaf shape pages h page key out
+  lead_inner mid step out same steps leads = subst (λ (n : ℕ). LeadsToLeaf shape pages n page key out) (sym one) (λ t low high tree.
       let b = below shape pages k page low high key t step tree (step_of shape pages k page low high key t (Ok step) tree steps).answer in
       let child = subst (λ (m : PageMap). IsTree shape m k step.child b.row.from b.row.to b.row.here) (sym same) b.child in
       if_ok out (IsLeafFor shape mid k key b.row.here) (IsLeafFor shape pages (suc k) key t)
@@ -167,10 +167,10 @@ module _ (shape : Shape) (pages : PageMap) (h k page : ℕ) (key : List ℕ) (on
       }) (leads b.row.here b.row.from b.row.to child))
 
 module _ (shape : Shape) (pages mid : PageMap) (h page : ℕ) (key : List ℕ) where
-  pub find_fails : (fault : Fault) (out : Result (Option (ArrayVec ℕ)) Fault) → Leads shape pages h page key (Err fault) → IsErrAnd out (λ e. e ≡ fault) → Finds shape pages h page (entry_of shape.width key) out
+  pub find_fails : (fault : Fault) (out : Result (Option (ArrayVec ℕ)) Fault) → LeadsToLeaf shape pages h page key (Err fault) → IsErrAnd out (λ e. e ≡ fault) → Finds shape pages h page (entry_of shape.width key) out
   find_fails fault out leads was t low high tree = fails out fault (IsFound (entry_of shape.width key) (entries_of h t)) was (leads t low high tree).no_damage
 
-  module _ (leaf : ℕ) (entry : ArrayVec ℕ) (same : mid ≡ pages) (leads : Leads shape pages h page key (Ok leaf)) where
+  module _ (leaf : ℕ) (entry : ArrayVec ℕ) (same : mid ≡ pages) (leads : LeadsToLeaf shape pages h page key (Ok leaf)) where
     filled_in : (r : Result Bool Fault) → FillsFromLeaf shape mid leaf (entry_of shape.width key) entry r
         → (t : TreeOf h) (low high : Bound) → IsTree shape pages h page low high t → IsAnswer r (λ done. IsFound (entry_of shape.width key) (entries_of h t) (filled entry done))
     filled_in r fills t low high tree =

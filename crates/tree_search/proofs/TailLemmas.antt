@@ -7,16 +7,16 @@ use Rattle.pages.specs.PageMap.{PageMap}
 use Rattle.tree_search.specs.Tree.{entries_of}
 use Rattle.tree_search.specs.Stored.{IsLeafAt}
 use Rattle.tree_search.specs.Calls.{entry_of}
-use Rattle.tree_search.specs.Search.{Leads}
-use Rattle.tree_search.specs.Tail.{Tells, TellsInLeaf}
+use Rattle.tree_search.specs.Search.{LeadsToLeaf}
+use Rattle.tree_search.specs.Tail.{TellsBelow, TellsInLeaf}
 use Rattle.tree_search.proofs.AnswerLemmas.{fails}
 use Rattle.tree_search.proofs.SearchLemmas.{if_ok}
 
 module _ (Says : Option (List ℕ) → Bool → Type 0) (shape : Shape) (pages : PageMap) (h page : ℕ) (key : List ℕ) (out : Result Bool Fault) where
-  pub lead_missed : (fault : Fault) → Leads shape pages h page key (Err fault) → IsErrAnd out (λ e. e ≡ fault) → Tells Says shape pages h page key out
+  pub lead_missed : (fault : Fault) → LeadsToLeaf shape pages h page key (Err fault) → IsErrAnd out (λ e. e ≡ fault) → TellsBelow Says shape pages h page key out
   lead_missed fault leads was t low high tree = fails out fault (Says (entry_of shape.width key (entries_of h t))) was (leads t low high tree).no_damage
 
-  pub leaf_told : (mid : PageMap) (leaf : ℕ) → mid ≡ pages → Leads shape pages h page key (Ok leaf) → TellsInLeaf Says shape mid leaf key out → Tells Says shape pages h page key out
+  pub leaf_told : (mid : PageMap) (leaf : ℕ) → mid ≡ pages → LeadsToLeaf shape pages h page key (Ok leaf) → TellsInLeaf Says shape mid leaf key out → TellsBelow Says shape pages h page key out
   leaf_told mid leaf same leads tells t low high tree =
       let is = (leads t low high tree).answer in
       if_ok out (Says (entry_of shape.width key is.entries)) (Says (entry_of shape.width key (entries_of h t)))

@@ -11,7 +11,7 @@ use Rattle.pages.specs.Answer.{IsAnswer}
 use Rattle.tree_search.specs.Calls.{entry_of}
 
 -- the child to the right of all separators that are not above the key, and the one behind it
-pub record IsStep (width : ℕ) (key : List ℕ) (separators : List (List ℕ)) (below : List ℕ) (step : StepDown) : Type 0 where
+pub record IsDescentStep (width : ℕ) (key : List ℕ) (separators : List (List ℕ)) (below : List ℕ) (step : StepDown) : Type 0 where
   pub rank : Ascends width separators → IsRankAfter width key separators step.place
   pub within : step.place ≤ length separators
   pub child : step.child ≡ slice_index below step.place
@@ -20,7 +20,7 @@ pub record IsStep (width : ℕ) (key : List ℕ) (separators : List (List ℕ)) 
 
 abbrev pub Steps : Shape → PageMap → ℕ → List ℕ → Result StepDown Fault → Type 0
 Steps shape pages page key result =
-    (separators : List (List ℕ)) (below : List ℕ) → IsInnerAt shape pages page separators below → IsAnswer result (IsStep shape.width key separators below)
+    (separators : List (List ℕ)) (below : List ℕ) → IsInnerAt shape pages page separators below → IsAnswer result (IsDescentStep shape.width key separators below)
 
 -- the place of the key among the entries, and its entry
 pub record IsLook (width : ℕ) (key : List ℕ) (entries : List (List ℕ)) (look : Look) : Type 0 where

@@ -16,7 +16,7 @@ use Rattle.tree_search.specs.declared.range.Fork.{Fork}
 use Rattle.tree_search.specs.Tree.{TreeOf, entries_of, size_of, Bound, Below, IsHalfFull}
 use Rattle.tree_search.specs.Stored.{IsLeafAt, IsInnerAt}
 use Rattle.tree_search.specs.Calls.{first_after, IsTree}
-use Rattle.tree_search.specs.Descent.{IsStep}
+use Rattle.tree_search.specs.Descent.{IsDescentStep}
 use Rattle.tree_search.specs.Search.{filled}
 
 -- the key of the entry lies in the range
@@ -30,8 +30,8 @@ IsFirst width from to entries (Some first) =
     (find (is_within width from to) entries ≡ Some first.entry.items)
     × (first.followed ≡ option_map_or (is_within width from to) (first_after width (take width first.entry.items) entries) false)
 
-abbrev pub FindsWithin : Shape → PageMap → (h page : ℕ) → List ℕ → List ℕ → Result (Option First) Fault → Type 0
-FindsWithin shape pages h page from to result =
+abbrev pub FindsBelow : Shape → PageMap → (h page : ℕ) → List ℕ → List ℕ → Result (Option First) Fault → Type 0
+FindsBelow shape pages h page from to result =
     (t : TreeOf h) → IsTree shape pages h page None None t → IsHalfFull shape h t → IsAnswer result (IsFirst shape.width from to (entries_of h t))
 
 -- the entries in the range
@@ -88,9 +88,9 @@ abbrev pub IsBeyond : ℕ → Bound → List ℕ → Type 0
 IsBeyond width None e = ⊥
 IsBeyond width (Some high) e = less (take width e) high ≡ false
 
-abbrev pub IsOpen : Sight → Type 0
-IsOpen (Answered found) = ⊥
-IsOpen (Unended here) = ⊤
+abbrev pub IsUnended : Sight → Type 0
+IsUnended (Answered found) = ⊥
+IsUnended (Unended here) = ⊤
 
 -- what a look has come to below a page whose entries are below this bound: the answer for these entries and all others that may
 -- stand behind them, or the one entry of the range that is here, if there is one
@@ -136,7 +136,7 @@ HasFront shape pages h page to (Err fault) = Fronts shape pages h page to (Err f
 
 -- one step down to where a range begins; where it is past, the separator behind the child lies past the range
 pub record IsFork (width : ℕ) (from to : List ℕ) (separators : List (List ℕ)) (below : List ℕ) (fork : Fork) : Type 0 where
-  pub step : IsStep width from separators below fork.step
+  pub step : IsDescentStep width from separators below fork.step
   pub inside : IsTrue fork.past → fork.step.place < length separators
   pub above : IsTrue fork.past → less to (slice_index_or separators fork.step.place []) ≡ true
 

@@ -47,8 +47,8 @@ pub record IsLeafFor (shape : Shape) (pages : PageMap) (h : ℕ) (key : List ℕ
   pub rises : Ascends shape.width entries
   pub same : entry_of shape.width key (entries_of h t) ≡ entry_of shape.width key entries
 
-abbrev pub Leads : Shape → PageMap → ℕ → ℕ → List ℕ → Result ℕ Fault → Type 0
-Leads shape pages h page key result =
+abbrev pub LeadsToLeaf : Shape → PageMap → ℕ → ℕ → List ℕ → Result ℕ Fault → Type 0
+LeadsToLeaf shape pages h page key result =
     (t : TreeOf h) (low high : Bound) → IsTree shape pages h page low high t → IsAnswer result (IsLeafFor shape pages h key t)
 
 -- the entry that was filled, or none

@@ -19,12 +19,12 @@ abbrev pub IsTail : ℕ → List ℕ → Option (List ℕ) → Bool → Type 0
 IsTail width tail entry told = filled_tail tail told ≡ option_map (drop width) entry
 
 -- whether there is an entry
-abbrev pub IsThere : Option (List ℕ) → Bool → Type 0
-IsThere entry told = told ≡ is_some entry
+abbrev pub TellsPresence : Option (List ℕ) → Bool → Type 0
+TellsPresence entry told = told ≡ is_some entry
 
 -- what a look-up tells of the entry of a key
-abbrev pub Tells : (Option (List ℕ) → Bool → Type 0) → Shape → PageMap → (h page : ℕ) → List ℕ → Result Bool Fault → Type 0
-Tells Says shape pages h page key result =
+abbrev pub TellsBelow : (Option (List ℕ) → Bool → Type 0) → Shape → PageMap → (h page : ℕ) → List ℕ → Result Bool Fault → Type 0
+TellsBelow Says shape pages h page key result =
     (t : TreeOf h) (low high : Bound) → IsTree shape pages h page low high t → IsAnswer result (Says (entry_of shape.width key (entries_of h t)))
 
 -- the same of a leaf alone

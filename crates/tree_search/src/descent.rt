@@ -2,7 +2,7 @@
 
 ghost use Rattle.std.specs.Prelude.{◌≡◌, ◌+◌, ◌<◌, ◌≤◌, ℕ, true, IsTrue, IfErr, length};
 ghost use Rattle.pages.specs.Cause.{IsCaused};
-ghost use Rattle.tree_search.specs.Descent.{Steps, IsStep, Looks, IsLook, IsKeyAt};
+ghost use Rattle.tree_search.specs.Descent.{Steps, IsDescentStep, Looks, IsLook, IsKeyAt};
 ghost use Rattle.tree_node.specs.Inner.{IsInner, separators, children};
 ghost use Rattle.tree_node.specs.Leaf.{IsLeaf, leaf_entries};
 ghost use Rattle.tree_node.specs.Order.{Ascends, IsRank};
@@ -52,7 +52,7 @@ pub fn descend<P: Pages>(
 /// One step down from the bytes of an inner node.
 pub fn step_in(page: &[u8; PAGE_SIZE], shape: Shape, key: &[u8]) -> StepDown
     requires inner { IsInner shape page.now }
-    ensures { IsStep shape.width key.now (separators shape page.now) (children shape page.now) result }
+    ensures { IsDescentStep shape.width key.now (separators shape page.now) (children shape page.now) result }
 {
     let node = InnerView { page, shape };
     let place = node.rank(key);

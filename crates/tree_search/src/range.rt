@@ -5,7 +5,7 @@ ghost use Rattle.tree_node.specs.Inner.{IsInner, separators, children};
 ghost use Rattle.tree_node.specs.Leaf.{IsLeaf, leaf_entries};
 ghost use Rattle.tree_node.specs.Order.{less};
 ghost use Rattle.pages.specs.Cause.{IsCaused};
-ghost use Rattle.tree_search.specs.Range.{FindsWithin, Sights, SightsInLeaf, IsSightFrom, Fronts, FrontsInLeaf, HasFront, IsFork, Forks, IsOpen, told_first, told_seen, seen, alone};
+ghost use Rattle.tree_search.specs.Range.{FindsBelow, Sights, SightsInLeaf, IsSightFrom, Fronts, FrontsInLeaf, HasFront, IsFork, Forks, IsUnended, told_first, told_seen, seen, alone};
 
 use crate::descent::{StepDown, step_in};
 use crate::search::first_child;
@@ -49,7 +49,7 @@ pub fn first_within<P: Pages>(
 ) -> Result<Option<First>, Fault>
     requires ready { P.IsReady pages.old }
     ensures found { IsTrue (P.state pages.new).is_honest
-        → FindsWithin shape (P.state pages.old).live levels page from.now to.now result }
+        → FindsBelow shape (P.state pages.old).live levels page from.now to.now result }
     ensures cause { IfErr result (IsCaused (P.HasFailed pages.old pages.new) ⊥) }
     ensures asked { (P.state pages.new).asked ≤ (P.state pages.old).asked + 2 * (levels + 1) }
     ensures reads { P.Reads pages.old pages.new }
@@ -73,7 +73,7 @@ fn fill_within<P: Pages>(
 ) -> Result<Option<bool>, Fault>
     requires ready { P.IsReady pages.old }
     ensures found { IsTrue (P.state pages.new).is_honest
-        → FindsWithin shape (P.state pages.old).live levels page from.now to.now (told_first entry.new result) }
+        → FindsBelow shape (P.state pages.old).live levels page from.now to.now (told_first entry.new result) }
     ensures cause { IfErr result (IsCaused (P.HasFailed pages.old pages.new) ⊥) }
     ensures asked { (P.state pages.new).asked ≤ (P.state pages.old).asked + 2 * (levels + 1) }
     ensures reads { P.Reads pages.old pages.new }
@@ -99,7 +99,7 @@ fn look_below<P: Pages>(
         → Sights shape (P.state pages.old).live levels page from.now to.now (told_seen entry.new result) }
     ensures cause { IfErr result (IsCaused (P.HasFailed pages.old pages.new) ⊥) }
     ensures asked { (P.state pages.new).asked ≤ (P.state pages.old).asked + 2 * (levels + 1) }
-    ensures open { IfOk result (λ sight. IsOpen sight → (P.state pages.new).asked ≤ (P.state pages.old).asked + (levels + 1)) }
+    ensures open { IfOk result (λ sight. IsUnended sight → (P.state pages.new).asked ≤ (P.state pages.old).asked + (levels + 1)) }
     ensures reads { P.Reads pages.old pages.new }
 {
     if levels == 0 {
@@ -158,7 +158,7 @@ fn look_from(
 ) -> Sight
     requires leaf { IsLeaf shape page.now }
     ensures sight { IsSightFrom shape.width place to.now (leaf_entries shape page.now) (seen entry.new result) }
-    ensures open { IsOpen result → length (leaf_entries shape page.now) ≤ place + 1 }
+    ensures open { IsUnended result → length (leaf_entries shape page.now) ≤ place + 1 }
 {
     let leaf = LeafView { page, shape };
     let count = leaf.count();

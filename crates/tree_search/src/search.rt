@@ -6,7 +6,7 @@ ghost use Rattle.tree_node.specs.Order.{Ascends};
 ghost use Rattle.pages.specs.Cause.{IsCaused};
 ghost use Rattle.tree_search.specs.Calls.{entry_of, last_of};
 ghost use Rattle.tree_search.specs.Spot.{IsInLeafIf, Spots, SpotsInLeaf, SpotsFirst, SpotsFirstInLeaf};
-ghost use Rattle.tree_search.specs.Search.{Finds, FindsFilled, FindsInLeaf, FindsFirst, FirstOfLeaf, FirstChild, FindsLast, LastOfLeaf, LastChild, IsFound, IsPlace, Leads, FillsFromLeaf, filled, first_of};
+ghost use Rattle.tree_search.specs.Search.{Finds, FindsFilled, FindsInLeaf, FindsFirst, FirstOfLeaf, FirstChild, FindsLast, LastOfLeaf, LastChild, IsFound, IsPlace, LeadsToLeaf, FillsFromLeaf, filled, first_of};
 
 use crate::descent::{descend, has_key};
 use crate::spot::{Spot, entry_at, entry_in_leaf, entry_with, fill};
@@ -45,7 +45,7 @@ pub fn leaf_below<P: Pages>(
     key: &[u8],
 ) -> Result<u32, Fault>
     requires ready { P.IsReady pages.old }
-    ensures leaf { IsTrue (P.state pages.new).is_honest → Leads shape (P.state pages.old).live levels page key.now result }
+    ensures leaf { IsTrue (P.state pages.new).is_honest → LeadsToLeaf shape (P.state pages.old).live levels page key.now result }
     ensures cause { IfErr result (IsCaused (P.HasFailed pages.old pages.new) ⊥) }
     ensures asked { (P.state pages.new).asked ≤ (P.state pages.old).asked + levels }
     ensures reads { P.Reads pages.old pages.new }

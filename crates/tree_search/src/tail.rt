@@ -5,7 +5,7 @@ ghost use Rattle.pages.specs.Cause.{IsCaused};
 ghost use Rattle.tree_node.specs.Leaf.{IsLeaf, leaf_entries};
 ghost use Rattle.tree_node.specs.Order.{Ascends};
 ghost use Rattle.tree_search.specs.Calls.{entry_of};
-ghost use Rattle.tree_search.specs.Tail.{IsTail, IsThere, Tells, TellsInLeaf};
+ghost use Rattle.tree_search.specs.Tail.{IsTail, TellsPresence, TellsBelow, TellsInLeaf};
 
 use crate::descent::has_key;
 use crate::search::leaf_below;
@@ -25,7 +25,7 @@ pub fn find_tail<P: Pages>(
     requires ready { P.IsReady pages.old }
     requires size { shape.width + length tail.old ≡ shape.entry }
     ensures found { IsTrue (P.state pages.new).is_honest
-        → Tells (IsTail shape.width tail.new) shape (P.state pages.old).live levels page key.now result }
+        → TellsBelow (IsTail shape.width tail.new) shape (P.state pages.old).live levels page key.now result }
     ensures cause { IfErr result (IsCaused (P.HasFailed pages.old pages.new) ⊥) }
     ensures asked { (P.state pages.new).asked ≤ (P.state pages.old).asked + (levels + 1) }
     ensures reads { P.Reads pages.old pages.new }
@@ -83,7 +83,7 @@ pub fn has_below<P: Pages>(
     key: &[u8],
 ) -> Result<bool, Fault>
     requires ready { P.IsReady pages.old }
-    ensures told { IsTrue (P.state pages.new).is_honest → Tells IsThere shape (P.state pages.old).live levels page key.now result }
+    ensures told { IsTrue (P.state pages.new).is_honest → TellsBelow TellsPresence shape (P.state pages.old).live levels page key.now result }
     ensures cause { IfErr result (IsCaused (P.HasFailed pages.old pages.new) ⊥) }
     ensures asked { (P.state pages.new).asked ≤ (P.state pages.old).asked + (levels + 1) }
     ensures reads { P.Reads pages.old pages.new }
@@ -95,7 +95,7 @@ pub fn has_below<P: Pages>(
 /// The same in a leaf.
 fn is_in_leaf<P: Pages>(pages: &mut P, shape: Shape, page: u32, key: &[u8]) -> Result<bool, Fault>
     requires ready { P.IsReady pages.old }
-    ensures told { IsTrue (P.state pages.new).is_honest → TellsInLeaf IsThere shape (P.state pages.old).live page key.now result }
+    ensures told { IsTrue (P.state pages.new).is_honest → TellsInLeaf TellsPresence shape (P.state pages.old).live page key.now result }
     ensures cause { IfErr result (IsCaused (P.HasFailed pages.old pages.new) ⊥) }
     ensures asked { (P.state pages.new).asked ≤ (P.state pages.old).asked + 1 }
     ensures reads { P.Reads pages.old pages.new }
@@ -111,7 +111,7 @@ fn is_in_leaf<P: Pages>(pages: &mut P, shape: Shape, page: u32, key: &[u8]) -> R
 fn is_among(bytes: &[u8; PAGE_SIZE], shape: Shape, key: &[u8]) -> bool
     requires leaf { IsLeaf shape bytes.now }
     ensures { Ascends shape.width (leaf_entries shape bytes.now)
-        → IsThere (entry_of shape.width key.now (leaf_entries shape bytes.now)) result }
+        → TellsPresence (entry_of shape.width key.now (leaf_entries shape bytes.now)) result }
 {
     let leaf = LeafView { page: bytes, shape };
     has_key(bytes, shape, leaf.rank(key), key)

@@ -4,7 +4,7 @@ use Rattle.std.specs.Prelude.{IsFalse, Result, Ok, Err, OnOk, bytes_eq, false}
 use Rattle.std.specs.List.{IsDistinct}
 use Rattle.std.proofs.lemmas.List.{get_or-set_other, length-set}
 use Rattle.indexed_file.specs.World.{World, FileUnit, Absent, Shut, OnlyAt, unit_at, is_open, schema_in, attached}
-use Rattle.unit_calls.specs.Units.{AreShut, KeepsOthers}
+use Rattle.unit_calls.specs.Units.{AreShut, KeepsOtherUnits}
 
 abbrev no_unit : FileUnit
 no_unit = record { name = []; named = Absent; holding = Shut }
@@ -15,7 +15,7 @@ elsewhere u old new v only other = ap (λ (w : World). unit_at w v) only ∙ get
 pub as_many : (u : ℕ) (old new : World) → OnlyAt u old new → length new.units ≡ length old.units
 as_many u old new only = ap (λ (w : World). length w.units) only ∙ length-set old.units u _
 
-pub only_keeps : (u : ℕ) (old new : World) → OnlyAt u old new → KeepsOthers u old new
+pub only_keeps : (u : ℕ) (old new : World) → OnlyAt u old new → KeepsOtherUnits u old new
 only_keeps u old new only = record {
   opened = λ v schema other is.
       let same : unit_at new v ≡ unit_at old v = elsewhere u old new v only other in
@@ -33,10 +33,10 @@ only_keeps u old new only = record {
 }
 
 -- no call, and two calls
-pub keeps_itself : (u : ℕ) (world : World) → KeepsOthers u world world
+pub keeps_itself : (u : ℕ) (world : World) → KeepsOtherUnits u world world
 keeps_itself u world = record { opened = λ v schema other is. is; closed = λ v other is. is }
 
-pub keeps_twice : (u : ℕ) (a b c : World) → KeepsOthers u a b → KeepsOthers u b c → KeepsOthers u a c
+pub keeps_twice : (u : ℕ) (a b c : World) → KeepsOtherUnits u a b → KeepsOtherUnits u b c → KeepsOtherUnits u a c
 keeps_twice u a b c first then = record {
   opened = λ v schema other is. then.opened v schema other (first.opened v schema other is);
   closed = λ v other is. then.closed v other (first.closed v other is);

@@ -9,6 +9,6 @@ abbrev pub AreShut : World → ℕ → Type 0
 AreShut world count = (u : ℕ) → u < count → IsNotOpen world u
 
 -- each unit but this one that was open is open with its schema, and each that was not is not
-pub record KeepsOthers (u : ℕ) (old new : World) : Type 0 where
+pub record KeepsOtherUnits (u : ℕ) (old new : World) : Type 0 where
   pub opened : (v : ℕ) (schema : Schema) → v ≢ u → IsOpenWith old v schema → IsOpenWith new v schema
   pub closed : (v : ℕ) → v ≢ u → IsNotOpen old v → IsNotOpen new v

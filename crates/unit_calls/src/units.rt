@@ -3,7 +3,7 @@
 
 ghost use Rattle.std.specs.Prelude.{◌≡◌, ◌≤◌, true, length, OnOk, OnErr, IfOk};
 ghost use Rattle.indexed_file.specs.Clients.{IsOpenWith, IsNotOpen};
-ghost use Rattle.unit_calls.specs.Units.{KeepsOthers};
+ghost use Rattle.unit_calls.specs.Units.{KeepsOtherUnits};
 ghost use Rattle.unit_calls.specs.declared.units.Told.TheVariants.{Sound};
 
 use indexed_file::{Added, Found, Library, Replaced, Seen};
@@ -26,7 +26,7 @@ pub enum Told {
 pub fn looks<L: Library>(library: &mut L, u: usize, schema: &Schema) -> Result<Told, Fault>
     requires { IsNotOpen (L.shown.world library.old) u }
     ensures closed { IsNotOpen (L.shown.world library.new) u }
-    ensures others { KeepsOthers u (L.shown.world library.old) (L.shown.world library.new) }
+    ensures others { KeepsOtherUnits u (L.shown.world library.old) (L.shown.world library.new) }
 {
     Ok(match library.look(u)? {
         Seen::Absent => Told::Absent,
@@ -41,7 +41,7 @@ pub fn creates<L: Library>(library: &mut L, u: usize, schema: &Schema) -> Result
     requires { IsNotOpen (L.shown.world library.old) u }
     ensures opened { OnOk result (IsOpenWith (L.shown.world library.new) u schema.now) }
     ensures failed { OnErr result (IsNotOpen (L.shown.world library.new) u) }
-    ensures others { KeepsOthers u (L.shown.world library.old) (L.shown.world library.new) }
+    ensures others { KeepsOtherUnits u (L.shown.world library.old) (L.shown.world library.new) }
 {
     library.create(u, schema)
 }
@@ -51,7 +51,7 @@ pub fn opens<L: Library>(library: &mut L, u: usize, schema: &Schema) -> Result<T
     requires { IsNotOpen (L.shown.world library.old) u }
     ensures opened { IfOk result (λ told. told ≡ Sound → IsOpenWith (L.shown.world library.new) u schema.now) }
     ensures failed { OnErr result (IsNotOpen (L.shown.world library.new) u) }
-    ensures others { KeepsOthers u (L.shown.world library.old) (L.shown.world library.new) }
+    ensures others { KeepsOtherUnits u (L.shown.world library.old) (L.shown.world library.new) }
 {
     match library.look(u)? {
         Seen::Absent => Ok(Told::Absent),
@@ -70,7 +70,7 @@ pub fn opens<L: Library>(library: &mut L, u: usize, schema: &Schema) -> Result<T
 pub fn shuts<L: Library>(library: &mut L, u: usize, schema: &Schema) -> Result<(), Fault>
     requires { IsOpenWith (L.shown.world library.old) u schema.now }
     ensures closed { IsNotOpen (L.shown.world library.new) u }
-    ensures others { KeepsOthers u (L.shown.world library.old) (L.shown.world library.new) }
+    ensures others { KeepsOtherUnits u (L.shown.world library.old) (L.shown.world library.new) }
 {
     library.shut(u)
 }
@@ -91,7 +91,7 @@ pub fn adds<L: Library>(
 ) -> Result<Added, Fault>
     requires { IsOpenWith (L.shown.world library.old) u schema.now }
     ensures opened { IsOpenWith (L.shown.world library.new) u schema.now }
-    ensures others { KeepsOthers u (L.shown.world library.old) (L.shown.world library.new) }
+    ensures others { KeepsOtherUnits u (L.shown.world library.old) (L.shown.world library.new) }
 {
     if !has_length(schema, record.len()) {
         return Err(Fault::Damage);
@@ -108,7 +108,7 @@ pub fn replaces<L: Library>(
 ) -> Result<Replaced, Fault>
     requires { IsOpenWith (L.shown.world library.old) u schema.now }
     ensures opened { IsOpenWith (L.shown.world library.new) u schema.now }
-    ensures others { KeepsOthers u (L.shown.world library.old) (L.shown.world library.new) }
+    ensures others { KeepsOtherUnits u (L.shown.world library.old) (L.shown.world library.new) }
 {
     if !has_length(schema, record.len()) {
         return Err(Fault::Damage);
@@ -125,7 +125,7 @@ pub fn removes<L: Library>(
 ) -> Result<bool, Fault>
     requires { IsOpenWith (L.shown.world library.old) u schema.now }
     ensures opened { IsOpenWith (L.shown.world library.new) u schema.now }
-    ensures others { KeepsOthers u (L.shown.world library.old) (L.shown.world library.new) }
+    ensures others { KeepsOtherUnits u (L.shown.world library.old) (L.shown.world library.new) }
 {
     library.remove(u, &key(prime))
 }
@@ -134,7 +134,7 @@ pub fn removes<L: Library>(
 pub fn restarts<L: Library>(library: &mut L, u: usize, schema: &Schema)
     requires { IsOpenWith (L.shown.world library.old) u schema.now }
     ensures opened { IsOpenWith (L.shown.world library.new) u schema.now }
-    ensures others { KeepsOthers u (L.shown.world library.old) (L.shown.world library.new) }
+    ensures others { KeepsOtherUnits u (L.shown.world library.old) (L.shown.world library.new) }
 {
     library.restart_count(u);
 }
@@ -217,7 +217,7 @@ pub fn finds<L: Library>(
 ) -> Result<Read, Fault>
     requires { IsOpenWith (L.shown.world library.old) u schema.now }
     ensures opened { IsOpenWith (L.shown.world library.new) u schema.now }
-    ensures others { KeepsOthers u (L.shown.world library.old) (L.shown.world library.new) }
+    ensures others { KeepsOtherUnits u (L.shown.world library.old) (L.shown.world library.new) }
 {
     if usize::from(k) >= schema.key_count() {
         return Err(Fault::Damage);
@@ -237,7 +237,7 @@ pub fn goes_on<L: Library>(
 ) -> Result<Read, Fault>
     requires { IsOpenWith (L.shown.world library.old) u schema.now }
     ensures opened { IsOpenWith (L.shown.world library.new) u schema.now }
-    ensures others { KeepsOthers u (L.shown.world library.old) (L.shown.world library.new) }
+    ensures others { KeepsOtherUnits u (L.shown.world library.old) (L.shown.world library.new) }
 {
     if usize::from(k) >= schema.key_count() {
         return Err(Fault::Damage);
@@ -258,7 +258,7 @@ pub fn seeks<L: Library>(
 ) -> Result<Option<Key>, Fault>
     requires { IsOpenWith (L.shown.world library.old) u schema.now }
     ensures opened { IsOpenWith (L.shown.world library.new) u schema.now }
-    ensures others { KeepsOthers u (L.shown.world library.old) (L.shown.world library.new) }
+    ensures others { KeepsOtherUnits u (L.shown.world library.old) (L.shown.world library.new) }
 {
     if usize::from(k) >= schema.key_count() {
         return Err(Fault::Damage);
@@ -270,7 +270,7 @@ pub fn seeks<L: Library>(
 pub fn tops<L: Library>(library: &mut L, u: usize, schema: &Schema) -> Result<Option<Key>, Fault>
     requires { IsOpenWith (L.shown.world library.old) u schema.now }
     ensures opened { IsOpenWith (L.shown.world library.new) u schema.now }
-    ensures others { KeepsOthers u (L.shown.world library.old) (L.shown.world library.new) }
+    ensures others { KeepsOtherUnits u (L.shown.world library.old) (L.shown.world library.new) }
 {
     library.highest(u)
 }
@@ -285,7 +285,7 @@ pub fn are<L: Library>(
 ) -> Result<bool, Fault>
     requires { IsOpenWith (L.shown.world library.old) u schema.now }
     ensures opened { IsOpenWith (L.shown.world library.new) u schema.now }
-    ensures others { KeepsOthers u (L.shown.world library.old) (L.shown.world library.new) }
+    ensures others { KeepsOtherUnits u (L.shown.world library.old) (L.shown.world library.new) }
 {
     let mut position = Position::From(Key::new());
     for (record, stamp) in expected {

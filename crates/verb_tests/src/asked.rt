@@ -1,6 +1,6 @@
 //! The pages that verbs ask for, over a file of two thousand records with keys of 120 bytes.
 
-ghost use Rattle.verb_tests.specs.Ready.{IsReady};
+ghost use Rattle.verb_tests.specs.Ready.{IsReadyConnector};
 
 use crate::performing::{begins, performs};
 use crate::program::{Step, changed, in_sequence, read_by_key, written};
@@ -20,8 +20,8 @@ fn takes<S: Shelf + Drop>(
     library: &mut ShelfLibrary<S>,
     step: Step,
 ) -> u64
-    requires { IsReady connector.old (⟦<ShelfLibrary<S> as Library>⟧.shown.world library.old) }
-    ensures { IsReady connector.new (⟦<ShelfLibrary<S> as Library>⟧.shown.world library.new) }
+    requires { IsReadyConnector connector.old (⟦<ShelfLibrary<S> as Library>⟧.shown.world library.old) }
+    ensures { IsReadyConnector connector.new (⟦<ShelfLibrary<S> as Library>⟧.shown.world library.new) }
 {
     let mut pages = 0u64;
     for i in 0..step.count {
@@ -51,8 +51,8 @@ fn runs<S: Shelf + Drop>(
     library: &mut ShelfLibrary<S>,
     program: &[Step],
 ) -> u64
-    requires { IsReady connector.old (⟦<ShelfLibrary<S> as Library>⟧.shown.world library.old) }
-    ensures { IsReady connector.new (⟦<ShelfLibrary<S> as Library>⟧.shown.world library.new) }
+    requires { IsReadyConnector connector.old (⟦<ShelfLibrary<S> as Library>⟧.shown.world library.old) }
+    ensures { IsReadyConnector connector.new (⟦<ShelfLibrary<S> as Library>⟧.shown.world library.new) }
 {
     let mut pages = 0u64;
     for step in program {

@@ -3,7 +3,7 @@
 ghost use Rattle.std.specs.Prelude.{◌≡◌, IfOk, length};
 ghost use Rattle.record_layout.specs.Schema.{Schema as Keys};
 ghost use Rattle.verbs.specs.Fits.{HasOperands};
-ghost use Rattle.verb_tests.specs.Ready.{IsReady};
+ghost use Rattle.verb_tests.specs.Ready.{IsReadyConnector};
 
 use indexed_file::Library;
 use io_state::{Access, Fault, FileName, FileStatement, Status};
@@ -40,7 +40,7 @@ pub fn begins<S: Shelf + Drop>(
     frames: usize,
     access: Access,
 ) -> Result<(Connector, ShelfLibrary<S>), Fault>
-    ensures { IfOk result (λ r. IsReady r.0 (⟦<ShelfLibrary<S> as Library>⟧.shown.world r.1)) }
+    ensures { IfOk result (λ r. IsReadyConnector r.0 (⟦<ShelfLibrary<S> as Library>⟧.shown.world r.1)) }
 {
     let mut shelf = shelf;
     shelf.attach(&[])?;
@@ -93,8 +93,8 @@ pub fn performs<S: Shelf + Drop>(
     reference: u8,
     area: &mut [u8; 240],
 ) -> (Status, u64)
-    requires { IsReady connector.old (⟦<ShelfLibrary<S> as Library>⟧.shown.world library.old) }
-    ensures { IsReady connector.new (⟦<ShelfLibrary<S> as Library>⟧.shown.world library.new) }
+    requires { IsReadyConnector connector.old (⟦<ShelfLibrary<S> as Library>⟧.shown.world library.old) }
+    ensures { IsReadyConnector connector.new (⟦<ShelfLibrary<S> as Library>⟧.shown.world library.new) }
 {
     has_operands(rt, statement);
     let most = most_asked(library, statement, reference);

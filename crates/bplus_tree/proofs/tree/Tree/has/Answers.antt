@@ -1,10 +1,10 @@
 use Rattle.std.proofs.Common.{ℕ, List, None, subst}
 use Rattle.pages.specs.Answer.{IsAnswer}
 use Rattle.tree_search.specs.Calls.{entry_of}
-use Rattle.tree_search.specs.Tail.{IsThere}
+use Rattle.tree_search.specs.Tail.{TellsPresence}
 use Rattle.bplus_tree.proofs.tree.Tree.has.Goals as goal
 
 pub returns-clause-told : goal.returns-clause-told
 returns-clause-told g c honest entries own stands =
-    subst (λ (es : List (List ℕ)). IsAnswer c.has_below.result (IsThere (entry_of c.args.self.now.shape.width c.args.key.now es))) stands.has
+    subst (λ (es : List (List ℕ)). IsAnswer c.has_below.result (TellsPresence (entry_of c.args.self.now.shape.width c.args.key.now es))) stands.has
     (c.has_below.ensures.told honest stands.value None None stands.whole.stands)

@@ -1,6 +1,6 @@
 use Rattle.std.proofs.Common.{map}
 use Rattle.tree_search.specs.Calls.{entry_of}
-use Rattle.tree_search.specs.Tail.{IsThere}
+use Rattle.tree_search.specs.Tail.{TellsPresence}
 use Rattle.std.specs.Prelude.{◌≡◌, Bool, find, is_some}
 use Rattle.tree_search.proofs.SearchLemmas.{if_ok}
 use Rattle.key_index.specs.Stored.{prime_bytes}
@@ -12,5 +12,5 @@ pub returns-clause-told : goal.returns-clause-told
 returns-clause-told g c honest entries own stands =
     let index = c.args.self.now in
     let value = c.args.value.now in
-    if_ok c.has.result (IsThere (entry_of index.tree.shape.width value (map prime_bytes entries))) (λ (told : Bool). told ≡ is_some (find (has_prime value) entries))
+    if_ok c.has.result (TellsPresence (entry_of index.tree.shape.width value (map prime_bytes entries))) (λ (told : Bool). told ≡ is_some (find (has_prime value) entries))
     (told_there index value entries stands.each) (c.has.ensures.told honest (map prime_bytes entries) own stands.tree)

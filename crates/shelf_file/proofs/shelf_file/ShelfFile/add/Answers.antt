@@ -3,13 +3,13 @@ use Rattle.indexed_file.specs.Answers.{added_answer}
 use Rattle.indexed_file.specs.Room.{is_full_to_add}
 use Rattle.file_changes.specs.Adding.{file_after_add, HasAdded}
 use Rattle.shelf_file.specs.Standing.{room_in}
-use Rattle.shelf_file.specs.Calls.{OnlyReadsFile, Changes, IsFull}
+use Rattle.shelf_file.specs.Calls.{OnlyReadsFile, ChangesShelfFile, IsFull}
 use Rattle.shelf_file.proofs.StepLemmas.{reads_same, answer_map, at_end}
 use Rattle.shelf_file.proofs.shelf_file.ShelfFile.add.Goals as goal
 
 pub returns-clause-added : goal.returns-clause-added
 returns-clause-added g c =
-    at_end (λ s. Changes c.args.self.now (record { file = c.add.new.opened; pages = c.add.new.pages.file.now }) (g.S.Shelf.state c.args.shelf.now) (g.S.Shelf.state s) (added_answer c.args.self.now.file.schema c.args.bytes.now) (file_after_add c.args.self.now.file.schema c.args.bytes.now) c.add.result)
+    at_end (λ s. ChangesShelfFile c.args.self.now (record { file = c.add.new.opened; pages = c.add.new.pages.file.now }) (g.S.Shelf.state c.args.shelf.now) (g.S.Shelf.state s) (added_answer c.args.self.now.file.schema c.args.bytes.now) (file_after_add c.args.self.now.file.schema c.args.bytes.now) c.add.result)
     _ _ c.shelf-1.given.1 c.add.ensures.moves.1
     (λ honest file stood. answer_map (HasAdded _ _ _ c.args.self.now.file.schema c.args.bytes.now file) _
     (λ x has. record { answers = has.answers; stands = record { stands = has.stands; sound = has.sound } }) _ (c.add.ensures.added honest stood.sound file stood.stands))

@@ -1,15 +1,15 @@
 use Rattle.std.proofs.Common.{is_some}
 use Rattle.indexed_file.specs.Change.{row_of}
-use Rattle.file_changes.specs.Removing.{file_after_remove, HasRemoved}
-use Rattle.shelf_file.specs.Calls.{OnlyReadsFile, Changes}
+use Rattle.file_changes.specs.Removing.{file_after_remove, HasRemovedRow}
+use Rattle.shelf_file.specs.Calls.{OnlyReadsFile, ChangesShelfFile}
 use Rattle.shelf_file.proofs.StepLemmas.{reads_same, answer_map, at_end}
 use Rattle.shelf_file.proofs.shelf_file.ShelfFile.remove.Goals as goal
 
 pub returns-clause-removed : goal.returns-clause-removed
 returns-clause-removed g c =
-    at_end (λ s. Changes c.args.self.now (record { file = c.remove.new.opened; pages = c.remove.new.pages.file.now }) (g.S.Shelf.state c.args.shelf.now) (g.S.Shelf.state s) (λ file. is_some (row_of c.args.self.now.file.schema c.args.key.now.items file)) (file_after_remove c.args.self.now.file.schema c.args.key.now.items) c.remove.result)
+    at_end (λ s. ChangesShelfFile c.args.self.now (record { file = c.remove.new.opened; pages = c.remove.new.pages.file.now }) (g.S.Shelf.state c.args.shelf.now) (g.S.Shelf.state s) (λ file. is_some (row_of c.args.self.now.file.schema c.args.key.now.items file)) (file_after_remove c.args.self.now.file.schema c.args.key.now.items) c.remove.result)
     _ _ c.shelf-1.given.1 c.remove.ensures.moves.1
-    (λ honest file stood. answer_map (HasRemoved _ _ _ c.args.self.now.file.schema c.args.key.now.items file) _
+    (λ honest file stood. answer_map (HasRemovedRow _ _ _ c.args.self.now.file.schema c.args.key.now.items file) _
     (λ x has. record { answers = has.answers; stands = record { stands = has.stands; sound = has.sound } }) _ (c.remove.ensures.removed honest stood.sound file stood.stands))
 
 pub returns-clause-gone : goal.returns-clause-gone

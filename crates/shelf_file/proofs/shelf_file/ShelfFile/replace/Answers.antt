@@ -5,13 +5,13 @@ use Rattle.indexed_file.specs.Answers.{replaced_answer}
 use Rattle.indexed_file.specs.Room.{is_full_to_replace}
 use Rattle.file_changes.specs.Replacing.{file_after_replace, HasReplaced}
 use Rattle.shelf_file.specs.Standing.{StandsFor, room_in}
-use Rattle.shelf_file.specs.Calls.{OnlyReadsFile, Changes, IsFull}
+use Rattle.shelf_file.specs.Calls.{OnlyReadsFile, ChangesShelfFile, IsFull}
 use Rattle.shelf_file.proofs.StepLemmas.{reads_same, answer_map, at_end}
 use Rattle.shelf_file.proofs.shelf_file.ShelfFile.replace.Goals as goal
 
 pub returns-clause-replaced : goal.returns-clause-replaced
 returns-clause-replaced g c =
-    at_end (λ s. Changes c.args.self.now (record { file = c.replace.new.opened; pages = c.replace.new.pages.file.now }) (g.S.Shelf.state c.args.shelf.now) (g.S.Shelf.state s) (replaced_answer c.args.self.now.file.schema c.args.bytes.now) (file_after_replace c.args.self.now.file.schema c.args.bytes.now) c.replace.result)
+    at_end (λ s. ChangesShelfFile c.args.self.now (record { file = c.replace.new.opened; pages = c.replace.new.pages.file.now }) (g.S.Shelf.state c.args.shelf.now) (g.S.Shelf.state s) (replaced_answer c.args.self.now.file.schema c.args.bytes.now) (file_after_replace c.args.self.now.file.schema c.args.bytes.now) c.replace.result)
     _ _ c.shelf-1.given.1 c.replace.ensures.moves.1
     (λ honest file stood. answer_map (HasReplaced _ _ _ c.args.self.now.file.schema c.args.bytes.now file) _
     (λ x has. record { answers = has.answers; stands = record { stands = has.stands; sound = has.sound } }) _ (c.replace.ensures.replaced honest stood.sound file stood.stands))

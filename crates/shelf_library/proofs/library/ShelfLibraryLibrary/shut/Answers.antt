@@ -3,7 +3,7 @@ use Rattle.page_store.specs.ShelfState.{unit_name}
 use Rattle.shelf_library.specs.declared.library.ShelfLibrary.{ShelfLibrary}
 use Rattle.shelf_library.specs.declared.held.Held.TheVariants.{Opened}
 use Rattle.shelf_library.specs.State.{LibraryState, held_at}
-use Rattle.shelf_library.specs.Closing.{ClosesAt}
+use Rattle.shelf_library.specs.Closing.{ClosesUnitAt}
 use Rattle.shelf_library.proofs.WorldLemmas.{is_held}
 use Rattle.shelf_library.proofs.OpenedLemmas.{is_one, must_be_open}
 use Rattle.shelf_library.proofs.ShutLemmas.{units_after, shut_ok, shut_err, shut_broken, shut_unchanged, shuts_unit}
@@ -41,7 +41,7 @@ invariant_of-self g c =
       limit = s.limit;
     } in
     let within = is_held old.shelf old.held c.args.u s.many c.requires.attached in
-    let call : ClosesAt c.args.u c.in-Opened.file c.close.result old new = record {
+    let call : ClosesUnitAt c.args.u c.in-Opened.file c.close.result old new = record {
       units = record { many = s.many; distinct = s.distinct; looked = s.looked; ready = s.ready };
       attached = within;
       opened = is_one old.shelf old.held c.args.u c.index_mut.result.now s.many c.requires.attached c.index_mut.ensures.value ∙ sym c.replace.ensures.value ∙ c.in-Opened.is;
@@ -72,7 +72,7 @@ returns-clause-ok g c honest truly =
       limit = s.limit;
     } in
     let within = is_held old.shelf old.held c.args.u s.many c.requires.attached in
-    let call : ClosesAt c.args.u c.in-Opened.file c.close.result old new = record {
+    let call : ClosesUnitAt c.args.u c.in-Opened.file c.close.result old new = record {
       units = record { many = s.many; distinct = s.distinct; looked = s.looked; ready = s.ready };
       attached = within;
       opened = is_one old.shelf old.held c.args.u c.index_mut.result.now s.many c.requires.attached c.index_mut.ensures.value ∙ sym c.replace.ensures.value ∙ c.in-Opened.is;
@@ -102,7 +102,7 @@ returns-clause-err g c honest truly =
       limit = s.limit;
     } in
     let within = is_held old.shelf old.held c.args.u s.many c.requires.attached in
-    let call : ClosesAt c.args.u c.in-Opened.file c.close.result old new = record {
+    let call : ClosesUnitAt c.args.u c.in-Opened.file c.close.result old new = record {
       units = record { many = s.many; distinct = s.distinct; looked = s.looked; ready = s.ready };
       attached = within;
       opened = is_one old.shelf old.held c.args.u c.index_mut.result.now s.many c.requires.attached c.index_mut.ensures.value ∙ sym c.replace.ensures.value ∙ c.in-Opened.is;
@@ -132,7 +132,7 @@ returns-clause-broken g c =
       limit = s.limit;
     } in
     let within = is_held old.shelf old.held c.args.u s.many c.requires.attached in
-    let call : ClosesAt c.args.u c.in-Opened.file c.close.result old new = record {
+    let call : ClosesUnitAt c.args.u c.in-Opened.file c.close.result old new = record {
       units = record { many = s.many; distinct = s.distinct; looked = s.looked; ready = s.ready };
       attached = within;
       opened = is_one old.shelf old.held c.args.u c.index_mut.result.now s.many c.requires.attached c.index_mut.ensures.value ∙ sym c.replace.ensures.value ∙ c.in-Opened.is;
@@ -162,7 +162,7 @@ returns-clause-unchanged g c honest truly =
       limit = s.limit;
     } in
     let within = is_held old.shelf old.held c.args.u s.many c.requires.attached in
-    let call : ClosesAt c.args.u c.in-Opened.file c.close.result old new = record {
+    let call : ClosesUnitAt c.args.u c.in-Opened.file c.close.result old new = record {
       units = record { many = s.many; distinct = s.distinct; looked = s.looked; ready = s.ready };
       attached = within;
       opened = is_one old.shelf old.held c.args.u c.index_mut.result.now s.many c.requires.attached c.index_mut.ensures.value ∙ sym c.replace.ensures.value ∙ c.in-Opened.is;
@@ -192,7 +192,7 @@ returns-clause-shuts g c =
       limit = s.limit;
     } in
     let within = is_held old.shelf old.held c.args.u s.many c.requires.attached in
-    let call : ClosesAt c.args.u c.in-Opened.file c.close.result old new = record {
+    let call : ClosesUnitAt c.args.u c.in-Opened.file c.close.result old new = record {
       units = record { many = s.many; distinct = s.distinct; looked = s.looked; ready = s.ready };
       attached = within;
       opened = is_one old.shelf old.held c.args.u c.index_mut.result.now s.many c.requires.attached c.index_mut.ensures.value ∙ sym c.replace.ensures.value ∙ c.in-Opened.is;
