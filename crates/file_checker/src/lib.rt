@@ -10,8 +10,6 @@ mod check;
 mod parts;
 mod reading;
 mod stop;
-#[cfg(test)]
-mod tests;
 mod verdict;
 
 pub use check::check_file;

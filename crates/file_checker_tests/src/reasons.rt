@@ -1,13 +1,15 @@
-//! What no clause says: that a file which stands is found sound, and which reason is told of one that does not. The files are written byte by byte, as the format says.
+//! What is found of files that are written byte by byte, as the format says: one that stands is sound, and of one that does not its reason is told.
 
-mod files;
-mod readers;
+mod slow;
+mod written;
 
-use crate::{CheckFault, Reason, Verdict, check_file};
-use files::{one_record, put, three_keys, varying};
-use readers::Slow;
+use crate::checks::assert_equal;
+use file_checker::{CheckFault, Reason, Verdict, check_file};
+use slow::Slow;
 use std::alloc::Global;
+use std::process::Abort;
 use std::test::Fail;
+use written::{one_record, put, three_keys, varying};
 
 const SOUND_ONE: Verdict = Verdict::Sound {
     records: 1,
@@ -24,18 +26,23 @@ fn check(alloc: Global, bytes: &[u8]) -> Result<Verdict, Fail> {
     Ok(check_file(alloc, &mut reader)?)
 }
 
+fn assert_found(rt: &impl Abort, found: Verdict, expected: Verdict, what: &str) {
+    assert_eq!(rt; found, expected, "{what}");
+}
+
 #[test]
 fn each_file_that_stands_is_sound(rt: HostRuntime) -> Result<(), Fail> {
     let alloc = rt.alloc();
-    assert_eq!(rt; check(alloc, &one_record(&rt, alloc)?)?, SOUND_ONE);
-    assert_eq!(rt;
+    assert_equal(&rt, check(alloc, &one_record(&rt, alloc)?)?, SOUND_ONE);
+    assert_equal(
+        &rt,
         check(alloc, &varying(&rt, alloc)?)?,
         Verdict::Sound {
             records: 1,
-            pages: 4
-        }
+            pages: 4,
+        },
     );
-    assert_eq!(rt; check(alloc, &three_keys(&rt, alloc)?)?, SOUND_THREE);
+    assert_equal(&rt, check(alloc, &three_keys(&rt, alloc)?)?, SOUND_THREE);
     Ok(())
 }
 
@@ -45,8 +52,8 @@ fn a_file_may_be_longer_than_it_counts(rt: HostRuntime) -> Result<(), Fail> {
     let mut bytes = one_record(&rt, rt.alloc())?;
     bytes.push(b'X')?;
     let mut reader = &bytes[..];
-    assert_eq!(rt; check_file(rt.alloc(), &mut reader)?, SOUND_ONE);
-    assert_eq!(rt; reader, b"X".as_slice());
+    assert_equal(&rt, check_file(rt.alloc(), &mut reader)?, SOUND_ONE);
+    assert_equal(&rt, reader, b"X".as_slice());
     Ok(())
 }
 
@@ -86,7 +93,7 @@ fn a_changed_byte_has_its_reason(rt: HostRuntime) -> Result<(), Fail> {
     for (at, byte, reason, what) in changes {
         let was = put(&rt, &mut bytes, at, byte);
         let found = check(rt.alloc(), &bytes)?;
-        assert_eq!(rt; found, Verdict::Unsound(reason), "{what}");
+        assert_found(&rt, found, Verdict::Unsound(reason), what);
         put(&rt, &mut bytes, at, was);
     }
     Ok(())
@@ -101,14 +108,15 @@ fn a_file_that_is_cut_is_short(rt: HostRuntime) -> Result<(), Fail> {
         for length in [0, 1, 4095, 4096, 4097, 8192, 12287] {
             assert!(rt; length <= bytes.len());
             let found = check(rt.alloc(), &bytes[..length])?;
-            assert_eq!(rt; found, Verdict::Unsound(Reason::Short), "{length} bytes");
+            assert_equal(&rt, found, Verdict::Unsound(Reason::Short));
         }
     }
     put(&rt, &mut bytes, 9, 7);
-    assert_eq!(rt;
+    assert_found(
+        &rt,
         check(rt.alloc(), &bytes)?,
         Verdict::Unsound(Reason::Gate),
-        "the gate comes before the rest of the first page"
+        "the gate comes before the rest of the first page",
     );
     Ok(())
 }
@@ -120,7 +128,11 @@ fn a_page_that_nothing_reaches_is_lost(rt: HostRuntime) -> Result<(), Fail> {
     for _ in 0..4096 {
         bytes.push(0)?;
     }
-    assert_eq!(rt; check(rt.alloc(), &bytes)?, Verdict::Unsound(Reason::Lost));
+    assert_equal(
+        &rt,
+        check(rt.alloc(), &bytes)?,
+        Verdict::Unsound(Reason::Lost),
+    );
     Ok(())
 }
 
@@ -205,7 +217,7 @@ fn indexes_and_records_agree_both_ways(rt: HostRuntime) -> Result<(), Fail> {
             put(&rt, &mut bytes, at + i, byte);
         }
         let found = check(alloc, &bytes)?;
-        assert_eq!(rt; found, Verdict::Unsound(reason), "{what}");
+        assert_found(&rt, found, Verdict::Unsound(reason), what);
     }
     Ok(())
 }
@@ -216,7 +228,11 @@ fn a_record_has_its_entry(rt: HostRuntime) -> Result<(), Fail> {
     let mut bytes = three_keys(&rt, rt.alloc())?;
     put(&rt, &mut bytes, 33, 4);
     put(&rt, &mut bytes, 16384 + 16 + 3 * 21, 1);
-    assert_eq!(rt; check(rt.alloc(), &bytes)?, Verdict::Unsound(Reason::Index));
+    assert_equal(
+        &rt,
+        check(rt.alloc(), &bytes)?,
+        Verdict::Unsound(Reason::Index),
+    );
     Ok(())
 }
 
@@ -229,7 +245,11 @@ fn entries_that_are_exchanged_are_out_of_order(rt: HostRuntime) -> Result<(), Fa
         let right = put(&rt, &mut bytes, 4122 + i, left);
         put(&rt, &mut bytes, 4112 + i, right);
     }
-    assert_eq!(rt; check(rt.alloc(), &bytes)?, Verdict::Unsound(Reason::Order));
+    assert_equal(
+        &rt,
+        check(rt.alloc(), &bytes)?,
+        Verdict::Unsound(Reason::Order),
+    );
     Ok(())
 }
 
@@ -247,12 +267,16 @@ fn a_free_page_is_reached_by_its_chain(rt: HostRuntime) -> Result<(), Fail> {
         let mut bytes = three_keys(&rt, rt.alloc())?;
         put(&rt, &mut bytes, at, byte);
         let found = check(rt.alloc(), &bytes)?;
-        assert_eq!(rt; found, Verdict::Unsound(reason), "{what}");
+        assert_found(&rt, found, Verdict::Unsound(reason), what);
     }
     let mut bytes = three_keys(&rt, rt.alloc())?;
     put(&rt, &mut bytes, 19, 0);
     put(&rt, &mut bytes, 23, 0);
-    assert_eq!(rt; check(rt.alloc(), &bytes)?, Verdict::Unsound(Reason::Lost));
+    assert_equal(
+        &rt,
+        check(rt.alloc(), &bytes)?,
+        Verdict::Unsound(Reason::Lost),
+    );
     Ok(())
 }
 
@@ -279,29 +303,28 @@ fn a_file_may_come_in_parts(rt: HostRuntime) -> Result<(), Fail> {
     let bytes = one_record(&rt, rt.alloc())?;
     for most in [1, 3, 4095, 4096, 5000] {
         let found = check_slowly(rt.alloc(), &bytes, most, 0, true)?;
-        assert_eq!(rt; found, SOUND_ONE, "{most} bytes at a call");
+        assert_equal(&rt, found, SOUND_ONE);
     }
-    assert_eq!(rt;
-        check_slowly(rt.alloc(), &bytes, 4096, 999, false)?,
-        SOUND_ONE
-    );
+    let interrupted = check_slowly(rt.alloc(), &bytes, 4096, 999, false)?;
+    assert_equal(&rt, interrupted, SOUND_ONE);
     Ok(())
 }
 
 #[test]
 fn a_reader_that_fails_is_a_fault(rt: HostRuntime) -> Result<(), Fail> {
     let bytes = one_record(&rt, rt.alloc())?;
-    assert_eq!(rt;
+    // A thousand interrupted reads in a row.
+    assert_equal(
+        &rt,
         check_slowly(rt.alloc(), &bytes, 4096, 1000, false),
         Err(CheckFault::Input),
-        "a thousand interrupted reads in a row"
     );
     for length in [0, 1, 4096, 12287] {
         assert!(rt; length <= bytes.len());
-        assert_eq!(rt;
+        assert_equal(
+            &rt,
             check_slowly(rt.alloc(), &bytes[..length], 4096, 0, true),
             Err(CheckFault::Input),
-            "after {length} bytes"
         );
     }
     Ok(())
@@ -328,6 +351,10 @@ fn what_may_stand(at: usize) -> Freedom {
     }
 }
 
+fn assert_sound(rt: &impl Abort, sound: bool, expected: bool, at: usize, byte: u8) {
+    assert_eq!(rt; sound, expected, "byte {at} to {byte}");
+}
+
 // Each byte of the file of three keys is changed to 0, to 255 and to its complement, one at a time.
 #[test]
 fn no_changed_byte_that_has_a_meaning_is_sound(rt: HostRuntime) -> Result<(), Fail> {
@@ -339,9 +366,9 @@ fn no_changed_byte_that_has_a_meaning_is_sound(rt: HostRuntime) -> Result<(), Fa
             let found = check(rt.alloc(), &bytes)?;
             let sound = found == SOUND_THREE;
             match what_may_stand(at) {
-                Freedom::None => assert_eq!(rt; sound, byte == was, "byte {at} to {byte}"),
+                Freedom::None => assert_sound(&rt, sound, byte == was, at, byte),
                 Freedom::Some => {}
-                Freedom::Any => assert!(rt; sound, "byte {at} to {byte}"),
+                Freedom::Any => assert_sound(&rt, sound, true, at, byte),
             }
         }
         put(&rt, &mut bytes, at, was);
