@@ -20,10 +20,13 @@ pub struct Limits {
 impl Limits {
     /// None where there are fewer than 16 pages, no frame, or more than 4,096 frames.
     pub fn of(pages: u32, frames: usize) -> Option<Limits> {
-        if pages < FEWEST_PAGES || frames > MOST_FRAMES {
+        if frames > MOST_FRAMES {
             return None;
         }
         let frames = NonZeroUsize::new(frames)?;
+        if pages < FEWEST_PAGES {
+            return None;
+        }
         Some(Limits { pages, frames })
     }
 }

@@ -1,6 +1,6 @@
 //! Decks that are read whole, and faults that are seen in whole decks alone.
 
-use crate::checks::assert_equal;
+use crate::checks::{assert_equal, assert_equal_for};
 use deck_reader::{Deck, no_words_are_two_decks, one_deck, read_deck};
 use file_control::DeckFault;
 use io_state::{Access, FileStatement, OpenMode};
@@ -190,7 +190,7 @@ fn the_first_reading_with_a_fault_tells_it(rt: HostRuntime) -> Result<(), Fail> 
         (WRONG_HEADING, "PROCEDURE DIVISION.\nCLOSE PARTS.", 2, 2),
     ] {
         let fault = deck_of(rt.alloc(), description, procedure)?.err();
-        assert_eq!(rt; fault, Some(DeckFault { line, code }), "{procedure:?}");
+        assert_equal_for(&rt, procedure, fault, Some(DeckFault { line, code }));
     }
     Ok(())
 }
@@ -215,7 +215,7 @@ fn a_deck_ends_with_its_procedure(rt: HostRuntime) -> Result<(), Fail> {
         ),
     ] {
         let fault = deck_of(rt.alloc(), description, procedure)?.err();
-        assert_eq!(rt; fault, Some(DeckFault { line, code }), "{procedure:?}");
+        assert_equal_for(&rt, procedure, fault, Some(DeckFault { line, code }));
     }
     Ok(())
 }
@@ -286,7 +286,7 @@ fn a_name_of_many_is_not_taken_again(rt: HostRuntime) -> Result<(), Fail> {
         deck.push_str("\nPROCEDURE DIVISION. MOVE 1 TO")?;
         write!(deck, " A-NAME-OF-THIRTY-LETTERS-{name}.")?;
         let found = read_deck(rt.alloc(), deck.as_bytes()).err();
-        assert_eq!(rt; found, fault, "{name}");
+        assert_equal_for(&rt, name, found, fault);
     }
     Ok(())
 }
@@ -298,7 +298,7 @@ fn a_name_that_none_of_many_has_is_unknown(rt: HostRuntime) -> Result<(), Fail> 
         deck.push_str("\nPROCEDURE DIVISION.\nMOVE 1 TO CUST-ID")?;
         write!(deck, "\nA-NAME-OF-THIRTY-LETTERS-{name}.")?;
         let fault = read_deck(rt.alloc(), deck.as_bytes()).err();
-        assert_eq!(rt; fault, Some(DeckFault { line: 405, code: 3 }), "{name}");
+        assert_equal_for(&rt, name, fault, Some(DeckFault { line: 405, code: 3 }));
     }
     Ok(())
 }

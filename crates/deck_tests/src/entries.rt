@@ -1,6 +1,6 @@
 //! File control entries, and faulty ones.
 
-use crate::checks::assert_equal;
+use crate::checks::{assert_equal, assert_equal_for};
 use deck_entries::{Divisions, read_divisions};
 use deck_words::{DeckFault, Parser, words};
 use io_state::Access;
@@ -139,7 +139,7 @@ fn a_fault_is_told_for_its_line(rt: HostRuntime) -> Result<(), Fail> {
     ];
     for (deck, line, code) in decks {
         let fault = fault_of(rt.alloc(), deck)?;
-        assert_eq!(rt; fault, Some(DeckFault { line, code }), "{deck:?}");
+        assert_equal_for(&rt, deck, fault, Some(DeckFault { line, code }));
     }
     Ok(())
 }

@@ -1,6 +1,6 @@
 //! Procedures, and faulty ones.
 
-use crate::checks::assert_equal;
+use crate::checks::{assert_equal, assert_equal_for};
 use crate::customers::{customers_and_parts, read};
 use deck_words::DeckFault;
 use io_state::{Access, FileStatement, OpenMode, Relation};
@@ -57,7 +57,7 @@ fn files_are_opened_and_closed_one_by_one(rt: HostRuntime) -> Result<(), Fail> {
     ] {
         let list = read(rt.alloc(), &described, HEADING, text)??;
         let found = file_statements(rt.alloc(), &list)?;
-        assert_eq!(rt; found.as_slice(), expected, "{text}");
+        assert_equal_for(&rt, text, found.as_slice(), expected);
     }
     one_procedure();
     only_allowed();
@@ -102,7 +102,7 @@ fn a_read_is_sequential_or_by_a_key(rt: HostRuntime) -> Result<(), Fail> {
         let described = customers_and_parts(rt.alloc(), access)?;
         let list = read(rt.alloc(), &described, HEADING, text)??;
         let found = file_statements(rt.alloc(), &list)?;
-        assert_eq!(rt; found.as_slice(), [(0, expected)].as_slice(), "{text}");
+        assert_equal_for(&rt, text, found.as_slice(), [(0, expected)].as_slice());
     }
     Ok(())
 }
@@ -155,7 +155,7 @@ fn a_start_is_by_the_leading_part_of_a_key(rt: HostRuntime) -> Result<(), Fail> 
     ] {
         let list = read(rt.alloc(), &described, HEADING, text)??;
         let found = file_statements(rt.alloc(), &list)?;
-        assert_eq!(rt; found.as_slice(), [(0, expected)].as_slice(), "{text}");
+        assert_equal_for(&rt, text, found.as_slice(), [(0, expected)].as_slice());
     }
     Ok(())
 }
@@ -406,7 +406,7 @@ fn a_fault_is_told_for_its_line(rt: HostRuntime) -> Result<(), Fail> {
     ] {
         let described = customers_and_parts(rt.alloc(), access)?;
         let fault = read(rt.alloc(), &described, HEADING, text)?.err();
-        assert_eq!(rt; fault, Some(DeckFault { line, code }), "{text:?}");
+        assert_equal_for(&rt, text, fault, Some(DeckFault { line, code }));
     }
     let described = customers_and_parts(rt.alloc(), Access::Dynamic)?;
     let faulty_heading = read(rt.alloc(), &described, "PROCEDURE\nDIVISON.", "")?.err();

@@ -1,6 +1,6 @@
 //! Decks and their words, and words read one by one.
 
-use crate::checks::assert_equal;
+use crate::checks::{assert_equal, assert_equal_for};
 use deck_words::{
     Cause, DECK_LIMIT, DeckFault, Parser, Refusal, Word, WordText, one_reading, words,
 };
@@ -37,15 +37,24 @@ const SIGN: &str = "sign";
 
 const PERIOD: &str = "period";
 
-/// What a word is, and its text.
-fn seen(alloc: Global, word: &Word<'_>) -> Result<(&'static str, Bytes), AllocError> {
-    let (kind, text) = match &word.text {
-        WordText::Plain(text) => (PLAIN, text.as_str().as_bytes().to_vec(alloc)?),
-        WordText::Literal(text) => return Ok((LITERAL, text.text(alloc)?)),
-        WordText::Sign(sign) => (SIGN, sign.text().to_vec(alloc)?),
-        WordText::Period => (PERIOD, b".".to_vec(alloc)?),
+fn kind_of(word: &Word<'_>) -> &'static str {
+    match &word.text {
+        WordText::Plain(_) => PLAIN,
+        WordText::Literal(_) => LITERAL,
+        WordText::Sign(_) => SIGN,
+        WordText::Period => PERIOD,
+    }
+}
+
+/// The text of a word: of a literal, what it stands for.
+fn text_of(alloc: Global, word: &Word<'_>) -> Result<Bytes, AllocError> {
+    let text = match &word.text {
+        WordText::Plain(text) => text.as_str().as_bytes(),
+        WordText::Literal(text) => return text.text(alloc),
+        WordText::Sign(sign) => sign.text(),
+        WordText::Period => b".".as_slice(),
     };
-    Ok((kind, Bytes::from_vec(text)))
+    Ok(Bytes::from_vec(text.to_vec(alloc)?))
 }
 
 /// The deck has these words, each with its line and what it is.
@@ -56,18 +65,18 @@ fn shows(
     expected: &[(u64, &str, &str)],
 ) -> Result<(), Fail> {
     let mut words = words(deck.as_bytes())?;
-    assert_eq!(rt; words.len(), expected.len(), "{deck:?}");
+    assert_equal_for(rt, deck, words.len(), expected.len());
     for (line, kind, text) in expected {
         let Some(word) = words.next() else {
             assert!(rt; false, "{deck:?}");
             return Ok(());
         };
-        let (seen_kind, seen_text) = seen(alloc, &word)?;
-        assert_eq!(rt; word.line, *line, "{deck:?}");
-        assert_eq!(rt; seen_kind, *kind, "{deck:?}");
-        assert_eq!(rt; seen_text.as_slice(), text.as_bytes(), "{deck:?}");
+        let seen = text_of(alloc, &word)?;
+        assert_equal_for(rt, deck, word.line, *line);
+        assert_equal_for(rt, deck, kind_of(&word), *kind);
+        assert_equal_for(rt, deck, seen.as_slice(), text.as_bytes());
     }
-    assert!(rt; words.next().is_none(), "{deck:?}");
+    assert_equal_for(rt, deck, words.next().is_none(), true);
     Ok(())
 }
 
@@ -136,7 +145,7 @@ fn bytes_that_are_no_word_are_told_for_their_line(rt: HostRuntime) -> Result<(),
     ];
     for (deck, line) in decks {
         let fault = words(deck.as_bytes()).err();
-        assert_eq!(rt; fault, Some(DeckFault { line, code: 1 }), "{deck:?}");
+        assert_equal_for(&rt, deck, fault, Some(DeckFault { line, code: 1 }));
     }
     Ok(())
 }
@@ -146,7 +155,7 @@ fn a_literal_has_at_most_a_thousand_bytes(rt: HostRuntime) -> Result<(), Fail> {
     let deck = literal_of(rt.alloc(), 1_000)?;
     let mut parser = Parser::new(&words(deck.as_slice())?);
     assert_equal(&rt, parser.left(), 1);
-    assert_eq!(rt; parser.literal(rt.alloc())?.as_slice().len(), 1_000);
+    assert_equal(&rt, parser.literal(rt.alloc())?.as_slice().len(), 1_000);
     let deck = literal_of(rt.alloc(), 1_001)?;
     let fault = words(deck.as_slice()).err();
     assert_equal(&rt, fault, Some(DeckFault { line: 1, code: 1 }));
@@ -156,7 +165,7 @@ fn a_literal_has_at_most_a_thousand_bytes(rt: HostRuntime) -> Result<(), Fail> {
 #[test]
 fn a_deck_has_at_most_a_mebibyte(rt: HostRuntime) -> Result<(), Fail> {
     let longest = spaces(rt.alloc(), DECK_LIMIT)?;
-    assert_eq!(rt; words(longest.as_slice())?.len(), 0);
+    assert_equal(&rt, words(longest.as_slice())?.len(), 0);
     let longer = spaces(rt.alloc(), 1_048_577)?;
     let fault = words(longer.as_slice()).err();
     assert_equal(&rt, fault, Some(DeckFault { line: 1, code: 6 }));
