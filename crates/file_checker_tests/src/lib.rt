@@ -1,16 +1,14 @@
-//! Tests of the file checker, over files that are written byte by byte, and over files that an open file or a library on a shelf has made.
+//! Tests of the file checker over files that an open file or a library on a shelf has made.
 //!
 //! That a file is Sound only where it stands is proved. Here files that stand are made, also by calls that are drawn, and are found sound; a part of one is
-//! not, and each change has its reason. A second reader, written from the tables of the format, says of each file whether it stands, also where one byte of
-//! it is changed; it shares nothing with the checker.
+//! not. A second reader, written from the tables of the format, says of each file whether it stands, also where one byte of it is changed; it shares nothing
+//! with the checker.
 //!
-//! Read `reasons`, then `second_reader`, `changed` and `drawn_files`.
+//! Read `second_reader`, then `changed` and `drawn_files`.
 #![tactic(auto)]
 
 #[cfg(test)]
 mod changed;
-#[cfg(test)]
-mod checks;
 #[cfg(test)]
 mod drawn;
 #[cfg(test)]
@@ -21,7 +19,5 @@ mod files;
 mod made;
 #[cfg(test)]
 mod readers;
-#[cfg(test)]
-mod reasons;
 #[cfg(test)]
 mod second_reader;
