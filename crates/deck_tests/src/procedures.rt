@@ -343,73 +343,9 @@ fn a_literal_of_digits_is_moved_as_a_number(rt: HostRuntime) -> Result<(), Fail>
 }
 
 #[test]
-fn a_fault_is_told_for_its_line(rt: HostRuntime) -> Result<(), Fail> {
-    for (access, text, line, code) in [
-        (Access::Dynamic, "\nREAD\nCUST\n\n", 3, 2),
-        (Access::Dynamic, "READ CUST\nAT\nEND.", 2, 2),
-        (Access::Dynamic, "READ CUST RECORD\nNEXT.", 2, 2),
-        (Access::Dynamic, "MAIN-LINE.\n.", 2, 2),
-        (Access::Dynamic, "MAIN-LINE\nOPEN INPUT CUST.", 2, 2),
-        (Access::Dynamic, "OPEN\nCUST.", 2, 2),
-        (Access::Dynamic, "CLOSE CUST WITH\nPARTS.", 2, 2),
-        (Access::Dynamic, "START CUST KEY\nLESS NAME-1.", 2, 2),
-        (
-            Access::Dynamic,
-            "START CUST KEY GREATER OR\nLESS NAME-1.",
-            2,
-            2,
-        ),
-        (Access::Dynamic, "MOVE 1\nCUST-ID.", 2, 2),
-        (Access::Dynamic, "MOVE\nCUST-ID TO CUST-NAME.", 2, 2),
-        (Access::Dynamic, "STOP\nOPEN INPUT CUST.", 2, 2),
-        (Access::Dynamic, "READ\nSTOCK.", 2, 3),
-        (Access::Dynamic, "WRITE\nCUST.", 2, 3),
-        (Access::Dynamic, "REWRITE\nCUST.", 2, 3),
-        (Access::Dynamic, "DELETE\nCUST-REC.", 2, 3),
-        (Access::Dynamic, "OPEN EXTEND\nSTOCK.", 2, 3),
-        (Access::Dynamic, "START\nSTOCK.", 2, 3),
-        (Access::Dynamic, "MOVE 1 TO CUST-ID\nCUST-NO.", 2, 3),
-        (Access::Dynamic, "STOP RUN.\nCLOSE\nSTOCK.", 3, 3),
-        (Access::Dynamic, "READ CUST KEY\nPART-NO.", 2, 3),
-        (Access::Dynamic, "START CUST KEY =\nPART-NO.", 2, 3),
-        (Access::Dynamic, "OPEN EXTEND\nCUST.", 2, 5),
-        (Access::Random, "OPEN EXTEND PARTS\nCUST.", 2, 5),
-        (Access::Random, "START\nCUST.", 2, 5),
-        (Access::Random, "READ CUST\nNEXT\nRECORD.", 2, 5),
-        (Access::Sequential, "READ CUST\nKEY\nIS CUST-CITY.", 2, 5),
-        (
-            Access::Dynamic,
-            "READ CUST NEXT RECORD\nKEY\nIS CUST-CITY.",
-            2,
-            5,
-        ),
-        (Access::Dynamic, "READ CUST KEY IS\nNAME-1.", 2, 5),
-        (
-            Access::Dynamic,
-            "START CUST KEY IS EQUAL TO\nNAME-REST.",
-            2,
-            5,
-        ),
-        (Access::Dynamic, "START CUST KEY >=\nCUST-REC.", 2, 5),
-        (Access::Dynamic, "MOVE \"A\"\nTO\nCUST-ID.", 3, 5),
-        (Access::Dynamic, "MOVE SPACES TO CUST-NAME\nCUST-ID.", 2, 5),
-        (Access::Dynamic, "MOVE '1A' TO CUST-NAME\nCUST-ID.", 2, 5),
-        (Access::Dynamic, "MOVE \"TEN\" TO\nCUST-LEN.", 2, 5),
-        (Access::Dynamic, "MOVE '1 2' TO\nCUST-LEN.", 2, 5),
-        (Access::Dynamic, "MOVE SPACES TO\nCUST-LEN.", 2, 5),
-        (
-            Access::Dynamic,
-            "MOVE\n1234567890123456789\nTO CUST-ID.",
-            2,
-            6,
-        ),
-    ] {
-        let described = customers_and_parts(rt.alloc(), access)?;
-        let fault = read(rt.alloc(), &described, HEADING, text)?.err();
-        assert_equal_for(&rt, text, fault, Some(DeckFault { line, code }));
-    }
+fn a_fault_of_the_heading_is_told_for_its_line(rt: HostRuntime) -> Result<(), Fail> {
     let described = customers_and_parts(rt.alloc(), Access::Dynamic)?;
-    let faulty_heading = read(rt.alloc(), &described, "PROCEDURE\nDIVISON.", "")?.err();
-    assert_equal(&rt, faulty_heading, Some(DeckFault { line: 2, code: 2 }));
+    let fault = read(rt.alloc(), &described, "PROCEDURE\nDIVISON.", "")?.err();
+    assert_equal(&rt, fault, Some(DeckFault { line: 2, code: 2 }));
     Ok(())
 }
