@@ -1,5 +1,6 @@
 //! The first pages of two files, byte for byte, and what one changed byte does.
 
+use crate::checks::{assert_equal, assert_equal_for};
 use file_header::{Header, PAGE_SIZE, TreeNumbers};
 use record_layout::KeyPart;
 use std::process::Abort;
@@ -52,26 +53,31 @@ const fn leaf(root: u32) -> TreeNumbers {
 #[test]
 fn a_page_tells_what_the_format_says(rt: HostRuntime) {
     let header = accepted(&rt, &first_page(&rt, &ONE_KEY));
-    assert_eq!(rt; (header.schema.least(), header.schema.greatest()), (10, 10));
-    assert_eq!(rt; (header.pages, header.first_free, header.free), (3, 0, 0));
-    assert_eq!(rt;
-        (header.first_heap, header.free_slot_page, header.free_slot),
-        (2, 2, 1)
-    );
-    assert_eq!(rt; (header.next_stamp, header.records), (2, 1));
-    assert_eq!(rt; header.schema.keys(), [unique(0, 4)].as_slice());
-    assert_eq!(rt; header.trees.as_slice(), [leaf(1)].as_slice());
+    assert_equal(&rt, header.schema.least(), 10);
+    assert_equal(&rt, header.schema.greatest(), 10);
+    assert_equal(&rt, header.pages, 3);
+    assert_equal(&rt, header.first_free, 0);
+    assert_equal(&rt, header.free, 0);
+    assert_equal(&rt, header.first_heap, 2);
+    assert_equal(&rt, header.free_slot_page, 2);
+    assert_equal(&rt, header.free_slot, 1);
+    assert_equal(&rt, header.next_stamp, 2);
+    assert_equal(&rt, header.records, 1);
+    assert_equal(&rt, header.schema.keys(), [unique(0, 4)].as_slice());
+    assert_equal(&rt, header.trees.as_slice(), [leaf(1)].as_slice());
 }
 
 #[test]
 fn version_2_tells_the_least_length(rt: HostRuntime) {
     let header = accepted(&rt, &first_page(&rt, &TWO_KEYS));
-    assert_eq!(rt; (header.schema.least(), header.schema.greatest()), (10, 16));
-    assert_eq!(rt;
+    assert_equal(&rt, header.schema.least(), 10);
+    assert_equal(&rt, header.schema.greatest(), 16);
+    assert_equal(
+        &rt,
         header.schema.keys(),
-        [unique(0, 4), unique(4, 6)].as_slice()
+        [unique(0, 4), unique(4, 6)].as_slice(),
     );
-    assert_eq!(rt; header.trees.as_slice(), [leaf(1), leaf(2)].as_slice());
+    assert_equal(&rt, header.trees.as_slice(), [leaf(1), leaf(2)].as_slice());
 }
 
 #[test]
@@ -106,11 +112,7 @@ fn one_changed_byte_is_refused_where_the_format_says_so(rt: HostRuntime) {
             let mut page = first;
             page[at] = byte;
             let expected = byte == first[at] || is_allowed(at, byte);
-            assert_eq!(rt;
-                Header::read(&page).is_some(),
-                expected,
-                "byte {at} is {byte}"
-            );
+            assert_equal_for(&rt, (at, byte), Header::read(&page).is_some(), expected);
         }
     }
 }

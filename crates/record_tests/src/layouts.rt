@@ -1,5 +1,6 @@
 //! Records, and where their items stand.
 
+use crate::checks::{assert_equal, assert_equal_for};
 use crate::entries::items;
 use record_layout::{Field, Layout, LayoutFault, one_outcome};
 use std::test::Fail;
@@ -62,8 +63,8 @@ fn items_stand_one_behind_another_and_groups_round_their_members(
         (deep.as_slice(), "D", place(2, 1), 3),
     ] {
         let layout = Layout::build(rt.alloc(), &items(rt.alloc(), rows)?)?;
-        assert_eq!(rt; layout.field(name), field, "{name} of {rows:?}");
-        assert_eq!(rt; layout.length(), length, "{rows:?}");
+        assert_equal_for(&rt, name, layout.field(name), field);
+        assert_equal_for(&rt, rows, layout.length(), length);
     }
     Ok(())
 }
@@ -102,7 +103,7 @@ fn the_first_fault_of_a_description_is_told(rt: HostRuntime) -> Result<(), Fail>
     ] {
         match Layout::build(rt.alloc(), &items(rt.alloc(), rows)?) {
             Ok(_) => assert!(rt; false, "{rows:?}"),
-            Err(found) => assert_eq!(rt; found, fault, "{rows:?}"),
+            Err(found) => assert_equal_for(&rt, rows, found, fault),
         }
     }
     Ok(())
@@ -121,6 +122,6 @@ fn a_record_area_begins_with_spaces_and_zeros(rt: HostRuntime) -> Result<(), Fai
     let mut area = *b"......";
     assert_eq!(rt; layout.length(), 5);
     layout.blank(&mut area[..5]);
-    assert_eq!(rt; area, *b"  00 .");
+    assert_equal(&rt, area, *b"  00 .");
     Ok(())
 }

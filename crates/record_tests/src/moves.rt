@@ -1,5 +1,6 @@
 //! Moves to an item of a record area.
 
+use crate::checks::{assert_equal, assert_equal_for};
 use record_layout::{Bytes, Field, Figure, Source, put, takes};
 use std::process::Abort;
 use std::test::Fail;
@@ -49,7 +50,7 @@ fn a_move_fits_its_source_to_the_item(rt: HostRuntime) {
         (item(2, false), Source::Fill(Figure::Low), *b".\x00\x00..."),
         (item(2, false), Source::Fill(Figure::High), *b".\xff\xff..."),
     ] {
-        assert_eq!(rt; area_after(&rt, field, &source), expected, "{source:?}");
+        assert_equal_for(&rt, &source, area_after(&rt, field, &source), expected);
     }
 }
 
@@ -63,8 +64,8 @@ fn a_numeric_item_takes_digits_and_zero_alone(rt: HostRuntime) {
         (Source::Fill(Figure::Low), false),
         (Source::Fill(Figure::High), false),
     ] {
-        assert_eq!(rt; takes(item(2, true), &source), expected, "{source:?}");
-        assert!(rt; takes(item(2, false), &source), "{source:?}");
+        assert_equal_for(&rt, &source, takes(item(2, true), &source), expected);
+        assert_equal_for(&rt, &source, takes(item(2, false), &source), true);
     }
 }
 
@@ -72,9 +73,7 @@ fn a_numeric_item_takes_digits_and_zero_alone(rt: HostRuntime) {
 fn a_source_with_bytes_of_its_own_can_be_moved(rt: HostRuntime) -> Result<(), Fail> {
     let text = Bytes::from_vec(b"AB".to_vec(rt.alloc())?);
     let source = Source::Text(text);
-    assert_eq!(rt;
-        area_after(&rt, item(3, false), &source.as_ref()),
-        *b".AB .."
-    );
+    let area = area_after(&rt, item(3, false), &source.as_ref());
+    assert_equal(&rt, area, *b".AB ..");
     Ok(())
 }

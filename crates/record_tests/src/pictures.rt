@@ -1,5 +1,6 @@
 //! Pictures, and faulty ones.
 
+use crate::checks::assert_equal_for;
 use record_layout::{LayoutFault, Picture, one_picture};
 
 const fn text(length: u16) -> Result<Picture, LayoutFault> {
@@ -42,6 +43,6 @@ fn a_picture_is_of_x_or_of_9(rt: HostRuntime) {
         ("(3)", Err(LayoutFault::BadPicture)),
         ("A(3)", Err(LayoutFault::BadPicture)),
     ] {
-        assert_eq!(rt; Picture::parse(picture.as_bytes()), expected, "{picture}");
+        assert_equal_for(&rt, picture, Picture::parse(picture.as_bytes()), expected);
     }
 }

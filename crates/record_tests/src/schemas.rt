@@ -1,5 +1,6 @@
 //! Files with a prime key and alternate keys.
 
+use crate::checks::{assert_equal, assert_equal_for};
 use crate::entries::items;
 use io_state::Name;
 use record_layout::{Field, KeyPart, Layout, Schema, SchemaFault};
@@ -56,13 +57,10 @@ fn alternate_keys_are_numbered_by_where_they_stand(rt: HostRuntime) -> Result<()
         (1, part(4, 8, false), b"ANNMILLE".as_slice()),
         (2, part(12, 2, true), b"X7".as_slice()),
     ] {
-        assert_eq!(rt; schema.part(k), expected, "key {k}");
-        assert_eq!(rt; schema.value(b"0042ANNMILLEX7", k), value, "key {k}");
-        assert_eq!(rt;
-            schema.extract(b"0042ANNMILLEX7", k).as_slice(),
-            value,
-            "key {k}"
-        );
+        assert_equal_for(&rt, k, schema.part(k), expected);
+        assert_equal_for(&rt, k, schema.value(b"0042ANNMILLEX7", k), value);
+        let key = schema.extract(b"0042ANNMILLEX7", k);
+        assert_equal_for(&rt, k, key.as_slice(), value);
     }
     Ok(())
 }
@@ -78,8 +76,8 @@ fn an_item_is_a_key_or_leads_one(rt: HostRuntime) -> Result<(), Fail> {
         (field(7, 5), None, None),
         (field(12, 2), Some(2), Some((2, 2))),
     ] {
-        assert_eq!(rt; schema.key_of(item), key, "{item:?}");
-        assert_eq!(rt; schema.partial(item), partial, "{item:?}");
+        assert_equal_for(&rt, item, schema.key_of(item), key);
+        assert_equal_for(&rt, item, schema.partial(item), partial);
     }
     Ok(())
 }
@@ -106,7 +104,7 @@ fn the_first_fault_of_the_keys_is_told(rt: HostRuntime) -> Result<(), Fail> {
     ] {
         match Schema::varying(&layout, 13, prime, alternates) {
             Ok(_) => assert!(rt; false, "{fault:?}"),
-            Err(found) => assert_eq!(rt; found, fault),
+            Err(found) => assert_equal(&rt, found, fault),
         }
     }
     Ok(())
@@ -130,16 +128,14 @@ fn schemas_are_the_same_whatever_the_order_of_their_clauses(rt: HostRuntime) -> 
 fn a_key_is_a_part_of_a_record(rt: HostRuntime) -> Result<(), Fail> {
     let schema = customers(&rt, rt.alloc())?;
     let record = b"0007ANNSMITHXY";
-    assert_eq!(rt;
+    assert_equal(
+        &rt,
         schema.keys(),
-        [part(0, 4, false), part(4, 8, false), part(12, 2, true)].as_slice()
+        [part(0, 4, false), part(4, 8, false), part(12, 2, true)].as_slice(),
     );
-    assert_eq!(rt; part(4, 8, false).of(record), b"ANNSMITH".as_slice());
-    assert_eq!(rt;
-        part(12, 9, false).of(record),
-        b"XY".as_slice(),
-        "no more than the record has"
-    );
+    assert_equal(&rt, part(4, 8, false).of(record), b"ANNSMITH".as_slice());
+    // No more than the record has.
+    assert_equal(&rt, part(12, 9, false).of(record), b"XY".as_slice());
     Ok(())
 }
 
@@ -148,7 +144,7 @@ fn a_key_is_a_part_of_a_record(rt: HostRuntime) -> Result<(), Fail> {
 fn a_schema_is_made_from_the_numbers_of_one(rt: HostRuntime) -> Result<(), Fail> {
     let keys = [part(0, 250, false), part(4, 8, false), part(12, 238, true)];
     match Schema::from_parts(250, 4000, &keys) {
-        Some(schema) => assert_eq!(rt; schema.keys(), keys.as_slice()),
+        Some(schema) => assert_equal(&rt, schema.keys(), keys.as_slice()),
         None => assert!(rt; false, "these make a schema"),
     }
     let turned = [part(0, 4, false), part(12, 2, true), part(4, 8, false)];

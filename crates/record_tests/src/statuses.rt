@@ -1,5 +1,6 @@
 //! The digits of statuses, and what may be written in which mode.
 
+use crate::checks::assert_equal_for;
 use io_state::{Access, OpenMode, Status, Verb, permits};
 
 // I-O status: a first digit 0 is successful completion.
@@ -14,8 +15,8 @@ fn a_status_prints_its_two_digits(rt: HostRuntime) {
         (Status::WrongLength, b"44", false),
         (Status::ConnectorFailed, b"92", false),
     ] {
-        assert_eq!(rt; status.digits(), *digits, "{status:?}");
-        assert_eq!(rt; status.is_success(), success, "{status:?}");
+        assert_equal_for(&rt, status, status.digits(), *digits);
+        assert_equal_for(&rt, status, status.is_success(), success);
     }
 }
 
@@ -27,25 +28,29 @@ fn writing_depends_on_access_and_mode(rt: HostRuntime) {
         (Access::Random, false, true, true, false),
         (Access::Dynamic, false, true, true, false),
     ] {
-        assert_eq!(rt;
+        assert_equal_for(
+            &rt,
+            access,
             permits(access, OpenMode::Input, Verb::Write),
             input,
-            "{access:?}"
         );
-        assert_eq!(rt;
+        assert_equal_for(
+            &rt,
+            access,
             permits(access, OpenMode::Output, Verb::Write),
             output,
-            "{access:?}"
         );
-        assert_eq!(rt;
+        assert_equal_for(
+            &rt,
+            access,
             permits(access, OpenMode::InputOutput, Verb::Write),
             input_output,
-            "{access:?}"
         );
-        assert_eq!(rt;
+        assert_equal_for(
+            &rt,
+            access,
             permits(access, OpenMode::Extend, Verb::Write),
             extend,
-            "{access:?}"
         );
     }
 }
