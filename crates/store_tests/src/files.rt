@@ -3,7 +3,7 @@ ghost use Rattle.std.specs.Prelude.{◌≡◌, ◌<◌, ◌^◌, ◌-◌, IsTrue
 ghost use Rattle.page_store.specs.ShelfState.{HasUnit, unit_file};
 ghost use Rattle.page_store.specs.Pages.{HasPages};
 
-use crate::checks::assert_equal;
+use crate::checks::{assert_equal, assert_equal_for};
 use crate::shelves::{name, new_shelf};
 use io_state::Fault;
 use page_store::{FuseShelf, Image, Kind, MemShelf, Shelf, Store};
@@ -134,20 +134,20 @@ fn a_file_is_closed_only_if_no_call_failed(rt: HostRuntime) -> Result<(), Fail> 
                 let made = make(&mut shelf, 100, 7).is_ok();
                 let found = find(&mut shelf);
                 let failed = shelf.faults() > 0;
-                assert_eq!(rt; failed, shelf.calls(kind) >= at, "{kind:?} {at}");
+                assert_equal_for(&rt, (kind, at), failed, shelf.calls(kind) >= at);
                 if !failed {
-                    assert!(rt; made);
-                    assert!(rt; matches!(found, Ok(Found::Closed(7, 100))), "{kind:?} {at}");
+                    assert_equal_for(&rt, (kind, at), made, true);
+                    assert_equal_for(&rt, (kind, at), found, Ok(Found::Closed(7, 100)));
                     break;
                 }
                 let mut inner = shelf.into_inner();
                 inner.attach(&[name()])?;
                 let left = find(&mut inner)?;
                 if made {
-                    assert_eq!(rt; left, Found::Closed(7, 100), "{kind:?} {at}");
-                    assert!(rt; found.is_err(), "{kind:?} {at}");
+                    assert_equal_for(&rt, (kind, at), left, Found::Closed(7, 100));
+                    assert_equal_for(&rt, (kind, at), found.is_err(), true);
                 }
-                assert!(rt; left != Found::Mixed, "{kind:?} {at}");
+                assert_equal_for(&rt, (kind, at), left == Found::Mixed, false);
             }
         }
     }
@@ -198,10 +198,8 @@ fn a_stop_inside_make_leaves_no_file_a_refused_one_the_old_or_the_new(
                 let done = make(&mut fuse, 2, 50).is_ok();
                 let stopped = fuse.faults() > 0;
                 assert_equal(&rt, done, !stopped);
-                assert!(rt;
-                    holds_new(rt.alloc(), &fuse.into_inner(), found, done)?,
-                    "{start} {at}"
-                );
+                let holds = holds_new(rt.alloc(), &fuse.into_inner(), found, done)?;
+                assert_equal_for(&rt, (start, at), holds, true);
                 if done {
                     break;
                 }
@@ -222,10 +220,8 @@ fn a_stop_inside_a_change_leaves_the_old_file_a_refused_one_or_the_new(
             let mut fuse = FuseShelf::new(shelf, Kind::Changes, at, after, true);
             let done = change(&mut fuse, 2, 50).is_ok();
             assert_equal(&rt, done, fuse.faults() == 0);
-            assert!(rt;
-                holds_new(rt.alloc(), &fuse.into_inner(), Found::Closed(10, 2), done)?,
-                "{at}"
-            );
+            let holds = holds_new(rt.alloc(), &fuse.into_inner(), Found::Closed(10, 2), done)?;
+            assert_equal_for(&rt, at, holds, true);
             if done {
                 break;
             }

@@ -3,7 +3,7 @@ ghost use Rattle.std.specs.Prelude.{◌≡◌, IfOk, IfSome, true};
 ghost use Rattle.page_store.specs.ShelfState.{HasUnit};
 ghost use Rattle.page_alloc.specs.PagedFile.{IsOpenOver};
 
-use crate::checks::assert_equal;
+use crate::checks::{assert_equal, assert_equal_for};
 use crate::shelves::{name, new_shelf};
 use io_state::Fault;
 use page_alloc::{FilePages, PagedFile, Pager};
@@ -152,16 +152,10 @@ fn a_hundred_pages_are_read_as_written_with_any_number_of_frames(
 ) -> Result<(), Fail> {
     for count in [1, 2, 64, 4096] {
         let mut shelf = new_shelf(rt.alloc())?;
-        assert_eq!(rt;
-            make(rt.alloc(), &mut shelf, frames(count), 100)?,
-            100,
-            "{count} frames"
-        );
-        assert_eq!(rt;
-            find(rt.alloc(), &mut shelf, frames(count))?,
-            Found::Closed(100, 100),
-            "{count} frames"
-        );
+        let made = make(rt.alloc(), &mut shelf, frames(count), 100)?;
+        assert_equal_for(&rt, count, made, 100);
+        let found = find(rt.alloc(), &mut shelf, frames(count))?;
+        assert_equal_for(&rt, count, found, Found::Closed(100, 100));
     }
     Ok(())
 }
@@ -186,12 +180,10 @@ fn fails_at(
     inner.attach(&[name()])?;
     let found = find(alloc, &mut inner, frames(held))?;
     if made.is_ok() {
-        assert_eq!(rt; found, Found::Closed(8, 8), "{kind:?} {at}, {held} frames");
+        assert_equal_for(rt, (kind, at, held), found, Found::Closed(8, 8));
     } else {
-        assert!(rt;
-            failed && (found == Found::Refused || found == Found::Closed(8, 8)),
-            "{kind:?} {at}, {held} frames"
-        );
+        let holds = found == Found::Refused || found == Found::Closed(8, 8);
+        assert_equal_for(rt, (kind, at, held), failed && holds, true);
     }
     Ok(failed)
 }
@@ -226,8 +218,8 @@ fn read_fails_at(
     let found = find(alloc, &mut shelf, frames(held));
     let failed = shelf.faults() > 0;
     match found {
-        Ok(found) => assert_eq!(rt; found, Found::Closed(8, 8), "read {at}, {held} frames"),
-        Err(_) => assert!(rt; failed, "read {at}, {held} frames"),
+        Ok(found) => assert_equal_for(rt, (at, held), found, Found::Closed(8, 8)),
+        Err(_) => assert_equal_for(rt, (at, held), failed, true),
     }
     let mut inner = shelf.into_inner();
     inner.attach(&[name()])?;
@@ -394,7 +386,8 @@ fn a_page_inside_the_file_is_taken_without_a_read(rt: HostRuntime) -> Result<(),
             file: &mut file,
             shelf: &mut shelf,
         };
-        assert!(rt; all_zeros(&mut pages, 8)?, "{held} frames");
+        let zeros = all_zeros(&mut pages, 8)?;
+        assert_equal_for(&rt, held, zeros, true);
     }
     Ok(())
 }
