@@ -19,6 +19,7 @@ $(DIR):
 
 # A gate that passes leaves the program that it built in crates/cobix/out.
 test:
+	edits/run
 	docs/believed
 	rt ci
 	cases/run $(PROGRAM)
