@@ -6,7 +6,7 @@ ghost use Rattle.open_file.specs.Stands.{IsShaped};
 
 use crate::made::{new_pages, new_shelf};
 use file_header::Header;
-use indexed_file::Added;
+use indexed_file::{Added, Found};
 use io_state::{Fault, Key, Position};
 use open_file::OpenFile;
 use page_alloc::FilePages;
@@ -38,12 +38,37 @@ fn adds<P: Pages>(
     ensures shaped { IsShaped opened.new }
     ensures ready { P.IsReady pages.new }
 {
-    assert_eq!(rt; (opened.schema.least(), opened.schema.greatest()), (6, 6));
-    assert_eq!(rt;
-        file_changes::add(opened, pages, record)?,
-        Added::Done { repeated }
-    );
+    assert!(rt; opened.schema.least() == 6);
+    assert!(rt; opened.schema.greatest() == 6);
+    let answer = file_changes::add(opened, pages, record)?;
+    assert!(rt; is_added(answer, repeated));
     Ok(())
+}
+
+fn is_added(answer: Added, expected: bool) -> bool {
+    match answer {
+        Added::Done { repeated } => repeated == expected,
+        Added::Clash => false,
+    }
+}
+
+/// Whether this record was found, with this stamp.
+fn is_found(found: &Option<Found>, area: &[u8; 6], record: &[u8; 6], stamp: u64) -> bool {
+    let Some(found) = found else {
+        return false;
+    };
+    if found.stamp != stamp {
+        return false;
+    }
+    area == record
+}
+
+/// The position behind a record.
+fn behind(found: Option<Found>) -> Position {
+    let Some(found) = found else {
+        return Position::Invalid;
+    };
+    Position::After(found.key, found.stamp)
 }
 
 /// Reads the records of a city, from a position on.
@@ -60,17 +85,12 @@ fn reads_city<P: Pages>(
 {
     let mut position = Position::From(Key::new());
     for (record, stamp) in expected {
-        assert_eq!(rt;
-            (opened.schema.key_count(), opened.schema.greatest()),
-            (2, 6)
-        );
+        assert!(rt; opened.schema.key_count() == 2);
+        assert!(rt; opened.schema.greatest() == 6);
         let mut area = [0; 6];
         let found = opened.next(pages, 1, &position, &mut area)?;
-        assert!(rt; found.is_some());
-        if let Some(found) = found {
-            assert_eq!(rt; (&area, found.stamp), (*record, *stamp));
-            position = Position::After(found.key, found.stamp);
-        }
+        assert!(rt; is_found(&found, &area, record, *stamp), "{stamp}");
+        position = behind(found);
     }
     Ok(())
 }
@@ -118,10 +138,9 @@ fn a_file_goes_on_by_its_header(rt: HostRuntime) -> Result<(), Fail> {
     let Some(header) = header else {
         return Ok(());
     };
-    assert_eq!(rt;
-        (header.records, header.next_stamp, header.pages),
-        (3, 4, 4)
-    );
+    assert!(rt; header.records == 3);
+    assert!(rt; header.next_stamp == 4);
+    assert!(rt; header.pages == 4);
     let mut again = OpenFile::from_header(&header);
     goes_on(&rt, &mut again, &mut pages)?;
     Ok(())
