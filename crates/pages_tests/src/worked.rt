@@ -1,252 +1,116 @@
-//! The worked examples, on an open file of customers.
+//! The worked examples, on an open file of customers: each row is a call and its answer.
+//!
+//! `by` finds a value of a key, `next` what follows the record found last; a record is followed by whether more have its value.
 
 ghost use Rattle.open_file.specs.Stands.{IsShaped};
 
-use crate::customers::{adds, begins, comes_next, has_key, replaces};
+use crate::customers::{adds, shows};
 use crate::made::{new_pages, new_shelf};
-use indexed_file::{Added, Replaced};
-use io_state::{Fault, Position, Relation};
+use io_state::Fault;
 use open_file::OpenFile;
 use page_alloc::FilePages;
 use pages::Pages;
-use sample_records::{AGAIN, CITY, NAME, NEW, NUMBER, customers, key, numbered};
+use sample_records::{customers, numbered};
+use std::alloc::Global;
 use std::process::Abort;
 use std::test::Fail;
 
-/// The file F: three customers in three cities.
-fn fills_f<P: Pages>(rt: &impl Abort, opened: &mut OpenFile, pages: &mut P) -> Result<(), Fault>
-    requires shaped { IsShaped opened.old }
-    requires ready { P.IsReady pages.old }
-    ensures shaped { IsShaped opened.new }
-    ensures ready { P.IsReady pages.new }
-{
-    adds(rt, opened, pages, b"0001ADAMS OSLO  ", NEW)?;
-    adds(rt, opened, pages, b"0002SMITH BERGEN", NEW)?;
-    adds(rt, opened, pages, b"0003SVEN  TROMSO", NEW)
+/// A new file of customers gives these answers.
+fn begins_with(rt: &impl Abort, alloc: Global, rows: &str, more: &str) -> Result<(), Fault> {
+    let mut shelf = new_shelf(alloc)?;
+    let mut held = new_pages(alloc, &mut shelf, 100)?;
+    let mut pages = FilePages {
+        file: &mut held,
+        shelf: &mut shelf,
+    };
+    let mut opened = OpenFile::create(&mut pages, &customers()?)?;
+    shows(rt, &mut opened, &mut pages, rows)?;
+    shows(rt, &mut opened, &mut pages, more)
 }
+
+/// The file F: three customers in three cities.
+const F: &str = "highest|none
+add|0001ADAMS OSLO  |new
+add|0002SMITH BERGEN|new
+add|0003SVEN  TROMSO|new";
 
 /// The file G: three customers in one city.
-fn fills_g<P: Pages>(rt: &impl Abort, opened: &mut OpenFile, pages: &mut P) -> Result<(), Fault>
-    requires shaped { IsShaped opened.old }
-    requires ready { P.IsReady pages.old }
-    ensures shaped { IsShaped opened.new }
-    ensures ready { P.IsReady pages.new }
-{
-    adds(rt, opened, pages, b"0003CCC   OSLO  ", NEW)?;
-    adds(rt, opened, pages, b"0001AAA   OSLO  ", AGAIN)?;
-    adds(rt, opened, pages, b"0002BBB   OSLO  ", AGAIN)
-}
+const G: &str = "add|0003CCC   OSLO  |new
+add|0001AAA   OSLO  |again
+add|0002BBB   OSLO  |again";
 
-/// The records of a city come in the order of their writing.
-fn delivers_a_city<P: Pages>(
-    rt: &impl Abort,
-    opened: &mut OpenFile,
-    pages: &mut P,
-) -> Result<Position, Fault>
-    requires shaped { IsShaped opened.old }
-    requires ready { P.IsReady pages.old }
-    ensures shaped { IsShaped opened.new }
-    ensures ready { P.IsReady pages.new }
-{
-    let first = Some((b"0003CCC   OSLO  ", true));
-    let second = Some((b"0001AAA   OSLO  ", true));
-    let third = Some((b"0002BBB   OSLO  ", false));
-    let position = has_key(rt, opened, pages, CITY, b"OSLO  ", first)?;
-    let position = comes_next(rt, opened, pages, CITY, &position, second)?;
-    comes_next(rt, opened, pages, CITY, &position, third)
-}
-
-/// One that is written later comes last.
-fn reads_a_city_to_its_end<P: Pages>(
-    rt: &impl Abort,
-    opened: &mut OpenFile,
-    pages: &mut P,
-) -> Result<(), Fault>
-    requires shaped { IsShaped opened.old }
-    requires ready { P.IsReady pages.old }
-    ensures shaped { IsShaped opened.new }
-    ensures ready { P.IsReady pages.new }
-{
-    let position = delivers_a_city(rt, opened, pages)?;
-    comes_next(rt, opened, pages, CITY, &position, None)?;
-    adds(rt, opened, pages, b"0009ZZZ   OSLO  ", AGAIN)?;
-    let last = Some((b"0009ZZZ   OSLO  ", false));
-    let position = comes_next(rt, opened, pages, CITY, &position, last)?;
-    comes_next(rt, opened, pages, CITY, &position, None)?;
-    Ok(())
-}
+/// The records of a city come in the order of their writing, and one that is written later comes last.
+const DELIVERED: &str = "by|CITY|OSLO  |0003CCC   OSLO  |more
+next|CITY|0001AAA   OSLO  |more
+next|CITY|0002BBB   OSLO  |last
+next|CITY|none
+add|0009ZZZ   OSLO  |again
+next|CITY|0009ZZZ   OSLO  |last
+next|CITY|none";
 
 // READ statement: duplicates are made available in the order of their writing.
 #[test]
 fn a_city_is_read_to_its_end(rt: HostRuntime) -> Result<(), Fail> {
-    let mut shelf = new_shelf(rt.alloc())?;
-    let mut held = new_pages(rt.alloc(), &mut shelf, 100)?;
-    let mut pages = FilePages {
-        file: &mut held,
-        shelf: &mut shelf,
-    };
-    let mut opened = OpenFile::create(&mut pages, &customers()?)?;
-    fills_g(&rt, &mut opened, &mut pages)?;
-    reads_a_city_to_its_end(&rt, &mut opened, &mut pages)?;
+    begins_with(&rt, rt.alloc(), G, DELIVERED)?;
     Ok(())
 }
 
-/// A city that stays, one that changes, and one that changes back.
-fn changes_a_city<P: Pages>(
-    rt: &impl Abort,
-    opened: &mut OpenFile,
-    pages: &mut P,
-) -> Result<(), Fault>
-    requires shaped { IsShaped opened.old }
-    requires ready { P.IsReady pages.old }
-    ensures shaped { IsShaped opened.new }
-    ensures ready { P.IsReady pages.new }
-{
-    let once = Replaced::Done { repeated: false };
-    let twice = Replaced::Done { repeated: true };
-    let stays = Some((b"0003DDD   OSLO  ", true));
-    replaces(rt, opened, pages, b"0003DDD   OSLO  ", once)?;
-    has_key(rt, opened, pages, CITY, b"OSLO  ", stays)?;
-    replaces(rt, opened, pages, b"0003DDD   BERGEN", once)?;
-    replaces(rt, opened, pages, b"0003DDD   OSLO  ", twice)?;
-    replaces(rt, opened, pages, b"0003AAA   OSLO  ", Replaced::Clash)?;
-    replaces(rt, opened, pages, b"0004EEE   OSLO  ", Replaced::Gone)
-}
-
-/// The one that changed comes last.
-fn reads_changed_cities<P: Pages>(
-    rt: &impl Abort,
-    opened: &mut OpenFile,
-    pages: &mut P,
-) -> Result<Position, Fault>
-    requires shaped { IsShaped opened.old }
-    requires ready { P.IsReady pages.old }
-    ensures shaped { IsShaped opened.new }
-    ensures ready { P.IsReady pages.new }
-{
-    let first = Some((b"0001AAA   OSLO  ", true));
-    let second = Some((b"0002BBB   OSLO  ", true));
-    let third = Some((b"0003DDD   OSLO  ", false));
-    let position = has_key(rt, opened, pages, CITY, b"OSLO  ", first)?;
-    let position = comes_next(rt, opened, pages, CITY, &position, second)?;
-    comes_next(rt, opened, pages, CITY, &position, third)
-}
+/// A city that stays, one that changes, and one that changes back, which comes last.
+const CHANGED: &str = "replace|0003DDD   OSLO  |once
+by|CITY|OSLO  |0003DDD   OSLO  |more
+replace|0003DDD   BERGEN|once
+replace|0003DDD   OSLO  |twice
+replace|0003AAA   OSLO  |clash
+replace|0004EEE   OSLO  |gone
+by|CITY|OSLO  |0001AAA   OSLO  |more
+next|CITY|0002BBB   OSLO  |more
+next|CITY|0003DDD   OSLO  |last";
 
 // REWRITE statement: a value that does not change keeps its place among its duplicates, a changed one goes to their end.
 #[test]
 fn a_city_that_changes_comes_last(rt: HostRuntime) -> Result<(), Fail> {
-    let mut shelf = new_shelf(rt.alloc())?;
-    let mut held = new_pages(rt.alloc(), &mut shelf, 100)?;
-    let mut pages = FilePages {
-        file: &mut held,
-        shelf: &mut shelf,
-    };
-    let mut opened = OpenFile::create(&mut pages, &customers()?)?;
-    fills_g(&rt, &mut opened, &mut pages)?;
-    changes_a_city(&rt, &mut opened, &mut pages)?;
-    reads_changed_cities(&rt, &mut opened, &mut pages)?;
+    begins_with(&rt, rt.alloc(), G, CHANGED)?;
     Ok(())
 }
 
-/// A START by the front of a name or a number.
-fn starts<P: Pages>(rt: &impl Abort, opened: &OpenFile, pages: &mut P) -> Result<(), Fault>
-    requires shaped { IsShaped opened.now }
-    requires ready { P.IsReady pages.old }
-    ensures ready { P.IsReady pages.new }
-{
-    for (k, operand, relation, expected) in STARTS {
-        begins(rt, opened, pages, k, operand, relation, expected)?;
-    }
-    Ok(())
-}
-
-/// A key, an operand, a relation, and the value that is found in the file F.
-type Start = (u8, &'static [u8], Relation, Option<&'static [u8]>);
-
-const STARTS: [Start; 9] = [
-    (NAME, b"S", Relation::NotLess, Some(b"SMITH ")),
-    (NAME, b"S", Relation::Greater, None),
-    (NAME, b"A", Relation::Greater, Some(b"SMITH ")),
-    (NAME, b"T", Relation::Equal, None),
-    (NAME, b"SV", Relation::Equal, Some(b"SVEN  ")),
-    (NAME, b"\0\0\0\0\0\0", Relation::NotLess, Some(b"ADAMS ")),
-    (NUMBER, b"9999", Relation::Greater, None),
-    (NUMBER, b"00", Relation::Greater, None),
-    (NUMBER, b"0001", Relation::Greater, Some(b"0002")),
-];
+/// A START by the front of a name or a number, and the value that is found.
+const STARTED: &str = "not less|NAME|S|SMITH |
+greater|NAME|S|none
+greater|NAME|A|SMITH |
+equal|NAME|T|none
+equal|NAME|SV|SVEN  |
+not less|NAME|\0\0\0\0\0\0|ADAMS |
+greater|NUMBER|9999|none
+greater|NUMBER|00|none
+greater|NUMBER|0001|0002
+from|SMITH |
+next|NAME|0002SMITH BERGEN|last";
 
 // START statement: as many bytes of the key are compared as the operand has.
 #[test]
 fn a_start_compares_the_front_of_a_key(rt: HostRuntime) -> Result<(), Fail> {
-    let mut shelf = new_shelf(rt.alloc())?;
-    let mut held = new_pages(rt.alloc(), &mut shelf, 100)?;
-    let mut pages = FilePages {
-        file: &mut held,
-        shelf: &mut shelf,
-    };
-    let mut opened = OpenFile::create(&mut pages, &customers()?)?;
-    fills_f(&rt, &mut opened, &mut pages)?;
-    starts(&rt, &opened, &mut pages)?;
-    let smith = Some((b"0002SMITH BERGEN", false));
-    let from_smith = Position::From(key(b"SMITH "));
-    comes_next(&rt, &mut opened, &mut pages, NAME, &from_smith, smith)?;
+    begins_with(&rt, rt.alloc(), F, STARTED)?;
     Ok(())
 }
 
-/// What clashes leaves nothing behind.
-fn clashes<P: Pages>(rt: &impl Abort, opened: &mut OpenFile, pages: &mut P) -> Result<(), Fault>
-    requires shaped { IsShaped opened.old }
-    requires ready { P.IsReady pages.old }
-    ensures shaped { IsShaped opened.new }
-    ensures ready { P.IsReady pages.new }
-{
-    adds(rt, opened, pages, b"0004SMITH MOSS  ", Added::Clash)?;
-    adds(rt, opened, pages, b"0003SMART MOSS  ", Added::Clash)?;
-    has_key(rt, opened, pages, NUMBER, b"0004", None)?;
-    has_key(rt, opened, pages, CITY, b"MOSS  ", None)?;
-    let smith = Some((b"0002SMITH BERGEN", false));
-    has_key(rt, opened, pages, CITY, b"BERGEN", smith)?;
-    Ok(())
-}
-
-/// A name is given up, and taken by another record, which READ NEXT does not find again.
-fn gives_a_name_up<P: Pages>(
-    rt: &impl Abort,
-    opened: &mut OpenFile,
-    pages: &mut P,
-) -> Result<(), Fault>
-    requires shaped { IsShaped opened.old }
-    requires ready { P.IsReady pages.old }
-    ensures shaped { IsShaped opened.new }
-    ensures ready { P.IsReady pages.new }
-{
-    let smith = Some((b"0002SMITH BERGEN", false));
-    let position = has_key(rt, opened, pages, NAME, b"SMITH ", smith)?;
-    assert!(rt; file_changes::remove(opened, pages, &key(b"0002"))?);
-    assert!(rt; !file_changes::remove(opened, pages, &key(b"0002"))?);
-    adds(rt, opened, pages, b"0009SMITH MOSS  ", NEW)?;
-    let sven = Some((b"0003SVEN  TROMSO", false));
-    let position = comes_next(rt, opened, pages, NAME, &position, sven)?;
-    comes_next(rt, opened, pages, NAME, &position, None)?;
-    Ok(())
-}
+/// What clashes leaves nothing behind. A name is given up, and taken by another record, which READ NEXT does not find again.
+const GIVEN_UP: &str = "add|0004SMITH MOSS  |clash
+add|0003SMART MOSS  |clash
+by|NUMBER|0004|none
+by|CITY|MOSS  |none
+by|CITY|BERGEN|0002SMITH BERGEN|last
+by|NAME|SMITH |0002SMITH BERGEN|last
+remove|0002|done
+remove|0002|gone
+add|0009SMITH MOSS  |new
+next|NAME|0003SVEN  TROMSO|last
+next|NAME|none
+highest|0009";
 
 // DELETE statement, and a record written under a name that was given up.
 #[test]
 fn a_name_is_free_again_where_its_record_is_removed(rt: HostRuntime) -> Result<(), Fail> {
-    let mut shelf = new_shelf(rt.alloc())?;
-    let mut held = new_pages(rt.alloc(), &mut shelf, 100)?;
-    let mut pages = FilePages {
-        file: &mut held,
-        shelf: &mut shelf,
-    };
-    let mut opened = OpenFile::create(&mut pages, &customers()?)?;
-    assert!(rt; opened.highest(&mut pages)?.is_none());
-    fills_f(&rt, &mut opened, &mut pages)?;
-    clashes(&rt, &mut opened, &mut pages)?;
-    gives_a_name_up(&rt, &mut opened, &mut pages)?;
-    let highest = opened.highest(&mut pages)?;
-    assert!(rt; highest.as_ref().map(|key| key.as_slice()) == Some(b"0009".as_slice()));
+    begins_with(&rt, rt.alloc(), F, GIVEN_UP)?;
     Ok(())
 }
 
@@ -258,9 +122,28 @@ fn fills_up<P: Pages>(rt: &impl Abort, opened: &mut OpenFile, pages: &mut P) -> 
     ensures ready { P.IsReady pages.new }
 {
     for n in 2..228 {
-        adds(rt, opened, pages, &numbered(n), AGAIN)?;
+        adds(rt, opened, pages, &numbered(n), "again")?;
     }
     Ok(())
+}
+
+/// There is no room for customer 0228, and the file is as it was.
+fn is_full<P: Pages>(rt: &impl Abort, opened: &mut OpenFile, pages: &mut P) -> Result<(), Fault>
+    requires shaped { IsShaped opened.old }
+    requires ready { P.IsReady pages.old }
+    ensures shaped { IsShaped opened.new }
+    ensures ready { P.IsReady pages.new }
+{
+    assert!(rt; opened.schema.least() == 16);
+    assert!(rt; opened.schema.greatest() == 16);
+    let answer = file_changes::add(opened, pages, &numbered(228));
+    assert!(rt; matches!(answer, Err(Fault::Full)));
+    shows(rt, opened, pages, "by|NUMBER|0228|none")
+}
+
+/// What is left of the pages.
+fn has_left<P: Pages>(rt: &impl Abort, pages: &P, expected: u64) {
+    assert!(rt; pages.pages_left() == expected);
 }
 
 /// The next customer finds no room, until two are removed.
@@ -270,17 +153,11 @@ fn finds_room<P: Pages>(rt: &impl Abort, opened: &mut OpenFile, pages: &mut P) -
     ensures shaped { IsShaped opened.new }
     ensures ready { P.IsReady pages.new }
 {
-    assert_eq!(rt; pages.pages_left(), 6);
-    assert_eq!(rt; (opened.schema.least(), opened.schema.greatest()), (16, 16));
-    assert_eq!(rt;
-        file_changes::add(opened, pages, &numbered(228)),
-        Err(Fault::Full)
-    );
-    has_key(rt, opened, pages, NUMBER, b"0228", None)?;
-    assert!(rt; file_changes::remove(opened, pages, &key(b"0001"))?);
-    assert!(rt; file_changes::remove(opened, pages, &key(b"0002"))?);
-    assert_eq!(rt; pages.pages_left(), 10);
-    adds(rt, opened, pages, &numbered(228), AGAIN)
+    has_left(rt, pages, 6);
+    is_full(rt, opened, pages)?;
+    shows(rt, opened, pages, "remove|0001|done\nremove|0002|done")?;
+    has_left(rt, pages, 10);
+    adds(rt, opened, pages, &numbered(228), "again")
 }
 
 // A WRITE is refused for want of pages before anything is changed: with 16 pages, at the 228th customer of one city.
@@ -293,9 +170,9 @@ fn sixteen_pages_hold_227_customers(rt: HostRuntime) -> Result<(), Fail> {
         shelf: &mut shelf,
     };
     let mut opened = OpenFile::create(&mut pages, &customers()?)?;
-    assert_eq!(rt; pages.pages_left(), 12);
-    adds(&rt, &mut opened, &mut pages, &numbered(1), NEW)?;
-    assert_eq!(rt; pages.pages_left(), 11);
+    has_left(&rt, &pages, 12);
+    adds(&rt, &mut opened, &mut pages, &numbered(1), "new")?;
+    has_left(&rt, &pages, 11);
     fills_up(&rt, &mut opened, &mut pages)?;
     finds_room(&rt, &mut opened, &mut pages)?;
     Ok(())
