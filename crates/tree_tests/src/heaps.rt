@@ -1,7 +1,7 @@
 //! What no clause says: numbers and bytes that a person reads off the format, and that each call can succeed.
 
 use crate::checks::assert_equal;
-use crate::memory_pages::{MemoryPages, new_pages};
+use crate::memory_pages::{MemoryPages, new_pages, put_byte};
 use io_state::Fault;
 use page_marks::WalkFault;
 use record_heap::{Heap, Place, Shape, heap_laws, walk_heap};
@@ -74,15 +74,6 @@ fn get(
     Ok((n, area))
 }
 
-// Puts another byte into a page, and answers the one that stood there.
-fn put_byte(rt: &impl Abort, pages: &mut MemoryPages, n: usize, at: usize, byte: u8) -> u8 {
-    assert!(rt; n < pages.pages.len() && at < 4096);
-    let page = &mut pages.pages[n];
-    let was = page[at];
-    page[at] = byte;
-    was
-}
-
 // A record of 16 bytes that begins with a number.
 fn numbered(i: usize) -> [u8; 16] {
     let mut record = [b' '; 16];
@@ -107,8 +98,8 @@ fn slots_are_as_many_as_fit(rt: HostRuntime) {
             least,
             greatest,
         };
-        assert_eq!(rt; shape.size(), size, "{shape:?}");
-        assert_eq!(rt; shape.room(), room, "{shape:?}");
+        assert!(rt; shape.size() == size, "{shape:?}");
+        assert!(rt; shape.room() == room, "{shape:?}");
     }
 }
 
@@ -121,11 +112,10 @@ fn freed_slots_are_taken_before_a_page_is(rt: HostRuntime) -> Result<(), Fail> {
     for i in 0..500 {
         places.push(add(&rt, &mut heap, &mut pages, &numbered(i))?)?;
     }
-    assert_eq!(rt; pages.pages.len(), 4);
+    assert!(rt; pages.pages.len() == 4);
     for (i, &place) in places.iter().enumerate() {
-        assert_eq!(rt;
-            get(&rt, &heap, &mut pages, place)?,
-            (16, numbered(i)),
+        assert!(rt;
+            get(&rt, &heap, &mut pages, place)? == (16, numbered(i)),
             "{place:?}"
         );
     }
@@ -135,7 +125,7 @@ fn freed_slots_are_taken_before_a_page_is(rt: HostRuntime) -> Result<(), Fail> {
     for i in 0..500 {
         add(&rt, &mut heap, &mut pages, &numbered(i))?;
     }
-    assert_eq!(rt; pages.pages.len(), 4);
+    assert!(rt; pages.pages.len() == 4);
     Ok(())
 }
 
@@ -169,9 +159,8 @@ fn a_shorter_record_leaves_the_rest_of_the_area(rt: HostRuntime) -> Result<(), F
         Place { page: 1, slot: 214 },
         Place { page: 2, slot: 0 },
     ] {
-        assert_eq!(rt;
-            get(&rt, &heap, &mut pages, place),
-            Err(Fault::Damage),
+        assert!(rt;
+            get(&rt, &heap, &mut pages, place) == Err(Fault::Damage),
             "{place:?}"
         );
     }
@@ -246,9 +235,8 @@ fn a_heap_page_is_written_byte_for_byte(rt: HostRuntime) -> Result<(), Fail> {
         assert_equal(&rt, place.page as usize, others + 1);
         let page = pages.pages.last().expect(&rt, "a page");
         for (at, bytes) in parts {
-            assert_eq!(rt;
-                page.get(at..at + bytes.len()),
-                Some(bytes),
+            assert!(rt;
+                page.get(at..at + bytes.len()) == Some(bytes),
                 "{shape:?} at {at}"
             );
         }
@@ -286,10 +274,10 @@ fn a_walk_finds_the_pages_of_a_heap_and_what_is_lost(rt: HostRuntime) -> Result<
         (1, 141, 9, WalkFault::Chain, "a link to a slot in use"),
     ];
     for (n, at, byte, fault, what) in changes {
-        let was = put_byte(&rt, &mut pages, n, at, byte);
+        let was = put_byte(&rt, &mut pages.pages, n, at, byte);
         let found = walk_heap(rt.alloc(), &pages.pages, &heap, &mut [false; 3]);
-        assert_eq!(rt; found.err(), Some(fault), "{what}");
-        put_byte(&rt, &mut pages, n, at, was);
+        assert!(rt; found.err() == Some(fault), "{what}");
+        put_byte(&rt, &mut pages.pages, n, at, was);
     }
     Ok(())
 }

@@ -3,6 +3,7 @@
 use io_state::Fault;
 use pages::Pages;
 use std::alloc::Global;
+use std::process::Abort;
 use std::test::Fail;
 
 /// Pages by number, the free ones among them, and how many can be taken yet. Page 0 is never taken.
@@ -34,6 +35,14 @@ pub fn new_pages(alloc: Global, others: usize, left: u64) -> Result<MemoryPages,
         free: Vec::new(alloc),
         left,
     })
+}
+
+/// Puts another byte into a page, and answers the one that stood there.
+pub fn put_byte(rt: &impl Abort, pages: &mut [[u8; 4096]], n: usize, at: usize, byte: u8) -> u8 {
+    assert!(rt; n < pages.len() && at < 4096);
+    let was = pages[n][at];
+    pages[n][at] = byte;
+    was
 }
 
 // Nothing is claimed of what the pages hold: honesty is never true here, and what a test sees is what it asks.

@@ -306,10 +306,10 @@ fn a_leaf_is_split_by_the_entry_that_it_has_no_room_for(rt: HostRuntime) -> Resu
         for i in 0..room {
             assert!(rt; put(&mut tree, &mut pages, i)?);
         }
-        assert_eq!(rt; tree.height(), 1, "{room}");
+        assert!(rt; tree.height() == 1, "{room}");
         assert!(rt; !put(&mut tree, &mut pages, 0)?);
         assert!(rt; put(&mut tree, &mut pages, room)?);
-        assert_eq!(rt; tree.height(), 2, "{room}");
+        assert!(rt; tree.height() == 2, "{room}");
     }
     Ok(())
 }
@@ -326,7 +326,7 @@ fn a_cursor_gives_what_after_gives_while_the_tree_changes(rt: HostRuntime) -> Re
     for step in 0..400u64 {
         number = after(&tree, &mut pages, number)?;
         assert!(rt; number.is_some());
-        assert_eq!(rt; next(&mut cursor, &tree, &mut pages)?, number, "{step}");
+        assert!(rt; next(&mut cursor, &tree, &mut pages)? == number, "{step}");
         match step % 5 {
             1 => put(&mut tree, &mut pages, step.wrapping_mul(3))?,
             3 => take(&mut tree, &mut pages, step.wrapping_mul(4))?,
@@ -426,12 +426,9 @@ fn a_series_of_changes_goes_as_in_a_list_in_order(rt: HostRuntime) -> Result<(),
             (random >> 33) % 700,
         )?;
         if i % 100 == 0 {
-            assert_eq!(rt;
-                count_filled(&rt, rt.alloc(), &tree, &mut pages)?,
-                list.len()
-            );
+            assert!(rt; count_filled(&rt, rt.alloc(), &tree, &mut pages)? == list.len());
         }
     }
-    assert_eq!(rt; tree.count, list.len() as u64);
+    assert!(rt; tree.count == list.len() as u64);
     Ok(())
 }

@@ -1,6 +1,7 @@
 //! What no clause says: which faults are told, and that each call can succeed. The pages are written byte by byte, as the format says.
 
 use crate::checks::assert_equal;
+use crate::memory_pages::{new_pages, put_byte};
 use bplus_tree::Tree;
 use page_marks::{WalkFault, all_marked, mark};
 use page_walks::{Spot, trees_stay, walk_free, walk_tree, walks_part_the_file};
@@ -16,31 +17,15 @@ const LONGEST: Shape = Shape {
     entry: 508,
 };
 
-fn pages(alloc: Global, count: usize) -> Result<Vec<[u8; 4096]>, Fail> {
-    let mut pages = Vec::new(alloc);
-    for _ in 0..count {
-        pages.push([0; 4096])?;
-    }
-    Ok(pages)
-}
-
-// Puts another byte into a page, and answers the one that stood there.
-fn put(rt: &impl Abort, pages: &mut [[u8; 4096]], n: usize, at: usize, byte: u8) -> u8 {
-    assert!(rt; n < pages.len() && at < 4096);
-    let was = pages[n][at];
-    pages[n][at] = byte;
-    was
-}
-
 // A leaf of entries whose keys begin with these bytes.
 fn put_leaf(rt: &impl Abort, pages: &mut [[u8; 4096]], n: usize, keys: &[u8]) {
-    put(rt, pages, n, 0, b'L');
-    put(rt, pages, n, 1, LONGEST.key);
+    put_byte(rt, pages, n, 0, b'L');
+    put_byte(rt, pages, n, 1, LONGEST.key);
     assert!(rt; keys.len() <= 8);
-    put(rt, pages, n, 3, keys.len() as u8);
+    put_byte(rt, pages, n, 3, keys.len() as u8);
     for (i, &key) in keys.iter().enumerate() {
         assert!(rt; i < 8);
-        put(rt, pages, n, 16 + 508 * i, key);
+        put_byte(rt, pages, n, 16 + 508 * i, key);
     }
 }
 
@@ -52,21 +37,21 @@ fn put_inner(
     first: u8,
     branches: &[(u8, u8)],
 ) {
-    put(rt, pages, n, 0, b'I');
-    put(rt, pages, n, 1, LONGEST.key);
+    put_byte(rt, pages, n, 0, b'I');
+    put_byte(rt, pages, n, 1, LONGEST.key);
     assert!(rt; branches.len() <= 15);
-    put(rt, pages, n, 3, branches.len() as u8);
-    put(rt, pages, n, 19, first);
+    put_byte(rt, pages, n, 3, branches.len() as u8);
+    put_byte(rt, pages, n, 19, first);
     for (i, &(key, child)) in branches.iter().enumerate() {
         assert!(rt; i < 15);
-        put(rt, pages, n, 20 + 262 * i, key);
-        put(rt, pages, n, 20 + 262 * i + 258 + 3, child);
+        put_byte(rt, pages, n, 20 + 262 * i, key);
+        put_byte(rt, pages, n, 20 + 262 * i + 258 + 3, child);
     }
 }
 
 // Root 1 above leaves 2 and 3.
 fn two_leaves(rt: &impl Abort, alloc: Global) -> Result<Vec<[u8; 4096]>, Fail> {
-    let mut pages = pages(alloc, 4)?;
+    let mut pages = new_pages(alloc, 3, 0)?.pages;
     put_inner(rt, &mut pages, 1, 2, &[(20, 3)]);
     put_leaf(rt, &mut pages, 2, &[10, 11, 12, 13]);
     put_leaf(rt, &mut pages, 3, &[20, 21, 22, 23]);
@@ -94,7 +79,7 @@ fn the_entries_of_a_tree_are_found_in_order(rt: HostRuntime) -> Result<(), Fail>
     let mut keys = Vec::new(rt.alloc());
     for spot in spots.iter() {
         let entry = spot.entry(&pages, LONGEST).expect(&rt, "an entry");
-        assert_eq!(rt; entry.len(), 508);
+        assert!(rt; entry.len() == 508);
         keys.push(entry[0])?;
     }
     assert_equal(
@@ -104,7 +89,7 @@ fn the_entries_of_a_tree_are_found_in_order(rt: HostRuntime) -> Result<(), Fail>
     );
     for (page, place) in [(0, 0), (1, 0), (2, 4), (4, 0)] {
         let spot = Spot { page, place };
-        assert_eq!(rt; spot.entry(&pages, LONGEST), None, "{spot:?}");
+        assert!(rt; spot.entry(&pages, LONGEST) == None, "{spot:?}");
     }
     Ok(())
 }
@@ -112,7 +97,7 @@ fn the_entries_of_a_tree_are_found_in_order(rt: HostRuntime) -> Result<(), Fail>
 // A root above two inner nodes, each above eight leaves of four entries.
 #[test]
 fn a_tree_of_three_levels_is_walked(rt: HostRuntime) -> Result<(), Fail> {
-    let mut pages = pages(rt.alloc(), 20)?;
+    let mut pages = new_pages(rt.alloc(), 19, 0)?.pages;
     put_inner(&rt, &mut pages, 1, 2, &[(32, 3)]);
     for leaf in 0..16u8 {
         let first = 4 * leaf;
@@ -152,19 +137,17 @@ fn a_tree_of_three_levels_is_walked(rt: HostRuntime) -> Result<(), Fail> {
         Some(Spot { page: 12, place: 1 }),
     );
     assert!(rt; all_marked(&reached));
-    let six = put(&rt, &mut pages, 2, 3, 6);
+    let six = put_byte(&rt, &mut pages, 2, 3, 6);
     let found = walk_tree(rt.alloc(), &pages, &tree(&rt, 1, 2, 60), &mut [false; 20]);
-    assert_eq!(rt;
-        found.err(),
-        Some(WalkFault::Node),
+    assert!(rt;
+        found.err() == Some(WalkFault::Node),
         "an inner node that has too little"
     );
-    put(&rt, &mut pages, 2, 3, six);
-    put(&rt, &mut pages, 3, 20, 31);
+    put_byte(&rt, &mut pages, 2, 3, six);
+    put_byte(&rt, &mut pages, 3, 20, 31);
     let found = walk_tree(rt.alloc(), &pages, &tree(&rt, 1, 2, 64), &mut [false; 20]);
-    assert_eq!(rt;
-        found.err(),
-        Some(WalkFault::Order),
+    assert!(rt;
+        found.err() == Some(WalkFault::Order),
         "a separator below the one above it"
     );
     Ok(())
@@ -195,10 +178,10 @@ fn each_damage_of_a_tree_has_its_fault(rt: HostRuntime) -> Result<(), Fail> {
         (3, 16, 19, WalkFault::Order, "a key below its separator"),
     ];
     for (n, at, byte, fault, what) in changes {
-        let was = put(&rt, &mut pages, n, at, byte);
+        let was = put_byte(&rt, &mut pages, n, at, byte);
         let found = walk_tree(rt.alloc(), &pages, &tree(&rt, 1, 1, 8), &mut [false; 4]);
-        assert_eq!(rt; found.err(), Some(fault), "{what}");
-        put(&rt, &mut pages, n, at, was);
+        assert!(rt; found.err() == Some(fault), "{what}");
+        put_byte(&rt, &mut pages, n, at, was);
     }
     let others = [
         (1, 1, 7, WalkFault::Count),
@@ -217,9 +200,8 @@ fn each_damage_of_a_tree_has_its_fault(rt: HostRuntime) -> Result<(), Fail> {
             &tree(&rt, root, levels, count),
             &mut [false; 4],
         );
-        assert_eq!(rt;
-            found.err(),
-            Some(fault),
+        assert!(rt;
+            found.err() == Some(fault),
             "page {root}, {levels} levels, {count} entries"
         );
     }
@@ -230,10 +212,10 @@ fn each_damage_of_a_tree_has_its_fault(rt: HostRuntime) -> Result<(), Fail> {
 #[test]
 fn the_free_pages_are_walked(rt: HostRuntime) -> Result<(), Fail> {
     walks_part_the_file();
-    let mut pages = pages(rt.alloc(), 4)?;
-    put(&rt, &mut pages, 3, 0, b'F');
-    put(&rt, &mut pages, 3, 7, 1);
-    put(&rt, &mut pages, 1, 0, b'F');
+    let mut pages = new_pages(rt.alloc(), 3, 0)?.pages;
+    put_byte(&rt, &mut pages, 3, 0, b'F');
+    put_byte(&rt, &mut pages, 3, 7, 1);
+    put_byte(&rt, &mut pages, 1, 0, b'F');
     let mut reached = [false; 4];
     walk_free(&pages, 3, 2, &mut reached)?;
     assert_equal(&rt, reached, [false, true, false, true]);
@@ -245,7 +227,7 @@ fn the_free_pages_are_walked(rt: HostRuntime) -> Result<(), Fail> {
     walk_free(&pages, 0, 0, &mut reached)?;
     for (first, count) in [(3, 1), (3, 3), (0, 1), (2, 1), (4, 1), (3, u32::MAX)] {
         let found = walk_free(&pages, first, count, &mut [false; 4]);
-        assert_eq!(rt; found, Err(WalkFault::Chain), "{count} from {first}");
+        assert!(rt; found == Err(WalkFault::Chain), "{count} from {first}");
     }
     let changes = [
         (3, 7, 3, WalkFault::Shared, "a page that leads to itself"),
@@ -254,13 +236,12 @@ fn the_free_pages_are_walked(rt: HostRuntime) -> Result<(), Fail> {
         (1, 7, 4, WalkFault::Chain, "a page that is not there"),
     ];
     for (n, at, byte, fault, what) in changes {
-        let was = put(&rt, &mut pages, n, at, byte);
-        assert_eq!(rt;
-            walk_free(&pages, 3, 2, &mut [false; 4]),
-            Err(fault),
+        let was = put_byte(&rt, &mut pages, n, at, byte);
+        assert!(rt;
+            walk_free(&pages, 3, 2, &mut [false; 4]) == Err(fault),
             "{what}"
         );
-        put(&rt, &mut pages, n, at, was);
+        put_byte(&rt, &mut pages, n, at, was);
     }
     Ok(())
 }
