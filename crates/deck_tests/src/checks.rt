@@ -1,19 +1,11 @@
-//! Comparisons that tell both values where they differ.
+//! What a fault is.
 
-use std::fmt::Debug;
-use std::process::Abort;
+use deck_words::DeckFault;
 
-// These stand for `assert_eq!`, which is proved anew at each place where it stands.
-pub fn assert_equal<T: PartialEq + Debug + Drop>(rt: &impl Abort, left: T, right: T) {
-    assert_eq!(rt; left, right);
-}
-
-/// Tells the text too of which the values are.
-pub fn assert_equal_for<T: PartialEq + Debug + Drop>(
-    rt: &impl Abort,
-    text: &str,
-    left: T,
-    right: T,
-) {
-    assert_eq!(rt; left, right, "{text:?}");
+/// Whether the fault has this line and this code.
+pub fn is_fault(fault: Option<DeckFault>, line: u64, code: u8) -> bool {
+    match fault {
+        Some(fault) => fault.line == line && fault.code == code,
+        None => false,
+    }
 }

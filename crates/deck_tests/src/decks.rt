@@ -1,13 +1,14 @@
 //! Decks that are read whole, and faults that are seen in whole decks alone.
 
-use crate::checks::{assert_equal, assert_equal_for};
+use crate::checks::is_fault;
+use crate::statements::{is_length, moves, performs};
 use deck_reader::{Deck, no_words_are_two_decks, one_deck, read_deck};
-use file_control::DeckFault;
+use deck_words::DeckFault;
+use file_control::{FileDesc, LengthItem};
 use io_state::{Access, FileStatement, OpenMode};
 use procedure_division::Statement;
 use record_layout::{Field, Figure, Source};
-use std::alloc::Global;
-use std::fmt::Write;
+use std::alloc::{AllocError, Global};
 use std::test::Fail;
 
 /// Two files, the description of the second first, and two 77-level items.
@@ -44,35 +45,6 @@ LAST-LINE.
     STOP RUN.
 ";
 
-fn is_file_statement(statement: &Statement, place: usize, expected: FileStatement) -> bool {
-    match statement {
-        Statement::Perform { file, statement } => *file == place && *statement == expected,
-        _ => false,
-    }
-}
-
-/// Whether spaces are moved to the item.
-fn blanks(statement: &Statement, place: usize, item: Field) -> bool {
-    match statement {
-        Statement::Move {
-            file,
-            field,
-            source: Source::Fill(Figure::Space),
-        } => *file == place && *field == item,
-        _ => false,
-    }
-}
-
-fn is_length(statement: &Statement, place: usize, expected: &[u8]) -> bool {
-    match statement {
-        Statement::MoveLength {
-            item,
-            source: Source::Digits(digits),
-        } => *item == place && digits.as_slice() == expected,
-        _ => false,
-    }
-}
-
 fn has_shop_statements(deck: &Deck) -> bool {
     let name = Field {
         offset: 4,
@@ -84,6 +56,7 @@ fn has_shop_statements(deck: &Deck) -> bool {
         length: 3,
         numeric: false,
     };
+    let spaces = Source::Fill(Figure::Space);
     match deck.statements.as_slice() {
         [
             open,
@@ -94,13 +67,38 @@ fn has_shop_statements(deck: &Deck) -> bool {
             close,
             Statement::StopRun,
         ] => {
-            is_file_statement(open, 0, FileStatement::Open(OpenMode::Output))
-                && blanks(name_blanked, 0, name)
-                && blanks(number_blanked, 1, number)
+            performs(open, 0, FileStatement::Open(OpenMode::Output))
+                && moves(name_blanked, 0, name, &spaces)
+                && moves(number_blanked, 1, number, &spaces)
                 && is_length(length, 1, b"10")
-                && is_file_statement(write, 0, FileStatement::Write)
-                && is_file_statement(close, 0, FileStatement::Close { lock: false })
+                && performs(write, 0, FileStatement::Write)
+                && performs(close, 0, FileStatement::Close { lock: false })
         }
+        _ => false,
+    }
+}
+
+fn is_cust(file: &FileDesc) -> bool {
+    file.name.as_str() == "CUST"
+        && file.file.as_str() == "cust.dat"
+        && file.access == Access::Dynamic
+        && file.schema.least() == 4
+        && file.layout.length() == 10
+        && file.depends_on == Some(1)
+}
+
+fn are_shop_files(files: &[FileDesc]) -> bool {
+    match files {
+        [cust, parts] => {
+            is_cust(cust) && parts.name.as_str() == "PARTS" && parts.access == Access::Sequential
+        }
+        _ => false,
+    }
+}
+
+fn are_shop_items(items: &[LengthItem]) -> bool {
+    match items {
+        [_, item] => item.name.as_str() == "CUST-LEN" && item.digits == 2,
         _ => false,
     }
 }
@@ -108,23 +106,8 @@ fn has_shop_statements(deck: &Deck) -> bool {
 #[test]
 fn a_deck_is_its_files_its_items_and_its_statements(rt: HostRuntime) -> Result<(), Fail> {
     let deck = read_deck(rt.alloc(), SHOP.as_bytes())?;
-    let files = deck.files.as_slice();
-    assert_eq!(rt; files.len(), 2);
-    let cust = &files[0];
-    assert_equal(&rt, cust.name.as_str(), "CUST");
-    assert_equal(&rt, cust.file.as_str(), "cust.dat");
-    assert_equal(&rt, cust.access, Access::Dynamic);
-    assert_equal(&rt, cust.schema.least(), 4);
-    assert_equal(&rt, cust.layout.length(), 10);
-    assert_equal(&rt, cust.depends_on, Some(1));
-    let parts = &files[1];
-    assert_equal(&rt, parts.name.as_str(), "PARTS");
-    assert_equal(&rt, parts.access, Access::Sequential);
-    let items = deck.items.as_slice();
-    assert_eq!(rt; items.len(), 2);
-    let item = &items[1];
-    assert_equal(&rt, item.name.as_str(), "CUST-LEN");
-    assert_equal(&rt, item.digits, 2);
+    assert!(rt; are_shop_files(deck.files.as_slice()));
+    assert!(rt; are_shop_items(deck.items.as_slice()));
     assert!(rt; has_shop_statements(&deck));
     one_deck();
     no_words_are_two_decks();
@@ -169,8 +152,8 @@ fn deck_of(
 #[test]
 fn a_procedure_may_be_empty(rt: HostRuntime) -> Result<(), Fail> {
     let deck = deck_of(rt.alloc(), FILE, "PROCEDURE DIVISION.")??;
-    assert_eq!(rt; deck.files.as_slice().len(), 1);
-    assert_eq!(rt; deck.statements.as_slice().len(), 0);
+    assert!(rt; deck.files.as_slice().len() == 1);
+    assert!(rt; deck.statements.as_slice().is_empty());
     Ok(())
 }
 
@@ -190,7 +173,7 @@ fn the_first_reading_with_a_fault_tells_it(rt: HostRuntime) -> Result<(), Fail> 
         (WRONG_HEADING, "PROCEDURE DIVISION.\nCLOSE PARTS.", 2, 2),
     ] {
         let fault = deck_of(rt.alloc(), description, procedure)?.err();
-        assert_equal_for(&rt, procedure, fault, Some(DeckFault { line, code }));
+        assert!(rt; is_fault(fault, line, code), "{procedure:?}");
     }
     Ok(())
 }
@@ -215,7 +198,7 @@ fn a_deck_ends_with_its_procedure(rt: HostRuntime) -> Result<(), Fail> {
         ),
     ] {
         let fault = deck_of(rt.alloc(), description, procedure)?.err();
-        assert_equal_for(&rt, procedure, fault, Some(DeckFault { line, code }));
+        assert!(rt; is_fault(fault, line, code), "{procedure:?}");
     }
     Ok(())
 }
@@ -223,21 +206,36 @@ fn a_deck_ends_with_its_procedure(rt: HostRuntime) -> Result<(), Fail> {
 /// How many items a record of many items has, and how many 77-level items stand behind it.
 const MANY: usize = 200;
 
+const DIGITS: [&str; 10] = ["0", "1", "2", "3", "4", "5", "6", "7", "8", "9"];
+
 /// A file whose record has many items, and as many 77-level items, each on a line of its own from the second and the 203rd on. Their
 /// names have 30 characters, and differ in the last five of them.
-fn many_items(alloc: Global) -> Result<String, Fail> {
+fn many_items(alloc: Global) -> Result<String, AllocError> {
     let mut deck = String::new(alloc);
     deck.push_str("ENVIRONMENT DIVISION. INPUT-OUTPUT SECTION. FILE-CONTROL. ")?;
     deck.push_str("SELECT CUST ASSIGN 'cust.dat' INDEXED RECORD CUST-ID. ")?;
     deck.push_str("DATA DIVISION. FILE SECTION. FD CUST. 01 CUST-REC. 05 CUST-ID PIC 9.")?;
-    for n in 0..MANY {
-        write!(deck, "\n05 A-NAME-OF-THIRTY-LETTERS-R{n:04} PIC 9.")?;
-    }
+    push_items(&mut deck, "\n05 A-NAME-OF-THIRTY-LETTERS-R")?;
     deck.push_str("\nWORKING-STORAGE SECTION.")?;
-    for n in 0..MANY {
-        write!(deck, "\n77 A-NAME-OF-THIRTY-LETTERS-L{n:04} PIC 9.")?;
-    }
+    push_items(&mut deck, "\n77 A-NAME-OF-THIRTY-LETTERS-L")?;
     Ok(deck)
+}
+
+/// An item for each number below `MANY`, of which four digits end its name.
+fn push_items(deck: &mut String, before: &str) -> Result<(), AllocError> {
+    for number in 0..MANY {
+        deck.push_str(before)?;
+        push_number(deck, number)?;
+        deck.push_str(" PIC 9.")?;
+    }
+    Ok(())
+}
+
+fn push_number(deck: &mut String, number: usize) -> Result<(), AllocError> {
+    for place in [1000, 100, 10, 1] {
+        deck.push_str(DIGITS[number / place % 10])?;
+    }
+    Ok(())
 }
 
 /// Whether the statement moves to the item of the record that stands behind so many digits.
@@ -248,19 +246,28 @@ fn moves_to_digit(statement: &Statement, place: u16) -> bool {
     }
 }
 
-#[test]
-fn a_name_is_found_among_many(rt: HostRuntime) -> Result<(), Fail> {
-    let mut deck = many_items(rt.alloc())?;
-    deck.push_str("\nPROCEDURE DIVISION. MOVE 1 TO CUST-ID")?;
-    for name in [
-        "R0000", "R0001", "R0099", "R0199", "L0000", "L0099", "L0199",
-    ] {
-        write!(deck, " A-NAME-OF-THIRTY-LETTERS-{name}")?;
+/// The deck of many items, with a text behind them and these names at its end.
+fn with_names(alloc: Global, text: &str, names: &[&str]) -> Result<String, AllocError> {
+    let mut deck = many_items(alloc)?;
+    deck.push_str(text)?;
+    for name in names {
+        deck.push_str(" A-NAME-OF-THIRTY-LETTERS-")?;
+        deck.push_str(name)?;
     }
     deck.push_str(".")?;
+    Ok(deck)
+}
+
+#[test]
+fn a_name_is_found_among_many(rt: HostRuntime) -> Result<(), Fail> {
+    let names = [
+        "R0000", "R0001", "R0099", "R0199", "L0000", "L0099", "L0199",
+    ];
+    let text = "\nPROCEDURE DIVISION. MOVE 1 TO CUST-ID";
+    let deck = with_names(rt.alloc(), text, &names)?;
     let deck = read_deck(rt.alloc(), deck.as_bytes())?;
     let statements = deck.statements.as_slice();
-    assert_eq!(rt; statements.len(), 8);
+    assert!(rt; statements.len() == 8);
     for (statement, place) in statements.iter().zip([0, 1, 2, 100, 200]) {
         assert!(rt; moves_to_digit(statement, place), "{place}");
     }
@@ -270,35 +277,41 @@ fn a_name_is_found_among_many(rt: HostRuntime) -> Result<(), Fail> {
     Ok(())
 }
 
+/// The fault of the deck of many items with one more, to which is moved.
+fn fault_of_one_more(alloc: Global, name: &str) -> Result<Option<DeckFault>, AllocError> {
+    let mut deck = many_items(alloc)?;
+    deck.push_str("\n77 A-NAME-OF-THIRTY-LETTERS-")?;
+    deck.push_str(name)?;
+    deck.push_str(" PIC 9.\nPROCEDURE DIVISION. MOVE 1 TO A-NAME-OF-THIRTY-LETTERS-")?;
+    deck.push_str(name)?;
+    deck.push_str(".")?;
+    Ok(read_deck(alloc, deck.as_bytes()).err())
+}
+
 #[test]
 fn a_name_of_many_is_not_taken_again(rt: HostRuntime) -> Result<(), Fail> {
-    for (name, fault) in [
-        ("R0000", Some(DeckFault { line: 403, code: 4 })),
-        ("R0199", Some(DeckFault { line: 403, code: 4 })),
-        ("L0000", Some(DeckFault { line: 403, code: 4 })),
-        ("L0100", Some(DeckFault { line: 403, code: 4 })),
-        ("L0199", Some(DeckFault { line: 403, code: 4 })),
-        ("L0200", None),
-        ("R0200", None),
-    ] {
-        let mut deck = many_items(rt.alloc())?;
-        write!(deck, "\n77 A-NAME-OF-THIRTY-LETTERS-{name} PIC 9.")?;
-        deck.push_str("\nPROCEDURE DIVISION. MOVE 1 TO")?;
-        write!(deck, " A-NAME-OF-THIRTY-LETTERS-{name}.")?;
-        let found = read_deck(rt.alloc(), deck.as_bytes()).err();
-        assert_equal_for(&rt, name, found, fault);
+    for name in ["R0000", "R0199", "L0000", "L0100", "L0199"] {
+        let fault = fault_of_one_more(rt.alloc(), name)?;
+        assert!(rt; is_fault(fault, 403, 4), "{name}");
+    }
+    for name in ["L0200", "R0200"] {
+        assert!(rt; fault_of_one_more(rt.alloc(), name)?.is_none(), "{name}");
     }
     Ok(())
+}
+
+/// The fault of the deck of many items where this name, on its 405th line, is moved to.
+fn fault_of_name(alloc: Global, name: &str) -> Result<Option<DeckFault>, AllocError> {
+    let text = "\nPROCEDURE DIVISION.\nMOVE 1 TO CUST-ID\n";
+    let deck = with_names(alloc, text, &[name])?;
+    Ok(read_deck(alloc, deck.as_bytes()).err())
 }
 
 #[test]
 fn a_name_that_none_of_many_has_is_unknown(rt: HostRuntime) -> Result<(), Fail> {
     for name in ["R0200", "L0200", "R", "L000", "S0000"] {
-        let mut deck = many_items(rt.alloc())?;
-        deck.push_str("\nPROCEDURE DIVISION.\nMOVE 1 TO CUST-ID")?;
-        write!(deck, "\nA-NAME-OF-THIRTY-LETTERS-{name}.")?;
-        let fault = read_deck(rt.alloc(), deck.as_bytes()).err();
-        assert_equal_for(&rt, name, fault, Some(DeckFault { line: 405, code: 3 }));
+        let fault = fault_of_name(rt.alloc(), name)?;
+        assert!(rt; is_fault(fault, 405, 3), "{name}");
     }
     Ok(())
 }

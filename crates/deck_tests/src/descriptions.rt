@@ -1,9 +1,10 @@
 //! Descriptions of decks, and faulty ones.
 
-use crate::checks::assert_equal;
 use deck_words::{DeckFault, Parser, words};
-use file_control::{Description, are_described, one_description, read_description};
-use io_state::Access;
+use file_control::{
+    Description, FileDesc, LengthItem, are_described, one_description, read_description,
+};
+use io_state::{Access, Name};
 use record_layout::{Field, KeyPart};
 use std::alloc::Global;
 use std::test::Fail;
@@ -49,32 +50,51 @@ FD CUST
     3 CUST-CITY PIC X(6).
 PROCEDURE DIVISION.";
 
+/// Whether the file has the names, the access mode and the record of the description.
+fn is_optional(file: &FileDesc) -> bool {
+    file.name.as_str() == "CUST"
+        && file.file.as_str() == "Cust-1.dat"
+        && file.access == Access::Dynamic
+        && file.optional
+        && is_name(&file.entry, "CUST-REC")
+        && file.depends_on.is_none()
+}
+
+fn is_name(name: &Option<Name>, text: &str) -> bool {
+    match name {
+        Some(name) => name.as_str() == text,
+        None => false,
+    }
+}
+
+/// Whether its record has the places of the description.
+fn has_places(file: &FileDesc) -> bool {
+    file.layout.length() == 16
+        && file.layout.field("CUST-ID") == field(0, 4, true)
+        && file.layout.field("CUST-CITY") == field(10, 6, false)
+}
+
+/// Whether it has the keys of the description.
+fn has_keys(file: &FileDesc) -> bool {
+    let keys = [key(0, 4, false), key(4, 6, false), key(10, 6, true)];
+    file.schema.least() == 16 && file.schema.keys() == keys.as_slice()
+}
+
+fn is_one_optional(files: &[FileDesc]) -> bool {
+    match files {
+        [file] => is_optional(file) && has_places(file) && has_keys(file),
+        _ => false,
+    }
+}
+
 #[test]
 fn optional_words_have_no_effect(rt: HostRuntime) -> Result<(), Fail> {
     let words = words(OPTIONAL_WORDS.as_bytes())?;
     let description = read_description(rt.alloc(), &words)?;
     let behind = words.skip(description.words);
     assert!(rt; Parser::new(&behind).sees(b"PROCEDURE"));
-    assert_eq!(rt; description.items.as_slice().len(), 0);
-    let files = description.files.as_slice();
-    assert_eq!(rt; files.len(), 1);
-    let file = &files[0];
-    assert_equal(&rt, file.name.as_str(), "CUST");
-    assert_equal(&rt, file.file.as_str(), "Cust-1.dat");
-    assert_equal(&rt, file.access, Access::Dynamic);
-    assert_equal(&rt, file.optional, true);
-    assert_equal(
-        &rt,
-        file.entry.is_some_and(|name| name.as_str() == "CUST-REC"),
-        true,
-    );
-    assert_equal(&rt, file.layout.length(), 16);
-    assert_equal(&rt, file.layout.field("CUST-ID"), field(0, 4, true));
-    assert_equal(&rt, file.layout.field("CUST-CITY"), field(10, 6, false));
-    assert_equal(&rt, file.schema.least(), 16);
-    let keys = [key(0, 4, false), key(4, 6, false), key(10, 6, true)];
-    assert_equal(&rt, file.schema.keys(), keys.as_slice());
-    assert_equal(&rt, file.depends_on, None);
+    assert!(rt; description.items.as_slice().is_empty());
+    assert!(rt; is_one_optional(description.files.as_slice()));
     Ok(())
 }
 
@@ -99,28 +119,41 @@ WORKING-STORAGE SECTION.
 77 CUST-LEN PIC 9(2).
 PROCEDURE DIVISION.";
 
+fn is_cust(file: &FileDesc) -> bool {
+    file.name.as_str() == "CUST"
+        && file.access == Access::Sequential
+        && file.schema.least() == 10
+        && file.schema.greatest() == 16
+        && file.layout.field("CUST-NAME") == field(4, 6, false)
+        && file.depends_on == Some(1)
+}
+
+fn is_stock(file: &FileDesc) -> bool {
+    file.name.as_str() == "STOCK"
+        && file.file.as_str() == "stock.dat"
+        && file.layout.length() == 4
+        && file.depends_on.is_none()
+}
+
+fn are_in_order(files: &[FileDesc]) -> bool {
+    match files {
+        [cust, stock] => is_cust(cust) && is_stock(stock),
+        _ => false,
+    }
+}
+
+fn are_two_items(items: &[LengthItem]) -> bool {
+    match items {
+        [_, item] => item.name.as_str() == "CUST-LEN" && item.digits == 2,
+        _ => false,
+    }
+}
+
 #[test]
 fn files_stand_in_the_order_of_their_entries(rt: HostRuntime) -> Result<(), Fail> {
     let description = description_of(rt.alloc(), TWO_FILES)?;
-    let files = description.files.as_slice();
-    assert_eq!(rt; files.len(), 2);
-    let cust = &files[0];
-    assert_equal(&rt, cust.name.as_str(), "CUST");
-    assert_equal(&rt, cust.access, Access::Sequential);
-    assert_equal(&rt, cust.schema.least(), 10);
-    assert_equal(&rt, cust.schema.greatest(), 16);
-    assert_equal(&rt, cust.layout.field("CUST-NAME"), field(4, 6, false));
-    assert_equal(&rt, cust.depends_on, Some(1));
-    let stock = &files[1];
-    assert_equal(&rt, stock.name.as_str(), "STOCK");
-    assert_equal(&rt, stock.file.as_str(), "stock.dat");
-    assert_equal(&rt, stock.layout.length(), 4);
-    assert_equal(&rt, stock.depends_on, None);
-    let items = description.items.as_slice();
-    assert_eq!(rt; items.len(), 2);
-    let item = &items[1];
-    assert_equal(&rt, item.name.as_str(), "CUST-LEN");
-    assert_equal(&rt, item.digits, 2);
+    assert!(rt; are_in_order(description.files.as_slice()));
+    assert!(rt; are_two_items(description.items.as_slice()));
     one_description();
     are_described();
     Ok(())

@@ -1,9 +1,9 @@
 //! File control entries, and faulty ones.
 
-use crate::checks::{assert_equal, assert_equal_for};
-use deck_entries::{Divisions, read_divisions};
+use crate::checks::is_fault;
+use deck_entries::{Divisions, FileControlEntry, read_divisions};
 use deck_words::{DeckFault, Parser, words};
-use io_state::Access;
+use io_state::{Access, Name};
 use std::alloc::Global;
 use std::test::Fail;
 
@@ -27,30 +27,44 @@ SELECT OPTIONAL CUST ASSIGN TO 'Cust_1.dat'
     FILE STATUS IS CUST-STATUS.
 DATA DIVISION. FILE SECTION. FD CUST. 01 CUST-ID PIC 9.";
 
+/// The entry, if there is one alone.
+fn entry_of(divisions: &Divisions) -> Option<&FileControlEntry> {
+    match divisions.entries.as_slice() {
+        [selected] => Some(&selected.entry),
+        _ => None,
+    }
+}
+
+fn is_alternate(clause: &(Name, bool), name: &str, duplicates: bool) -> bool {
+    clause.0.as_str() == name && clause.1 == duplicates
+}
+
+fn has_two_alternates(entry: &FileControlEntry) -> bool {
+    match entry.alternate_keys.as_slice() {
+        [name, mail] => is_alternate(name, "CUST-NAME", true)
+            && is_alternate(mail, "CUST-MAIL", false),
+        _ => false,
+    }
+}
+
+fn is_longest(divisions: &Divisions) -> bool {
+    match entry_of(divisions) {
+        Some(entry) => {
+            entry.name.as_str() == "CUST"
+                && entry.file_name.as_str() == "Cust_1.dat"
+                && entry.optional
+                && entry.access == Access::Dynamic
+                && entry.record_key.as_str() == "CUST-ID"
+                && has_two_alternates(entry)
+        }
+        None => false,
+    }
+}
+
 #[test]
 fn the_longest_entry(rt: HostRuntime) -> Result<(), Fail> {
     let divisions = divisions_of(rt.alloc(), LONGEST)?;
-    let entries = divisions.entries.as_slice();
-    assert_eq!(rt; entries.len(), 1);
-    let selected = &entries[0];
-    let entry = &selected.entry;
-    assert_equal(&rt, entry.name.as_str(), "CUST");
-    assert_equal(&rt, entry.file_name.as_str(), "Cust_1.dat");
-    assert_equal(&rt, entry.optional, true);
-    assert_equal(&rt, entry.access, Access::Dynamic);
-    assert_equal(&rt, entry.record_key.as_str(), "CUST-ID");
-    let alternates = entry.alternate_keys.as_slice();
-    assert_eq!(rt; alternates.len(), 2);
-    assert_equal(
-        &rt,
-        (alternates[0].0.as_str(), alternates[0].1),
-        ("CUST-NAME", true),
-    );
-    assert_equal(
-        &rt,
-        (alternates[1].0.as_str(), alternates[1].1),
-        ("CUST-MAIL", false),
-    );
+    assert!(rt; is_longest(&divisions));
     Ok(())
 }
 
@@ -58,23 +72,29 @@ const ANY_ORDER: &str = "environment division. input-output section. file-contro
 select a assign 'a', status s, alternate record b duplicates, record key c, access random; indexed.
 data division. file section. fd a. 01 c pic 9.";
 
+fn has_one_alternate(entry: &FileControlEntry) -> bool {
+    match entry.alternate_keys.as_slice() {
+        [clause] => is_alternate(clause, "B", true),
+        _ => false,
+    }
+}
+
+fn is_in_any_order(divisions: &Divisions) -> bool {
+    match entry_of(divisions) {
+        Some(entry) => {
+            !entry.optional
+                && entry.access == Access::Random
+                && entry.record_key.as_str() == "C"
+                && has_one_alternate(entry)
+        }
+        None => false,
+    }
+}
+
 #[test]
 fn clauses_stand_in_any_order(rt: HostRuntime) -> Result<(), Fail> {
     let divisions = divisions_of(rt.alloc(), ANY_ORDER)?;
-    let entries = divisions.entries.as_slice();
-    assert_eq!(rt; entries.len(), 1);
-    let selected = &entries[0];
-    let entry = &selected.entry;
-    assert_equal(&rt, entry.optional, false);
-    assert_equal(&rt, entry.access, Access::Random);
-    assert_equal(&rt, entry.record_key.as_str(), "C");
-    let alternates = entry.alternate_keys.as_slice();
-    assert_eq!(rt; alternates.len(), 1);
-    assert_equal(
-        &rt,
-        (alternates[0].0.as_str(), alternates[0].1),
-        ("B", true),
-    );
+    assert!(rt; is_in_any_order(&divisions));
     Ok(())
 }
 
@@ -84,14 +104,17 @@ SELECT A ASSIGN 'a' INDEXED RECORD K ALTERNATE RECORD A1 ALTERNATE RECORD A2
     ALTERNATE RECORD A6 ALTERNATE RECORD A7 ALTERNATE RECORD A8.
 DATA DIVISION. FILE SECTION. FD A. 01 K PIC 9.";
 
+fn has_eight_alternates(divisions: &Divisions) -> bool {
+    match entry_of(divisions) {
+        Some(entry) => entry.alternate_keys.as_slice().len() == 8,
+        None => false,
+    }
+}
+
 #[test]
 fn an_entry_has_at_most_eight_alternate_keys(rt: HostRuntime) -> Result<(), Fail> {
     let divisions = divisions_of(rt.alloc(), EIGHT_ALTERNATES)?;
-    let entries = divisions.entries.as_slice();
-    assert_eq!(rt; entries.len(), 1);
-    let selected = &entries[0];
-    let entry = &selected.entry;
-    assert_eq!(rt; entry.alternate_keys.as_slice().len(), 8);
+    assert!(rt; has_eight_alternates(&divisions));
     let fault = fault_of(
         rt.alloc(),
         "SELECT A ASSIGN 'a' INDEXED RECORD K ALTERNATE RECORD A1 ALTERNATE RECORD A2
@@ -99,7 +122,7 @@ fn an_entry_has_at_most_eight_alternate_keys(rt: HostRuntime) -> Result<(), Fail
          ALTERNATE RECORD A6 ALTERNATE RECORD A7 ALTERNATE RECORD A8
          ALTERNATE OF NO USE.",
     )?;
-    assert_equal(&rt, fault, Some(DeckFault { line: 4, code: 6 }));
+    assert!(rt; is_fault(fault, 4, 6));
     Ok(())
 }
 
@@ -139,7 +162,7 @@ fn a_fault_is_told_for_its_line(rt: HostRuntime) -> Result<(), Fail> {
     ];
     for (deck, line, code) in decks {
         let fault = fault_of(rt.alloc(), deck)?;
-        assert_equal_for(&rt, deck, fault, Some(DeckFault { line, code }));
+        assert!(rt; is_fault(fault, line, code), "{deck:?}");
     }
     Ok(())
 }

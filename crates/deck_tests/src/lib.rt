@@ -19,4 +19,6 @@ mod entries;
 #[cfg(test)]
 mod procedures;
 #[cfg(test)]
+mod statements;
+#[cfg(test)]
 mod words;

@@ -1,15 +1,14 @@
 //! Procedures, and faulty ones.
 
-use crate::checks::{assert_equal, assert_equal_for};
-use crate::customers::{customers_and_parts, read};
-use deck_words::DeckFault;
-use io_state::{Access, FileStatement, OpenMode, Relation};
-use procedure_division::{Statement, StatementList, one_procedure, only_allowed};
+use crate::checks::is_fault;
+use crate::customers::read;
+use crate::statements::{is_length, moves, perform, performs};
+use deck_words::{DeckFault, words};
+use io_state::{FileStatement, OpenMode, Relation};
+use procedure_division::{Names, Statement, one_procedure, only_allowed, procedure};
 use record_layout::{Bytes, Field, Figure, Source, put, takes};
 use std::alloc::Global;
 use std::test::Fail;
-
-const HEADING: &str = "PROCEDURE DIVISION. ";
 
 const fn start(key: u8, length: u16, relation: Relation) -> FileStatement {
     FileStatement::Start {
@@ -19,23 +18,19 @@ const fn start(key: u8, length: u16, relation: Relation) -> FileStatement {
     }
 }
 
-/// The input-output statements of a list, with the places of their files.
-fn file_statements(
+/// Whether the procedure is these statements, each with the place of its file.
+fn is_read(
     alloc: Global,
-    list: &StatementList,
-) -> Result<Vec<(usize, FileStatement)>, Fail> {
-    let mut found = Vec::new(alloc);
-    for statement in list.as_slice() {
-        if let Statement::Perform { file, statement } = statement {
-            found.push((*file, *statement))?;
-        }
-    }
-    Ok(found)
+    access: &str,
+    text: &str,
+    expected: &[(usize, FileStatement)],
+) -> Result<bool, Fail> {
+    let deck = read(alloc, access, text)?;
+    Ok(perform(deck.statements.as_slice(), expected))
 }
 
 #[test]
 fn files_are_opened_and_closed_one_by_one(rt: HostRuntime) -> Result<(), Fail> {
-    let described = customers_and_parts(rt.alloc(), Access::Dynamic)?;
     let input = FileStatement::Open(OpenMode::Input);
     let output = FileStatement::Open(OpenMode::Output);
     let update = FileStatement::Open(OpenMode::InputOutput);
@@ -55,9 +50,7 @@ fn files_are_opened_and_closed_one_by_one(rt: HostRuntime) -> Result<(), Fail> {
             [(0, lock), (1, lock), (0, close)].as_slice(),
         ),
     ] {
-        let list = read(rt.alloc(), &described, HEADING, text)??;
-        let found = file_statements(rt.alloc(), &list)?;
-        assert_equal_for(&rt, text, found.as_slice(), expected);
+        assert!(rt; is_read(rt.alloc(), "DYNAMIC", text, expected)?, "{text}");
     }
     one_procedure();
     only_allowed();
@@ -70,39 +63,35 @@ fn files_are_opened_and_closed_one_by_one(rt: HostRuntime) -> Result<(), Fail> {
 fn a_read_is_sequential_or_by_a_key(rt: HostRuntime) -> Result<(), Fail> {
     let next = FileStatement::ReadNext;
     for (access, text, expected) in [
+        ("DYNAMIC", "READ CUST.", FileStatement::Read { key: 0 }),
         (
-            Access::Dynamic,
-            "READ CUST.",
-            FileStatement::Read { key: 0 },
-        ),
-        (
-            Access::Random,
+            "RANDOM",
             "READ CUST RECORD.",
             FileStatement::Read { key: 0 },
         ),
-        (Access::Sequential, "READ CUST.", next),
-        (Access::Sequential, "READ CUST NEXT.", next),
-        (Access::Dynamic, "READ CUST NEXT RECORD.", next),
+        ("SEQUENTIAL", "READ CUST.", next),
+        ("SEQUENTIAL", "READ CUST NEXT.", next),
+        ("DYNAMIC", "READ CUST NEXT RECORD.", next),
         (
-            Access::Dynamic,
+            "DYNAMIC",
             "READ CUST RECORD KEY IS CUST-ID.",
             FileStatement::Read { key: 0 },
         ),
         (
-            Access::Dynamic,
+            "DYNAMIC",
             "READ CUST KEY IS CUST-NAME.",
             FileStatement::Read { key: 1 },
         ),
         (
-            Access::Random,
+            "RANDOM",
             "READ CUST KEY CUST-CITY.",
             FileStatement::Read { key: 2 },
         ),
     ] {
-        let described = customers_and_parts(rt.alloc(), access)?;
-        let list = read(rt.alloc(), &described, HEADING, text)??;
-        let found = file_statements(rt.alloc(), &list)?;
-        assert_equal_for(&rt, text, found.as_slice(), [(0, expected)].as_slice());
+        assert!(rt;
+            is_read(rt.alloc(), access, text, &[(0, expected)])?,
+            "{text}"
+        );
     }
     Ok(())
 }
@@ -110,7 +99,6 @@ fn a_read_is_sequential_or_by_a_key(rt: HostRuntime) -> Result<(), Fail> {
 // START statement, general rules: the relation is that of equality where the KEY phrase is left out.
 #[test]
 fn a_start_is_by_the_leading_part_of_a_key(rt: HostRuntime) -> Result<(), Fail> {
-    let described = customers_and_parts(rt.alloc(), Access::Dynamic)?;
     for (text, expected) in [
         ("START CUST.", start(0, 4, Relation::Equal)),
         (
@@ -153,114 +141,110 @@ fn a_start_is_by_the_leading_part_of_a_key(rt: HostRuntime) -> Result<(), Fail> 
         ),
         ("START CUST KEY >= NAME-1.", start(1, 1, Relation::NotLess)),
     ] {
-        let list = read(rt.alloc(), &described, HEADING, text)??;
-        let found = file_statements(rt.alloc(), &list)?;
-        assert_equal_for(&rt, text, found.as_slice(), [(0, expected)].as_slice());
+        assert!(rt;
+            is_read(rt.alloc(), "DYNAMIC", text, &[(0, expected)])?,
+            "{text}"
+        );
     }
     Ok(())
 }
 
-#[test]
-fn statements_stand_in_their_order(rt: HostRuntime) -> Result<(), Fail> {
-    let described = customers_and_parts(rt.alloc(), Access::Dynamic)?;
-    let list = read(
-        rt.alloc(),
-        &described,
-        HEADING,
-        "MAIN-LINE. WRITE CUST-REC REWRITE PART-REC. DELETE CUST RECORD.
-         LAST-LINES. DELETE PARTS STOP RUN. WRITE PART-REC.",
-    )??;
-    let found = file_statements(rt.alloc(), &list)?;
-    let expected = [
-        (0, FileStatement::Write),
-        (1, FileStatement::Rewrite),
-        (0, FileStatement::Delete),
-        (1, FileStatement::Delete),
-        (1, FileStatement::Write),
-    ];
-    assert_equal(&rt, found.as_slice(), expected.as_slice());
-    assert_eq!(rt; list.as_slice().len(), 6);
-    assert!(rt; matches!(list.as_slice()[4], Statement::StopRun));
-    let none = read(rt.alloc(), &described, HEADING, "")??;
-    assert_eq!(rt; none.as_slice().len(), 0);
-    Ok(())
-}
-
-fn is_sent(source: &Source<Bytes>, expected: &Source<&[u8]>) -> bool {
-    match (source, expected) {
-        (Source::Text(text), Source::Text(other)) => text.as_slice() == *other,
-        (Source::Digits(digits), Source::Digits(other)) => digits.as_slice() == *other,
-        (Source::Fill(figure), Source::Fill(other)) => figure == other,
+fn stand_in_order(statements: &[Statement]) -> bool {
+    match statements {
+        [
+            write,
+            rewrite,
+            delete,
+            last_delete,
+            Statement::StopRun,
+            last_write,
+        ] => {
+            performs(write, 0, FileStatement::Write)
+                && performs(rewrite, 1, FileStatement::Rewrite)
+                && performs(delete, 0, FileStatement::Delete)
+                && performs(last_delete, 1, FileStatement::Delete)
+                && performs(last_write, 1, FileStatement::Write)
+        }
         _ => false,
     }
 }
 
 #[test]
-fn a_move_sends_a_literal_a_number_or_a_figurative_constant(rt: HostRuntime) -> Result<(), Fail> {
-    let described = customers_and_parts(rt.alloc(), Access::Dynamic)?;
+fn statements_stand_in_their_order(rt: HostRuntime) -> Result<(), Fail> {
+    let deck = read(
+        rt.alloc(),
+        "DYNAMIC",
+        "MAIN-LINE. WRITE CUST-REC REWRITE PART-REC. DELETE CUST RECORD.
+         LAST-LINES. DELETE PARTS STOP RUN. WRITE PART-REC.",
+    )?;
+    assert!(rt; stand_in_order(deck.statements.as_slice()));
+    assert!(rt; is_read(rt.alloc(), "DYNAMIC", "", &[])?);
+    Ok(())
+}
+
+const CUST_NAME: Field = Field {
+    offset: 4,
+    length: 6,
+    numeric: false,
+};
+
+/// Whether the procedure moves this, and nothing else, to the name of a customer.
+fn is_moved(alloc: Global, text: &str, sent: Source<&[u8]>) -> Result<bool, Fail> {
+    let deck = read(alloc, "DYNAMIC", text)?;
+    match deck.statements.as_slice() {
+        [statement] => Ok(moves(statement, 0, CUST_NAME, &sent)),
+        _ => Ok(false),
+    }
+}
+
+#[test]
+fn a_move_sends_a_literal(rt: HostRuntime) -> Result<(), Fail> {
     for (text, expected) in [
-        (
-            "MOVE \"O''Hara\" TO CUST-NAME.",
-            Source::Text(b"O''Hara".as_slice()),
-        ),
-        (
-            "MOVE 0012 TO CUST-NAME.",
-            Source::Digits(b"0012".as_slice()),
-        ),
-        (
-            "MOVE '0012' TO CUST-NAME.",
-            Source::Digits(b"0012".as_slice()),
-        ),
-        (
-            "MOVE '00 12' TO CUST-NAME.",
-            Source::Text(b"00 12".as_slice()),
-        ),
-        (
-            "MOVE 123456789012345678 TO CUST-NAME.",
-            Source::Digits(b"123456789012345678".as_slice()),
-        ),
-        ("MOVE SPACE TO CUST-NAME.", Source::Fill(Figure::Space)),
-        ("MOVE SPACES TO CUST-NAME.", Source::Fill(Figure::Space)),
-        ("MOVE ZERO TO CUST-NAME.", Source::Fill(Figure::Zero)),
-        ("MOVE ZEROS TO CUST-NAME.", Source::Fill(Figure::Zero)),
-        ("MOVE ZEROES TO CUST-NAME.", Source::Fill(Figure::Zero)),
-        ("MOVE LOW-VALUE TO CUST-NAME.", Source::Fill(Figure::Low)),
-        ("MOVE LOW-VALUES TO CUST-NAME.", Source::Fill(Figure::Low)),
-        ("MOVE HIGH-VALUE TO CUST-NAME.", Source::Fill(Figure::High)),
-        ("MOVE HIGH-VALUES TO CUST-NAME.", Source::Fill(Figure::High)),
+        ("MOVE \"O''Hara\" TO CUST-NAME.", "O''Hara"),
+        ("MOVE '00 12' TO CUST-NAME.", "00 12"),
     ] {
-        let list = read(rt.alloc(), &described, HEADING, text)??;
-        assert_eq!(rt; list.as_slice().len(), 1, "{text}");
-        let Statement::Move {
-            file,
-            field,
-            source,
-        } = &list.as_slice()[0]
-        else {
-            assert!(rt; false, "{text}");
-            return Ok(());
-        };
-        let name = Field {
-            offset: 4,
-            length: 6,
-            numeric: false,
-        };
-        assert_eq!(rt; *file, 0, "{text}");
-        assert_eq!(rt; *field, name, "{text}");
-        assert!(rt; is_sent(source, &expected), "{text}");
+        let sent = Source::Text(expected.as_bytes());
+        assert!(rt; is_moved(rt.alloc(), text, sent)?, "{text}");
     }
     Ok(())
 }
 
 #[test]
-fn a_move_has_receivers_of_several_files(rt: HostRuntime) -> Result<(), Fail> {
-    let described = customers_and_parts(rt.alloc(), Access::Dynamic)?;
-    let list = read(
-        rt.alloc(),
-        &described,
-        HEADING,
-        "MOVE 7 TO PART-COUNT CUST-LEN CUST-REC.",
-    )??;
+fn a_move_sends_a_number(rt: HostRuntime) -> Result<(), Fail> {
+    for (text, expected) in [
+        ("MOVE 0012 TO CUST-NAME.", "0012"),
+        ("MOVE '0012' TO CUST-NAME.", "0012"),
+        (
+            "MOVE 123456789012345678 TO CUST-NAME.",
+            "123456789012345678",
+        ),
+    ] {
+        let sent = Source::Digits(expected.as_bytes());
+        assert!(rt; is_moved(rt.alloc(), text, sent)?, "{text}");
+    }
+    Ok(())
+}
+
+#[test]
+fn a_move_sends_a_figurative_constant(rt: HostRuntime) -> Result<(), Fail> {
+    for (text, figure) in [
+        ("MOVE SPACE TO CUST-NAME.", Figure::Space),
+        ("MOVE SPACES TO CUST-NAME.", Figure::Space),
+        ("MOVE ZERO TO CUST-NAME.", Figure::Zero),
+        ("MOVE ZEROS TO CUST-NAME.", Figure::Zero),
+        ("MOVE ZEROES TO CUST-NAME.", Figure::Zero),
+        ("MOVE LOW-VALUE TO CUST-NAME.", Figure::Low),
+        ("MOVE LOW-VALUES TO CUST-NAME.", Figure::Low),
+        ("MOVE HIGH-VALUE TO CUST-NAME.", Figure::High),
+        ("MOVE HIGH-VALUES TO CUST-NAME.", Figure::High),
+    ] {
+        assert!(rt; is_moved(rt.alloc(), text, Source::Fill(figure))?, "{text}");
+    }
+    Ok(())
+}
+
+/// Whether 7 is moved to the count of a part, to the length item and to the record of a customer.
+fn has_receivers(statements: &[Statement]) -> bool {
     let seven = Source::Digits(b"7".as_slice());
     let count = Field {
         offset: 3,
@@ -272,80 +256,90 @@ fn a_move_has_receivers_of_several_files(rt: HostRuntime) -> Result<(), Fail> {
         length: 16,
         numeric: false,
     };
-    assert_eq!(rt; list.as_slice().len(), 3);
-    let mut found = 0;
-    for statement in list.as_slice() {
-        match statement {
-            Statement::Move {
-                file: 1,
-                field,
-                source,
-            } => {
-                assert_equal(&rt, *field, count);
-                assert!(rt; found == 0 && is_sent(source, &seven));
-            }
-            Statement::MoveLength { item: 0, source } => {
-                assert!(rt; found == 1 && is_sent(source, &seven));
-            }
-            Statement::Move {
-                file: 0,
-                field,
-                source,
-            } => {
-                assert_equal(&rt, *field, record);
-                assert!(rt; found == 2 && is_sent(source, &seven));
-            }
-            _ => assert!(rt; false),
+    match statements {
+        [first, length, last] => {
+            moves(first, 1, count, &seven)
+                && is_length(length, 0, b"7")
+                && moves(last, 0, record, &seven)
         }
-        found += 1;
+        _ => false,
     }
+}
+
+#[test]
+fn a_move_has_receivers_of_several_files(rt: HostRuntime) -> Result<(), Fail> {
+    let text = "MOVE 7 TO PART-COUNT CUST-LEN CUST-REC.";
+    let deck = read(rt.alloc(), "DYNAMIC", text)?;
+    assert!(rt; has_receivers(deck.statements.as_slice()));
     Ok(())
 }
 
-/// The area of a customer, after the moves of a list.
-fn area_after(list: &StatementList) -> [u8; 16] {
+/// Moves to the area of a customer.
+fn move_to(area: &mut [u8; 16], field: Field, source: &Source<Bytes>) {
+    let source = source.as_ref();
+    let end = usize::from(field.offset) + usize::from(field.length);
+    if end <= 16 && takes(field, &source) {
+        put(area, field, &source);
+    }
+}
+
+/// The area of a customer, after these moves.
+fn area_after(statements: &[Statement]) -> [u8; 16] {
     let mut area = [b'.'; 16];
-    for statement in list.as_slice() {
+    for statement in statements {
         if let Statement::Move { field, source, .. } = statement {
-            let source = source.as_ref();
-            let end = usize::from(field.offset) + usize::from(field.length);
-            if end <= area.len() && takes(*field, &source) {
-                put(&mut area, *field, &source);
-            }
+            move_to(&mut area, *field, source);
         }
     }
     area
+}
+
+/// Whether the two moves of the procedure leave this area.
+fn leaves(alloc: Global, text: &str, expected: &[u8]) -> Result<bool, Fail> {
+    let deck = read(alloc, "DYNAMIC", text)?;
+    let statements = deck.statements.as_slice();
+    Ok(statements.len() == 2 && area_after(statements).as_slice() == expected)
 }
 
 // MOVE statement, general rules: to an item of digits right-justified, to any other left-justified. A literal of digits is moved as
 // a number is.
 #[test]
 fn a_literal_of_digits_is_moved_as_a_number(rt: HostRuntime) -> Result<(), Fail> {
-    let described = customers_and_parts(rt.alloc(), Access::Dynamic)?;
     for (text, expected) in [
-        ("MOVE 12 TO CUST-ID CUST-NAME.", b"001212    ......"),
-        ("MOVE \"12\" TO CUST-ID CUST-NAME.", b"001212    ......"),
-        ("MOVE '123456' TO CUST-ID CUST-NAME.", b"3456123456......"),
-        ("MOVE '0007' TO CUST-CITY CUST-ID.", b"0007......0007  "),
+        ("MOVE 12 TO CUST-ID CUST-NAME.", "001212    ......"),
+        ("MOVE \"12\" TO CUST-ID CUST-NAME.", "001212    ......"),
+        ("MOVE '123456' TO CUST-ID CUST-NAME.", "3456123456......"),
+        ("MOVE '0007' TO CUST-CITY CUST-ID.", "0007......0007  "),
     ] {
-        let list = read(rt.alloc(), &described, HEADING, text)??;
-        assert_eq!(rt; list.as_slice().len(), 2, "{text}");
-        assert_eq!(rt; area_after(&list).as_slice(), expected.as_slice(), "{text}");
+        assert!(rt; leaves(rt.alloc(), text, expected.as_bytes())?, "{text}");
     }
-    let list = read(rt.alloc(), &described, HEADING, "MOVE '12' TO CUST-LEN.")??;
-    assert_eq!(rt; list.as_slice().len(), 1);
-    let Statement::MoveLength { item: 0, source } = &list.as_slice()[0] else {
-        assert!(rt; false);
-        return Ok(());
-    };
-    assert!(rt; is_sent(source, &Source::Digits(b"12".as_slice())));
     Ok(())
+}
+
+fn is_length_alone(statements: &[Statement], digits: &[u8]) -> bool {
+    match statements {
+        [statement] => is_length(statement, 0, digits),
+        _ => false,
+    }
+}
+
+#[test]
+fn a_literal_of_digits_is_a_length(rt: HostRuntime) -> Result<(), Fail> {
+    let deck = read(rt.alloc(), "DYNAMIC", "MOVE '12' TO CUST-LEN.")?;
+    assert!(rt; is_length_alone(deck.statements.as_slice(), b"12"));
+    Ok(())
+}
+
+/// The fault of a procedure that names nothing.
+fn fault_of(alloc: Global, text: &str) -> Result<Option<DeckFault>, Fail> {
+    let words = words(text.as_bytes())?;
+    let names = Names::new(alloc, &[], &[])?;
+    Ok(procedure(alloc, &names, &words).err())
 }
 
 #[test]
 fn a_fault_of_the_heading_is_told_for_its_line(rt: HostRuntime) -> Result<(), Fail> {
-    let described = customers_and_parts(rt.alloc(), Access::Dynamic)?;
-    let fault = read(rt.alloc(), &described, "PROCEDURE\nDIVISON.", "")?.err();
-    assert_equal(&rt, fault, Some(DeckFault { line: 2, code: 2 }));
+    let fault = fault_of(rt.alloc(), "PROCEDURE\nDIVISON.")?;
+    assert!(rt; is_fault(fault, 2, 2));
     Ok(())
 }

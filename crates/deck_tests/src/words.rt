@@ -1,10 +1,7 @@
 //! Decks and their words, and words read one by one.
 
-use crate::checks::{assert_equal, assert_equal_for};
-use deck_words::{
-    Cause, DECK_LIMIT, DeckFault, Parser, Refusal, Word, WordText, one_reading, words,
-};
-use record_layout::Bytes;
+use crate::checks::is_fault;
+use deck_words::{Cause, DECK_LIMIT, Parser, Refusal, Word, WordText, one_reading, words};
 use std::alloc::{AllocError, Global};
 use std::process::Abort;
 use std::test::Fail;
@@ -46,15 +43,14 @@ fn kind_of(word: &Word<'_>) -> &'static str {
     }
 }
 
-/// The text of a word: of a literal, what it stands for.
-fn text_of(alloc: Global, word: &Word<'_>) -> Result<Bytes, AllocError> {
-    let text = match &word.text {
-        WordText::Plain(text) => text.as_str().as_bytes(),
-        WordText::Literal(text) => return text.text(alloc),
-        WordText::Sign(sign) => sign.text(),
-        WordText::Period => b".".as_slice(),
-    };
-    Ok(Bytes::from_vec(text.to_vec(alloc)?))
+/// Whether the word has this text: a literal, what it stands for.
+fn has_text(alloc: Global, word: &Word<'_>, expected: &[u8]) -> Result<bool, AllocError> {
+    match &word.text {
+        WordText::Plain(text) => Ok(text.as_str().as_bytes() == expected),
+        WordText::Literal(text) => Ok(text.text(alloc)?.as_slice() == expected),
+        WordText::Sign(sign) => Ok(sign.text() == expected),
+        WordText::Period => Ok(expected == b".".as_slice()),
+    }
 }
 
 /// The deck has these words, each with its line and what it is.
@@ -65,18 +61,17 @@ fn shows(
     expected: &[(u64, &str, &str)],
 ) -> Result<(), Fail> {
     let mut words = words(deck.as_bytes())?;
-    assert_equal_for(rt, deck, words.len(), expected.len());
+    assert!(rt; words.len() == expected.len(), "{deck:?}");
     for (line, kind, text) in expected {
         let Some(word) = words.next() else {
             assert!(rt; false, "{deck:?}");
             return Ok(());
         };
-        let seen = text_of(alloc, &word)?;
-        assert_equal_for(rt, deck, word.line, *line);
-        assert_equal_for(rt, deck, kind_of(&word), *kind);
-        assert_equal_for(rt, deck, seen.as_slice(), text.as_bytes());
+        assert!(rt; word.line == *line, "{deck:?}");
+        assert!(rt; kind_of(&word) == *kind, "{deck:?}");
+        assert!(rt; has_text(alloc, &word, text.as_bytes())?, "{deck:?}");
     }
-    assert_equal_for(rt, deck, words.next().is_none(), true);
+    assert!(rt; words.next().is_none(), "{deck:?}");
     Ok(())
 }
 
@@ -145,7 +140,7 @@ fn bytes_that_are_no_word_are_told_for_their_line(rt: HostRuntime) -> Result<(),
     ];
     for (deck, line) in decks {
         let fault = words(deck.as_bytes()).err();
-        assert_equal_for(&rt, deck, fault, Some(DeckFault { line, code: 1 }));
+        assert!(rt; is_fault(fault, line, 1), "{deck:?}");
     }
     Ok(())
 }
@@ -154,22 +149,22 @@ fn bytes_that_are_no_word_are_told_for_their_line(rt: HostRuntime) -> Result<(),
 fn a_literal_has_at_most_a_thousand_bytes(rt: HostRuntime) -> Result<(), Fail> {
     let deck = literal_of(rt.alloc(), 1_000)?;
     let mut parser = Parser::new(&words(deck.as_slice())?);
-    assert_equal(&rt, parser.left(), 1);
-    assert_equal(&rt, parser.literal(rt.alloc())?.as_slice().len(), 1_000);
+    assert!(rt; parser.left() == 1);
+    assert!(rt; parser.literal(rt.alloc())?.as_slice().len() == 1_000);
     let deck = literal_of(rt.alloc(), 1_001)?;
     let fault = words(deck.as_slice()).err();
-    assert_equal(&rt, fault, Some(DeckFault { line: 1, code: 1 }));
+    assert!(rt; is_fault(fault, 1, 1));
     Ok(())
 }
 
 #[test]
 fn a_deck_has_at_most_a_mebibyte(rt: HostRuntime) -> Result<(), Fail> {
     let longest = spaces(rt.alloc(), DECK_LIMIT)?;
-    assert_equal(&rt, words(longest.as_slice())?.len(), 0);
+    assert!(rt; words(longest.as_slice())?.len() == 0);
     let longer = spaces(rt.alloc(), 1_048_577)?;
     let fault = words(longer.as_slice()).err();
-    assert_equal(&rt, fault, Some(DeckFault { line: 1, code: 6 }));
-    assert_equal(&rt, DECK_LIMIT, 1_048_576);
+    assert!(rt; is_fault(fault, 1, 6));
+    assert!(rt; DECK_LIMIT == 1_048_576);
     Ok(())
 }
 
@@ -177,27 +172,15 @@ fn a_deck_has_at_most_a_mebibyte(rt: HostRuntime) -> Result<(), Fail> {
 fn operands_are_read_where_they_stand(rt: HostRuntime) -> Result<(), Fail> {
     let words = words(b"CUST-ID 'O''Hara' 0012 >= =\n1234567890123456789")?;
     let mut parser = Parser::new(&words);
-    assert_equal(&rt, parser.name()?.as_str(), "CUST-ID");
+    assert!(rt; parser.name()?.as_str() == "CUST-ID");
     assert!(rt; parser.sees_literal());
-    assert_equal(
-        &rt,
-        parser.literal(rt.alloc())?.as_slice(),
-        b"O'Hara".as_slice(),
-    );
+    assert!(rt; parser.literal(rt.alloc())?.as_slice() == b"O'Hara".as_slice());
     assert!(rt; parser.sees_digits());
-    assert_equal(&rt, parser.digits()?.as_str(), "0012");
+    assert!(rt; parser.digits()?.as_str() == "0012");
     assert!(rt; !parser.eat_sign(b"="));
-    assert_equal(&rt, parser.expect_sign(b">="), Ok(()));
+    assert!(rt; parser.expect_sign(b">=").is_ok());
     assert!(rt; parser.eat_sign(b"="));
-    assert_equal(
-        &rt,
-        parser.digits().err(),
-        Some(Refusal::Fault(2, Cause::Limit)),
-    );
-    assert_equal(
-        &rt,
-        parser.name().err(),
-        Some(Refusal::Fault(2, Cause::Expected)),
-    );
+    assert!(rt; parser.digits().err() == Some(Refusal::Fault(2, Cause::Limit)));
+    assert!(rt; parser.name().err() == Some(Refusal::Fault(2, Cause::Expected)));
     Ok(())
 }
