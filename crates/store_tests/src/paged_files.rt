@@ -247,6 +247,19 @@ fn pages_are_read_as_written_or_not_at_all_whichever_read_failed(
     Ok(())
 }
 
+// Takes a page, if one is left.
+fn take_one<P: Pages>(pages: &mut P) -> Result<bool, Fault>
+    requires ready { P.IsReady pages.old }
+    requires open { P.CanChange pages.old }
+    ensures goes { P.Goes pages.old pages.new }
+{
+    match pages.take() {
+        Ok(_) => Ok(true),
+        Err(Fault::Full) => Ok(false),
+        Err(fault) => Err(fault),
+    }
+}
+
 // Takes pages until none is left.
 fn take_all<P: Pages>(pages: &mut P) -> Result<u32, Fault>
     requires ready { P.IsReady pages.old }
@@ -254,10 +267,8 @@ fn take_all<P: Pages>(pages: &mut P) -> Result<u32, Fault>
     ensures goes { P.Goes pages.old pages.new }
 {
     for taken in 0..100u32 {
-        match pages.take() {
-            Ok(_) => {}
-            Err(Fault::Full) => return Ok(taken),
-            Err(fault) => return Err(fault),
+        if !take_one(pages)? {
+            return Ok(taken);
         }
     }
     Ok(100)
@@ -292,10 +303,8 @@ fn change_often<P: Pages>(pages: &mut P) -> Result<(), Fault>
     requires open { P.CanChange pages.old }
     ensures goes { P.Goes pages.old pages.new }
 {
-    for _ in 0..10 {
-        for n in 0..8u32 {
-            mark(pages, n + 1)?;
-        }
+    for n in 0..80u32 {
+        mark(pages, n % 8 + 1)?;
     }
     Ok(())
 }
@@ -348,7 +357,8 @@ fn take_next<P: Pages>(pages: &mut P, count: u32) -> Result<u32, Fault>
 {
     let mut right = 0u32;
     for n in 0..count {
-        if pages.take()? == n.wrapping_add(1) {
+        let taken = pages.take()?;
+        if taken == n.wrapping_add(1) {
             right = right.wrapping_add(1);
         }
     }

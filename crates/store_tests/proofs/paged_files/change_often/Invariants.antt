@@ -1,7 +1,4 @@
 use Rattle.store_tests.proofs.paged_files.change_often.Given as goal
 
-abbrev pub invariant-loop : goal.invariant-loop
-invariant-loop g l = g.P.Pages.Goes l.initial.pages l.pages
-
 abbrev pub invariant-loop-n : goal.invariant-loop-n
-invariant-loop-n g l = g.P.Pages.Goes l.fn.pages l.pages
+invariant-loop-n g l = g.P.Pages.Goes l.initial.pages l.pages
