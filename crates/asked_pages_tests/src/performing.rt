@@ -3,7 +3,7 @@
 ghost use Rattle.std.specs.Prelude.{◌≡◌, IfOk, length};
 ghost use Rattle.record_layout.specs.Schema.{Schema as Keys};
 ghost use Rattle.verbs.specs.Fits.{HasOperands};
-ghost use Rattle.verb_tests.specs.Ready.{IsReadyConnector};
+ghost use Rattle.asked_pages_tests.specs.Ready.{IsReadyConnector};
 
 use indexed_file::Library;
 use io_state::{Access, Fault, FileName, FileStatement, Status};

@@ -1,6 +1,6 @@
 //! The pages that verbs ask for, over a file of two thousand records with keys of 120 bytes.
 
-ghost use Rattle.verb_tests.specs.Ready.{IsReadyConnector};
+ghost use Rattle.asked_pages_tests.specs.Ready.{IsReadyConnector};
 
 use crate::performing::{begins, performs};
 use crate::program::{Step, changed, in_sequence, read_by_key, written};

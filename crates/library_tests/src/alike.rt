@@ -2,7 +2,7 @@
 
 ghost use Rattle.std.specs.Prelude.{OnOk};
 ghost use Rattle.indexed_file.specs.Clients.{IsNotOpen};
-ghost use Rattle.both_libraries_tests.specs.Alike.{AreAlike};
+ghost use Rattle.library_tests.specs.Alike.{AreAlike};
 
 use indexed_file::Library;
 use io_state::{Fault, Key, Position, Relation};

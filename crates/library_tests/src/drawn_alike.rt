@@ -1,7 +1,7 @@
 //! Calls that are drawn, to a library over a shelf and to one in lists, with the file shut and opened in between.
 
 ghost use Rattle.std.specs.Prelude.{OnOk};
-ghost use Rattle.both_libraries_tests.specs.Alike.{AreAlike};
+ghost use Rattle.library_tests.specs.Alike.{AreAlike};
 
 use crate::alike::{
     adds, creates, finds, goes_on, reads_all, removes, reopens, replaces, seeks, tops,
