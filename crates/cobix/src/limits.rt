@@ -23,10 +23,9 @@ impl Limits {
         if frames > MOST_FRAMES {
             return None;
         }
-        let frames = NonZeroUsize::new(frames)?;
-        if pages < FEWEST_PAGES {
-            return None;
+        match NonZeroUsize::new(frames) {
+            Some(frames) if pages >= FEWEST_PAGES => Some(Limits { pages, frames }),
+            _ => None,
         }
-        Some(Limits { pages, frames })
     }
 }
