@@ -12,8 +12,8 @@ pub fn put(rt: &impl Abort, bytes: &mut [u8], at: usize, byte: u8) -> u8 {
     was
 }
 
-// Puts bytes into a file from one place on.
-fn put_all(rt: &impl Abort, bytes: &mut [u8], at: usize, part: &[u8]) {
+/// Puts bytes into a file from one place on.
+pub fn put_all(rt: &impl Abort, bytes: &mut [u8], at: usize, part: &[u8]) {
     assert!(rt; at < 1_000_000);
     for (i, &byte) in part.iter().enumerate() {
         assert!(rt; i < 4096);
