@@ -4,8 +4,8 @@ use Rattle.deck_words.specs.declared.fault.DeckFault.{DeckFault}
 use Rattle.deck_runner.specs.DeckRun.{IsNoDeck, IsRefusedDeck}
 use Rattle.deck_runner.specs.declared.fault.RunFault.{RunFault}
 use Rattle.deck_runner.specs.declared.fault.RunFault.TheVariants.{Deck as DeckRefused, Output as LineRefused, Memory as NoMemory}
-use Rattle.cobix.specs.declared.fault.Fault.TheVariants.{Deck, Output}
-use Rattle.cobix.specs.Told.{told_as}
+use Rattle.command_line.specs.declared.fault.Fault.TheVariants.{Deck, Output}
+use Rattle.command_line.specs.Told.{told_as}
 
 pub line_refused : (fault : RunFault) → told_as fault ≡ Output → fault ≡ LineRefused
 line_refused (DeckRefused told) is = absurd (cc)

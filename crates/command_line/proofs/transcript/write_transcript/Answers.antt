@@ -3,11 +3,11 @@ use Rattle.std.proofs.lemmas.Result.{IfOk-at_ok, IfErr-at_err}
 use Rattle.deck_runner.specs.RunEnd.{Told, ToldInPart}
 use Rattle.page_store.specs.ShelfState.{ShelfState}
 use Rattle.shelf_run.specs.ShelfRun.{OnShelf, IsExactRun, Runs, BreaksOff}
-use Rattle.cobix.specs.Folder.{folder_at_first, folder_after}
-use Rattle.cobix.specs.Told.{told_as}
-use Rattle.cobix.proofs.ToldLemmas.{line_refused, no_deck}
-use Rattle.cobix.proofs.FolderLemmas.{untouched, left_from_first, sound_from_first}
-use Rattle.cobix.proofs.transcript.write_transcript.Goals as goal
+use Rattle.command_line.specs.Folder.{folder_at_first, folder_after}
+use Rattle.command_line.specs.Told.{told_as}
+use Rattle.command_line.proofs.ToldLemmas.{line_refused, no_deck}
+use Rattle.command_line.proofs.FolderLemmas.{untouched, left_from_first, sound_from_first}
+use Rattle.command_line.proofs.transcript.write_transcript.Goals as goal
 
 pub returns-in-Ok-clause-exact : goal.returns-in-Ok-clause-exact
 returns-in-Ok-clause-exact g c =

@@ -5,7 +5,7 @@ use Rattle.folder_shelf.specs.Events.{Event}
 use Rattle.folder_shelf.specs.Replay.{Unseen}
 use Rattle.page_store.specs.ShelfState.{ShelfState}
 use Rattle.shelf_run.specs.ShelfRun.{LeavesFiles, StaysSound}
-use Rattle.cobix.specs.Folder.{folder_at_first, folder_after}
+use Rattle.command_line.specs.Folder.{folder_at_first, folder_after}
 
 pub untouched : (disk : Unseen) (names : List ArrayString) (calls : List Event) → names ≡ [] → calls ≡ [] → folder_after disk names calls ≡ folder_at_first disk
 untouched disk names calls no_names no_calls = rw no_names (rw no_calls refl)

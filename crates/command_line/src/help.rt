@@ -1,7 +1,7 @@
 //! What is told with the help.
 
-/// The program's version, and the kit that its proofs were checked with.
-pub const VERSION: &str = "0.1 (rattle-kit-13f logic dac8208d650f15bf)";
+/// The program's version, and the kit and logic that its proofs were checked with.
+pub const VERSION: &str = "0.1 (rattle-kit-13 logic dac8208d650f15bf)";
 
 /// What a run answers: exit statuses, the statuses of its verbs, and the codes of a refused deck.
 pub const ANSWERS: &str = "Exit status:

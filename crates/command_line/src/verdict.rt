@@ -2,7 +2,7 @@
 ghost use Rattle.std.specs.Prelude.{◌≡◌, IfOk, IfErr};
 ghost use Rattle.std.specs.Option.{IfSome};
 ghost use Rattle.file_checker.specs.Sound.{IsRight};
-ghost use Rattle.cobix.specs.Status.{status_of, status_by};
+ghost use Rattle.command_line.specs.Status.{status_of, status_by};
 
 use crate::fault::Fault;
 use file_checker::{CheckFault, Verdict, check_file};
