@@ -3,13 +3,12 @@ ghost use Rattle.std.specs.Prelude.{◌≡◌, ◌≤◌, [], length, IfOk, OnEr
 ghost use Rattle.io_state.specs.declared.fault.Fault.TheVariants.{Memory};
 ghost use Rattle.folder_shelf.specs.Events.{asked, made, measured, read, written, flushed, looked};
 
-use crate::open::Open;
 use crate::record::Record;
-use crate::system;
 use io_state::{Fault, FileName};
 use std::alloc::Global;
 use std::os::unix::fs::FileExt;
 use std::rt::Files;
+use system_files::KeptFile;
 
 /// The files of a folder, each kept open for the calls that follow.
 #[derive(Drop)]
@@ -18,7 +17,7 @@ pub(crate) struct Folder<R: Files + Drop> {
     alloc: Global,
     path: String,
     // The file of each unit, once it was reached.
-    open: Vec<Option<Open<R::File>>>,
+    open: Vec<Option<KeptFile<R::File>>>,
     pub(crate) calls: Record,
 }
 
@@ -68,7 +67,7 @@ where
             return Ok(());
         }
         let path = self.path_of(name)?;
-        if let Some(file) = system::open(&self.rt, path.as_str()) {
+        if let Some(file) = system_files::open(&self.rt, path.as_str()) {
             self.keep(unit, file);
         }
         Ok(())
@@ -78,7 +77,7 @@ where
         ensures calls { self.new.calls.events ≡ self.old.calls.events }
     {
         if let Some(open) = self.open.get_mut(unit) {
-            *open = Some(Open::new(file));
+            *open = Some(KeptFile::new(file));
         }
     }
 
@@ -90,7 +89,7 @@ where
         ensures only_memory { IsOkUnless result Memory }
     {
         let path = self.path_of(name)?;
-        let found = system::look(&self.rt, path.as_str());
+        let found = system_files::look(&self.rt, path.as_str());
         self.calls.looked(name, found);
         Ok(found)
     }
@@ -103,7 +102,7 @@ where
         ensures only_memory { IsOkUnless result Memory }
     {
         let path = self.path_of(name)?;
-        let done = match system::make(&self.rt, path.as_str()) {
+        let done = match system_files::make(&self.rt, path.as_str()) {
             Some(file) => {
                 self.keep(unit, file);
                 true
@@ -123,7 +122,7 @@ where
     {
         self.reach(unit, name)?;
         let size = match self.open.get(unit) {
-            Some(Some(open)) => system::measure(&open.file),
+            Some(Some(open)) => system_files::measure(&open.file),
             _ => None,
         };
         self.calls.measured(name, size);
@@ -145,7 +144,7 @@ where
     {
         self.reach(unit, name)?;
         let done = match self.open.get(unit) {
-            Some(Some(open)) => system::read(&open.file, at, bytes),
+            Some(Some(open)) => system_files::read(&open.file, at, bytes),
             _ => false,
         };
         self.calls.read(name, done, at, bytes);
@@ -167,7 +166,7 @@ where
     {
         self.reach(unit, name)?;
         let taken = match self.open.get(unit) {
-            Some(Some(open)) => system::write(&open.file, at, bytes),
+            Some(Some(open)) => system_files::write(&open.file, at, bytes),
             _ => 0,
         };
         self.calls.written(name, at, taken, bytes);

@@ -5,17 +5,13 @@
 //! `Shelf` then speak of the runs in which each answer was that of such a folder.
 //!
 //! That each method makes the call that it notes, and that nobody else writes the files, is trusted. Read
-//! `specs/Replay.antt` first, then `Folder` and `system`.
+//! `specs/Replay.antt` first, then `Folder`.
 #![tactic(auto)]
 
 mod disk;
 mod folder;
 mod folder_shelf;
-mod open;
 mod record;
-mod system;
-#[cfg(test)]
-mod tests;
 
 pub use disk::{Disk, EmptyDisk};
 pub use folder_shelf::FolderShelf;

@@ -8,11 +8,12 @@ use crate::shelves::{name, new_shelf};
 use io_state::Fault;
 use page_store::{FuseShelf, Image, Kind, MemShelf, Shelf, Store};
 use std::alloc::Global;
+use std::process::Abort;
 use std::test::Fail;
 
 /// What a file is found to be after a stop.
 #[derive(Clone, Copy, Debug, PartialEq, Eq)]
-enum Found {
+pub enum Found {
     Absent,
     Refused,
     /// Closed, each page that of the file made from this byte, and so many pages.
@@ -44,7 +45,7 @@ fn fill<S: Shelf>(shelf: &mut S, store: &mut Store, count: u32, byte: u8) -> Res
 }
 
 // Makes the file anew with these pages.
-fn make<S: Shelf>(shelf: &mut S, count: u32, byte: u8) -> Result<(), Fault>
+pub fn make<S: Shelf>(shelf: &mut S, count: u32, byte: u8) -> Result<(), Fault>
     requires unit { HasUnit (S.state shelf.old) 0 }
     requires count { count < 2 ^ 32 - 1 }
     ensures unit { HasUnit (S.state shelf.new) 0 }
@@ -87,7 +88,7 @@ fn begin<S: Shelf>(shelf: &mut S) -> Result<(), Fault>
     Ok(())
 }
 
-fn find<S: Shelf>(shelf: &mut S) -> Result<Found, Fault>
+pub fn find<S: Shelf>(shelf: &mut S) -> Result<Found, Fault>
     requires unit { HasUnit (S.state shelf.old) 0 }
     ensures unit { HasUnit (S.state shelf.new) 0 }
 {
@@ -123,31 +124,47 @@ fn a_hundred_pages_are_read_as_written(rt: HostRuntime) -> Result<(), Fail> {
     Ok(())
 }
 
-// The n-th call of a kind fails, of a program that makes a file of a hundred pages and reads it back.
+// The n-th call of a kind fails, of a program that makes a file of so many pages and reads it back: the file is closed whole, or refused. Whether a call failed.
+pub fn fails_at<S: Shelf + Drop>(
+    rt: &impl Abort,
+    inner: S,
+    fuse: (Kind, u64, bool, bool),
+    count: u32,
+) -> Result<bool, Fault>
+    requires unit { HasUnit (S.state inner) 0 }
+    requires count { count < 2 ^ 32 - 1 }
+{
+    let (kind, at, after, for_good) = fuse;
+    let mut shelf = FuseShelf::new(inner, kind, at, after, for_good);
+    let made = make(&mut shelf, count, 7).is_ok();
+    let found = find(&mut shelf);
+    let failed = shelf.faults() > 0;
+    assert_equal_for(rt, fuse, failed, shelf.calls(kind) >= at);
+    if !failed {
+        assert_equal_for(rt, fuse, made, true);
+        assert_equal_for(rt, fuse, found, Ok(Found::Closed(7, count)));
+        return Ok(false);
+    }
+    let mut inner = shelf.into_inner();
+    inner.attach(&[name()])?;
+    let left = find(&mut inner)?;
+    if made {
+        assert_equal_for(rt, fuse, left, Found::Closed(7, count));
+        assert_equal_for(rt, fuse, found.is_err(), true);
+    }
+    assert_equal_for(rt, fuse, left == Found::Mixed, false);
+    Ok(true)
+}
+
 #[test]
 fn a_file_is_closed_only_if_no_call_failed(rt: HostRuntime) -> Result<(), Fail> {
     for kind in [Kind::Reads, Kind::Writes, Kind::Syncs, Kind::Changes] {
         for (after, for_good) in [(false, false), (false, true), (true, false), (true, true)] {
             for at in 1..200 {
                 let inner = new_shelf(rt.alloc())?;
-                let mut shelf = FuseShelf::new(inner, kind, at, after, for_good);
-                let made = make(&mut shelf, 100, 7).is_ok();
-                let found = find(&mut shelf);
-                let failed = shelf.faults() > 0;
-                assert_equal_for(&rt, (kind, at), failed, shelf.calls(kind) >= at);
-                if !failed {
-                    assert_equal_for(&rt, (kind, at), made, true);
-                    assert_equal_for(&rt, (kind, at), found, Ok(Found::Closed(7, 100)));
+                if !fails_at(&rt, inner, (kind, at, after, for_good), 100)? {
                     break;
                 }
-                let mut inner = shelf.into_inner();
-                inner.attach(&[name()])?;
-                let left = find(&mut inner)?;
-                if made {
-                    assert_equal_for(&rt, (kind, at), left, Found::Closed(7, 100));
-                    assert_equal_for(&rt, (kind, at), found.is_err(), true);
-                }
-                assert_equal_for(&rt, (kind, at), left == Found::Mixed, false);
             }
         }
     }

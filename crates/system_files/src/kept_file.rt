@@ -1,20 +1,20 @@
 //! A file that is kept open.
-use crate::system;
+use crate::calls::{sync, sync_folder};
 use std::fs::OpenFile;
 use std::rt::Files;
 
 #[derive(Drop)]
-pub(crate) struct Open<F: Drop> {
-    pub(crate) file: F,
+pub struct KeptFile<F: Drop> {
+    pub file: F,
     // The folder is known to have its name on the disk.
     is_named: bool,
     // A sync failed: the system may have dropped what was written, and the next sync may not tell.
     is_lost: bool,
 }
 
-impl<F: OpenFile + Drop> Open<F> {
-    pub(crate) fn new(file: F) -> Open<F> {
-        Open {
+impl<F: OpenFile + Drop> KeptFile<F> {
+    pub fn new(file: F) -> KeptFile<F> {
+        KeptFile {
             file,
             is_named: false,
             is_lost: false,
@@ -22,13 +22,13 @@ impl<F: OpenFile + Drop> Open<F> {
     }
 
     /// Brings the file to the disk, and its name where that is not known to be there. Whether it was done.
-    pub(crate) fn sync<R: Files>(&mut self, rt: &R, folder: &str) -> bool {
+    pub fn sync<R: Files>(&mut self, rt: &R, folder: &str) -> bool {
         if self.is_lost {
             return false;
         }
-        self.is_lost = !system::sync(&self.file);
+        self.is_lost = !sync(&self.file);
         if !self.is_named {
-            self.is_named = system::sync_folder(rt, folder);
+            self.is_named = sync_folder(rt, folder);
         }
         self.is_named && !self.is_lost
     }

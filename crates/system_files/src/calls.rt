@@ -27,7 +27,7 @@ fn again<T, F: Fn() -> io::Result<T> + Drop>(call: F) -> io::Result<T>
 }
 
 /// Whether a file of this name is there, if the system tells it. A folder or a link is no file.
-pub(crate) fn look<R: Files>(rt: &R, path: &str) -> Option<bool> {
+pub fn look<R: Files>(rt: &R, path: &str) -> Option<bool> {
     match again(|| fs::symlink_metadata(rt, path)) {
         Ok(found) => { if found.is_file() { Some(true) } else { None } }
         Err(error) => {
@@ -41,12 +41,12 @@ pub(crate) fn look<R: Files>(rt: &R, path: &str) -> Option<bool> {
 }
 
 /// Makes a file that is not there, and opens it.
-pub(crate) fn make<R: Files>(rt: &R, path: &str) -> Option<R::File> {
+pub fn make<R: Files>(rt: &R, path: &str) -> Option<R::File> {
     open_path(rt, path, true).ok()
 }
 
 /// Opens what is a file by its own name, and no link.
-pub(crate) fn open<R: Files>(rt: &R, path: &str) -> Option<R::File> {
+pub fn open<R: Files>(rt: &R, path: &str) -> Option<R::File> {
     let named = again(|| fs::symlink_metadata(rt, path)).ok()?;
     if !named.is_file() {
         return None;
@@ -76,7 +76,7 @@ fn is_same(a: &Metadata, b: &Metadata) -> bool {
 }
 
 /// Brings the names in a folder to the disk.
-pub(crate) fn sync_folder<R: Files>(rt: &R, path: &str) -> bool {
+pub fn sync_folder<R: Files>(rt: &R, path: &str) -> bool {
     match again(|| OpenOptions::new().read(true).open(rt, path)) {
         Ok(folder) => sync(&folder),
         Err(_) => false,
@@ -84,12 +84,12 @@ pub(crate) fn sync_folder<R: Files>(rt: &R, path: &str) -> bool {
 }
 
 /// Brings a file to the disk.
-pub(crate) fn sync<F: OpenFile>(file: &F) -> bool {
+pub fn sync<F: OpenFile>(file: &F) -> bool {
     again(|| file.sync_all()).is_ok()
 }
 
 /// The number of bytes of a file.
-pub(crate) fn measure<F: OpenFile>(file: &F) -> Option<u64> {
+pub fn measure<F: OpenFile>(file: &F) -> Option<u64> {
     match again(|| file.metadata()) {
         Ok(found) => Some(found.len()),
         Err(_) => None,
@@ -97,7 +97,7 @@ pub(crate) fn measure<F: OpenFile>(file: &F) -> Option<u64> {
 }
 
 /// Fills the bytes with those of the file from `at` on. Whether they all came.
-pub(crate) fn read<F: FileExt>(file: &F, at: u64, bytes: &mut [u8]) -> bool {
+pub fn read<F: FileExt>(file: &F, at: u64, bytes: &mut [u8]) -> bool {
     let mut done = 0;
     while done < bytes.len() {
         match read_part(file, at.saturating_add(done as u64), &mut bytes[done..]) {
@@ -126,7 +126,7 @@ fn read_part<F: FileExt>(file: &F, at: u64, bytes: &mut [u8]) -> Option<usize>
 }
 
 /// Writes the bytes from `at` on, in as many parts as the system takes. How many of them it took.
-pub(crate) fn write<F: FileExt>(file: &F, at: u64, bytes: &[u8]) -> usize
+pub fn write<F: FileExt>(file: &F, at: u64, bytes: &[u8]) -> usize
     ensures { result ≤ length bytes.now }
 {
     let mut done = 0;
