@@ -1,7 +1,7 @@
 -- Places that are given entry by entry, and lengths that are given group by group.
-use Rattle.std.proofs.Common.{◌≡◌, ℕ, ◌+◌, ◌<◌, ◌≤◌, true, false, cond, ltb, List, [], ◌∷◌, ◌++◌, length, take, drop, map, reverse, get_or, set, option_map, Option, Some, None, refl, sym, ap, subst, ◌∙◌, inr, arith, append_assoc}
+use Rattle.std.proofs.Common.{◌≡◌, ℕ, ◌+◌, ◌<◌, ◌≤◌, Bool, true, false, not, ◌&&◌, cond, ltb, List, [], ◌∷◌, ◌++◌, length, take, drop, map, reverse, get_or, set, option_map, Option, Some, None, refl, sym, ap, subst, ◌∙◌, inl, inr, arith, append_assoc}
 use Rattle.arrayvec.specs.ArrayString.{ArrayString as Text}
-use Rattle.std.specs.Prelude.{is_none, is_some, IsTrue, IsFalse}
+use Rattle.std.specs.Prelude.{is_none, is_some, IsTrue, IsFalse, MatchBool}
 use Rattle.std.specs.List.{sum_by}
 use Rattle.std.proofs.lemmas.Bool.{false≢true}
 use Rattle.std.proofs.lemmas.List.{append-nil, length-map, map_push, take_all, take_at, take_more, drop_at, drop_all, drop_more, set_at, get_or-take, get_or_default, length-take-le, length_push}
@@ -10,10 +10,10 @@ use Rattle.std.proofs.lemmas.List.Folds.{fold-map}
 use Rattle.record_layout.specs.declared.item.Field.{Field}
 use Rattle.record_layout.specs.declared.item.Item.{Item}
 use Rattle.record_layout.specs.declared.item.Placed.{Placed as Declared}
-use Rattle.record_layout.specs.Layout.{Entry, Placed, entry_of, item_of, places, IsLayout}
+use Rattle.record_layout.specs.Layout.{Entry, Placed, entry_of, item_of, is_name_of, places, IsLayout}
 use Rattle.record_layout.specs.declared.fault.LayoutFault.{LayoutFault}
-use Rattle.record_layout.specs.declared.fault.LayoutFault.TheVariants.{Empty}
-use Rattle.record_layout.specs.LayoutFault.{is_in_place, is_unfinished, Lengthens, IsFirstFault}
+use Rattle.record_layout.specs.declared.fault.LayoutFault.TheVariants.{BadLevel, DuplicateName, Empty}
+use Rattle.record_layout.specs.LayoutFault.{is_behind_empty, is_level_fit, is_in_place, is_unfinished, Lengthens, HasPictureFault, IsFaultOf, IsFirstFault}
 use Rattle.record_layout.specs.Placing.{PlacedEntry, place_of, IsOwnPlace, ArePlaced, HavePlaces, members_length, with_length, with_group_lengths}
 use Rattle.record_layout.specs.NamesInOrder.{HasNamesOf}
 use Rattle.std.specs.BTreeMap.{BTreeMap}
@@ -55,6 +55,17 @@ finish entries before total own so done = subst (HavePlaces entries) (append-nil
 pub unfinished : (entries before : List Entry) (total : ℕ) (own : List Placed) → SoFar entries before [] total own → IsTrue (is_unfinished before) → IsFirstFault [] 0 entries Empty
 unfinished entries before total own so h = so.refused Empty (h, refl)
 
+-- the fault of the picture is that of an entry that is in place otherwise
+pub fault_of_picture : (before : List Entry) (total : ℕ) (entry : Entry) (fault : LayoutFault) → IsTrue (is_in_place before entry) → HasPictureFault total entry.picture fault → IsFaultOf before total entry fault
+fault_of_picture before total entry fault there h =
+    last_test (is_behind_empty before entry.level) (is_level_fit before entry.level) (is_name_of before entry.name) (fault ≡ Empty) (fault ≡ BadLevel) (fault ≡ DuplicateName) (HasPictureFault total entry.picture fault) there h
+  where
+    last_test : (behind fit named : Bool) (A B C D : Type 0) → IsTrue (not behind && fit && not named) → D → MatchBool behind A (MatchBool (not fit) B (MatchBool named C D))
+    last_test false true false A B C D there h = h
+    last_test false true true A B C D there h = absurd (false≢true there)
+    last_test false false named A B C D there h = absurd (false≢true there)
+    last_test true fit named A B C D there h = absurd (false≢true there)
+
 -- ---- how many characters there are
 
 own_sum : (before : List Entry) (total : ℕ) (items : List PlacedEntry) → total ≤ 4000 → ArePlaced before total items → total + sum_by (λ place. place.field.length) (map place_of items) ≤ 4000
@@ -91,6 +102,13 @@ next items i item total places field so h is there place limit =
     let more = step all before after (entry_of item) total (map item_of places) field (subst (λ rest. SoFar all before rest total (map item_of places)) here so) there place limit in
     subst (λ own. SoFar all (reverse (map entry_of (take (i + 1) items))) after (total + field.length) own) (sym (map_push item_of places placed))
     (subst (λ first. SoFar all first after (total + field.length) (map item_of places ++ item_of placed ∷ [])) (sym longer) more)
+
+-- the item is the first with a fault
+pub refused_at : (items : List Item) (i : ℕ) (item : Item) (total : ℕ) (places : List Declared) (fault : LayoutFault) → PlacedUpTo items i total places → i < length items → item ≡ get_or items i item → IsFaultOf (reverse (map entry_of (take i items))) total (entry_of item) fault → IsFirstFault [] 0 (map entry_of items) fault
+refused_at items i item total places fault so h is found =
+    let after = map entry_of (drop (i + 1) items) in
+    let here : map entry_of (drop i items) ≡ entry_of item ∷ after = ap (map entry_of) (drop_more items i item h) ∙ ap (λ (read : Item). entry_of read ∷ after) (sym is) in
+    so.refused fault (subst (λ rest. IsFirstFault (reverse (map entry_of (take i items))) total rest fault) (sym here) (inl found))
 
 -- the names up to an item, with its own
 pub names_next : (names : BTreeMap (Bor (List ℕ)) (Unit {0})) (items : List Item) (i : ℕ) (item : Item) → i < length items → item ≡ get_or items i item → HasNamesOf names (entry_of item ∷ reverse (map entry_of (take i items))) → HasNamesOf names (reverse (map entry_of (take (i + 1) items)))
