@@ -100,3 +100,20 @@ with_count-with_first count b (Some cut) = ap (λ (n : ℕ). Some (n, cut.1)) (o
 pub counted_from_none : (cut : Option (List ℕ × List ℕ)) → with_count 0 cut ≡ option_map (λ (c : List ℕ × List ℕ). (length c.0, c.1)) cut
 counted_from_none None = refl
 counted_from_none (Some cut) = ap (λ (n : ℕ). Some (n, cut.1)) (omega arith)
+
+-- ---- a byte at a time
+
+apart : (b mark : ℕ) → (b ≡ mark → ⊥) → eqb b mark ≡ false
+apart b mark other = grind (arith, nat_tests)
+
+pub cut_refused : (mark b : ℕ) (bytes : List ℕ) → (b ≡ mark → ⊥) → is_of_literal b ≡ false → cut_literal mark (b ∷ bytes) ≡ None
+cut_refused mark b [] other i = rw (apart b mark other)
+cut_refused mark b (c ∷ bytes) other i = rw (apart b mark other, i)
+
+pub counted_plain : (mark b count : ℕ) (bytes : List ℕ) → (b ≡ mark → ⊥) → is_of_literal b ≡ true → with_count count (cut_literal mark (b ∷ bytes)) ≡ with_count (count + 1) (cut_literal mark bytes)
+counted_plain mark b count bytes other i =
+    ap (with_count count) (cut_plain mark b bytes (apart b mark other) i) ∙ with_count-with_first count b (cut_literal mark bytes)
+
+pub counted_twice : (mark count : ℕ) (bytes : List ℕ) → with_count count (cut_literal mark (mark ∷ mark ∷ bytes)) ≡ with_count (count + 1) (cut_literal mark bytes)
+counted_twice mark count bytes =
+    ap (with_count count) (cut_twice mark bytes) ∙ with_count-with_first count mark (cut_literal mark bytes)

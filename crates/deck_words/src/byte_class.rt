@@ -1,6 +1,6 @@
 //! The classes of a deck's bytes.
 ghost use Rattle.std.specs.Prelude.{◌≡◌};
-ghost use Rattle.deck_words.specs.ByteClass.{is_space, is_mark, is_of_run, is_of_word, capital};
+ghost use Rattle.deck_words.specs.ByteClass.{is_space, is_mark, is_of_run, is_of_literal, is_of_word, capital};
 
 /// Space, tab, line feed and carriage return.
 pub fn is_space_byte(byte: u8) -> bool
@@ -21,6 +21,13 @@ pub fn is_run_byte(byte: u8) -> bool
     ensures { result ≡ is_of_run byte }
 {
     !is_space_byte(byte) && !is_mark_byte(byte)
+}
+
+/// Neither line feed nor carriage return.
+pub fn is_literal_byte(byte: u8) -> bool
+    ensures { result ≡ is_of_literal byte }
+{
+    byte != b'\n' && byte != b'\r'
 }
 
 /// A letter, a digit, a hyphen or a parenthesis.

@@ -3,7 +3,7 @@ ghost use Rattle.std.specs.Prelude.{◌≡◌, ℕ, List, length, option_map, If
 ghost use Rattle.deck_words.specs.Literal.{cut_literal, text_of_cut};
 ghost use Rattle.deck_words.specs.Front.{literal_at, ends_literal};
 
-use crate::byte_class::is_space_byte;
+use crate::byte_class::{is_literal_byte, is_space_byte};
 use crate::piece::Piece;
 use crate::spelling::{Spelled, Spelling};
 use record_layout::Bytes;
@@ -46,7 +46,7 @@ fn text_before(alloc: Global, mark: u8, bytes: &[u8]) -> Result<Bytes, AllocErro
     let mut rest = bytes;
     'more: while let Some((byte, after)) = rest.split_first() {
         if *byte != mark {
-            if *byte == b'\n' || *byte == b'\r' {
+            if !is_literal_byte(*byte) {
                 return Ok(Bytes::from_vec(Vec::new(alloc)));
             }
             text.push(*byte)?;
@@ -73,7 +73,7 @@ fn length_before(mark: u8, bytes: &[u8]) -> Option<(usize, &[u8])>
     let mut rest = bytes;
     'more: while let Some((byte, after)) = rest.split_first() {
         if *byte != mark {
-            if *byte == b'\n' || *byte == b'\r' {
+            if !is_literal_byte(*byte) {
                 return None;
             }
             count += 1;

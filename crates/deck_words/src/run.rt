@@ -16,7 +16,6 @@ use crate::word::Sign;
 const WORD_LIMIT: usize = 30;
 
 /// The sign that a text is, if it is one.
-#[tactic(auto, using(crate::proofs::SignLemmas::same_text))]
 fn sign_of(text: &[u8]) -> Option<Sign>
     ensures { option_map sign_text result ≡ sign_in text.now }
 {
