@@ -1,4 +1,4 @@
-// The calls of the system that bench_pages makes, and nothing else: pages FOLDER PAGES ROUNDS.
+// The calls of the system that `benchmarks page_files` makes, and nothing else: pages FOLDER PAGES ROUNDS.
 #include <fcntl.h>
 #include <stdint.h>
 #include <stdio.h>

@@ -1,4 +1,4 @@
-// The calls of bench_trees on a database of LMDB, in one write transaction that is never synced: lmdb FOLDER ENTRIES ROUNDS.
+// The calls of `benchmarks trees` on a database of LMDB, in one write transaction that is never synced: lmdb FOLDER ENTRIES ROUNDS.
 #include <lmdb.h>
 #include <stdint.h>
 #include <stdio.h>
@@ -26,7 +26,7 @@ static uint64_t now(void)
     return t.tv_sec * 1000000000ull + t.tv_nsec;
 }
 
-// The entries of COUNT numbers, as bench_trees makes them.
+// The entries of COUNT numbers, as `benchmarks trees` makes them.
 static unsigned char *mixed(uint64_t count, uint64_t factor)
 {
     unsigned char *entries = malloc(count * ENTRY + 1);

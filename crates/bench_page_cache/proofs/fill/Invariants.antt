@@ -1,4 +1,0 @@
-use Rattle.bench_page_cache.proofs.fill.Given as goal
-
-abbrev pub invariant-loop : goal.invariant-loop
-invariant-loop g l = g.P.Pages.Goes l.initial.pages l.pages

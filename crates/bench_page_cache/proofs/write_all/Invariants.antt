@@ -1,4 +1,0 @@
-use Rattle.bench_page_cache.proofs.write_all.Given as goal
-
-abbrev pub invariant-loop-i : goal.invariant-loop-i
-invariant-loop-i g l = g.P.Pages.Goes l.initial.pages l.pages

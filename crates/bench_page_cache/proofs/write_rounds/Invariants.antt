@@ -1,4 +1,0 @@
-use Rattle.bench_page_cache.proofs.write_rounds.Given as goal
-
-abbrev pub invariant-loop-round : goal.invariant-loop-round
-invariant-loop-round g l = g.P.Pages.Goes l.initial.pages l.pages

@@ -1,4 +1,0 @@
-use Rattle.bench_trees.proofs.calls.find_all.Given as goal
-
-abbrev pub invariant-loop-entry : goal.invariant-loop-entry
-invariant-loop-entry g l = g.P.Pages.Goes l.initial.pages l.pages

@@ -1,5 +1,0 @@
-use Rattle.std.proofs.Common.{◌≡◌}
-use Rattle.bench_trees.proofs.calls.insert_all.Given as goal
-
-abbrev pub invariant-loop-entry : goal.invariant-loop-entry
-invariant-loop-entry g l = g.P.Pages.Goes l.initial.pages l.pages × (l.tree.shape ≡ l.initial.tree.shape)

@@ -1,4 +1,0 @@
-use Rattle.bench_trees.proofs.calls.step_over.Given as goal
-
-abbrev pub invariant-loop : goal.invariant-loop
-invariant-loop g l = g.P.Pages.Goes l.initial.pages l.pages

@@ -1,5 +1,0 @@
-use Rattle.std.proofs.Common.{◌≡◌}
-use Rattle.bench_trees.proofs.rounds.Given as goal
-
-abbrev pub invariant-loop-turn : goal.invariant-loop-turn
-invariant-loop-turn g l = g.P.Pages.Goes l.initial.pages l.pages × (l.tree.shape ≡ l.initial.tree.shape)
