@@ -1,0 +1,26 @@
+//! Tests of what stands in bytes: layouts of records and keys, headers, statuses, and nodes of a tree.
+//!
+//! What a clause says is proved and not tested again. Here descriptions, keys and moves of the standard's rules are worked out by hand, each fault among them;
+//! a file's first page, leaves and inner nodes are read off the bytes that the format gives; and nodes are filled, split, merged and evened out one after another.
+//!
+//! Read `layouts` for items and their places, `schemas` for keys, `headers` for the bytes of a file's first page, and `nodes`, then `nodes/leaf`, for trees.
+#![tactic(auto)]
+
+#[cfg(test)]
+mod checks;
+#[cfg(test)]
+mod entries;
+#[cfg(test)]
+mod headers;
+#[cfg(test)]
+mod layouts;
+#[cfg(test)]
+mod moves;
+#[cfg(test)]
+mod nodes;
+#[cfg(test)]
+mod pictures;
+#[cfg(test)]
+mod schemas;
+#[cfg(test)]
+mod statuses;
