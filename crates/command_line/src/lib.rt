@@ -1,7 +1,7 @@
 //! What the program does with the words of its command line: it runs a deck over the files of a folder, or checks a file, and answers the exit status.
 //!
-//! `program` reads the words, writes the transcript, the verdict or the help to one writer and tells a fault on another. `write_transcript` carries the theorem
-//! of a run. No word of the command line and no byte of a deck makes a call fail that should not; which texts are written is shown by tests.
+//! `program` reads the words, writes the transcript, the verdict or the help to one writer, and tells a fault on another. `write_transcript` carries the theorem
+//! of a run. Which texts are written, and for which words, is shown by tests.
 //!
 //! Read `performing` first, and then `transcript`, which runs the bytes of a deck.
 #![tactic(auto)]

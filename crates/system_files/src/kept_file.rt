@@ -3,6 +3,7 @@ use crate::calls::{sync, sync_folder};
 use std::fs::OpenFile;
 use std::rt::Files;
 
+/// A file of the system that is kept open, and what is known of its syncs.
 #[derive(Drop)]
 pub struct KeptFile<F: Drop> {
     pub file: F,
@@ -13,6 +14,7 @@ pub struct KeptFile<F: Drop> {
 }
 
 impl<F: OpenFile + Drop> KeptFile<F> {
+    /// A file that was just opened: its name may not be on the disk.
     pub fn new(file: F) -> KeptFile<F> {
         KeptFile {
             file,
@@ -21,7 +23,7 @@ impl<F: OpenFile + Drop> KeptFile<F> {
         }
     }
 
-    /// Brings the file to the disk, and its name where that is not known to be there. Whether it was done.
+    /// Brings the file to the disk, and its name where that is not known to be there. Whether it was done; never again once a sync of the file failed.
     pub fn sync<R: Files>(&mut self, rt: &R, folder: &str) -> bool {
         if self.is_lost {
             return false;

@@ -1,7 +1,7 @@
 //! The calls of the system on files and on the folder that holds them, each made again where a signal interrupts it.
 //!
-//! A call answers what the system told, in so many parts as it takes; the thousandth interrupted call in a row is told as one that failed. Nothing is promised
-//! of the system's answers. That each function makes the calls that its name says is trusted.
+//! Reads and writes go on until all bytes came or were taken; the thousandth interrupted call in a row is told as one that failed. Nothing is promised of the
+//! system's answers, and that each function makes the calls that its name says is trusted.
 //!
 //! Read `calls`, then `kept_file`.
 #![tactic(auto)]
