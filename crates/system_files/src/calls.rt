@@ -76,7 +76,7 @@ fn is_same(a: &Metadata, b: &Metadata) -> bool {
 }
 
 /// Brings the names in a folder to the disk.
-pub fn sync_folder<R: Files>(rt: &R, path: &str) -> bool {
+pub(crate) fn sync_folder<R: Files>(rt: &R, path: &str) -> bool {
     match again(|| OpenOptions::new().read(true).open(rt, path)) {
         Ok(folder) => sync(&folder),
         Err(_) => false,

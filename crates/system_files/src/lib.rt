@@ -9,5 +9,5 @@
 mod calls;
 mod kept_file;
 
-pub use calls::{look, make, measure, open, read, sync, sync_folder, write};
+pub use calls::{look, make, measure, open, read, sync, write};
 pub use kept_file::KeptFile;
