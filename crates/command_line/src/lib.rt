@@ -17,7 +17,6 @@ mod verdict;
 
 pub use deck_file::read_bytes;
 pub use fault::Fault;
-pub use help::{ANSWERS, REASONS};
 pub use limits::Limits;
 pub use performing::program;
 pub use transcript::write_transcript;

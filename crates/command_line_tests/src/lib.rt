@@ -1,12 +1,19 @@
-//! Tests of the program: command lines and decks, the texts that are written, and the exit statuses.
+//! Tests of the program: what a run of it over files cannot show.
 //!
-//! What a clause says is proved and not tested again. Here the program runs over writers that take all, or refuse a byte, and over decks and files that
-//! cannot be read.
+//! What a clause says is proved and not tested again, and what is written for which words, decks and files is shown by runs of the program over the cases. Here it
+//! runs over writers that refuse a byte and readers that give a file in parts, and files that are written byte by byte, as the format says, are found sound or
+//! have the reason told.
 //!
-//! Read `programs`, then `deck_files` for readers that give a deck in parts.
+//! Read `writers` and `deck_files`, then `reasons`, and `written` for its files.
 #![tactic(auto)]
 
 #[cfg(test)]
 mod deck_files;
 #[cfg(test)]
-mod programs;
+mod reasons;
+#[cfg(test)]
+mod slow;
+#[cfg(test)]
+mod writers;
+#[cfg(test)]
+mod written;

@@ -1,14 +1,11 @@
 //! What is found of files that are written byte by byte, as the format says: one that stands is sound, and of one that does not its reason is told.
 
-mod slow;
-mod written;
-
+use crate::slow::Slow;
+use crate::written::{one_record, put, put_all, three_keys, varying};
 use file_checker::{CheckFault, Reason, Verdict, check_file};
-use slow::Slow;
 use std::alloc::Global;
 use std::process::Abort;
 use std::test::Fail;
-use written::{one_record, put, put_all, three_keys, varying};
 
 const SOUND_ONE: Verdict = Verdict::Sound {
     records: 1,
