@@ -1,2 +1,1 @@
-pub mod BothLemmas
-pub mod ShelfLemmas
+mod NameLemmas

@@ -1,3 +1,2 @@
 pub mod Alike
-pub mod Both
-pub mod Readable
+pub mod Ready

@@ -11,10 +11,9 @@ use io_state::{Fault, Position};
 use list_library::ListLibrary;
 use page_store::MemShelf;
 use record_layout::{KeyPart, Schema};
-use sample_records::{Draw, NARROW, WIDE, draws_record, schema, value_of};
 use std::process::Abort;
 use std::test::Fail;
-use unit_calls::{attaches, library_over};
+use unit_calls::{Draw, NARROW, WIDE, attaches, draws_record, library_over, schema, value_of};
 
 /// One call that changes both files, or shuts and opens them.
 fn changes<L: Library, M: Library>(
@@ -123,12 +122,12 @@ type Shape = (u16, u16, [KeyPart; 4], u64);
 #[test]
 fn drawn_calls_answer_as_those_of_lists(rt: HostRuntime) -> Result<(), Fail> {
     let narrow: Shape = (12, 19, NARROW, 20);
-    let wide: Shape = (1000, 1010, WIDE, 60);
+    let wide: Shape = (1000, 1010, WIDE, 240);
     for (seed, frames, calls, (least, greatest, keys, primes)) in [
-        (1974, 1, 100, narrow),
-        (1985, 3, 100, narrow),
-        (2002, 64, 60, narrow),
-        (2023, 2, 40, wide),
+        (1974, 1, 1000, narrow),
+        (1985, 3, 1000, narrow),
+        (2002, 64, 1000, narrow),
+        (2023, 2, 600, wide),
     ] {
         let schema = schema(least, greatest, &keys)?;
         let mut library = library_over(rt.alloc(), MemShelf::new(rt.alloc()), 4000, frames)?;

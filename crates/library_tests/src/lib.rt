@@ -1,26 +1,31 @@
-//! Tests of the library of files in pages, over shelves in memory.
+//! Tests of the library of files in pages, over shelves in memory, and of the verbs over one.
 //!
-//! What a clause says is proved and not tested again. Here a library is run: on two files that are open at once, on files that are refused, that are full or
-//! that are only read, and where a device fails; and beside one that keeps its records in lists, with the same calls, which are drawn.
+//! What a clause says is proved and not tested again, and worked decks are run elsewhere. Here the library is given the same calls as one that keeps its records in
+//! lists: drawn ones, and those at the least and the greatest lengths. And files of some two thousand records with keys of 120 bytes are filled, read and
+//! changed, where the pages that are asked for are compared with bounds that are written down for themselves.
 //!
-//! Read `shop` and `two_files` for the worked example, then `looks` and `failing`; `alike` for the calls on both libraries.
+//! Read `alike` for the calls on both libraries, then `drawn_alike` and `lengths`; for the pages `bounds`, then `asked` and `reads`, `program` and `asked_by_verbs`.
 #![tactic(auto)]
 
 #[cfg(test)]
 mod alike;
 #[cfg(test)]
+mod asked;
+#[cfg(test)]
+mod asked_by_verbs;
+#[cfg(test)]
+mod bounds;
+#[cfg(test)]
 mod drawn_alike;
 #[cfg(test)]
-mod failing;
+mod keys;
+#[cfg(test)]
+mod lengths;
 #[cfg(test)]
 mod looks;
 #[cfg(test)]
-mod numbered;
+mod performing;
 #[cfg(test)]
-mod reading_only;
+mod program;
 #[cfg(test)]
-mod room;
-#[cfg(test)]
-mod shop;
-#[cfg(test)]
-mod two_files;
+mod reads;

@@ -1,48 +1,14 @@
--- What a call on one unit leaves of the others.
-use Rattle.std.proofs.Common.{◌≡◌, ◌≢◌, ℕ, List, [], ◌∷◌, zero, suc, length, map, slice_index_or, refl, ap, ◌∙◌}
+-- Units that were just attached.
+use Rattle.std.proofs.Common.{◌≡◌, ℕ, List, [], ◌∷◌, zero, suc, length, map, slice_index_or, refl, ap, ◌∙◌}
 use Rattle.std.specs.Prelude.{IsFalse, Result, Ok, Err, OnOk, bytes_eq, false}
 use Rattle.std.specs.List.{IsDistinct}
-use Rattle.std.proofs.lemmas.List.{get_or-set_other, length-set}
-use Rattle.indexed_file.specs.World.{World, FileUnit, Absent, Shut, OnlyAt, unit_at, is_open, schema_in, attached}
-use Rattle.unit_calls.specs.Units.{AreShut, KeepsOtherUnits}
+use Rattle.indexed_file.specs.World.{World, FileUnit, Absent, Shut, is_open, attached}
+use Rattle.unit_calls.specs.Units.{AreShut}
 
 abbrev no_unit : FileUnit
 no_unit = record { name = []; named = Absent; holding = Shut }
 
-elsewhere : (u : ℕ) (old new : World) (v : ℕ) → OnlyAt u old new → v ≢ u → unit_at new v ≡ unit_at old v
-elsewhere u old new v only other = ap (λ (w : World). unit_at w v) only ∙ get_or-set_other old.units u v _ no_unit other
-
-pub as_many : (u : ℕ) (old new : World) → OnlyAt u old new → length new.units ≡ length old.units
-as_many u old new only = ap (λ (w : World). length w.units) only ∙ length-set old.units u _
-
-pub only_keeps : (u : ℕ) (old new : World) → OnlyAt u old new → KeepsOtherUnits u old new
-only_keeps u old new only = record {
-  opened = λ v schema other is.
-      let same : unit_at new v ≡ unit_at old v = elsewhere u old new v only other in
-      record {
-        attached = rw (as_many u old new only) is.attached;
-        opened = ap (λ (unit : FileUnit). is_open unit.holding) same ∙ is.opened;
-        same = ap (λ (unit : FileUnit). schema_in unit.holding) same ∙ is.same;
-      };
-  closed = λ v other is.
-      let same : unit_at new v ≡ unit_at old v = elsewhere u old new v only other in
-      record {
-        attached = rw (as_many u old new only) is.attached;
-        closed = ap (λ (unit : FileUnit). is_open unit.holding) same ∙ is.closed;
-      };
-}
-
--- no call, and two calls
-pub keeps_itself : (u : ℕ) (world : World) → KeepsOtherUnits u world world
-keeps_itself u world = record { opened = λ v schema other is. is; closed = λ v other is. is }
-
-pub keeps_twice : (u : ℕ) (a b c : World) → KeepsOtherUnits u a b → KeepsOtherUnits u b c → KeepsOtherUnits u a c
-keeps_twice u a b c first then = record {
-  opened = λ v schema other is. then.opened v schema other (first.opened v schema other is);
-  closed = λ v other is. then.closed v other (first.closed v other is);
-}
-
--- units that were just attached are not open
+-- they are not open
 shut_at : (world : World) (names : List (List ℕ)) (u : ℕ) → IsFalse (is_open (slice_index_or (attached world names) u no_unit).holding)
 shut_at world [] u = refl
 shut_at world (name ∷ names) zero = refl

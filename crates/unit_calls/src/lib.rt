@@ -1,15 +1,21 @@
-//! Calls on a unit of a library of indexed files, for tests, and a library over a shelf to make them of.
+//! Calls on a unit of a library of indexed files, for tests: a library over a shelf to make them of, and records whose values are numbers, also drawn ones.
 //!
-//! Each call keeps the unit open or shut as its name says, and the others as they were.
+//! Each call keeps the unit open or shut as its name says.
 //!
-//! Read `specs/Units.antt`, then `units`.
+//! Read `units`, then `records` and `drawn`.
 #![tactic(auto)]
 
+mod drawn;
 mod libraries;
+mod records;
+mod schemas;
 mod units;
 
+pub use drawn::{Draw, NARROW, WIDE, draws_record};
 pub use libraries::{attaches, library_over, two_names};
+pub use records::{Record, record_of, value_of};
+pub use schemas::{part, schema};
 pub use units::{
-    Read, Told, adds, are, asked, creates, finds, goes_on, looks, opens, removes, replaces,
-    restarts, seeks, shuts, tops,
+    Read, Told, adds, asked, creates, finds, goes_on, looks, opens, removes, replaces, restarts,
+    seeks, shuts, tops,
 };

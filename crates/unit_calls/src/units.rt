@@ -1,15 +1,13 @@
 //! Calls on a unit of a library.
-#![tactic(auto, using(crate::proofs::UnitLemmas::only_keeps, crate::proofs::UnitLemmas::keeps_itself))]
 
 ghost use Rattle.std.specs.Prelude.{◌≡◌, ◌≤◌, true, length, OnOk, OnErr, IfOk};
 ghost use Rattle.indexed_file.specs.Clients.{IsOpenWith, IsNotOpen};
-ghost use Rattle.unit_calls.specs.Units.{KeepsOtherUnits};
 ghost use Rattle.unit_calls.specs.declared.units.Told.TheVariants.{Sound};
 
+use crate::records::{Record, key};
 use indexed_file::{Added, Found, Library, Replaced, Seen};
 use io_state::{Fault, Key, Position, Relation};
 use record_layout::Schema;
-use sample_records::{Record, key};
 
 /// What the name of a unit stands for.
 #[derive(Clone, Copy, Debug, PartialEq, Eq)]
@@ -25,8 +23,7 @@ pub enum Told {
 /// Looks at a unit.
 pub fn looks<L: Library>(library: &mut L, u: usize, schema: &Schema) -> Result<Told, Fault>
     requires { IsNotOpen (L.shown.world library.old) u }
-    ensures closed { IsNotOpen (L.shown.world library.new) u }
-    ensures others { KeepsOtherUnits u (L.shown.world library.old) (L.shown.world library.new) }
+    ensures { IsNotOpen (L.shown.world library.new) u }
 {
     Ok(match library.look(u)? {
         Seen::Absent => Told::Absent,
@@ -41,7 +38,6 @@ pub fn creates<L: Library>(library: &mut L, u: usize, schema: &Schema) -> Result
     requires { IsNotOpen (L.shown.world library.old) u }
     ensures opened { OnOk result (IsOpenWith (L.shown.world library.new) u schema.now) }
     ensures failed { OnErr result (IsNotOpen (L.shown.world library.new) u) }
-    ensures others { KeepsOtherUnits u (L.shown.world library.old) (L.shown.world library.new) }
 {
     library.create(u, schema)
 }
@@ -51,7 +47,6 @@ pub fn opens<L: Library>(library: &mut L, u: usize, schema: &Schema) -> Result<T
     requires { IsNotOpen (L.shown.world library.old) u }
     ensures opened { IfOk result (λ told. told ≡ Sound → IsOpenWith (L.shown.world library.new) u schema.now) }
     ensures failed { OnErr result (IsNotOpen (L.shown.world library.new) u) }
-    ensures others { KeepsOtherUnits u (L.shown.world library.old) (L.shown.world library.new) }
 {
     match library.look(u)? {
         Seen::Absent => Ok(Told::Absent),
@@ -69,8 +64,7 @@ pub fn opens<L: Library>(library: &mut L, u: usize, schema: &Schema) -> Result<T
 /// Shuts a unit.
 pub fn shuts<L: Library>(library: &mut L, u: usize, schema: &Schema) -> Result<(), Fault>
     requires { IsOpenWith (L.shown.world library.old) u schema.now }
-    ensures closed { IsNotOpen (L.shown.world library.new) u }
-    ensures others { KeepsOtherUnits u (L.shown.world library.old) (L.shown.world library.new) }
+    ensures { IsNotOpen (L.shown.world library.new) u }
 {
     library.shut(u)
 }
@@ -90,8 +84,7 @@ pub fn adds<L: Library>(
     record: &[u8],
 ) -> Result<Added, Fault>
     requires { IsOpenWith (L.shown.world library.old) u schema.now }
-    ensures opened { IsOpenWith (L.shown.world library.new) u schema.now }
-    ensures others { KeepsOtherUnits u (L.shown.world library.old) (L.shown.world library.new) }
+    ensures { IsOpenWith (L.shown.world library.new) u schema.now }
 {
     if !has_length(schema, record.len()) {
         return Err(Fault::Damage);
@@ -107,8 +100,7 @@ pub fn replaces<L: Library>(
     record: &[u8],
 ) -> Result<Replaced, Fault>
     requires { IsOpenWith (L.shown.world library.old) u schema.now }
-    ensures opened { IsOpenWith (L.shown.world library.new) u schema.now }
-    ensures others { KeepsOtherUnits u (L.shown.world library.old) (L.shown.world library.new) }
+    ensures { IsOpenWith (L.shown.world library.new) u schema.now }
 {
     if !has_length(schema, record.len()) {
         return Err(Fault::Damage);
@@ -124,8 +116,7 @@ pub fn removes<L: Library>(
     prime: &[u8],
 ) -> Result<bool, Fault>
     requires { IsOpenWith (L.shown.world library.old) u schema.now }
-    ensures opened { IsOpenWith (L.shown.world library.new) u schema.now }
-    ensures others { KeepsOtherUnits u (L.shown.world library.old) (L.shown.world library.new) }
+    ensures { IsOpenWith (L.shown.world library.new) u schema.now }
 {
     library.remove(u, &key(prime))
 }
@@ -133,8 +124,7 @@ pub fn removes<L: Library>(
 /// Begins to count the pages that a unit asks for.
 pub fn restarts<L: Library>(library: &mut L, u: usize, schema: &Schema)
     requires { IsOpenWith (L.shown.world library.old) u schema.now }
-    ensures opened { IsOpenWith (L.shown.world library.new) u schema.now }
-    ensures others { KeepsOtherUnits u (L.shown.world library.old) (L.shown.world library.new) }
+    ensures { IsOpenWith (L.shown.world library.new) u schema.now }
 {
     library.restart_count(u);
 }
@@ -188,12 +178,6 @@ impl Read {
             None => false,
         }
     }
-
-    /// Whether it is this record, with this stamp in the key.
-    pub fn is(&self, record: &[u8], stamp: u64) -> bool {
-        let stamps = self.found.as_ref().map(|found| found.stamp);
-        self.has(record) && stamps == Some(stamp)
-    }
 }
 
 /// An area for records of so many bytes.
@@ -216,8 +200,7 @@ pub fn finds<L: Library>(
     value: &[u8],
 ) -> Result<Read, Fault>
     requires { IsOpenWith (L.shown.world library.old) u schema.now }
-    ensures opened { IsOpenWith (L.shown.world library.new) u schema.now }
-    ensures others { KeepsOtherUnits u (L.shown.world library.old) (L.shown.world library.new) }
+    ensures { IsOpenWith (L.shown.world library.new) u schema.now }
 {
     if usize::from(k) >= schema.key_count() {
         return Err(Fault::Damage);
@@ -236,8 +219,7 @@ pub fn goes_on<L: Library>(
     position: &Position,
 ) -> Result<Read, Fault>
     requires { IsOpenWith (L.shown.world library.old) u schema.now }
-    ensures opened { IsOpenWith (L.shown.world library.new) u schema.now }
-    ensures others { KeepsOtherUnits u (L.shown.world library.old) (L.shown.world library.new) }
+    ensures { IsOpenWith (L.shown.world library.new) u schema.now }
 {
     if usize::from(k) >= schema.key_count() {
         return Err(Fault::Damage);
@@ -257,8 +239,7 @@ pub fn seeks<L: Library>(
     relation: Relation,
 ) -> Result<Option<Key>, Fault>
     requires { IsOpenWith (L.shown.world library.old) u schema.now }
-    ensures opened { IsOpenWith (L.shown.world library.new) u schema.now }
-    ensures others { KeepsOtherUnits u (L.shown.world library.old) (L.shown.world library.new) }
+    ensures { IsOpenWith (L.shown.world library.new) u schema.now }
 {
     if usize::from(k) >= schema.key_count() {
         return Err(Fault::Damage);
@@ -269,32 +250,7 @@ pub fn seeks<L: Library>(
 /// The greatest prime value.
 pub fn tops<L: Library>(library: &mut L, u: usize, schema: &Schema) -> Result<Option<Key>, Fault>
     requires { IsOpenWith (L.shown.world library.old) u schema.now }
-    ensures opened { IsOpenWith (L.shown.world library.new) u schema.now }
-    ensures others { KeepsOtherUnits u (L.shown.world library.old) (L.shown.world library.new) }
+    ensures { IsOpenWith (L.shown.world library.new) u schema.now }
 {
     library.highest(u)
-}
-
-/// Whether the records by a key are these, in this order, with these stamps.
-pub fn are<L: Library>(
-    library: &mut L,
-    u: usize,
-    schema: &Schema,
-    k: u8,
-    expected: &[(&[u8], u64)],
-) -> Result<bool, Fault>
-    requires { IsOpenWith (L.shown.world library.old) u schema.now }
-    ensures opened { IsOpenWith (L.shown.world library.new) u schema.now }
-    ensures others { KeepsOtherUnits u (L.shown.world library.old) (L.shown.world library.new) }
-{
-    let mut position = Position::From(Key::new());
-    for (record, stamp) in expected {
-        let read = goes_on(library, u, schema, k, &position)?;
-        if !read.is(record, *stamp) {
-            return Ok(false);
-        }
-        position = read.behind().unwrap_or(Position::Invalid);
-    }
-    let read = goes_on(library, u, schema, k, &position)?;
-    Ok(read.found.is_none())
 }

@@ -1,0 +1,322 @@
+//! The pages that calls ask for, over a file of two thousand records with keys of 120 bytes.
+
+ghost use Rattle.indexed_file.specs.Clients.{IsOpenWith, IsNotOpen};
+
+use crate::bounds::{HasTrees, asked_at_most, most_to_change, most_to_read, most_to_seek};
+use crate::keys::key_of;
+use indexed_file::{Added, Library, Replaced};
+use io_state::{Fault, Key, Position, Relation};
+use page_store::{FuseShelf, Kind, MemShelf};
+use record_layout::Schema;
+use std::alloc::Global;
+use std::process::Abort;
+use std::test::Fail;
+use unit_calls::{
+    Record, Told, adds, creates, finds, goes_on, library_over, opens, part, record_of, removes,
+    replaces, restarts, schema, seeks, shuts, tops,
+};
+
+/// One more than the greatest number of a record.
+const END: u64 = 2001;
+
+/// Records of 240 bytes: a number, and one of seven values, each a key of 120 bytes.
+fn numbers() -> Result<Schema, Fault> {
+    schema(240, 240, &[part(0, 120, false), part(120, 120, true)])
+}
+
+/// The record of a number.
+fn record(schema: &Schema, n: u64) -> Record {
+    record_of(schema, &[n, n % 7], 240)
+}
+
+/// Adds all records.
+fn adds_all<L: Library + HasTrees>(
+    rt: &impl Abort,
+    library: &mut L,
+    schema: &Schema,
+) -> Result<u64, Fault>
+    requires { IsOpenWith (L.shown.world library.old) 0 schema.now }
+    ensures { IsOpenWith (L.shown.world library.new) 0 schema.now }
+{
+    let mut pages = 0u64;
+    for n in 1..END {
+        let most = most_to_change(library);
+        let added = adds(library, 0, schema, record(schema, n).as_slice())?;
+        assert_eq!(rt; added, Added::Done { repeated: n > 7 });
+        pages = pages.saturating_add(asked_at_most(rt, library, schema, most));
+    }
+    Ok(pages)
+}
+
+/// Removes those of even numbers.
+fn removes_even<L: Library + HasTrees>(
+    rt: &impl Abort,
+    library: &mut L,
+    schema: &Schema,
+) -> Result<u64, Fault>
+    requires { IsOpenWith (L.shown.world library.old) 0 schema.now }
+    ensures { IsOpenWith (L.shown.world library.new) 0 schema.now }
+{
+    let mut pages = 0u64;
+    for n in 1..END {
+        if n % 2 == 0 {
+            let most = most_to_change(library);
+            let number = key_of(rt, schema, 0, n);
+            assert!(rt; removes(library, 0, schema, number.as_slice())?);
+            pages = pages.saturating_add(asked_at_most(rt, library, schema, most));
+        }
+    }
+    Ok(pages)
+}
+
+/// Gives some records another value.
+fn changes_some<L: Library + HasTrees>(
+    rt: &impl Abort,
+    library: &mut L,
+    schema: &Schema,
+) -> Result<u64, Fault>
+    requires { IsOpenWith (L.shown.world library.old) 0 schema.now }
+    ensures { IsOpenWith (L.shown.world library.new) 0 schema.now }
+{
+    let mut pages = 0u64;
+    for n in 1..END {
+        if n % 20 == 1 {
+            let most = most_to_change(library);
+            let record = record_of(schema, &[n, (n + 1) % 7], 240);
+            let replaced = replaces(library, 0, schema, record.as_slice())?;
+            assert_eq!(rt; replaced, Replaced::Done { repeated: true });
+            pages = pages.saturating_add(asked_at_most(rt, library, schema, most));
+        }
+    }
+    Ok(pages)
+}
+
+/// Reads the record that comes next by key k, which is that of this number.
+fn reads_record<L: Library + HasTrees>(
+    rt: &impl Abort,
+    library: &mut L,
+    schema: &Schema,
+    k: u8,
+    position: &Position,
+    n: u64,
+) -> Result<(Position, u64), Fault>
+    requires { IsOpenWith (L.shown.world library.old) 0 schema.now }
+    ensures { IsOpenWith (L.shown.world library.new) 0 schema.now }
+{
+    let most = most_to_read(library, k);
+    let read = goes_on(library, 0, schema, k, position)?;
+    assert!(rt;
+        read.has(record(schema, n).as_slice()),
+        "key {k}, record {n}"
+    );
+    let is_repeated = k > 0 && n < END - 14;
+    assert_eq!(rt; read.repeats(), is_repeated, "key {k}, record {n}");
+    let behind = read.behind().unwrap_or(Position::Invalid);
+    Ok((behind, asked_at_most(rt, library, schema, most)))
+}
+
+/// Whether the record of a number is one of an odd number with this value of key k. By their numbers they are all of one value.
+fn has_value(k: u8, value: u64, n: u64) -> bool {
+    let same = if k == 0 { value == 0 } else { n % 7 == value };
+    same && n % 2 == 1
+}
+
+/// Reads those of odd numbers by key k. Those of one value come in the order of their numbers.
+fn reads_odd<L: Library + HasTrees>(
+    rt: &impl Abort,
+    library: &mut L,
+    schema: &Schema,
+    k: u8,
+) -> Result<u64, Fault>
+    requires { IsOpenWith (L.shown.world library.old) 0 schema.now }
+    ensures { IsOpenWith (L.shown.world library.new) 0 schema.now }
+{
+    let mut pages = 0u64;
+    let mut position = Position::From(Key::new());
+    for value in 0..7 {
+        for n in 1..END {
+            if has_value(k, value, n) {
+                let (behind, asked) = reads_record(rt, library, schema, k, &position, n)?;
+                position = behind;
+                pages = pages.saturating_add(asked);
+            }
+        }
+    }
+    Ok(pages)
+}
+
+/// Behind the last record by key k there is none.
+fn ends_by<L: Library + HasTrees>(
+    rt: &impl Abort,
+    library: &mut L,
+    schema: &Schema,
+    k: u8,
+    last: u64,
+) -> Result<u64, Fault>
+    requires { IsOpenWith (L.shown.world library.old) 0 schema.now }
+    ensures { IsOpenWith (L.shown.world library.new) 0 schema.now }
+{
+    let value = key_of(rt, schema, k, last);
+    let most = most_to_read(library, k);
+    let read = goes_on(library, 0, schema, k, &Position::After(value, u64::MAX))?;
+    assert!(rt; read.found.is_none());
+    Ok(asked_at_most(rt, library, schema, most))
+}
+
+/// Finds the value of this number by key k, and seeks it.
+fn finds_number<L: Library + HasTrees>(
+    rt: &impl Abort,
+    library: &mut L,
+    schema: &Schema,
+    k: u8,
+    n: u64,
+    is_there: bool,
+) -> Result<u64, Fault>
+    requires { IsOpenWith (L.shown.world library.old) 0 schema.now }
+    ensures { IsOpenWith (L.shown.world library.new) 0 schema.now }
+{
+    let value = key_of(rt, schema, k, n);
+    let most = most_to_read(library, k);
+    let read = finds(library, 0, schema, k, value.as_slice())?;
+    assert_eq!(rt; read.found.is_some(), is_there, "key {k}, value {n}");
+    let to_find = asked_at_most(rt, library, schema, most);
+    let most = most_to_seek(library, k);
+    let sought = seeks(library, 0, schema, k, value.as_slice(), Relation::Equal)?;
+    assert_eq!(rt; sought.is_some(), is_there, "key {k}, value {n}");
+    Ok(to_find.saturating_add(asked_at_most(rt, library, schema, most)))
+}
+
+/// Finds numbers and values that are there, and others.
+fn finds_some<L: Library + HasTrees>(
+    rt: &impl Abort,
+    library: &mut L,
+    schema: &Schema,
+) -> Result<u64, Fault>
+    requires { IsOpenWith (L.shown.world library.old) 0 schema.now }
+    ensures { IsOpenWith (L.shown.world library.new) 0 schema.now }
+{
+    let mut pages = 0u64;
+    for (k, n, is_there) in [
+        (0, 1, true),
+        (0, 2, false),
+        (0, 999, true),
+        (0, 1000, false),
+        (0, 1999, true),
+        (0, 3000, false),
+        (1, 0, true),
+        (1, 3, true),
+        (1, 6, true),
+        (1, 7, false),
+    ] {
+        let asked = finds_number(rt, library, schema, k, n, is_there)?;
+        pages = pages.saturating_add(asked);
+    }
+    Ok(pages)
+}
+
+/// The greatest number is this one.
+fn has_highest<L: Library + HasTrees>(
+    rt: &impl Abort,
+    library: &mut L,
+    schema: &Schema,
+    n: u64,
+) -> Result<u64, Fault>
+    requires { IsOpenWith (L.shown.world library.old) 0 schema.now }
+    ensures { IsOpenWith (L.shown.world library.new) 0 schema.now }
+{
+    let value = key_of(rt, schema, 0, n);
+    let most = most_to_seek(library, 0);
+    let highest = tops(library, 0, schema)?;
+    assert!(rt; highest.as_ref().map(|key| key.as_slice()) == Some(value.as_slice()));
+    Ok(asked_at_most(rt, library, schema, most))
+}
+
+/// Calls of each kind. It answers the pages that they asked for.
+fn runs<L: Library + HasTrees>(
+    rt: &impl Abort,
+    library: &mut L,
+    schema: &Schema,
+) -> Result<u64, Fault>
+    requires { IsNotOpen (L.shown.world library.old) 0 }
+{
+    creates(library, 0, schema)?;
+    let added = adds_all(rt, library, schema)?;
+    shuts(library, 0, schema)?;
+    assert_eq!(rt; opens(library, 0, schema)?, Told::Sound);
+    restarts(library, 0, schema);
+    let removed = removes_even(rt, library, schema)?;
+    let read = reads_odd(rt, library, schema, 0)?;
+    assert!(rt; read < 3000, "{read} pages for 1,000 records in a row");
+    let by_value = reads_odd(rt, library, schema, 1)?;
+    let ends = ends_by(rt, library, schema, 0, 1999)?;
+    let ends_by_value = ends_by(rt, library, schema, 1, 6)?;
+    let found = finds_some(rt, library, schema)?;
+    let highest = has_highest(rt, library, schema, 1999)?;
+    let changed = changes_some(rt, library, schema)?;
+    shuts(library, 0, schema)?;
+    let parts = [
+        added,
+        removed,
+        read,
+        by_value,
+        ends,
+        ends_by_value,
+        found,
+        highest,
+        changed,
+    ];
+    Ok(
+        parts
+            .iter()
+            .fold(0u64, |pages, part| pages.saturating_add(*part)),
+    )
+}
+
+/// Opens the file, reads a record by its number, and answers the height of the tree of numbers.
+fn reads_one<L: Library + HasTrees>(
+    rt: &impl Abort,
+    library: &mut L,
+    schema: &Schema,
+    n: u64,
+) -> Result<u8, Fault>
+    requires { IsNotOpen (L.shown.world library.old) 0 }
+{
+    assert_eq!(rt; opens(library, 0, schema)?, Told::Sound);
+    let number = key_of(rt, schema, 0, n);
+    let read = finds(library, 0, schema, 0, number.as_slice())?;
+    assert!(rt; read.has(record(schema, n).as_slice()));
+    Ok(library.tree_height(0))
+}
+
+/// The calls of a file that has so many frames, and the pages that are read off its shelf.
+fn reads_no_more(rt: &impl Abort, alloc: Global, frames: usize) -> Result<(), Fault> {
+    let schema = numbers()?;
+    let fuse = FuseShelf::new(MemShelf::new(alloc), Kind::Reads, 0, false, false);
+    let mut library = library_over(alloc, fuse, 4000, frames)?;
+    let pages = runs(rt, &mut library, &schema)?;
+    let shelf = library.into_shelf();
+    let reads = shelf.calls(Kind::Reads);
+    // The file was opened twice.
+    assert!(rt;
+        reads <= pages.saturating_add(6),
+        "{reads} reads, {pages} pages"
+    );
+    let mut library = library_over(alloc, shelf, 4000, frames)?;
+    let height = u64::from(reads_one(rt, &mut library, &schema, 1999)?);
+    assert_eq!(rt; height, 3);
+    let more = library
+        .into_shelf()
+        .calls(Kind::Reads)
+        .saturating_sub(reads);
+    assert!(rt; more <= 5 * height + 4, "{more} reads, height {height}");
+    Ok(())
+}
+
+// Each page that is asked for, and is not the one before, is read off the shelf.
+#[test]
+fn calls_ask_for_few_pages(rt: HostRuntime) -> Result<(), Fail> {
+    for frames in [1, 4096] {
+        reads_no_more(&rt, rt.alloc(), frames)?;
+    }
+    Ok(())
+}
