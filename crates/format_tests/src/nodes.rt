@@ -1,11 +1,7 @@
-//! What no clause says: the numbers and bytes that a person reads off the format, and whole nodes
-//! that are split, merged and evened out.
-
-mod inner;
-mod leaf;
+//! The numbers and bytes of a node that a person reads off the format.
 
 use std::process::Abort;
-use tree_node::{PAGE_SIZE, Shape, is_inner, is_leaf, is_node};
+use tree_node::{InnerView, LeafView, PAGE_SIZE, Shape, is_inner, is_leaf, is_node};
 
 const PRIME: Shape = Shape {
     key: 0,
@@ -46,8 +42,8 @@ fn the_greatest_numbers_come_out_of_the_shapes(rt: HostRuntime) {
         (WIDE, 8, 15),
     ];
     for (shape, entries, separators) in cases {
-        assert_eq!(rt; shape.leaf_room(), entries, "{shape:?}");
-        assert_eq!(rt; shape.inner_room(), separators, "{shape:?}");
+        assert!(rt; shape.leaf_room() == entries, "{shape:?}");
+        assert!(rt; shape.inner_room() == separators, "{shape:?}");
     }
 }
 
@@ -64,5 +60,50 @@ fn a_page_of_another_kind_or_key_is_no_node_of_this_tree(rt: HostRuntime) {
     ];
     for head in cases {
         assert!(rt; !is_node(&page_of(&rt, head), PRIME), "{head:?}");
+    }
+}
+
+#[test]
+fn a_leaf_reads_as_its_bytes_say(rt: HostRuntime) {
+    let page = page_of(
+        &rt,
+        b"L\0\0\x02\0\0\0\0\0\0\0\0\0\0\0\x000001\0\0\0\x02\0\x000007\0\0\0\x03\0\x01",
+    );
+    assert!(rt; is_leaf(&page, PRIME));
+    let leaf = LeafView {
+        page: &page,
+        shape: PRIME,
+    };
+    assert!(rt; leaf.count() == 2);
+    assert!(rt; leaf.key(0) == b"0001".as_slice());
+    assert!(rt; leaf.entry(1) == b"0007\0\0\0\x03\0\x01".as_slice());
+    for (key, rank, rank_after) in [
+        (b"0000", 0, 0),
+        (b"0001", 0, 1),
+        (b"0003", 1, 1),
+        (b"0007", 1, 2),
+        (b"0008", 2, 2),
+    ] {
+        assert!(rt; leaf.rank(key) == rank, "{key:?}");
+        assert!(rt; leaf.rank_after(key) == rank_after, "{key:?}");
+    }
+}
+
+#[test]
+fn an_equal_key_leads_right(rt: HostRuntime) {
+    let page = page_of(
+        &rt,
+        b"I\0\0\x02\0\0\0\0\0\0\0\0\0\0\0\0\0\0\0\x050010\0\0\0\x070020\0\0\x01\0",
+    );
+    assert!(rt; is_inner(&page, PRIME));
+    let inner = InnerView {
+        page: &page,
+        shape: PRIME,
+    };
+    assert!(rt; inner.count() == 2);
+    assert!(rt; inner.separator(0) == b"0010".as_slice());
+    assert!(rt; inner.separator(1) == b"0020".as_slice());
+    for (key, child) in [(b"0009", 5), (b"0010", 7), (b"0011", 7), (b"0020", 256)] {
+        assert!(rt; inner.child(inner.rank(key)) == child, "{key:?}");
     }
 }
