@@ -98,7 +98,7 @@ pub fn reads<L: Library>(
     k: u8,
     value: &Key,
     tally: &mut Tally,
-) -> Result<u64, Fault>
+) -> Result<(), Fault>
     requires { IsOpenWith (L.shown.world library.old) 0 schema.now }
     ensures { IsOpenWith (L.shown.world library.new) 0 schema.now }
 {
@@ -109,20 +109,21 @@ pub fn reads<L: Library>(
     library.restart_count(0);
     let found = library.by_key(0, k, value, &mut area)?;
     tally.note(library.asked(0));
-    match found {
-        Some(found) => Ok(found.stamp.wrapping_add(u64::from(area[7]))),
-        None => Err(Fault::Damage),
+    if found.is_some() {
+        Ok(())
+    } else {
+        Err(Fault::Damage)
     }
 }
 
-/// Reads the record that a position admits by key k. The position behind it; none where there is no such record.
+/// Reads the record that a position admits by key k, and answers the position behind it.
 pub fn goes_on<L: Library>(
     library: &mut L,
     schema: &Schema,
     k: u8,
     position: &Position,
     tally: &mut Tally,
-) -> Result<Option<Position>, Fault>
+) -> Result<Position, Fault>
     requires { IsOpenWith (L.shown.world library.old) 0 schema.now }
     ensures { IsOpenWith (L.shown.world library.new) 0 schema.now }
 {
@@ -133,5 +134,8 @@ pub fn goes_on<L: Library>(
     library.restart_count(0);
     let found = library.next(0, k, position, &mut area)?;
     tally.note(library.asked(0));
-    Ok(found.map(|found| Position::After(found.key, found.stamp)))
+    match found {
+        Some(found) => Ok(Position::After(found.key, found.stamp)),
+        None => Err(Fault::Damage),
+    }
 }

@@ -35,84 +35,30 @@ pub const ALL: [(Work, &str); 8] = [
     (Work::Remove, "remove"),
 ];
 
-fn adds_all<L: Library>(library: &mut L, schema: &Schema, records: &Records) -> Result<Tally, Fault>
-    requires { IsOpenWith (L.shown.world library.old) 0 schema.now }
-    ensures { IsOpenWith (L.shown.world library.new) 0 schema.now }
-{
-    let mut tally = Tally::new();
-    for i in 0..records.count {
-        adds(library, schema, &records.record(i, 0), &mut tally)?;
-    }
-    Ok(tally)
-}
-
-fn reads_by<L: Library>(
+/// The call of a turn. READ NEXT goes on from the position.
+fn call<L: Library>(
     library: &mut L,
     schema: &Schema,
     records: &Records,
-    k: u8,
-) -> Result<Tally, Fault>
+    work: Work,
+    turn: u32,
+    position: &mut Position,
+    tally: &mut Tally,
+) -> Result<(), Fault>
     requires { IsOpenWith (L.shown.world library.old) 0 schema.now }
     ensures { IsOpenWith (L.shown.world library.new) 0 schema.now }
 {
-    let mut tally = Tally::new();
-    for turn in 0..records.count {
-        let value = records.value(records.mixed_place(turn), k);
-        let _stamp = reads(library, schema, k, &value, &mut tally)?;
-    }
-    Ok(tally)
-}
-
-fn goes_through<L: Library>(
-    library: &mut L,
-    schema: &Schema,
-    records: &Records,
-    k: u8,
-) -> Result<Tally, Fault>
-    requires { IsOpenWith (L.shown.world library.old) 0 schema.now }
-    ensures { IsOpenWith (L.shown.world library.new) 0 schema.now }
-{
-    let mut tally = Tally::new();
-    let mut position = Position::From(Key::new());
-    for turn in 0..records.count {
-        match goes_on(library, schema, k, &position, &mut tally)? {
-            Some(behind) => position = behind,
-            None => return Err(Fault::Damage),
+    let place = records.mixed_place(turn);
+    match work {
+        Work::Add => adds(library, schema, &records.record(turn, 0), tally),
+        Work::Read(k) => reads(library, schema, k, &records.value(place, k), tally),
+        Work::Next(k) => {
+            *position = goes_on(library, schema, k, position, tally)?;
+            Ok(())
         }
+        Work::Replace => replaces(library, schema, &records.record(place, 3), tally),
+        Work::Remove => removes(library, schema, &records.value(place, NUMBER), tally),
     }
-    Ok(tally)
-}
-
-fn replaces_some<L: Library>(
-    library: &mut L,
-    schema: &Schema,
-    records: &Records,
-) -> Result<Tally, Fault>
-    requires { IsOpenWith (L.shown.world library.old) 0 schema.now }
-    ensures { IsOpenWith (L.shown.world library.new) 0 schema.now }
-{
-    let mut tally = Tally::new();
-    for turn in 0..records.count {
-        let record = records.record(records.mixed_place(turn), 3);
-        replaces(library, schema, &record, &mut tally)?;
-    }
-    Ok(tally)
-}
-
-fn removes_half<L: Library>(
-    library: &mut L,
-    schema: &Schema,
-    records: &Records,
-) -> Result<Tally, Fault>
-    requires { IsOpenWith (L.shown.world library.old) 0 schema.now }
-    ensures { IsOpenWith (L.shown.world library.new) 0 schema.now }
-{
-    let mut tally = Tally::new();
-    for turn in 0..records.count / 2 {
-        let number = records.value(records.mixed_place(turn), NUMBER);
-        removes(library, schema, &number, &mut tally)?;
-    }
-    Ok(tally)
 }
 
 /// Makes the calls on an open file.
@@ -125,11 +71,22 @@ pub fn perform<L: Library>(
     requires { IsOpenWith (L.shown.world library.old) 0 schema.now }
     ensures { IsOpenWith (L.shown.world library.new) 0 schema.now }
 {
-    match work {
-        Work::Add => adds_all(library, schema, records),
-        Work::Read(k) => reads_by(library, schema, records, k),
-        Work::Next(k) => goes_through(library, schema, records, k),
-        Work::Replace => replaces_some(library, schema, records),
-        Work::Remove => removes_half(library, schema, records),
+    let turns = match work {
+        Work::Remove => records.count / 2,
+        _ => records.count,
+    };
+    let mut tally = Tally::new();
+    let mut position = Position::From(Key::new());
+    for turn in 0..turns {
+        call(
+            library,
+            schema,
+            records,
+            work,
+            turn,
+            &mut position,
+            &mut tally,
+        )?;
     }
+    Ok(tally)
 }
