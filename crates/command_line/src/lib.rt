@@ -12,6 +12,7 @@ mod help;
 mod limits;
 mod performing;
 mod request;
+mod streams;
 mod transcript;
 mod verdict;
 
