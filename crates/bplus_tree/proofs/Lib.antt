@@ -9,6 +9,7 @@ pub mod CrownLemmas
 pub mod TreeLemmas
 pub mod ReadOffLemmas
 pub mod CountLemmas
+pub mod DepthLemmas
 pub mod CursorLemmas
 pub mod WithEntryLemmas
 pub mod GrowLemmas

@@ -6,6 +6,7 @@ pub mod Standing
 pub mod Within
 pub mod ReadOff
 pub mod Count
+pub mod Depth
 pub mod Cursor
 pub mod Start
 pub mod Split

@@ -32,6 +32,7 @@ pub struct Tree {
 
 impl Tree {
     ghost use Rattle.bplus_tree.specs.Within.{FindsWithin};
+    ghost use Rattle.bplus_tree.specs.Depth.{IsPastAll, FindsDamage};
     ghost use Rattle.bplus_tree.specs.Standing.{Answers, Tells, MakesTree, Inserts, Removes, one_more};
     ghost use Rattle.tree_search.specs.Tail.{IsTail, TellsPresence};
     ghost use Rattle.tree_search.specs.Calls.{entry_of, first_from, first_after, last_of};
@@ -186,14 +187,15 @@ impl Tree {
     /// Puts an entry in where its key is not there, and answers none. Where the key is there, its
     /// entry is answered, and nothing is changed.
     ///
-    /// Full where no page is available; Memory also where the tree has 20 levels, which no file of 2^32 pages comes to, or as many entries
-    /// as a number of 64 bits can count. After a fault nothing is known of the tree.
+    /// Full where no page is available; Memory only where the pages want it. Damage also where the tree has 20 levels, or 4,096 times as many entries
+    /// as the file has pages, which no tree that stands comes to. After a fault nothing is known of the tree.
     pub fn insert<P: Pages>(&mut self, pages: &mut P, entry: &[u8]) -> Result<Option<Entry>, Fault>
         requires size { length entry.now ≡ self.old.shape.entry }
         requires ready { P.IsReady pages.old }
         requires open { P.CanChange pages.old }
         ensures inserted { IsTrue (P.state pages.new).is_honest → IsTrue (P.state pages.old).is_sound
             → Inserts (P.state pages.old).live (P.state pages.new).live (IsTrue (P.state pages.new).is_sound) self.old self.new entry.now result }
+        ensures deep { IsPastAll self.old → FindsDamage self.old self.new pages.old pages.new result }
         ensures shape { self.new.shape ≡ self.old.shape }
         ensures height { self.new.levels ≤ self.old.levels + 1 }
         ensures few { (P.state pages.old).available ≤ (P.state pages.new).available + (self.old.levels + 2) }
@@ -203,8 +205,9 @@ impl Tree {
         ensures asked { (P.state pages.new).asked ≤ (P.state pages.old).asked + 8 * (self.old.levels + 2) }
         ensures goes { P.Goes pages.old pages.new }
     {
-        if self.levels >= 19 || self.count == u64::MAX {
-            return Err(Fault::Memory);
+        let room = 4096 * u64::from(pages.count());
+        if self.levels >= 19 || self.count >= room {
+            return Err(Fault::Damage);
         }
         if put_below(pages, self.shape, self.root, self.levels, entry)? {
             self.count += 1;

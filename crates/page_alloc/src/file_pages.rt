@@ -112,6 +112,10 @@ impl<'a, S: Shelf> Pages for FilePages<'a, S> {
         self.file.pager.available()
     }
 
+    fn count(&self) -> u32 {
+        self.file.pager.count
+    }
+
     fn begin(&mut self) -> Result<(), Fault> {
         self.file.begin(&mut *self.shelf)
     }

@@ -1,6 +1,6 @@
 //! The trait of pages.
 
-ghost use Rattle.std.specs.Prelude.{◌≡◌, ◌≢◌, ℕ, ◌+◌, ◌≤◌, Bool, List, Err, IsSome, IsTrue, IfOk, IfErr, OnOk, OnErr, ⊤};
+ghost use Rattle.std.specs.Prelude.{◌≡◌, ◌≢◌, ℕ, ◌+◌, ◌<◌, ◌≤◌, Bool, List, Err, IsSome, IsTrue, IfOk, IfErr, OnOk, OnErr, ⊤};
 ghost use Rattle.std.specs.Borrow.{sem, LendsSoOk, follows_so, Array, u8 as byte};
 ghost use mathlib.Core.Option.{none};
 ghost use Rattle.pages.specs.PageMap.{Takes, Gives};
@@ -96,6 +96,10 @@ pub trait Pages {
     /// How many pages can be taken.
     fn pages_left(&self) -> u64
         ensures { result ≡ (state self.now).available };
+
+    /// How many pages the file has, the header among them: each page in use has a number below.
+    fn count(&self) -> u32
+        ensures low { (n : ℕ) → IsSome ((state self.now).live n) → n < result };
 
     /// Opens the gate, unless it is open. It comes before the first change, and shows all pages as they were.
     fn begin(&mut self) -> Result<(), Fault>

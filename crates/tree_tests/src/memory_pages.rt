@@ -155,6 +155,10 @@ impl Pages for MemoryPages {
         self.left
     }
 
+    fn count(&self) -> u32 {
+        self.pages.len().min(u32::MAX as usize) as u32
+    }
+
     fn begin(&mut self) -> Result<(), Fault> {
         Ok(())
     }
