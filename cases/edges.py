@@ -280,16 +280,16 @@ def runs_at_once(room):
             words = room.words(deck("OPEN I-O CUST", "READ CUST NEXT", *added(n, n + 1), "CLOSE CUST"))
             started.append(subprocess.Popen(words, stdin=subprocess.DEVNULL, stdout=subprocess.PIPE))
             time.sleep(chosen.choice([0, 0, 0.001, 0.003]))
-        for n, it in zip(numbers, started):
-            lines = it.communicate(timeout=SECONDS)[0].decode().splitlines()
+        told = [it.communicate(timeout=SECONDS)[0].decode().splitlines() for it in started]
+        for n, lines in zip(numbers, told):
             statuses = [line.split("CUST ")[1][:2] for line in lines]
-            if statuses[-1] == "00" and statuses[2] == "00":
+            if statuses[-1] == "00":
                 wants(statuses, ["00"] * 5, "a run that closed the file")
                 records += 2
                 found = room.run(deck("OPEN INPUT CUST", f"MOVE {n + 1} TO CUST-ID", "READ CUST"))
                 wants(found[1:], delivered("READ", n + 1) + ["CLOSE CUST 00"], "the record of a run that closed the file")
             elif statuses[0] == "30":
-                wants(statuses[1:3], ["47", "48"], "a run that did not open the file")
+                wants(statuses, ["30", "47", "48", "48", "42"], "a run that did not open the file")
             else:
                 wants(statuses, ["00", "00", "30", "92", "30"], "a run that did not change the file")
         room.wants_sound(records)
