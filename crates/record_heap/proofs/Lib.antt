@@ -5,4 +5,5 @@ pub mod StandLemmas
 pub mod GrowLemmas
 pub mod HeapLemmas
 pub mod WalkLemmas
+pub mod SlotMarkLemmas
 pub mod SlotWalkLemmas

@@ -1,21 +1,21 @@
 -- Slots that are marked, and found again in the chain of free slots.
-use Rattle.std.proofs.Common.{rules, length, get_or, take, drop, ◌≡◌, ◌≢◌, ◌⊎◌, ℕ, ◌+◌, ◌*◌, ◌<◌, ◌≤◌, Bool, true, false, ◌&&◌, List, [], ◌∷◌, ◌++◌, Option, Some, None, refl, ap, sym, subst, ◌∙◌, arith, inl, inr}
+use Rattle.std.proofs.Common.{length, get_or, take, drop, ◌≡◌, ◌≢◌, ◌⊎◌, ℕ, ◌+◌, ◌<◌, ◌≤◌, Bool, true, false, ◌&&◌, List, [], ◌∷◌, ◌++◌, Option, Some, None, refl, ap, sym, subst, ◌∙◌, arith, inl, inr}
 use Rattle.std.specs.Prelude.{slice_index, nat_lt, if◌then◌else◌}
 use Rattle.std.proofs.lemmas.Bool.{lt-ltb, ltb-true}
 use Rattle.std.proofs.lemmas.Bool.Decides.{eqb_tells}
 use Rattle.std.proofs.Math.Dec.{eqb}
-use Rattle.std.proofs.Math.Nat.{mul-le-mul_left}
-use Rattle.page_bytes.proofs.RoomLemmas.{room_fits}
 use Rattle.page_bytes.specs.Each.{Each}
 use Rattle.pages.specs.PageMap.{PageMap}
 use Rattle.record_heap.specs.declared.shape.Shape.{Shape}
 use Rattle.record_heap.specs.declared.shape.Place.{Place}
-use Rattle.record_heap.specs.Slot.{room, size, head, record_length, used_in, behind_in, is_used}
+use Rattle.record_heap.specs.Slot.{room, head, record_length, used_in, behind_in, is_used}
 use Rattle.record_heap.specs.Slots.{slot_at}
 use Rattle.record_heap.specs.Chain.{IsOneOf, IsPlaceOf, IsFreeChain, KeepsSlots}
 use Rattle.record_heap.specs.Calls.{slot_of, used_at, behind_at}
 use Rattle.page_marks.specs.PageList.{pages_in}
-use Rattle.record_heap.specs.Walk.{is_one_of, slots_of, marked_slot, IsUsedAt, IsFreeAt, SlotMarked, PageMarked, AreMarked, IsFreePath, SlotsWalked, TakesMark}
+use Rattle.record_heap.specs.declared.slot_marks.SlotMarks.{SlotMarks}
+use Rattle.record_heap.specs.SlotMarks.{marked_slot}
+use Rattle.record_heap.specs.Walk.{is_one_of, slots_of, IsUsedAt, IsFreeAt, SlotMarked, PageMarked, AreMarked, IsFreePath, SlotsWalked, TakesMark}
 use Rattle.record_heap.proofs.ChainLemmas.{each_weaker, at_place, place_made, some_none}
 use Rattle.record_heap.proofs.StandLemmas.{each_of, slot_there}
 use Rattle.record_heap.proofs.WalkLemmas.{clash, each_more, once_more, free_path_more}
@@ -41,21 +41,18 @@ one_before (z ∷ zs) x y (inr of) = go (one_before zs x y of)
     go (inr b) = inr b
 
 -- one slot more of a page
-pub page_more : (shape : Shape) (page : List ℕ) (n i : ℕ) (m0 m m' : List Bool) (place : Place) → place.page ≡ n → place.slot ≡ i → i < 582
+pub page_more : (shape : Shape) (page : List ℕ) (n i : ℕ) (m0 m m' : SlotMarks) (place : Place) → place.page ≡ n → place.slot ≡ i
     → PageMarked shape page n i m0 m → SlotMarked shape (slot_at shape page i) place m m' → PageMarked shape page n (i + 1) m0 m'
-page_more shape page n i m0 m m' place here_page here_slot few marked (inl a) = record {
+page_more shape page n i m0 m m' place here_page here_slot marked (inl a) = record {
   free = λ p on below mark. at_place ((marked_slot m0 p ≡ true) ⊎ ((next : Place) × (behind_in (slot_at shape page p.slot) ≡ Some next))) place p
       (λ e. inr (a.0.0, ap (λ (k : ℕ). behind_in (slot_at shape page k)) (ap (λ (q : Place). q.slot) e ∙ here_slot) ∙ a.0.1))
-      (λ d. marked.free p on (less p d on below) (sym (a.1.others p (few_slots p below) d) ∙ mark));
+      (λ d. marked.free p on (less p d on below) (sym (a.1.others p d) ∙ mark));
   every = λ p on below. at_place ((marked_slot m' p ≡ true) ⊎ ((found : List ℕ) × (used_in shape (slot_at shape page p.slot) ≡ Some found))) place p
       (λ e. inl (ap (marked_slot m') e ∙ a.1.here))
-      (λ d. moved p (a.1.others p (few_slots p below) d) (marked.every p on (less p d on below)));
-  others = λ p below out. a.1.others p below (apart p out) ∙ marked.others p below (wider p out);
+      (λ d. moved p (a.1.others p d) (marked.every p on (less p d on below)));
+  others = λ p out. a.1.others p (apart p out) ∙ marked.others p (wider p out);
 }
   where
-    few_slots : (p : Place) → p.slot < i + 1 → p.slot < 582
-    few_slots p below = omega arith
-
     less : (p : Place) → p ≢ place → p.page ≡ n → p.slot < i + 1 → p.slot < i
     less p d on below = let other : p.slot ≢ i = λ e. d (place_made p place (on ∙ sym here_page) (e ∙ sym here_slot)) in omega (arith, other)
 
@@ -71,15 +68,15 @@ page_more shape page n i m0 m m' place here_page here_slot few marked (inl a) = 
     wider : (p : Place) → (p.page ≢ n) ⊎ (i + 1 ≤ p.slot) → (p.page ≢ n) ⊎ (i ≤ p.slot)
     wider p (inl d) = inl d
     wider p (inr high) = inr (omega (arith, high))
-page_more shape page n i m0 m m' place here_page here_slot few marked (inr b) = subst (PageMarked shape page n (i + 1) m0) (sym b.1) (record {
+page_more shape page n i m0 m m' place here_page here_slot marked (inr b) = subst (PageMarked shape page n (i + 1) m0) (sym b.1) (record {
   free = λ p on below mark. choose p (eqb_tells p.slot i) on below mark;
   every = λ p on below. whole p (eqb_tells p.slot i) on below;
-  others = λ p below out. marked.others p below (wider p out);
+  others = λ p out. marked.others p (wider p out);
 })
   where
     choose : (p : Place) → ((eqb p.slot i ≡ true) × (p.slot ≡ i)) ⊎ ((eqb p.slot i ≡ false) × (p.slot ≢ i)) → p.page ≡ n → p.slot < i + 1 → marked_slot m p ≡ true
         → (marked_slot m0 p ≡ true) ⊎ ((next : Place) × (behind_in (slot_at shape page p.slot) ≡ Some next))
-    choose p (inl e) on below mark = inl (sym (marked.others p (omega (arith, e.1)) (inr (omega (arith, e.1)))) ∙ mark)
+    choose p (inl e) on below mark = inl (sym (marked.others p (inr (omega (arith, e.1)))) ∙ mark)
     choose p (inr d) on below mark = marked.free p on (omega (arith, d.1)) mark
 
     whole : (p : Place) → ((eqb p.slot i ≡ true) × (p.slot ≡ i)) ⊎ ((eqb p.slot i ≡ false) × (p.slot ≢ i)) → p.page ≡ n → p.slot < i + 1
@@ -92,9 +89,9 @@ page_more shape page n i m0 m m' place here_page here_slot few marked (inr b) = 
     wider p (inr high) = inr (omega (arith, high))
 
 -- one page more
-pub marked_more : (shape : Shape) (pages : PageMap) (page own : List ℕ) (n : ℕ) (m m' : List Bool) → room shape ≤ 582 → AreMarked shape pages own m → pages n ≡ Some page
+pub marked_more : (shape : Shape) (pages : PageMap) (page own : List ℕ) (n : ℕ) (m m' : SlotMarks) → AreMarked shape pages own m → pages n ≡ Some page
     → PageMarked shape page n (room shape) m m' → AreMarked shape pages (own ++ n ∷ []) m'
-marked_more shape pages page own n m m' few marked there one = record {
+marked_more shape pages page own n m m' marked there one = record {
   free = λ p below mark. free p below mark (eqb_tells p.page n);
   every = λ p below of. every p below (eqb_tells p.page n) (one_before own n p.page of);
 }
@@ -109,7 +106,7 @@ marked_more shape pages page own n m m' few marked there one = record {
         of_page : (marked_slot m p ≡ true) ⊎ ((next : Place) × (behind_in (slot_at shape page p.slot) ≡ Some next)) → IsOneOf (own ++ n ∷ []) p.page × IsFreeAt shape pages p
         of_page (inl on) = let f = marked.free p below on in (one_more own n p.page f.0, f.1)
         of_page (inr found) = (one_last own n p.page e.1, (found.0, ap behind_in (at p e.1) ∙ found.1))
-    free p below mark (inr d) = let f = marked.free p below (sym (one.others p (omega arith) (inl d.1)) ∙ mark) in (one_more own n p.page f.0, f.1)
+    free p below mark (inr d) = let f = marked.free p below (sym (one.others p (inl d.1)) ∙ mark) in (one_more own n p.page f.0, f.1)
 
     every : (p : Place) → p.slot < room shape → ((eqb p.page n ≡ true) × (p.page ≡ n)) ⊎ ((eqb p.page n ≡ false) × (p.page ≢ n)) → IsOneOf own p.page ⊎ (p.page ≡ n)
         → (marked_slot m' p ≡ true) ⊎ IsUsedAt shape pages p
@@ -122,17 +119,17 @@ marked_more shape pages page own n m m' few marked there one = record {
     every p below (inr d) (inl of) = kept (marked.every p below of)
       where
         kept : (marked_slot m p ≡ true) ⊎ IsUsedAt shape pages p → (marked_slot m' p ≡ true) ⊎ IsUsedAt shape pages p
-        kept (inl on) = inl (one.others p (omega arith) (inl d.1) ∙ on)
+        kept (inl on) = inl (one.others p (inl d.1) ∙ on)
         kept (inr found) = inr found
 
 -- nothing is marked of no pages
-pub marked_none : (shape : Shape) (pages : PageMap) (m : List Bool) → ((p : Place) → marked_slot m p ≡ false) → AreMarked shape pages [] m
+pub marked_none : (shape : Shape) (pages : PageMap) (m : SlotMarks) → ((p : Place) → marked_slot m p ≡ false) → AreMarked shape pages [] m
 marked_none shape pages m none = record { free = λ p below mark. absurd (clash (marked_slot m p) mark (none p)); every = λ p below of. absurd of }
 
 -- one slot more of the chain
-pub slots_more : (shape : Shape) (pages : PageMap) (first at next : Place) (m0 m m' : List Bool) (free : List Place) → room shape ≤ 582 → SlotsWalked shape pages first at m0 m free
+pub slots_more : (shape : Shape) (pages : PageMap) (first at next : Place) (m0 m m' : SlotMarks) (free : List Place) → SlotsWalked shape pages first at m0 m free
     → TakesMark shape pages at next m m' → SlotsWalked shape pages first next m0 m' (free ++ at ∷ [])
-slots_more shape pages first at next m0 m m' free few walked takes =
+slots_more shape pages first at next m0 m m' free walked takes =
     let off = each_weaker (λ q. (q.slot < room shape) × ((marked_slot m0 q ≡ true) × (marked_slot m q ≡ false))) (λ q. q ≢ at)
     (λ q w same. clash (marked_slot m q) (ap (marked_slot m) same ∙ takes.was) w.1.1) free walked.were in
     record {
@@ -142,22 +139,19 @@ slots_more shape pages first at next m0 m m' free few walked takes =
           (takes.within, (walked.only at takes.within takes.was, takes.sets.here));
       every = λ p below mark. at_place ((marked_slot m' p ≡ true) ⊎ IsOneOf (free ++ at ∷ []) p) at p (λ e. inr (one_last free at p e)) (λ d. moved p below d (walked.every p below mark));
       only = λ p below mark. at_place (marked_slot m0 p ≡ true) at p (λ e. absurd (clash (marked_slot m' p) mark (ap (marked_slot m') e ∙ takes.sets.here)))
-          (λ d. walked.only p below (sym (takes.sets.others p (within p below) d) ∙ mark));
+          (λ d. walked.only p below (sym (takes.sets.others p d) ∙ mark));
     }
   where
-    within : (p : Place) → p.slot < room shape → p.slot < 582
-    within p below = omega arith
-
     still : (qs : List Place) → Each (λ q. (q.slot < room shape) × ((marked_slot m0 q ≡ true) × (marked_slot m q ≡ false))) qs → Each (λ q. q ≢ at) qs
         → Each (λ q. (q.slot < room shape) × ((marked_slot m0 q ≡ true) × (marked_slot m' q ≡ false))) qs
     still [] w off = tt
-    still (q ∷ qs) w off = ((w.0.0, (w.0.1.0, takes.sets.others q (within q w.0.0) off.0 ∙ w.0.1.1)), still qs w.1 off.1)
+    still (q ∷ qs) w off = ((w.0.0, (w.0.1.0, takes.sets.others q off.0 ∙ w.0.1.1)), still qs w.1 off.1)
 
     moved : (p : Place) → p.slot < room shape → p ≢ at → (marked_slot m p ≡ true) ⊎ IsOneOf free p → (marked_slot m' p ≡ true) ⊎ IsOneOf (free ++ at ∷ []) p
-    moved p below d (inl on) = inl (takes.sets.others p (within p below) d ∙ on)
+    moved p below d (inl on) = inl (takes.sets.others p d ∙ on)
     moved p below d (inr of) = inr (one_more free at p of)
 
-pub slots_none : (shape : Shape) (pages : PageMap) (first : Place) (m : List Bool) → SlotsWalked shape pages first first m m []
+pub slots_none : (shape : Shape) (pages : PageMap) (first : Place) (m : SlotMarks) → SlotsWalked shape pages first first m m []
 slots_none shape pages first m = record { path = refl; once = tt; were = tt; every = λ p below on. inl on; only = λ p below on. on }
 
 path_chain : (behind : Place → Option Place) (first at : Place) (free : List Place) → IsFreePath behind first free at → at.page ≡ 0 → IsFreeChain behind first free
@@ -208,7 +202,7 @@ free_not_used shape slot next is = go (eqb_tells (slice_index slot 0) 0) (eqb_te
     go (inl a) (inr e) = rw e.0 refl
 
 -- all slots are marked, all marks are found and taken: each is in use or in the chain
-pub slots_kept : (shape : Shape) (pages : PageMap) (own : List ℕ) (first at : Place) (m m' : List Bool) (free : List Place) → AreMarked shape pages own m → SlotsWalked shape pages first at m m' free
+pub slots_kept : (shape : Shape) (pages : PageMap) (own : List ℕ) (first at : Place) (m m' : SlotMarks) (free : List Place) → AreMarked shape pages own m → SlotsWalked shape pages first at m m' free
     → at.page ≡ 0 → ((p : Place) → marked_slot m' p ≡ false) → Each (λ n. 1 ≤ n) own → KeepsSlots (room shape) own (used_at shape pages) (behind_at shape pages) (slots_of shape pages own) first
 slots_kept shape pages own first at m m' free marked walked end none some = record {
   free = free;
@@ -239,14 +233,6 @@ slots_kept shape pages own first at m m' free marked walked end none some = reco
 -- a slot that is tested has what it holds
 pub used_found : (shape : Shape) (slot : List ℕ) → is_used shape slot ≡ true → (found : List ℕ) × (used_in shape slot ≡ Some found)
 used_found shape slot is = (take (shape.stamps + record_length shape slot) (drop (head shape) slot), rw is refl)
-
--- a page has at most 582 slots
-pub room_few : (shape : Shape) → room shape ≤ 582
-room_few shape =
-    let wide : 7 ≤ size shape = search rules in
-    let fits = room_fits 4080 (size shape) (room shape) (omega arith) in
-    let more : room shape * 7 ≤ room shape * size shape = mul-le-mul_left (room shape) wide in
-    omega (arith, fits, more)
 
 -- a page of the list
 pub page_there : (pages : List (List ℕ)) (n : ℕ) → n < length pages → pages_in pages n ≡ Some (get_or pages n [])

@@ -1,5 +1,5 @@
 -- What a walk finds of a heap in pages that were read.
-use Rattle.std.specs.Prelude.{◌≡◌, ◌≢◌, ◌⊎◌, ℕ, ◌≤◌, ◌<◌, ◌+◌, ◌*◌, ◌==◌, ◌&&◌, nat_lt, Bool, true, false, List, [], ◌∷◌, Option, Some, None, slice_index_or, if◌then◌else◌}
+use Rattle.std.specs.Prelude.{◌≡◌, ◌≢◌, ◌⊎◌, ℕ, ◌≤◌, ◌<◌, ◌==◌, ◌&&◌, nat_lt, Bool, true, false, List, [], ◌∷◌, Option, Some, None, if◌then◌else◌}
 use Rattle.page_bytes.specs.Each.{Each}
 use Rattle.pages.specs.PageMap.{PageMap}
 use Rattle.record_heap.specs.declared.shape.Shape.{Shape}
@@ -9,6 +9,8 @@ use Rattle.record_heap.specs.Slot.{room, used_in, behind_in}
 use Rattle.record_heap.specs.Slots.{slot_at}
 use Rattle.record_heap.specs.Chain.{Slots, IsOneOf, AreOnce, KeepsSlots}
 use Rattle.record_heap.specs.Calls.{used_at, behind_at, IsHeapAt}
+use Rattle.record_heap.specs.declared.slot_marks.SlotMarks.{SlotMarks}
+use Rattle.record_heap.specs.SlotMarks.{marked_slot, SetsMark}
 use Rattle.page_marks.specs.Marks.{Marks}
 
 -- these heap pages lead from the first one to this
@@ -30,10 +32,6 @@ is_one_of (m ∷ ms) n = if n == m then true else is_one_of ms n
 abbrev pub slots_of : Shape → PageMap → List ℕ → Slots
 slots_of shape pages own p = if is_one_of own p.page && nat_lt p.slot (room shape) then used_at shape pages p else None
 
--- the slot is marked; a page has at most 582 slots
-abbrev pub marked_slot : List Bool → Place → Bool
-marked_slot marks p = slice_index_or marks (582 * p.page + p.slot) false
-
 -- the slot of a place is in use
 abbrev pub IsUsedAt : Shape → PageMap → Place → Type 0
 IsUsedAt shape pages p = (bytes : List ℕ) × (used_at shape pages p ≡ Some bytes)
@@ -42,31 +40,26 @@ IsUsedAt shape pages p = (bytes : List ℕ) × (used_at shape pages p ≡ Some b
 abbrev pub IsFreeAt : Shape → PageMap → Place → Type 0
 IsFreeAt shape pages p = (next : Place) × (behind_at shape pages p ≡ Some next)
 
--- the slot of a place is marked now, or not, and every other one is as it was
-pub record SetsMark (place : Place) (to : Bool) (before after : List Bool) : Type 0 where
-  pub here : marked_slot after place ≡ to
-  pub others : (p : Place) → p.slot < 582 → p ≢ place → marked_slot after p ≡ marked_slot before p
-
 -- a slot with these bytes is free and marked now, or it is in use and nothing has changed
-abbrev pub SlotMarked : Shape → List ℕ → Place → List Bool → List Bool → Type 0
+abbrev pub SlotMarked : Shape → List ℕ → Place → SlotMarks → SlotMarks → Type 0
 SlotMarked shape bytes place before after =
     (((next : Place) × (behind_in bytes ≡ Some next)) × SetsMark place true before after) ⊎ (((found : List ℕ) × (used_in shape bytes ≡ Some found)) × (after ≡ before))
 
 -- the first slots of page n, so many, are marked where they are free, and in use else
-pub record PageMarked (shape : Shape) (page : List ℕ) (n count : ℕ) (before after : List Bool) : Type 0 where
+pub record PageMarked (shape : Shape) (page : List ℕ) (n count : ℕ) (before after : SlotMarks) : Type 0 where
   pub free : (p : Place) → p.page ≡ n → p.slot < count → marked_slot after p ≡ true → (marked_slot before p ≡ true) ⊎ ((next : Place) × (behind_in (slot_at shape page p.slot) ≡ Some next))
   pub every : (p : Place) → p.page ≡ n → p.slot < count → (marked_slot after p ≡ true) ⊎ ((bytes : List ℕ) × (used_in shape (slot_at shape page p.slot) ≡ Some bytes))
-  pub others : (p : Place) → p.slot < 582 → (p.page ≢ n) ⊎ (count ≤ p.slot) → marked_slot after p ≡ marked_slot before p
+  pub others : (p : Place) → (p.page ≢ n) ⊎ (count ≤ p.slot) → marked_slot after p ≡ marked_slot before p
 
 -- the mark of a free slot was taken, and this one is behind it
-pub record TakesMark (shape : Shape) (pages : PageMap) (at next : Place) (before after : List Bool) : Type 0 where
+pub record TakesMark (shape : Shape) (pages : PageMap) (at next : Place) (before after : SlotMarks) : Type 0 where
   pub within : at.slot < room shape
   pub linked : behind_at shape pages at ≡ Some next
   pub was : marked_slot before at ≡ true
   pub sets : SetsMark at false before after
 
 -- the free slots of these pages are marked, and each other slot of them is in use
-pub record AreMarked (shape : Shape) (pages : PageMap) (own : List ℕ) (marks : List Bool) : Type 0 where
+pub record AreMarked (shape : Shape) (pages : PageMap) (own : List ℕ) (marks : SlotMarks) : Type 0 where
   pub free : (p : Place) → p.slot < room shape → marked_slot marks p ≡ true → IsOneOf own p.page × IsFreeAt shape pages p
   pub every : (p : Place) → p.slot < room shape → IsOneOf own p.page → (marked_slot marks p ≡ true) ⊎ IsUsedAt shape pages p
 
@@ -76,7 +69,7 @@ IsFreePath behind first [] at = first ≡ at
 IsFreePath behind first (p ∷ ps) at = (first ≡ p) × ((next : Place) × (behind p ≡ Some next) × IsFreePath behind next ps at)
 
 -- these marked slots were reached from the first one, and their marks taken; this one is next
-pub record SlotsWalked (shape : Shape) (pages : PageMap) (first at : Place) (before after : List Bool) (free : List Place) : Type 0 where
+pub record SlotsWalked (shape : Shape) (pages : PageMap) (first at : Place) (before after : SlotMarks) (free : List Place) : Type 0 where
   pub path : IsFreePath (behind_at shape pages) first free at
   pub once : AreOnce free
   pub were : Each (λ p. (p.slot < room shape) × ((marked_slot before p ≡ true) × (marked_slot after p ≡ false))) free

@@ -12,6 +12,7 @@ mod heap;
 mod laws;
 mod shape;
 mod slot;
+mod slot_marks;
 mod slots;
 mod walk;
 

@@ -1,23 +1,22 @@
 //! The heap of a file whose pages were read into a list.
 
-ghost use Rattle.std.specs.Prelude.{◌≡◌, ℕ, List, false, ◌<◌, ◌≤◌, ◌*◌, ◌+◌, ◌∷◌, [], IfOk, OnOk, IsTrue, Some, length};
-ghost use Rattle.record_heap.specs.Slot.{room, size, is_used};
+ghost use Rattle.std.specs.Prelude.{◌≡◌, ℕ, List, false, ◌≤◌, IfOk, OnOk, length};
+ghost use Rattle.record_heap.specs.Slot.{room, size};
 ghost use Rattle.record_heap.specs.Calls.{IsHeapAt};
 ghost use Rattle.record_heap.specs.Standing.{HeapStands};
 ghost use Rattle.page_marks.specs.PageList.{pages_in};
 ghost use Rattle.page_marks.specs.Marks.{Marks, marked_in};
-ghost use Rattle.record_heap.specs.Walk.{PagesWalked, SlotsWalked, SlotsKept, AreMarked, PageMarked, SlotMarked, SetsMark, TakesMark, marked_slot, slots_of};
+ghost use Rattle.record_heap.specs.Walk.{PagesWalked, SlotsWalked, SlotsKept, AreMarked, PageMarked, SlotMarked, TakesMark, slots_of};
+ghost use Rattle.record_heap.specs.SlotMarks.{marked_slot};
 
 use crate::heap::Heap;
 use crate::shape::{Place, Shape};
 use crate::slot::{behind, is_used};
+use crate::slot_marks::SlotMarks;
 use crate::slots::{FIRST_SLOT, NEXT, NEXT_END, PAGE_SIZE, slot, start_of};
 use byteorder::{BigEndian, ByteOrder};
 use page_marks::{WalkFault, mark};
 use std::alloc::Global;
-
-/// The most slots that a page may have.
-const MOST_SLOTS: usize = 582;
 
 /// The page behind a heap page.
 fn page_behind(pages: &[[u8; PAGE_SIZE]], n: u32) -> Result<u32, WalkFault>
@@ -62,45 +61,21 @@ fn walk_pages(
     Ok(own)
 }
 
-/// Where the mark of a slot stands.
-fn index(place: Place) -> usize
-    ensures { result ≡ 582 * place.page + place.slot }
-{
-    MOST_SLOTS * place.page as usize + place.slot as usize
-}
-
-/// Marks a slot, or takes its mark.
-fn set_mark(marks: &mut [bool], place: Place, to: bool)
-    requires slot { place.slot < 582 }
-    requires long { 582 * place.page + place.slot < length marks.old }
-    ensures set { SetsMark place to marks.old marks.new }
-    ensures long { length marks.new ≡ length marks.old }
-{
-    marks[index(place)] = to;
-}
-
-/// No marks, for the slots of so many pages.
-fn no_marks(alloc: Global, pages: usize) -> Result<Vec<bool>, WalkFault>
-    ensures none { IfOk result (λ marks. (p : Place) → marked_slot marks.items p ≡ false) }
-    ensures long { IfOk result (λ marks. length marks.items ≡ 582 * pages) }
-{
-    if pages > u32::MAX as usize {
-        return Err(WalkFault::Memory);
-    }
-    vec![in alloc; false; MOST_SLOTS * pages].map_err(|_| WalkFault::Memory)
-}
-
 /// Marks a slot where it is free; else it is in use.
-fn mark_slot(bytes: &[u8], shape: Shape, place: Place, marks: &mut [bool]) -> Result<(), WalkFault>
+fn mark_slot(
+    bytes: &[u8],
+    shape: Shape,
+    place: Place,
+    marks: &mut SlotMarks,
+) -> Result<(), WalkFault>
     requires size { size shape ≤ length bytes.now }
-    requires slot { place.slot < 582 }
-    requires place { 582 * place.page + place.slot < length marks.old }
     ensures marked { OnOk result (SlotMarked shape bytes.now place marks.old marks.new) }
-    ensures long { length marks.new ≡ length marks.old }
 {
     match behind(bytes) {
         Some(_) => {
-            set_mark(marks, place, true);
+            if !marks.set(place, true) {
+                return Err(WalkFault::Chain);
+            }
             Ok(())
         }
         None => {
@@ -117,11 +92,9 @@ fn mark_page(
     page: &[u8; PAGE_SIZE],
     shape: Shape,
     n: u32,
-    marks: &mut [bool],
+    marks: &mut SlotMarks,
 ) -> Result<(), WalkFault>
-    requires { 582 * n + 582 ≤ length marks.old }
     ensures marked { OnOk result (PageMarked shape page.now n (room shape) marks.old marks.new) }
-    ensures long { length marks.new ≡ length marks.old }
 {
     let room = shape.room();
     for i in 0..room {
@@ -139,12 +112,10 @@ fn mark_free(
     pages: &[[u8; PAGE_SIZE]],
     shape: Shape,
     own: &[u32],
-    marks: &mut [bool],
+    marks: &mut SlotMarks,
 ) -> Result<(), WalkFault>
     requires none { (p : Place) → marked_slot marks.old p ≡ false }
-    requires long { length marks.old ≡ 582 * length pages.now }
     ensures marked { OnOk result (AreMarked shape (pages_in pages.now) own.now marks.new) }
-    ensures long { length marks.new ≡ length marks.old }
 {
     for &n in own {
         if n as usize >= pages.len() {
@@ -160,24 +131,19 @@ fn take_mark(
     pages: &[[u8; PAGE_SIZE]],
     shape: Shape,
     at: Place,
-    marks: &mut [bool],
+    marks: &mut SlotMarks,
 ) -> Result<Place, WalkFault>
     ensures taken { IfOk result (λ next. TakesMark shape (pages_in pages.now) at next marks.old marks.new) }
-    ensures long { length marks.new ≡ length marks.old }
 {
     if at.slot as usize >= shape.room() || at.page as usize >= pages.len() {
         return Err(WalkFault::Chain);
     }
-    let i = index(at);
-    if i >= marks.len() || !marks[i] {
+    if !marks.has(at) || !marks.set(at, false) {
         return Err(WalkFault::Chain);
     }
     match behind(slot(&pages[at.page as usize], shape, at.slot as usize)) {
         None => Err(WalkFault::Chain),
-        Some(next) => {
-            set_mark(marks, at, false);
-            Ok(next)
-        }
+        Some(next) => Ok(next),
     }
 }
 
@@ -186,13 +152,13 @@ fn walk_slots(
     pages: &[[u8; PAGE_SIZE]],
     shape: Shape,
     first: Place,
-    marks: &mut [bool],
+    marks: &mut SlotMarks,
 ) -> Result<(), WalkFault>
     ensures { OnOk result ((at : Place) × (at.page ≡ 0)
         × ((free : List Place) × SlotsWalked shape (pages_in pages.now) first at marks.old marks.new free)) }
 {
     let mut at = first;
-    for _ in 0..marks.len() {
+    for _ in 0..marks.marks.len() {
         if at.page == 0 {
             return Ok(());
         }
@@ -204,27 +170,20 @@ fn walk_slots(
     Ok(())
 }
 
-/// No slot is marked.
-fn none_is_left(marks: &[bool]) -> bool
-    ensures { IsTrue result → (p : Place) → marked_slot marks.now p ≡ false }
-{
-    !marks.contains(&true)
-}
-
 /// Finds each slot of these pages in use, or once in the chain of free slots.
 fn walk_own(
+    alloc: Global,
     pages: &[[u8; PAGE_SIZE]],
     heap: &Heap,
     own: &[u32],
-    marks: &mut [bool],
 ) -> Result<(), WalkFault>
-    requires none { (p : Place) → marked_slot marks.old p ≡ false }
-    requires long { length marks.old ≡ 582 * length pages.now }
     ensures { OnOk result (SlotsKept heap.now (pages_in pages.now) own.now) }
 {
-    mark_free(pages, heap.shape, own, marks)?;
-    walk_slots(pages, heap.shape, heap.free, marks)?;
-    if !none_is_left(marks) {
+    let room = heap.shape.room() as u16;
+    let mut marks = SlotMarks::none(alloc, pages.len(), own, room)?;
+    mark_free(pages, heap.shape, own, &mut marks)?;
+    walk_slots(pages, heap.shape, heap.free, &mut marks)?;
+    if !marks.are_none() {
         return Err(WalkFault::Chain);
     }
     Ok(())
@@ -245,7 +204,6 @@ pub fn walk_heap(
     ensures marks { IfOk result (λ own. Marks (marked_in reached.old) (marked_in reached.new) own.items) }
 {
     let own = walk_pages(alloc, pages, heap.first, reached)?;
-    let mut marks = no_marks(alloc, pages.len())?;
-    walk_own(pages, heap, &own, &mut marks)?;
+    walk_own(alloc, pages, heap, &own)?;
     Ok(own)
 }

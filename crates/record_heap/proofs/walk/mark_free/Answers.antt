@@ -1,8 +1,8 @@
-use Rattle.std.proofs.Common.{◌≡◌, ◌∙◌, ◌<◌, ℕ, ◌+◌, suc, take, get_or, List, [], ◌++◌, ◌∷◌, sym, subst, arith, length}
+use Rattle.std.proofs.Common.{◌≡◌, ◌<◌, ℕ, ◌+◌, suc, take, get_or, List, [], ◌++◌, ◌∷◌, sym, subst, arith, length}
 use Rattle.std.proofs.Math.Seq.{take-suc}
 use Rattle.page_marks.specs.PageList.{pages_in}
 use Rattle.record_heap.specs.Walk.{AreMarked}
-use Rattle.record_heap.proofs.SlotWalkLemmas.{marked_more, room_few, page_there}
+use Rattle.record_heap.proofs.SlotWalkLemmas.{marked_more, page_there}
 use Rattle.record_heap.proofs.walk.mark_free.Goals as goal
 
 pub loop-n-preserved : goal.loop-n-preserved
@@ -12,10 +12,7 @@ loop-n-preserved c =
     let n = get_or own c.loop-n.n-index 0 in
     let longer : take (suc c.loop-n.n-index) own ≡ take c.loop-n.n-index own ++ n ∷ [] = take-suc own c.loop-n.n-index 0 c.loop-n-test.true in
     let up : c.loop-n.n-index + 1 ≡ suc c.loop-n.n-index = omega arith in
-    record {
-      marked = subst (λ (k : ℕ). AreMarked c.args.shape pages (take k own) c.mark_page.new.marks) (sym up)
-          (subst (λ (ns : List ℕ). AreMarked c.args.shape pages ns c.mark_page.new.marks) (sym longer)
-          (marked_more c.args.shape pages _ (take c.loop-n.n-index own) n c.loop-n.marks c.mark_page.new.marks (room_few c.args.shape) c.loop-n.invariant.marked
-          (page_there c.args.pages.now n (let inside : n < length c.args.pages.now = omega (arith, c.if-n-pages.false) in inside)) c.in_ok-mark_page.ensures.marked));
-      long = c.mark_page.ensures.long ∙ c.loop-n.invariant.long;
-    }
+    subst (λ (k : ℕ). AreMarked c.args.shape pages (take k own) c.mark_page.new.marks) (sym up)
+    (subst (λ (ns : List ℕ). AreMarked c.args.shape pages ns c.mark_page.new.marks) (sym longer)
+    (marked_more c.args.shape pages _ (take c.loop-n.n-index own) n c.loop-n.marks c.mark_page.new.marks c.loop-n.invariant
+    (page_there c.args.pages.now n (let inside : n < length c.args.pages.now = omega (arith, c.if-n-pages.false) in inside)) c.in_ok-mark_page.ensures.marked))

@@ -1,9 +1,5 @@
-use Rattle.std.proofs.Common.{◌≡◌, length}
 use Rattle.record_heap.specs.Walk.{PageMarked}
 use Rattle.record_heap.proofs.walk.mark_page.Given as goal
 
 abbrev pub invariant-loop-i : goal.invariant-loop-i
-invariant-loop-i l = record {
-  marked : PageMarked l.shape l.page l.n l.i l.initial.marks l.marks;
-  long : length l.marks ≡ length l.initial.marks;
-}
+invariant-loop-i l = PageMarked l.shape l.page l.n l.i l.initial.marks l.marks

@@ -6,4 +6,4 @@ pub returns : goal.returns
 returns c some =
     let w = c.in_ok-walk_slots.ensures in
     slots_kept c.args.heap.now.shape (pages_in c.args.pages.now) c.args.own.now c.args.heap.now.free w.0 c.mark_free.new.marks c.walk_slots.new.marks w.2.0
-    c.in_ok-mark_free.ensures.marked w.2.1 w.1 (c.none_is_left.ensures c.if-not-none_is_left.false) some
+    c.in_ok-mark_free.ensures.marked w.2.1 w.1 (c.are_none.ensures c.if-not-are_none.false) some

@@ -1,0 +1,30 @@
+-- Marks on the slots of some pages.
+use Rattle.std.specs.Prelude.{◌≡◌, ◌≢◌, ℕ, ◌+◌, ◌*◌, ◌<◌, ◌==◌, ◌&&◌, nat_lt, Bool, false, Some, slice_get, slice_index_or, if◌then◌else◌}
+use Rattle.std.specs.Option.{option_map_or}
+use Rattle.record_heap.specs.declared.shape.Place.{Place}
+use Rattle.record_heap.specs.declared.slot_marks.SlotMarks.{SlotMarks}
+
+-- page n is the one at this position, and has a slot of this number
+abbrev pub is_at : SlotMarks → ℕ → Place → Bool
+is_at marks at p = option_map_or (λ n. n == p.page) (slice_get marks.own.now at) false && nat_lt p.slot marks.room
+
+-- the mark of a slot, where the position of its page is this
+abbrev pub mark_from : SlotMarks → Place → ℕ → Bool
+mark_from marks p at = if is_at marks at p then slice_index_or marks.marks.items (at * marks.room + p.slot) false else false
+
+-- the slot is marked
+abbrev pub marked_slot : SlotMarks → Place → Bool
+marked_slot marks p = option_map_or (mark_from marks p) (slice_get marks.positions.items p.page) false
+
+-- the mark of a slot stands there
+pub record MarkAt (marks : SlotMarks) (p : Place) (i : ℕ) : Type 0 where
+  pub at : ℕ
+  pub position : slice_get marks.positions.items p.page ≡ Some at
+  pub page : slice_get marks.own.now at ≡ Some p.page
+  pub slot : p.slot < marks.room
+  pub is : i ≡ at * marks.room + p.slot
+
+-- the slot of a place is marked now, or not, and every other one is as it was
+pub record SetsMark (place : Place) (to : Bool) (before after : SlotMarks) : Type 0 where
+  pub here : marked_slot after place ≡ to
+  pub others : (p : Place) → p ≢ place → marked_slot after p ≡ marked_slot before p

@@ -1,0 +1,107 @@
+//! Marks on the slots of a heap's own pages.
+
+ghost use Rattle.std.specs.Prelude.{◌≡◌, ℕ, true, false, slice_index_or, IfOk, IfSome, IsTrue};
+ghost use Rattle.record_heap.specs.declared.shape.Place.{Place as AnyPlace};
+ghost use Rattle.record_heap.specs.SlotMarks.{MarkAt, SetsMark, marked_slot};
+
+use crate::shape::Place;
+use page_marks::WalkFault;
+use std::alloc::Global;
+
+/// A mark for each slot of these pages, in their order. Where a page stands among them is looked up by its number, and compared with what stands there.
+#[derive(Drop)]
+pub struct SlotMarks<'a> {
+    pub own: &'a [u32],
+    pub positions: Vec<u32>,
+    pub room: u16,
+    pub marks: Vec<bool>,
+}
+
+/// Where each of these pages stands among them, by its number below `count`.
+fn positions_of(alloc: Global, count: usize, own: &[u32]) -> Result<Vec<u32>, WalkFault> {
+    let mut positions = vec![in alloc; 0; count].map_err(|_| WalkFault::Memory)?;
+    for i in 0..own.len() {
+        let n = own[i] as usize;
+        if n >= positions.len() || i > u32::MAX as usize {
+            return Err(WalkFault::Memory);
+        }
+        positions[n] = i as u32;
+    }
+    Ok(positions)
+}
+
+/// No marks.
+fn no_marks(alloc: Global, count: usize) -> Result<Vec<bool>, WalkFault>
+    ensures { IfOk result (λ marks. (i : ℕ) → slice_index_or marks.items i false ≡ false) }
+{
+    vec![in alloc; false; count].map_err(|_| WalkFault::Memory)
+}
+
+impl<'a> SlotMarks<'a> {
+    /// No slot of these pages is marked. They are of a file of `count` pages, and have `room` slots each.
+    pub fn none(
+        alloc: Global,
+        count: usize,
+        own: &'a [u32],
+        room: u16,
+    ) -> Result<SlotMarks<'a>, WalkFault>
+        ensures { IfOk result (λ marks. (p : AnyPlace) → marked_slot marks p ≡ false) }
+    {
+        let positions = positions_of(alloc, count, own)?;
+        if own.len() > u32::MAX as usize {
+            return Err(WalkFault::Memory);
+        }
+        let marks = no_marks(alloc, own.len() * usize::from(room))?;
+        Ok(SlotMarks {
+            own,
+            positions,
+            room,
+            marks,
+        })
+    }
+
+    /// Where the mark of a slot stands.
+    fn index(&self, place: Place) -> Option<usize>
+        ensures { IfSome result (MarkAt self.now place) }
+    {
+        let at = *self.positions.get(place.page as usize)?;
+        let page = *self.own.get(at as usize)?;
+        if page != place.page || place.slot >= self.room {
+            return None;
+        }
+        Some(at as usize * usize::from(self.room) + usize::from(place.slot))
+    }
+
+    /// The slot is marked.
+    pub fn has(&self, place: Place) -> bool
+        ensures { IsTrue result → marked_slot self.now place ≡ true }
+    {
+        match self.index(place) {
+            Some(i) => i < self.marks.len() && self.marks[i],
+            None => false,
+        }
+    }
+
+    /// Marks a slot, or takes its mark, and answers whether the slot is one of these pages.
+    pub fn set(&mut self, place: Place, to: bool) -> bool
+        ensures { IsTrue result → SetsMark place to self.old self.new }
+    {
+        match self.index(place) {
+            Some(i) => {
+                if i >= self.marks.len() {
+                    return false;
+                }
+                self.marks[i] = to;
+                true
+            }
+            None => false,
+        }
+    }
+
+    /// No slot is marked.
+    pub fn are_none(&self) -> bool
+        ensures { IsTrue result → (p : AnyPlace) → marked_slot self.now p ≡ false }
+    {
+        !self.marks.contains(&true)
+    }
+}
