@@ -34,6 +34,7 @@ impl Default for AltIndex {
 
 impl AltIndex {
     ghost use Rattle.pages.specs.Answer.{IsAnswer};
+    ghost use Rattle.bplus_tree.specs.Depth.{IsPastAll, FindsDamage};
     ghost use Rattle.key_index.specs.Entries.{has_rank, from_value, after_rank, past_value};
     ghost use Rattle.tree_search.specs.Calls.{last_of};
     ghost use Rattle.key_index.specs.Standing.{AltChanged, IsAltStored, CountsAlt, alt_height, alt_key};
@@ -235,7 +236,7 @@ impl AltIndex {
     }
 
     /// Adds an entry, and answers true; where its value and stamp are there, answers false, and nothing is changed. Full only where fewer pages are left
-    /// than the height and one; Memory also where the tree has 20 levels, or as many entries as a u64 can count. After a fault nothing is said of the index.
+    /// than the height and one; Damage, and no change, where the tree tells of 20 levels or of 2^64 - 1 entries. After a fault nothing is said of the index.
     pub fn add<P: Pages>(
         &mut self,
         pages: &mut P,
@@ -250,6 +251,7 @@ impl AltIndex {
         ensures added { IsTrue (P.state pages.new).is_honest → IsTrue (P.state pages.old).is_sound
             → AltAdds (P.state pages.old).live (P.state pages.new).live (IsTrue (P.state pages.new).is_sound) self.old self.new
             (record { value = record { items = value.now }; stamp = stamp; prime = record { items = prime.now } }) result }
+        ensures deep { IsPastAll self.old.tree → FindsDamage self.old self.new pages.old pages.new result }
         ensures grows { AltGrows self.old self.new 1 }
         ensures spends { Spends (P.state pages.old) (P.state pages.new) (alt_height self.old + 1) (8 * (alt_height self.old + 1)) }
         ensures cause { IfErr result (IsCaused (P.HasFailed pages.old pages.new) ((P.state pages.old).available < alt_height self.old + 1)) }

@@ -25,6 +25,7 @@ pub struct PrimeIndex {
 
 impl PrimeIndex {
     ghost use Rattle.pages.specs.Answer.{IsAnswer};
+    ghost use Rattle.bplus_tree.specs.Depth.{IsPastAll, FindsDamage};
     ghost use Rattle.key_index.specs.Entries.{has_prime, from_prime, after_prime, past_prime};
     ghost use Rattle.tree_search.specs.Calls.{last_of};
     ghost use Rattle.key_index.specs.Standing.{PrimeChanged, IsPrimeStored, CountsPrime, prime_height};
@@ -201,7 +202,7 @@ impl PrimeIndex {
     }
 
     /// Adds an entry, and answers true; where its value is there, answers false, and nothing is changed. Full only where fewer pages are left than the
-    /// height and one; Memory also where the tree has 20 levels, or as many entries as a u64 can count. After a fault nothing is said of the index.
+    /// height and one; Damage, and no change, where the tree tells of 20 levels or of 2^64 - 1 entries. After a fault nothing is said of the index.
     pub fn add<P: Pages>(
         &mut self,
         pages: &mut P,
@@ -214,6 +215,7 @@ impl PrimeIndex {
         ensures added { IsTrue (P.state pages.new).is_honest → IsTrue (P.state pages.old).is_sound
             → PrimeAdds (P.state pages.old).live (P.state pages.new).live (IsTrue (P.state pages.new).is_sound) self.old self.new
             (record { value = record { items = value.now }; place = place }) result }
+        ensures deep { IsPastAll self.old.tree → FindsDamage self.old self.new pages.old pages.new result }
         ensures grows { PrimeGrows self.old self.new 1 }
         ensures spends { Spends (P.state pages.old) (P.state pages.new) (prime_height self.old + 1) (8 * (prime_height self.old + 1)) }
         ensures cause { IfErr result (IsCaused (P.HasFailed pages.old pages.new) ((P.state pages.old).available < prime_height self.old + 1)) }
