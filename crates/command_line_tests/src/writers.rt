@@ -7,6 +7,7 @@ use std::os::unix::fs::FileExt;
 use std::process::Abort;
 use std::rt::Files;
 use std::test::Fail;
+use system_files::LockFile;
 
 const DECK: &str = "ENVIRONMENT DIVISION.
 INPUT-OUTPUT SECTION.
@@ -78,7 +79,7 @@ fn run<R: Files + AllocGlobal + Abort>(
     err: usize,
 ) -> Result<Ended, Fail>
 where
-    R::File: FileExt,
+    R::File: FileExt + LockFile,
 {
     let alloc = rt.alloc();
     let mut given = Vec::new(alloc);

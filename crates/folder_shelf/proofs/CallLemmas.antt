@@ -1,5 +1,5 @@
 -- What a write into a folder leaves, whatever part of it the system took.
-use Rattle.std.proofs.Common.{◌≡◌, Bool, IsTrue, is_some, not, ◌&&◌, ◌||◌, None, get_or, Result, Ok, Err, OnErr, ℕ, ◌+◌, ◌==◌, List, [], ◌∷◌, ◌++◌, Some, true, false, length, take, drop, bytes_eq, refl, ◌∙◌, ap, inl, inr, arith, if◌then◌else◌}
+use Rattle.std.proofs.Common.{◌≡◌, Bool, IsTrue, is_some, not, ◌&&◌, ◌||◌, None, get_or, Result, Ok, Err, OnErr, ℕ, ◌+◌, ◌==◌, List, [], ◌∷◌, ◌++◌, Some, true, false, length, take, drop, bytes_eq, refl, ◌∙◌, ap, inl, inr, if◌then◌else◌}
 use Rattle.std.proofs.lemmas.Bool.{cases_Bool, and_parts, le-leb}
 use Rattle.std.proofs.Common.{eq-eqb}
 use Rattle.std.proofs.lemmas.Slice.Eq.{bytes_eq-Decides}
@@ -7,7 +7,7 @@ use Rattle.page_store.specs.DeviceFile.{DeviceFile, IsWithin, IsThere, overlay, 
 use Rattle.page_store.specs.Calls.{ReadsBytes, Created, CreateFails, Written, WriteFails, Synced, SyncFails}
 use Rattle.page_store.specs.ShelfState.{ShelfState, unit_file, ChangesOnly}
 use Rattle.page_store.proofs.TornLemmas.{part_torn}
-use Rattle.folder_shelf.specs.Events.{Event, named, made, read, written, flushed, asked}
+use Rattle.folder_shelf.specs.Events.{Event, named, made, read, held, written, flushed, asked}
 use Rattle.folder_shelf.specs.Replay.{Unseen, replay, has, left_of, folder_state}
 use Rattle.folder_shelf.specs.ReplayLaws.{length_left}
 
@@ -70,27 +70,32 @@ module _ (disk : Unseen) (names : List (List ℕ)) (events : List Event) (unit :
           record { is = (bytes_eq-Decides bytes (take (length bytes) (drop at (content f)))).0 q.1 }
       go false is h = absurd (cc)
 
-  -- bytes were to be written
-  written_file : (at n : ℕ) (bytes : List ℕ) → unit_file (new (written at n bytes)) unit
-      ≡ record { seen = Some (overlay (content f) at (left_of n bytes (disk.torn (named name ∷ events)))); log = f.log ++ wrote at (length bytes) ∷ [] }
+  -- bytes were to be written into the file, which was held
+  abbrev wrote_held : ℕ → ℕ → List ℕ → ShelfState
+  wrote_held at n bytes = folder_state disk names (written at n bytes ∷ asked (held true) name events)
+
+  abbrev torn : List ℕ
+  torn = disk.torn (asked (held true) name events)
+
+  written_file : (at n : ℕ) (bytes : List ℕ) → unit_file (wrote_held at n bytes) unit
+      ≡ record { seen = Some (overlay (content f) at (left_of n bytes torn)); log = f.log ++ wrote at (length bytes) ∷ [] }
   written_file at n bytes = rw same refl
 
-  pub written_all : (at n : ℕ) (bytes : List ℕ) → n ≡ length bytes → Written at bytes f (unit_file (new (written at n bytes)) unit)
+  pub written_all : (at n : ℕ) (bytes : List ℕ) → n ≡ length bytes → Written at bytes f (unit_file (wrote_held at n bytes) unit)
   written_all at n bytes all = record {
     is = written_file at n bytes
-        ∙ ap (λ (l : List ℕ). record { seen = Some (overlay (content f) at l); log = f.log ++ wrote at (length bytes) ∷ [] }) (all_left n bytes (disk.torn (named name ∷ events)) (eq-eqb n (length bytes) all));
+        ∙ ap (λ (l : List ℕ). record { seen = Some (overlay (content f) at l); log = f.log ++ wrote at (length bytes) ∷ [] }) (all_left n bytes torn (eq-eqb n (length bytes) all));
   }
 
-  pub written_any : (at n : ℕ) (bytes : List ℕ) → WriteFails at (length bytes) f (unit_file (new (written at n bytes)) unit)
+  pub written_any : (at n : ℕ) (bytes : List ℕ) → WriteFails at (length bytes) f (unit_file (wrote_held at n bytes) unit)
   written_any at n bytes =
-      let torn = disk.torn (named name ∷ events) in
       let left = left_of n bytes torn in
       inr (overlay (content f) at left, part_torn (content f) at bytes left (length_left n bytes torn), written_file at n bytes)
 
-  pub written_only : (at n : ℕ) (bytes : List ℕ) → (IsTrue old.is_honest → IsWithin at f) → ChangesOnly unit old (new (written at n bytes))
+  pub written_only : (at n : ℕ) (bytes : List ℕ) → (IsTrue old.is_honest → IsWithin at f) → ChangesOnly unit old (wrote_held at n bytes)
   written_only at n bytes within = record { names = refl; others = λ m differs. rw (other m differs) refl; honest = both old.is_honest within }
     where
-      both : (honest : Bool) → (IsTrue honest → IsWithin at f) → (honest && has f at) ≡ honest
+      both : (honest : Bool) → (IsTrue honest → IsWithin at f) → (honest && (true && has f at)) ≡ honest
       both true there = let w = there refl in rw (w.there, le-leb at (length (content f)) w.long) refl
       both false there = refl
 

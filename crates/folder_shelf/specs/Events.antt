@@ -10,6 +10,8 @@ pub data Event : Type 0 where
   measured : Option ℕ → Event
   -- bytes were asked for: whether they came, from where, and the bytes
   read : Bool → ℕ → List ℕ → Event
+  -- it was to be held for changes, and whether it was
+  held : Bool → Event
   -- bytes were to be written: where, how many of them were taken, and the bytes
   written : ℕ → ℕ → List ℕ → Event
   -- it was to be synced, and whether it was
@@ -25,7 +27,8 @@ event (suc (suc zero)) at n bytes = measured (if n == 1 then Some at else None)
 event (suc (suc (suc zero))) at n bytes = read (n == 1) at bytes
 event (suc (suc (suc (suc zero)))) at n bytes = written at n bytes
 event (suc (suc (suc (suc (suc zero))))) at n bytes = flushed (n == 1)
-event (suc (suc (suc (suc (suc (suc more)))))) at n bytes = looked (if n == 1 then Some (at == 1) else None)
+event (suc (suc (suc (suc (suc (suc zero)))))) at n bytes = looked (if n == 1 then Some (at == 1) else None)
+event (suc (suc (suc (suc (suc (suc (suc more))))))) at n bytes = held (n == 1)
 
 abbrev pub event_of : List ℕ → List ℕ → Event
 event_of numbers bytes = event (slice_index numbers 0) (slice_index numbers 1) (slice_index numbers 2) bytes

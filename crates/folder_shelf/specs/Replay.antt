@@ -1,8 +1,8 @@
 -- What an honest folder holds after these calls and answers.
-use Rattle.std.specs.Prelude.{ℕ, ◌+◌, ◌==◌, nat_le, Bool, true, not, ◌&&◌, ◌||◌, if◌then◌else◌, List, [], ◌∷◌, ◌++◌, length, take, drop, bytes_eq, Some, None, is_some}
+use Rattle.std.specs.Prelude.{ℕ, ◌+◌, ◌==◌, nat_le, Bool, true, false, not, ◌&&◌, ◌||◌, if◌then◌else◌, List, [], ◌∷◌, ◌++◌, length, take, drop, bytes_eq, Some, None, is_some}
 use Rattle.page_store.specs.DeviceFile.{DeviceFile, created, wrote, synced, content, overlay}
 use Rattle.page_store.specs.ShelfState.{ShelfState}
-use Rattle.folder_shelf.specs.Events.{Event, named, made, measured, read, written, flushed, looked}
+use Rattle.folder_shelf.specs.Events.{Event, named, made, measured, read, held, written, flushed, looked}
 
 -- what no code can read of a disk
 pub record Unseen : Type 0 where
@@ -17,6 +17,8 @@ pub record Unseen : Type 0 where
 pub record Folder : Type 0 where
   -- the name of the file that the next call is on
   pub current : List ℕ
+  -- that file is held for changes
+  pub is_held : Bool
   pub file : List ℕ → DeviceFile
   -- each answer was that of the files
   pub is_honest : Bool
@@ -45,9 +47,10 @@ is_there there f = if there then is_some f.seen else not (is_some f.seen)
 abbrev pub left_of : ℕ → List ℕ → List ℕ → List ℕ
 left_of n bytes torn = if n == length bytes then bytes else take (length bytes) torn
 
--- a call after these earlier ones: what it leaves of its file, and whether its answer, if it has one, was that of the file
+-- a call after these earlier ones: what it leaves of its file, and whether its answer, if it has one, was that of the file.
+-- Whether a file is held is up to the folder; one that is not may not be written.
 abbrev pub after : Unseen → List Event → Event → Folder → Folder
-after disk earlier (named name) m = record m { current = name }
+after disk earlier (named name) m = record m { current = name; is_held = false }
 after disk earlier (made ok) m = record m {
   file = put m.file m.current (record {
     seen = if ok || disk.came earlier then Some [] else (now m).seen;
@@ -60,12 +63,13 @@ after disk earlier (measured (Some size)) m = record m {
   is_honest = m.is_honest && (is_some (now m).seen && (size == length (content (now m))));
 }
 after disk earlier (read ok at bytes) m = record m { is_honest = m.is_honest && (not ok || gives (now m) at bytes) }
+after disk earlier (held ok) m = record m { is_held = ok }
 after disk earlier (written at n bytes) m = record m {
   file = put m.file m.current (record {
     seen = Some (overlay (content (now m)) at (left_of n bytes (disk.torn earlier)));
     log = (now m).log ++ wrote at (length bytes) ∷ [];
   });
-  is_honest = m.is_honest && has (now m) at;
+  is_honest = m.is_honest && (m.is_held && has (now m) at);
 }
 after disk earlier (flushed ok) m = record m {
   file = if ok
@@ -78,7 +82,7 @@ after disk earlier (looked (Some there)) m = record m { is_honest = m.is_honest 
 
 -- the newest call is first
 abbrev pub replay : Unseen → List Event → Folder
-replay disk [] = record { current = []; file = disk.first; is_honest = true }
+replay disk [] = record { current = []; is_held = false; file = disk.first; is_honest = true }
 replay disk (e ∷ earlier) = after disk earlier e (replay disk earlier)
 
 -- what a shelf over a folder shows

@@ -1,5 +1,5 @@
 -- What reads give of an honest folder is one of the images, as a shelf promises.
-use Rattle.std.proofs.Common.{◌≡◌, ◌≤◌, ◌==◌, nat_le, ℕ, List, [], ◌∷◌, ◌++◌, Option, Some, None, true, false, IsTrue, is_some, not, ◌||◌, length, bytes_eq, subst, inl, inr, arith}
+use Rattle.std.proofs.Common.{◌≡◌, ◌≤◌, ◌==◌, nat_le, ℕ, List, [], ◌∷◌, ◌++◌, Option, Some, None, true, false, IsTrue, is_some, not, ◌&&◌, ◌||◌, length, bytes_eq, subst, inl, inr, arith}
 use Rattle.std.proofs.lemmas.Bool.{cases_Bool, and_parts, leb-true}
 use Rattle.std.proofs.lemmas.List.{length-take}
 use Rattle.page_store.specs.DeviceFile.{DeviceFile, wrote, content, overlay}
@@ -8,7 +8,7 @@ use Rattle.page_store.proofs.ImageLemmas.{leaves_written, leaves_synced}
 use Rattle.page_store.proofs.TornLemmas.{part_torn}
 use Rattle.page_store.proofs.FileLemmas.{some_bytes}
 use Rattle.page_store.proofs.MadeLemmas.{made_image}
-use Rattle.folder_shelf.specs.Events.{Event, named, made, measured, read, written, flushed, looked}
+use Rattle.folder_shelf.specs.Events.{Event, named, made, measured, read, held, written, flushed, looked}
 use Rattle.folder_shelf.specs.Replay.{Unseen, Folder, put, now, has, left_of, after, replay}
 
 abbrev Sound : DeviceFile → Type 0
@@ -38,9 +38,11 @@ module _ (disk : Unseen) (earlier : List Event) (m : Folder) (all : (name : List
   one_call (measured None) h = all
   one_call (measured (Some size)) h = all
   one_call (read ok at bytes) h = all
+  one_call (held ok) h = all
   one_call (written at n bytes) h =
-      let p = and_parts m.is_honest (has (now m) at) h in
-      put_sound m.file m.current _ all (written_sound (now m) at n bytes (disk.torn earlier) p.1 (all m.current))
+      let p = and_parts m.is_honest (m.is_held && has (now m) at) h in
+      let q = and_parts m.is_held (has (now m) at) p.1 in
+      put_sound m.file m.current _ all (written_sound (now m) at n bytes (disk.torn earlier) q.1 (all m.current))
   one_call (flushed true) h = put_sound m.file m.current _ all (leaves_synced (now m).log (content (now m)))
   one_call (flushed false) h = all
   one_call (looked None) h = all
@@ -52,6 +54,7 @@ was_honest disk earlier m (made ok) h = (and_parts m.is_honest _ h).0
 was_honest disk earlier m (measured None) h = h
 was_honest disk earlier m (measured (Some size)) h = (and_parts m.is_honest _ h).0
 was_honest disk earlier m (read ok at bytes) h = (and_parts m.is_honest _ h).0
+was_honest disk earlier m (held ok) h = h
 was_honest disk earlier m (written at n bytes) h = (and_parts m.is_honest _ h).0
 was_honest disk earlier m (flushed ok) h = (and_parts m.is_honest _ h).0
 was_honest disk earlier m (looked None) h = h

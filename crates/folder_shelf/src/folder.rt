@@ -1,21 +1,21 @@
 //! The files of a folder of the system. Each call that is made on one is noted with its answer.
-ghost use Rattle.std.specs.Prelude.{◌≡◌, ◌≤◌, [], length, IfOk, OnErr, IsOkUnless};
+ghost use Rattle.std.specs.Prelude.{◌≡◌, ◌∷◌, [], IfOk, OnErr, IsOkUnless};
 ghost use Rattle.io_state.specs.declared.fault.Fault.TheVariants.{Memory};
-ghost use Rattle.folder_shelf.specs.Events.{asked, made, measured, read, written, flushed, looked};
+ghost use Rattle.folder_shelf.specs.Events.{asked, made, measured, read, held, written, flushed, looked};
 
 use crate::record::Record;
 use io_state::{Fault, FileName};
 use std::alloc::Global;
 use std::os::unix::fs::FileExt;
 use std::rt::Files;
-use system_files::KeptFile;
+use system_files::{KeptFile, KeptFolder, LockFile};
 
-/// The files of a folder, each kept open for the calls that follow.
+/// The files of a folder, each kept open for the calls that follow, and locked: others may read it too until it is held.
 #[derive(Drop)]
 pub(crate) struct Folder<R: Files + Drop> {
     rt: R,
     alloc: Global,
-    path: String,
+    folder: KeptFolder,
     // The file of each unit, once it was reached.
     open: Vec<Option<KeptFile<R::File>>>,
     pub(crate) calls: Record,
@@ -23,7 +23,7 @@ pub(crate) struct Folder<R: Files + Drop> {
 
 impl<R: Files + Drop> Folder<R>
 where
-    R::File: FileExt,
+    R::File: FileExt + LockFile,
 {
     pub(crate) fn new(rt: R, alloc: Global, path: String) -> Folder<R>
         ensures { result.calls.events ≡ [] }
@@ -31,7 +31,7 @@ where
         Folder {
             rt,
             alloc,
-            path,
+            folder: KeptFolder::new(path),
             open: Vec::new(alloc),
             calls: Record::new(),
         }
@@ -53,12 +53,12 @@ where
     fn path_of(&self, name: &FileName) -> Result<String, Fault>
         ensures only_memory { IsOkUnless result Memory }
     {
-        format!(in self.alloc; "{}/{}", self.path.as_str(), name.as_str()).map_err(
+        format!(in self.alloc; "{}/{}", self.folder.path(), name.as_str()).map_err(
             |_| Fault::Memory,
         )
     }
 
-    // Opens the unit's file, if it is not open.
+    // Opens the unit's file, if it is not open and can be read.
     fn reach(&mut self, unit: usize, name: &FileName) -> Result<(), Fault>
         ensures calls { self.new.calls.events ≡ self.old.calls.events }
         ensures only_memory { IsOkUnless result Memory }
@@ -73,11 +73,11 @@ where
         Ok(())
     }
 
-    fn keep(&mut self, unit: usize, file: R::File)
+    fn keep(&mut self, unit: usize, file: KeptFile<R::File>)
         ensures calls { self.new.calls.events ≡ self.old.calls.events }
     {
         if let Some(open) = self.open.get_mut(unit) {
-            *open = Some(KeptFile::new(file));
+            *open = Some(file);
         }
     }
 
@@ -94,7 +94,7 @@ where
         Ok(found)
     }
 
-    /// Makes the file. Whether it was made.
+    /// Makes the file. Whether it was made, and this run has it alone.
     pub(crate) fn make(&mut self, unit: usize, name: &FileName) -> Result<bool, Fault>
         ensures noted { IfOk result (λ done.
             self.new.calls.events ≡ asked (made done) name.now.bytes self.old.calls.events) }
@@ -121,8 +121,8 @@ where
         ensures only_memory { IsOkUnless result Memory }
     {
         self.reach(unit, name)?;
-        let size = match self.open.get(unit) {
-            Some(Some(open)) => system_files::measure(&open.file),
+        let size = match self.open.get_mut(unit) {
+            Some(Some(open)) => open.measure(),
             _ => None,
         };
         self.calls.measured(name, size);
@@ -143,34 +143,40 @@ where
         ensures only_memory { IsOkUnless result Memory }
     {
         self.reach(unit, name)?;
-        let done = match self.open.get(unit) {
-            Some(Some(open)) => system_files::read(&open.file, at, bytes),
+        let done = match self.open.get_mut(unit) {
+            Some(Some(open)) => open.read(at, bytes),
             _ => false,
         };
         self.calls.read(name, done, at, bytes);
         Ok(done)
     }
 
-    /// Writes the bytes into the file. How many the system took, if the file is open.
-    pub(crate) fn write(
-        &mut self,
-        unit: usize,
-        name: &FileName,
-        at: u64,
-        bytes: &[u8],
-    ) -> Result<usize, Fault>
-        ensures noted { IfOk result (λ taken.
-            self.new.calls.events ≡ asked (written at taken bytes.now) name.now.bytes self.old.calls.events) }
+    /// Holds the file for changes, so that no other run reads or changes it. Whether it is held, and still what this run has read.
+    pub(crate) fn hold(&mut self, unit: usize, name: &FileName) -> Result<bool, Fault>
+        ensures noted { IfOk result (λ done.
+            self.new.calls.events ≡ asked (held done) name.now.bytes self.old.calls.events) }
         ensures failed { OnErr result (self.new.calls.events ≡ self.old.calls.events) }
         ensures only_memory { IsOkUnless result Memory }
     {
         self.reach(unit, name)?;
+        let done = match self.open.get_mut(unit) {
+            Some(Some(open)) => open.hold(),
+            _ => false,
+        };
+        self.calls.held(name, done);
+        Ok(done)
+    }
+
+    /// Writes the bytes into the file that was just held. How many the system took.
+    pub(crate) fn write(&mut self, unit: usize, at: u64, bytes: &[u8]) -> usize
+        ensures { self.new.calls.events ≡ written at result bytes.now ∷ self.old.calls.events }
+    {
         let taken = match self.open.get(unit) {
-            Some(Some(open)) => system_files::write(&open.file, at, bytes),
+            Some(Some(open)) => open.write(at, bytes),
             _ => 0,
         };
-        self.calls.written(name, at, taken, bytes);
-        Ok(taken)
+        self.calls.written(at, taken, bytes);
+        taken
     }
 
     /// Brings the file to the disk. Whether it was done.
@@ -190,7 +196,7 @@ where
         ensures calls { self.new.calls.events ≡ self.old.calls.events }
     {
         match self.open.get_mut(unit) {
-            Some(Some(open)) => open.sync(&self.rt, self.path.as_str()),
+            Some(Some(open)) => open.sync(&self.rt, &mut self.folder),
             _ => false,
         }
     }

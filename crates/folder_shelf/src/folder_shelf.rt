@@ -12,6 +12,7 @@ use std::alloc::Global;
 use std::marker::PhantomData;
 use std::os::unix::fs::FileExt;
 use std::rt::Files;
+use system_files::LockFile;
 
 /// The files of a folder. Each is kept open until the next `attach`.
 #[derive(Drop)]
@@ -25,7 +26,7 @@ pub struct FolderShelf<R: Files + Drop, D: Disk> {
 
 impl<R: Files + Drop, D: Disk> FolderShelf<R, D>
 where
-    R::File: FileExt,
+    R::File: FileExt + LockFile,
 {
     /// A shelf with no unit over a folder of the system.
     pub fn new(rt: R, alloc: Global, folder: String) -> FolderShelf<R, D>
@@ -45,7 +46,7 @@ where
 
 impl<R: Files + Drop, D: Disk> Shelf for FolderShelf<R, D>
 where
-    R::File: FileExt,
+    R::File: FileExt + LockFile,
 {
     ghost use Rattle.folder_shelf.specs.ReplayLaws.{replay_sound};
 
@@ -95,7 +96,11 @@ where
 
     fn write_at(&mut self, unit: usize, at: u64, bytes: &[u8]) -> Result<(), Fault> {
         let name = name_of(&self.units, unit);
-        let taken = self.folder.write(unit, name, at, bytes)?;
+        let held = self.folder.hold(unit, name)?;
+        if !held {
+            return fail(&mut self.faults);
+        }
+        let taken = self.folder.write(unit, at, bytes);
         if taken == bytes.len() {
             Ok(())
         } else {

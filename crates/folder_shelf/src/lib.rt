@@ -4,8 +4,9 @@
 //! what it was answered, and what the shelf shows is what an honest folder would hold after these calls. The clauses of
 //! `Shelf` then speak of the runs in which each answer was that of such a folder.
 //!
-//! That each method makes the call that it notes, and that nobody else writes the files, is trusted. Read
-//! `specs/Replay.antt` first, then `Folder`.
+//! A file is under a shared lock from the first call that needs it, and under an exclusive one from its first change, until it
+//! is closed by `attach` or with the process. That each method makes the call that it notes, and that nobody else writes the
+//! files, is trusted. Read `specs/Replay.antt` first, then `Folder`.
 #![tactic(auto)]
 
 mod disk;

@@ -1,7 +1,7 @@
 //! A list of calls and answers that only clauses read.
 ghost use Rattle.std.specs.Prelude.{◌≡◌, List, [], ◌∷◌};
 ghost use Rattle.std.specs.Borrow.{ftrue};
-ghost use Rattle.folder_shelf.specs.Events.{Event, event_of, event, asked, made, measured, read, written, flushed, looked};
+ghost use Rattle.folder_shelf.specs.Events.{Event, event_of, event, asked, made, measured, read, held, written, flushed, looked};
 
 use io_state::FileName;
 use std::marker::{Model, PhantomData};
@@ -19,6 +19,8 @@ const WRITTEN: u64 = 4;
 const FLUSHED: u64 = 5;
 
 const LOOKED: u64 = 6;
+
+const HELD: u64 = 7;
 
 /// What was asked of the files of a folder and what was answered, the newest first. No memory holds it.
 #[derive(Drop)]
@@ -88,11 +90,18 @@ impl Record {
         self.call(name, READ, at, done as u64, bytes);
     }
 
-    /// Bytes were to be written. Where, how many of them the system took, and the bytes.
-    pub(crate) fn written(&mut self, name: &FileName, at: u64, taken: usize, bytes: &[u8])
-        ensures { self.new.events ≡ asked (written at taken bytes.now) name.now.bytes self.old.events }
+    /// A file was to be held for changes, and whether it was.
+    pub(crate) fn held(&mut self, name: &FileName, done: bool)
+        ensures { self.new.events ≡ asked (held done) name.now.bytes self.old.events }
     {
-        self.call(name, WRITTEN, at, taken as u64, bytes);
+        self.call(name, HELD, 0, done as u64, &[]);
+    }
+
+    /// Bytes were to be written into the file that the last call was on. Where, how many of them the system took, and the bytes.
+    pub(crate) fn written(&mut self, at: u64, taken: usize, bytes: &[u8])
+        ensures { self.new.events ≡ written at taken bytes.now ∷ self.old.events }
+    {
+        self.note(&[WRITTEN, at, taken as u64], bytes);
     }
 
     /// A file was to be synced, and whether it was.

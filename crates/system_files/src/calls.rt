@@ -1,16 +1,16 @@
 //! Calls of the system on files, made again where a signal interrupts them.
 ghost use Rattle.std.specs.Prelude.{◌<◌, ◌≤◌, length, IfSome};
 
-use std::fs::{self, Metadata, OpenFile, OpenOptions};
+use std::fs::{self, OpenFile, OpenOptions};
 use std::io;
-use std::os::unix::fs::{FileExt, MetadataExt};
+use std::os::unix::fs::FileExt;
 use std::rt::Files;
 
 /// So many interrupted calls in a row are a fault of the device.
-const MOST_INTERRUPTED: u32 = 1000;
+pub(crate) const MOST_INTERRUPTED: u32 = 1000;
 
-// Makes a call again while it is interrupted.
-fn again<T, F: Fn() -> io::Result<T> + Drop>(call: F) -> io::Result<T>
+/// Makes a call again while it is interrupted.
+pub(crate) fn again<T, F: Fn() -> io::Result<T> + Drop>(call: F) -> io::Result<T>
     requires { F.IsAlwaysCallable call }
 {
     for _ in 0..MOST_INTERRUPTED {
@@ -38,41 +38,6 @@ pub fn look<R: Files>(rt: &R, path: &str) -> Option<bool> {
             }
         }
     }
-}
-
-/// Makes a file that is not there, and opens it.
-pub fn make<R: Files>(rt: &R, path: &str) -> Option<R::File> {
-    open_path(rt, path, true).ok()
-}
-
-/// Opens what is a file by its own name, and no link.
-pub fn open<R: Files>(rt: &R, path: &str) -> Option<R::File> {
-    let named = again(|| fs::symlink_metadata(rt, path)).ok()?;
-    if !named.is_file() {
-        return None;
-    }
-    let file = open_path(rt, path, false).ok()?;
-    // A link may have taken the name since.
-    let opened = again(|| file.metadata()).ok()?;
-    if is_same(&named, &opened) {
-        Some(file)
-    } else {
-        None
-    }
-}
-
-fn open_path<R: Files>(rt: &R, path: &str, is_new: bool) -> io::Result<R::File> {
-    again(|| {
-        OpenOptions::new()
-            .read(true)
-            .write(true)
-            .create_new(is_new)
-            .open(rt, path)
-    })
-}
-
-fn is_same(a: &Metadata, b: &Metadata) -> bool {
-    a.dev() == b.dev() && a.ino() == b.ino()
 }
 
 /// Brings the names in a folder to the disk.

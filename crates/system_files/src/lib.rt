@@ -1,13 +1,21 @@
-//! The calls of the system on files and on the folder that holds them, each made again where a signal interrupts it.
+//! The calls of the system on files and on the folder that holds them, each made again where a signal interrupts it, and the locks of open files.
 //!
-//! Reads and writes go on until all bytes came or were taken; the thousandth interrupted call in a row is told as one that failed. Nothing is promised of the
-//! system's answers, and that each function makes the calls that its name says is trusted.
+//! Reads and writes go on until all bytes came or were taken; the thousandth interrupted call in a row is told as one that failed. A file is read under a
+//! shared lock and written under an exclusive one. Nothing is promised of the system's answers, and that each function makes the calls that its name says is
+//! trusted.
 //!
-//! Read `calls`, then `kept_file`.
+//! Read `calls` and `locks`, then `kept_file`.
 #![tactic(auto)]
 
+mod appearance;
 mod calls;
 mod kept_file;
+mod kept_folder;
+mod locks;
+mod opening;
 
-pub use calls::{look, make, measure, open, read, sync, write};
+pub use calls::{look, measure, read, sync, write};
 pub use kept_file::KeptFile;
+pub use kept_folder::KeptFolder;
+pub use locks::{LockFile, share};
+pub use opening::{make, open};

@@ -1,0 +1,33 @@
+//! A folder whose names are brought to the disk.
+
+use crate::calls::sync_folder;
+use std::rt::Files;
+
+/// The path of a folder, and what is known of its syncs.
+#[derive(Drop)]
+pub struct KeptFolder {
+    path: String,
+    // A sync failed: the system may have dropped a name, and the next sync may not tell, whoever asks for it.
+    is_lost: bool,
+}
+
+impl KeptFolder {
+    pub fn new(path: String) -> KeptFolder {
+        KeptFolder {
+            path,
+            is_lost: false,
+        }
+    }
+
+    pub fn path(&self) -> &str {
+        self.path.as_str()
+    }
+
+    /// Brings the names of its files to the disk. Whether it was done; never again once it failed.
+    pub(crate) fn sync<R: Files>(&mut self, rt: &R) -> bool {
+        if !self.is_lost {
+            self.is_lost = !sync_folder(rt, self.path.as_str());
+        }
+        !self.is_lost
+    }
+}

@@ -1,0 +1,61 @@
+//! Locks of the system on open files. A lock belongs to the file as it was opened: it goes when that is closed, and so with the process.
+
+use crate::calls::{MOST_INTERRUPTED, again};
+use std::fs::{File, TryLockError};
+use std::io;
+
+/// A file that can be locked, as `File` is.
+pub trait LockFile {
+    fn try_lock_shared(&self) -> Result<(), TryLockError>;
+
+    fn try_lock(&self) -> Result<(), TryLockError>;
+
+    fn unlock(&self) -> io::Result<()>;
+}
+
+impl LockFile for File {
+    fn try_lock_shared(&self) -> Result<(), TryLockError> {
+        File::try_lock_shared(self)
+    }
+
+    fn try_lock(&self) -> Result<(), TryLockError> {
+        File::try_lock(self)
+    }
+
+    fn unlock(&self) -> io::Result<()> {
+        File::unlock(self)
+    }
+}
+
+/// Takes the lock that those who read have side by side. Whether it was had; where the system has no locks, it is as if.
+pub fn share<F: LockFile>(file: &F) -> bool {
+    was_had(|| file.try_lock_shared())
+}
+
+/// Takes the lock that one alone has. Whether it was had, as `share` tells it; where it was not, a lock that was had before is gone.
+pub(crate) fn claim<F: LockFile>(file: &F) -> bool {
+    was_had(|| file.try_lock())
+}
+
+/// Lets a lock go.
+pub(crate) fn release<F: LockFile>(file: &F) {
+    let _ = again(|| file.unlock());
+}
+
+// Whether a call had its lock. A fault other than that somebody else has it means that there are no locks.
+fn was_had<F: Fn() -> Result<(), TryLockError> + Drop>(call: F) -> bool
+    requires { F.IsAlwaysCallable call }
+{
+    for _ in 0..MOST_INTERRUPTED {
+        match call() {
+            Ok(()) => return true,
+            Err(TryLockError::WouldBlock) => return false,
+            Err(TryLockError::Error(error)) => {
+                if error.kind() != io::ErrorKind::Interrupted {
+                    return true;
+                }
+            }
+        }
+    }
+    false
+}
