@@ -1,8 +1,9 @@
 //! Records, and where their items stand.
 
 use crate::checks::{assert_equal, assert_equal_for};
-use crate::entries::items;
-use record_layout::{Field, Layout};
+use crate::entries::{Row, items};
+use record_layout::{Field, Layout, LayoutFault};
+use std::alloc::Global;
 use std::test::Fail;
 
 fn place(offset: u16, length: u16) -> Option<Field> {
@@ -65,6 +66,47 @@ fn items_stand_one_behind_another_and_groups_round_their_members(
         let layout = Layout::build(rt.alloc(), &items(rt.alloc(), rows)?)?;
         assert_equal_for(&rt, name, layout.field(name), field);
         assert_equal_for(&rt, rows, layout.length(), length);
+    }
+    Ok(())
+}
+
+fn fault_of(alloc: Global, rows: &[Row]) -> Result<Option<LayoutFault>, Fail> {
+    Ok(Layout::build(alloc, &items(alloc, rows)?).err())
+}
+
+#[test]
+fn the_first_fault_of_a_description_is_told(rt: HostRuntime) -> Result<(), Fail> {
+    let deeper_than_a_picture = [(1, "R", ""), (5, "A", "X(1)"), (10, "B", "X(1)")];
+    let never_opened = [(1, "R", ""), (10, "A", "X(1)"), (5, "B", "X(1)")];
+    let past_49 = [(1, "R", ""), (50, "A", "X(1)")];
+    let not_01_first = [(2, "R", "X(1)")];
+    let second_01 = [(1, "R", "X(1)"), (1, "S", "X(1)")];
+    let empty_group = [(1, "R", ""), (5, "A", ""), (5, "B", "X(1)")];
+    let empty_record = [(1, "R", ""), (1, "S", "X(1)")];
+    let group_alone = [(1, "R", "")];
+    let group_last = [(1, "R", ""), (5, "A", "")];
+    let twice = [(1, "R", ""), (5, "A", "X(1)"), (5, "A", "X(1)")];
+    let as_the_record = [(1, "R", ""), (5, "R", "X(1)")];
+    let no_picture = [(1, "R", ""), (5, "A", "X(1)"), (5, "B", "X9")];
+    let too_long = [(1, "R", ""), (5, "A", "X(4000)"), (5, "B", "X(1)")];
+    for (rows, fault) in [
+        (deeper_than_a_picture.as_slice(), LayoutFault::BadLevel),
+        (never_opened.as_slice(), LayoutFault::BadLevel),
+        (past_49.as_slice(), LayoutFault::BadLevel),
+        (not_01_first.as_slice(), LayoutFault::BadLevel),
+        (second_01.as_slice(), LayoutFault::BadLevel),
+        (empty_group.as_slice(), LayoutFault::Empty),
+        (empty_record.as_slice(), LayoutFault::Empty),
+        (group_alone.as_slice(), LayoutFault::Empty),
+        (group_last.as_slice(), LayoutFault::Empty),
+        ([].as_slice(), LayoutFault::Empty),
+        (twice.as_slice(), LayoutFault::DuplicateName),
+        (as_the_record.as_slice(), LayoutFault::DuplicateName),
+        (no_picture.as_slice(), LayoutFault::BadPicture),
+        (too_long.as_slice(), LayoutFault::TooLong),
+    ] {
+        let found = fault_of(rt.alloc(), rows)?;
+        assert!(rt; found == Some(fault), "{rows:?}");
     }
     Ok(())
 }

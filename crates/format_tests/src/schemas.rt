@@ -3,7 +3,7 @@
 use crate::checks::{assert_equal, assert_equal_for};
 use crate::entries::items;
 use io_state::Name;
-use record_layout::{Field, KeyPart, Layout, Schema};
+use record_layout::{Field, KeyPart, Layout, Schema, SchemaFault};
 use std::alloc::Global;
 use std::process::Abort;
 use std::test::Fail;
@@ -78,6 +78,39 @@ fn an_item_is_a_key_or_leads_one(rt: HostRuntime) -> Result<(), Fail> {
     ] {
         assert_equal_for(&rt, item, schema.key_of(item), key);
         assert_equal_for(&rt, item, schema.partial(item), partial);
+    }
+    Ok(())
+}
+
+/// The fault of keys of the customer of 265 bytes, of which every record has 13.
+fn fault_of(layout: &Layout, prime: &str, alternates: &[(Name, bool)]) -> Option<SchemaFault> {
+    if layout.length() != 265 {
+        return None;
+    }
+    Schema::varying(layout, 13, prime, alternates).err()
+}
+
+// FILE-CONTROL entry: the leftmost character of no key is that of another. RECORD clause: keys are within the least length.
+#[test]
+fn the_first_fault_of_the_keys_is_told(rt: HostRuntime) -> Result<(), Fail> {
+    let layout = customer(rt.alloc())?;
+    let none = [];
+    let unknown = [(Name::from("NUMBER")?, false)];
+    let first = [(Name::from("NAME")?, false), (Name::from("FIRST")?, true)];
+    let past = [(Name::from("CODE")?, false)];
+    let two_faults = [(Name::from("CODE")?, false), (Name::from("NOTE")?, false)];
+    let nine = [(Name::from("NUMBER")?, false); 9];
+    for (prime, alternates, fault) in [
+        ("NUMBER", none.as_slice(), SchemaFault::NoSuchField),
+        ("ID", unknown.as_slice(), SchemaFault::NoSuchField),
+        ("NOTE", none.as_slice(), SchemaFault::KeyTooLong),
+        ("ID", first.as_slice(), SchemaFault::SameLeftmost),
+        ("ID", past.as_slice(), SchemaFault::KeyPastLeast),
+        ("ID", two_faults.as_slice(), SchemaFault::KeyPastLeast),
+        ("NUMBER", nine.as_slice(), SchemaFault::TooManyKeys),
+    ] {
+        let found = fault_of(&layout, prime, alternates);
+        assert!(rt; found == Some(fault), "{fault:?}");
     }
     Ok(())
 }
