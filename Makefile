@@ -1,5 +1,5 @@
 # cobix: `make try` runs a deck over the files of DIR in half a minute, without the proofs; `make run` proves and builds the program, and runs a deck; `make test` proves and tests
-# everything, and runs the examples and the cases; `make install` puts the program that one of the last two built into PREFIX/bin.
+# everything, runs the examples and the cases, and some of them out of memory; `make install` puts the program that one of the last two built into PREFIX/bin.
 .PHONY: try run test install
 
 SHELL = /bin/bash -o pipefail
@@ -23,6 +23,7 @@ test:
 	docs/believed
 	rt ci
 	cases/run $(PROGRAM)
+	cases/run-out-of-memory $(PROGRAM)
 
 install: $(PROGRAM)
 	install -D $(PROGRAM) $(PREFIX)/bin/cobix
