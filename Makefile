@@ -1,5 +1,7 @@
-# cobix: `make try` runs a deck over the files of DIR in half a minute, without the proofs; `make run` proves and builds the program, and runs a deck; `make test` proves and tests
-# everything, runs the examples and the cases, and some of them out of memory; `make install` puts the program that one of the last two built into PREFIX/bin.
+# cobix: `make try` runs a deck over the files of DIR in about a minute, without the proofs;
+# `make run` proves and builds the program, and runs a deck; `make test` proves and tests everything,
+# runs the examples, the cases and some of them out of memory, and checks the documents;
+# `make install` puts the program that one of the last two built into PREFIX/bin.
 .PHONY: try run test install
 
 SHELL = /bin/bash -o pipefail
@@ -24,6 +26,7 @@ test:
 	rt ci
 	cases/run $(PROGRAM)
 	cases/run-out-of-memory $(PROGRAM)
+	docs/check $(PROGRAM)
 
 install: $(PROGRAM)
 	install -D $(PROGRAM) $(PREFIX)/bin/cobix

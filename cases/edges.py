@@ -421,6 +421,8 @@ def checked_folder(room):
     wants(told(room.program, room.files), (0, lines(2, 0, 1), ""), "two sound files")
     copy.write_bytes(b"D" + copy.read_bytes()[1:])
     wants(told(room.program, room.files), (1, [f"{copy}: unsound 2", *lines(2, 1, 1)], ""), "an unsound file")
+    copy.write_bytes(b"D")
+    wants(told(room.program, room.files), (1, [f"{copy}: unsound 1", *lines(2, 1, 1)], ""), "a file whose making was stopped")
     missing = room.place / "missing"
     wants(told(room.program, missing), (4, [], f"check-folder: {missing} is no folder\n"), "no folder")
     wants(told(missing, room.files), (4, [], f"check-folder: {missing} is no program\n"), "no program")
