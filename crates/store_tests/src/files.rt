@@ -1,5 +1,5 @@
 //! Files written, stopped and read back over each shelf.
-ghost use Rattle.std.specs.Prelude.{◌≡◌, ◌<◌, ◌^◌, ◌-◌, IsTrue};
+ghost use Rattle.std.specs.Prelude.{◌≡◌, ◌<◌, ◌^◌, ◌-◌, ℕ, IsTrue};
 ghost use Rattle.page_store.specs.ShelfState.{HasUnit, unit_file};
 ghost use Rattle.page_store.specs.Pages.{HasPages};
 
@@ -44,7 +44,7 @@ fn fill<S: Shelf>(shelf: &mut S, store: &mut Store, count: u32, byte: u8) -> Res
     Ok(())
 }
 
-// Makes the file anew with these pages.
+/// Makes the file anew with these pages.
 pub fn make<S: Shelf>(shelf: &mut S, count: u32, byte: u8) -> Result<(), Fault>
     requires unit { HasUnit (S.state shelf.old) 0 }
     requires count { count < 2 ^ 32 - 1 }
@@ -55,8 +55,8 @@ pub fn make<S: Shelf>(shelf: &mut S, count: u32, byte: u8) -> Result<(), Fault>
     store.finish(shelf)
 }
 
-// Changes these pages of a file that is there.
-fn change<S: Shelf>(shelf: &mut S, count: u32, byte: u8) -> Result<(), Fault>
+/// Changes these pages of a file that is there.
+pub fn change<S: Shelf>(shelf: &mut S, count: u32, byte: u8) -> Result<(), Fault>
     requires unit { HasUnit (S.state shelf.old) 0 }
     requires count { count < 2 ^ 32 - 1 }
     ensures unit { HasUnit (S.state shelf.new) 0 }
@@ -73,15 +73,15 @@ fn change<S: Shelf>(shelf: &mut S, count: u32, byte: u8) -> Result<(), Fault>
     store.finish(shelf)
 }
 
-// Opens the gate of a file that is there, and stops.
-fn begin<S: Shelf>(shelf: &mut S) -> Result<(), Fault>
-    requires unit { HasUnit (S.state shelf.old) 0 }
-    ensures unit { HasUnit (S.state shelf.new) 0 }
+/// Opens the gate of a file that is there, and stops.
+pub fn begin<S: Shelf>(shelf: &mut S, unit: usize) -> Result<(), Fault>
+    requires unit { HasUnit (S.state shelf.old) unit }
+    ensures unit { (u : ℕ) → HasUnit (S.state shelf.old) u → HasUnit (S.state shelf.new) u }
 {
-    if !shelf.exists(0)? {
+    if !shelf.exists(unit)? {
         return Ok(());
     }
-    let store = Store::open(shelf, 0)?;
+    let store = Store::open(shelf, unit)?;
     if store.pages > 0 {
         store.begin_change(shelf)?;
     }
@@ -209,7 +209,7 @@ fn a_stop_inside_make_leaves_no_file_a_refused_one_the_old_or_the_new(
                 }
                 let found = find(&mut shelf)?;
                 if start == 3 {
-                    begin(&mut shelf)?;
+                    begin(&mut shelf, 0)?;
                 }
                 let mut fuse = FuseShelf::new(shelf, Kind::Changes, at, after, true);
                 let done = make(&mut fuse, 2, 50).is_ok();

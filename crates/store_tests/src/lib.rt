@@ -3,8 +3,8 @@
 //! What a clause says is proved and not tested again. Here files are made, changed and stopped at each call in turn, and what they are found to be
 //! afterwards is looked at, page by page.
 //!
-//! Read `files` for a file and its gate, `folders` for files in a folder of the system and `system_calls` for its calls, then `paged_files` for the pages that the
-//! cache holds and those that are free.
+//! Read `files` for a file and its gate, `folders` for files in a folder of the system, `held_files` for those of two runs at once and `system_calls` for its
+//! calls, then `paged_files` for the pages that the cache holds and those that are free.
 #![tactic(auto)]
 
 #[cfg(test)]
@@ -14,7 +14,11 @@ mod files;
 #[cfg(test)]
 mod folders;
 #[cfg(test)]
+mod held_files;
+#[cfg(test)]
 mod paged_files;
+#[cfg(test)]
+mod refusing_system;
 #[cfg(test)]
 mod shelves;
 #[cfg(test)]

@@ -1,10 +1,12 @@
 //! Calls of the system that are interrupted, that move a part of the bytes, or that fail.
 
+use io_state::Fault;
 use std::cell::Cell;
-use std::fs::{Metadata, OpenFile};
+use std::fs::{self, Metadata, OpenFile, TryLockError};
 use std::io;
 use std::os::unix::fs::FileExt;
-use system_files::KeptFile;
+use std::test::Fail;
+use system_files::{KeptFile, KeptFolder, LockFile};
 
 /// A file of which each call is interrupted so many times, and then moves at most three bytes.
 #[derive(Drop)]
@@ -34,6 +36,20 @@ impl Interrupted {
                 Ok(())
             }
         }
+    }
+}
+
+impl LockFile for Interrupted {
+    fn try_lock_shared(&self) -> Result<(), TryLockError> {
+        self.pass().map_err(TryLockError::Error)
+    }
+
+    fn try_lock(&self) -> Result<(), TryLockError> {
+        self.pass().map_err(TryLockError::Error)
+    }
+
+    fn unlock(&self) -> io::Result<()> {
+        self.pass()
     }
 }
 
@@ -72,6 +88,79 @@ impl OpenFile for Interrupted {
     }
 }
 
+/// A file all bytes of which are one byte, and of which no times are known. Who asks for the exclusive lock finds it with another length or byte.
+#[derive(Drop)]
+struct Changing {
+    length: Cell<u64>,
+    byte: Cell<u8>,
+    then: (u64, u8),
+}
+
+impl LockFile for Changing {
+    fn try_lock_shared(&self) -> Result<(), TryLockError> {
+        Ok(())
+    }
+
+    fn try_lock(&self) -> Result<(), TryLockError> {
+        self.length.set(self.then.0);
+        self.byte.set(self.then.1);
+        Ok(())
+    }
+
+    fn unlock(&self) -> io::Result<()> {
+        Ok(())
+    }
+}
+
+impl FileExt for Changing {
+    fn read_at(&self, bytes: &mut [u8], _at: u64) -> io::Result<usize> {
+        bytes.fill(self.byte.get());
+        Ok(bytes.len())
+    }
+
+    fn write_at(&self, bytes: &[u8], _at: u64) -> io::Result<usize> {
+        Ok(bytes.len())
+    }
+}
+
+impl OpenFile for Changing {
+    fn metadata(&self) -> io::Result<Metadata> {
+        Ok(Metadata::of_file(self.length.get()))
+    }
+
+    fn set_len(&self, size: u64) -> io::Result<()> {
+        self.length.set(size);
+        Ok(())
+    }
+
+    fn sync_all(&self) -> io::Result<()> {
+        Ok(())
+    }
+
+    fn sync_data(&self) -> io::Result<()> {
+        Ok(())
+    }
+}
+
+// Each alone is seen: past the first page a length, and inside it a byte.
+#[test]
+fn a_file_with_another_length_or_first_page_is_not_held(rt: HostRuntime) -> Result<(), Fail> {
+    for (then, is_held) in [((9000, 7), true), ((9001, 7), false), ((9000, 8), false)] {
+        let file = Changing {
+            length: Cell::new(9000),
+            byte: Cell::new(7),
+            then,
+        };
+        let mut file = KeptFile::opened(file, true).ok_or(Fault::Device)?;
+        assert_eq!(rt; file.hold(), is_held, "{then:?}");
+        assert_eq!(rt; file.write(0, &[0; 10]) == 10, is_held, "{then:?}");
+        // Read anew, it is the file that it was found to be.
+        assert_eq!(rt; file.measure(), Some(then.0));
+        assert!(rt; file.hold());
+    }
+    Ok(())
+}
+
 #[test]
 fn a_thousand_interrupted_calls_in_a_row_are_a_fault(rt: HostRuntime) {
     let (few, many) = (Interrupted::new(999, false), Interrupted::new(1000, false));
@@ -80,6 +169,7 @@ fn a_thousand_interrupted_calls_in_a_row_are_a_fault(rt: HostRuntime) {
     assert_eq!(rt; system_files::write(&few, 0, &bytes), 10);
     assert!(rt; system_files::sync(&few));
     assert_eq!(rt; system_files::measure(&few), Some(7));
+    assert!(rt; system_files::share(&few));
     assert!(rt; !system_files::read(&many, 0, &mut bytes));
     assert_eq!(rt;
         system_files::write(&Interrupted::new(1000, false), 0, &bytes),
@@ -87,15 +177,55 @@ fn a_thousand_interrupted_calls_in_a_row_are_a_fault(rt: HostRuntime) {
     );
     assert!(rt; !system_files::sync(&Interrupted::new(1000, false)));
     assert_eq!(rt; system_files::measure(&Interrupted::new(1000, false)), None);
+    assert!(rt; !system_files::share(&Interrupted::new(1000, false)));
+    assert!(rt; KeptFile::made(Interrupted::new(1000, false)).is_none());
+}
+
+fn opened(file: Interrupted) -> Result<KeptFile<Interrupted>, Fault> {
+    KeptFile::opened(file, true).ok_or(Fault::Device)
 }
 
 #[test]
-fn a_file_whose_sync_failed_is_not_synced_again(rt: HostRuntime) {
-    let mut file = KeptFile::new(Interrupted::new(0, true));
-    assert!(rt; !file.sync(&rt, "."));
-    assert!(rt; !file.sync(&rt, "."));
-    let mut file = KeptFile::new(Interrupted::new(0, false));
-    assert!(rt; file.sync(&rt, "."));
-    let mut file = KeptFile::new(Interrupted::new(0, false));
-    assert!(rt; !file.sync(&rt, "no_such_folder"));
+fn a_file_is_written_only_while_it_is_held(rt: HostRuntime) -> Result<(), Fail> {
+    let mut file = opened(Interrupted::new(999, false))?;
+    assert_eq!(rt; file.measure(), Some(7));
+    assert_eq!(rt; file.write(0, &[0; 10]), 0);
+    assert!(rt; file.hold());
+    assert_eq!(rt; file.write(0, &[0; 10]), 10);
+    // One that may only be read is never held.
+    let mut file = KeptFile::opened(Interrupted::new(0, false), false).ok_or(Fault::Device)?;
+    assert!(rt; !file.hold());
+    assert_eq!(rt; file.write(0, &[0; 10]), 0);
+    assert_eq!(rt; file.measure(), Some(7));
+    Ok(())
+}
+
+#[test]
+fn a_file_whose_sync_failed_is_not_synced_again(rt: HostRuntime) -> Result<(), Fail> {
+    let mut folder = KeptFolder::new(".".to_string(rt.alloc())?);
+    let mut file = opened(Interrupted::new(0, true))?;
+    assert!(rt; !file.sync(&rt, &mut folder));
+    assert!(rt; !file.sync(&rt, &mut folder));
+    let mut file = opened(Interrupted::new(0, false))?;
+    assert!(rt; file.sync(&rt, &mut folder));
+    Ok(())
+}
+
+#[test]
+fn a_folder_whose_sync_failed_is_not_synced_again(rt: HostRuntime) -> Result<(), Fail> {
+    let _ = fs::remove_dir(&rt, "moved_away");
+    let _ = fs::remove_dir(&rt, "moved");
+    fs::create_dir(&rt, "moved")?;
+    let mut folder = KeptFolder::new("moved".to_string(rt.alloc())?);
+    let mut before = opened(Interrupted::new(0, false))?;
+    let mut after = opened(Interrupted::new(0, false))?;
+    assert!(rt; before.sync(&rt, &mut folder));
+    fs::rename(&rt, "moved", "moved_away")?;
+    assert!(rt; !after.sync(&rt, &mut folder));
+    fs::rename(&rt, "moved_away", "moved")?;
+    assert!(rt; !after.sync(&rt, &mut folder));
+    assert!(rt; !opened(Interrupted::new(0, false))?.sync(&rt, &mut folder));
+    // The name of this one was on the disk before.
+    assert!(rt; before.sync(&rt, &mut folder));
+    Ok(())
 }
