@@ -2,9 +2,9 @@
 //!
 //! What a clause says is proved and not tested again, and worked decks are run elsewhere. Here the library is given the same calls as one that keeps its records in
 //! lists: drawn ones, and those at the least and the greatest lengths. And files of some two thousand records with keys of 120 bytes are filled, read and
-//! changed, where the pages that are asked for are compared with bounds that are written down for themselves.
+//! changed, where the pages that are asked for are compared with bounds that are written down for themselves; a few files are damaged, and held to the same bounds.
 //!
-//! Read `alike` for the calls on both libraries, then `drawn_alike` and `lengths`; for the pages `bounds`, then `asked` and `reads`, `program` and `asked_by_verbs`.
+//! Read `alike` for the calls on both libraries, then `drawn_alike` and `lengths`; for the pages `bounds`, then `asked` and `reads`, `program` and `asked_by_verbs`, and `damaged`.
 #![tactic(auto)]
 
 #[cfg(test)]
@@ -15,6 +15,8 @@ mod asked;
 mod asked_by_verbs;
 #[cfg(test)]
 mod bounds;
+#[cfg(test)]
+mod damaged;
 #[cfg(test)]
 mod drawn_alike;
 #[cfg(test)]

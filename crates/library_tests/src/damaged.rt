@@ -1,0 +1,254 @@
+//! Files that are damaged behind a first page that is accepted: each call asks for no more pages, and makes no more calls of the shelf, than over a sound file of
+//! the heights that the first page tells.
+
+ghost use Rattle.indexed_file.specs.Clients.{IsOpenWith};
+
+use crate::bounds::{HasTrees, asked_at_most, most_to_change, most_to_read, most_to_seek};
+use crate::keys::key_of;
+use indexed_file::Library;
+use io_state::{Fault, Key, Position, Relation};
+use page_store::{FuseShelf, Kind, MemShelf, Shelf};
+use record_layout::Schema;
+use std::alloc::Global;
+use std::process::Abort;
+use std::test::Fail;
+use unit_calls::{
+    Told, adds, creates, finds, goes_on, library_over, opens, part, record_of, removes, replaces,
+    restarts, schema, seeks, shuts, tops, two_names,
+};
+
+/// Bytes that are put into a file, and where.
+type Edit = (usize, &'static [u8]);
+
+/// Page 1 is the leaf of the first key, page 2 that of the second, and page 3 the heap's, whose slots have 249 bytes.
+const DAMAGES: [(&str, &[Edit]); 8] = [
+    ("nothing", &[]),
+    (
+        "a free slot leads to itself",
+        &[
+            (28, &[0, 0, 0, 3, 0, 1]),
+            (12288 + 16 + 249, &[0, 0, 0, 0, 3, 0, 1]),
+        ],
+    ),
+    (
+        "two free slots lead to each other",
+        &[
+            (28, &[0, 0, 0, 3, 0, 4]),
+            (12288 + 16 + 4 * 249, &[0, 0, 0, 0, 3, 0, 5]),
+            (12288 + 16 + 5 * 249, &[0, 0, 0, 0, 3, 0, 4]),
+        ],
+    ),
+    ("a heap page is behind itself", &[(12292, &[0, 0, 0, 3])]),
+    (
+        "the root of the first key is its own child, 20 levels deep",
+        &[(69, &[20]), (4096, &[73, 0, 0, 0]), (4112, &[0, 0, 0, 1])],
+    ),
+    (
+        "the root of the second key is its own child, 20 levels deep",
+        &[(85, &[20]), (8192, &[73, 1, 0, 0]), (8208, &[0, 0, 0, 2])],
+    ),
+    (
+        "a free page is behind itself",
+        &[
+            (12, &[0, 0, 0, 5, 0, 0, 0, 4, 0, 0, 0, 4]),
+            (16384, b"F\0\0\0\0\0\0\x04"),
+        ],
+    ),
+    (
+        "counts at their greatest",
+        &[(40, &[128, 0, 0, 0, 0, 0, 0, 0]), (48, &[255; 8])],
+    ),
+];
+
+/// How many kinds of calls `makes` knows.
+const CALLS: u8 = 10;
+
+/// Records of 240 bytes: a number, and a value that several may have, each a key of 120 bytes.
+fn numbers() -> Result<Schema, Fault> {
+    schema(240, 240, &[part(0, 120, false), part(120, 120, true)])
+}
+
+/// A file of three records, one of which was removed.
+fn fills<L: Library>(rt: &impl Abort, library: &mut L, schema: &Schema) -> Result<(), Fault>
+    requires { IsOpenWith (L.shown.world library.old) 0 schema.now }
+    ensures { IsOpenWith (L.shown.world library.new) 0 schema.now }
+{
+    adds(
+        library,
+        0,
+        schema,
+        record_of(schema, &[1, 1], 240).as_slice(),
+    )?;
+    adds(
+        library,
+        0,
+        schema,
+        record_of(schema, &[2, 1], 240).as_slice(),
+    )?;
+    adds(
+        library,
+        0,
+        schema,
+        record_of(schema, &[3, 2], 240).as_slice(),
+    )?;
+    let number = key_of(rt, schema, 0, 2);
+    assert!(rt; removes(library, 0, schema, number.as_slice())?);
+    Ok(())
+}
+
+/// The bytes of such a file, and a page of zeros.
+fn made(rt: &impl Abort, alloc: Global, schema: &Schema) -> Result<Vec<u8>, Fail> {
+    let mut library = library_over(alloc, MemShelf::new(alloc), 100, 64)?;
+    creates(&mut library, 0, schema)?;
+    fills(rt, &mut library, schema)?;
+    shuts(&mut library, 0, schema)?;
+    let mut shelf = library.into_shelf();
+    shelf.attach(&two_names())?;
+    if !shelf.exists(0)? {
+        return Ok(Vec::new(alloc));
+    }
+    let size = shelf.size(0)?;
+    let mut bytes = vec![in alloc; 0; size as usize]?;
+    shelf.read_at(0, 0, &mut bytes)?;
+    for _ in 0..4096 {
+        bytes.push(0)?;
+    }
+    assert_eq!(rt; bytes.len(), 5 * 4096);
+    Ok(bytes)
+}
+
+/// Puts bytes into others.
+fn puts(bytes: &mut [u8], at: usize, new: &[u8]) {
+    for (i, byte) in new.iter().enumerate() {
+        if let Some(place) = bytes.get_mut(at.saturating_add(i)) {
+            *place = *byte;
+        }
+    }
+}
+
+/// A shelf with a file of these bytes alone.
+fn shelf_of(alloc: Global, bytes: &[u8]) -> Result<MemShelf, Fail> {
+    let mut shelf = MemShelf::new(alloc);
+    shelf.attach(&two_names())?;
+    if !shelf.exists(0)? {
+        shelf.create(0)?;
+        shelf.write_at(0, 0, bytes)?;
+        shelf.sync(0)?;
+    }
+    Ok(shelf)
+}
+
+/// Makes a call of one kind, and answers the most pages that it may ask for. What it says of the file is not looked at.
+fn makes<L: Library + HasTrees>(rt: &impl Abort, library: &mut L, schema: &Schema, call: u8) -> u64
+    requires { IsOpenWith (L.shown.world library.old) 0 schema.now }
+    ensures { IsOpenWith (L.shown.world library.new) 0 schema.now }
+{
+    let k = call % 2;
+    let value = key_of(rt, schema, k, 1);
+    match call / 2 {
+        0 => {
+            let most = most_to_read(library, k);
+            let _ = finds(library, 0, schema, k, value.as_slice());
+            most
+        }
+        1 => {
+            let most = most_to_read(library, k);
+            let _ = goes_on(library, 0, schema, k, &Position::From(Key::new()));
+            most
+        }
+        2 => {
+            let most = most_to_seek(library, k);
+            let _ = seeks(library, 0, schema, k, value.as_slice(), Relation::Equal);
+            most
+        }
+        3 => adds_or_removes(rt, library, schema, k),
+        _ => replaces_or_tops(library, schema, k),
+    }
+}
+
+/// Adds a record, or removes one.
+fn adds_or_removes<L: Library + HasTrees>(
+    rt: &impl Abort,
+    library: &mut L,
+    schema: &Schema,
+    k: u8,
+) -> u64
+    requires { IsOpenWith (L.shown.world library.old) 0 schema.now }
+    ensures { IsOpenWith (L.shown.world library.new) 0 schema.now }
+{
+    let most = most_to_change(library);
+    if k == 0 {
+        let record = record_of(schema, &[5, 1], 240);
+        let _ = adds(library, 0, schema, record.as_slice());
+    } else {
+        let number = key_of(rt, schema, 0, 1);
+        let _ = removes(library, 0, schema, number.as_slice());
+    }
+    most
+}
+
+/// Replaces a record, or looks for the greatest number.
+fn replaces_or_tops<L: Library + HasTrees>(library: &mut L, schema: &Schema, k: u8) -> u64
+    requires { IsOpenWith (L.shown.world library.old) 0 schema.now }
+    ensures { IsOpenWith (L.shown.world library.new) 0 schema.now }
+{
+    if k == 0 {
+        let most = most_to_change(library);
+        let record = record_of(schema, &[1, 9], 240);
+        let _ = replaces(library, 0, schema, record.as_slice());
+        most
+    } else {
+        let most = most_to_seek(library, 0);
+        let _ = tops(library, 0, schema);
+        most
+    }
+}
+
+/// Opens a file of these bytes and makes a call. It asks for as many pages at most as over a sound file, and each of them is read at most once, and written at
+/// most once.
+fn is_bounded(
+    rt: &impl Abort,
+    alloc: Global,
+    schema: &Schema,
+    bytes: &[u8],
+    call: u8,
+    what: &str,
+) -> Result<(), Fail> {
+    let shelf = shelf_of(alloc, bytes)?;
+    let fuse = FuseShelf::new(shelf, Kind::Reads, 0, false, false);
+    let mut library = library_over(alloc, fuse, 100, 1)?;
+    assert_eq!(rt; opens(&mut library, 0, schema)?, Told::Sound, "{what}");
+    restarts(&mut library, 0, schema);
+    let most = makes(rt, &mut library, schema, call);
+    let pages = asked_at_most(rt, &mut library, schema, most);
+    let shelf = library.into_shelf();
+    let reads = shelf.calls(Kind::Reads);
+    let writes = shelf.calls(Kind::Writes);
+    // Three reads are those of OPEN, and a write is the gate's.
+    assert!(rt;
+        reads <= pages.saturating_add(3),
+        "{what}, call {call}: {reads} reads"
+    );
+    assert!(rt;
+        writes <= pages.saturating_add(1),
+        "{what}, call {call}: {writes} writes"
+    );
+    Ok(())
+}
+
+// No loop goes on where pages or slots lead to themselves: what a call asks for is told by the heights alone.
+#[test]
+fn damage_takes_no_more_calls_of_the_shelf(rt: HostRuntime) -> Result<(), Fail> {
+    let alloc = rt.alloc();
+    let schema = numbers()?;
+    for (what, edits) in DAMAGES {
+        let mut bytes = made(&rt, alloc, &schema)?;
+        for (at, new) in edits {
+            puts(&mut bytes, *at, new);
+        }
+        for call in 0..CALLS {
+            is_bounded(&rt, alloc, &schema, &bytes, call, what)?;
+        }
+    }
+    Ok(())
+}
