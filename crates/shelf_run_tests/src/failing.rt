@@ -1,8 +1,9 @@
 //! A worked deck over a device whose calls fail in turn.
 
 use crate::answers::Fault;
+use crate::ends::tells;
 use crate::left::{Crash, is_allowed};
-use crate::running::run_over;
+use crate::running::run_to_end;
 use page_store::{FuseShelf, Image, Kind, MemShelf};
 use std::alloc::Global;
 use std::process::Abort;
@@ -48,7 +49,8 @@ pub fn fails_in_turn(
     for at in 1..1000 {
         let copy = before.crash(alloc, Image::AsRead)?;
         let fuse = FuseShelf::new(copy, kind, at, after, for_good);
-        let (fuse, transcript) = run_over(alloc, fuse, &deck, frames)?;
+        let (fuse, transcript, end) = run_to_end(alloc, fuse, &deck, frames)?;
+        assert!(rt; tells(&end, &transcript), "{failing:?} {at}\n{transcript}");
         let is_last = fuse.calls(kind) < at;
         assert_eq!(rt;
             transcript == expected,

@@ -11,6 +11,8 @@ mod answers;
 #[cfg(test)]
 mod crashes;
 #[cfg(test)]
+mod ends;
+#[cfg(test)]
 mod failing;
 #[cfg(test)]
 mod faults;
@@ -18,6 +20,8 @@ mod faults;
 mod judged;
 #[cfg(test)]
 mod left;
+#[cfg(test)]
+mod lines;
 #[cfg(test)]
 mod memory;
 #[cfg(test)]
@@ -30,3 +34,5 @@ mod running;
 mod transcripts;
 #[cfg(test)]
 mod unchanged;
+#[cfg(test)]
+mod writers;

@@ -1,6 +1,7 @@
 //! A shelf that wants memory in a run.
 
 use crate::answers::Fault;
+use crate::ends::tells;
 use crate::judged::judge;
 use crate::left::{Crash, is_allowed, reads_as};
 use crate::narrow_shelf::NarrowShelf;
@@ -34,6 +35,7 @@ fn has_wanted(
         assert!(rt; is_same);
         return Ok(());
     }
+    assert!(rt; tells(&end, transcript), "{transcript}");
     let fault = Fault {
         answer: "90",
         again,

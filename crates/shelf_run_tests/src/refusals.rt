@@ -1,64 +1,12 @@
-//! A writer that refuses, a read that fails once, and a write that fails once.
+//! A read that fails once, and a write that fails once.
 
 use crate::left::reads_as;
 use crate::running::{run_over, shelf_before};
-use deck_runner::RunFault;
-use page_store::{FuseShelf, Image, Kind, MemShelf};
-use shelf_run::run_on_shelf;
-use std::io::{self, Write};
-use std::num::NonZeroUsize;
+use page_store::{FuseShelf, Image, Kind};
 use std::test::Fail;
 use worked_decks::{
-    A_CLASH, CUSTOMERS, ONE_IS_READ, READ_THAT_FAILS, REFUSED, WRITE_THAT_FAILS,
-    WRITTEN_AND_READ_BACK, deck_of, transcript_of,
+    A_CLASH, CUSTOMERS, READ_THAT_FAILS, REFUSED, WRITE_THAT_FAILS, deck_of, transcript_of,
 };
-
-/// A writer that takes so many bytes in all.
-#[derive(Drop)]
-struct Narrow {
-    taken: Vec<u8>,
-    room: usize,
-}
-
-impl Write for Narrow {
-    fn write(&mut self, bytes: &[u8]) -> io::Result<usize> {
-        let n = bytes.len().min(self.room);
-        if self.taken.extend_from_slice(&bytes[..n]).is_err() {
-            return Ok(0);
-        }
-        self.room -= n;
-        Ok(n)
-    }
-
-    fn flush(&mut self) -> io::Result<()> {
-        Ok(())
-    }
-}
-
-#[test]
-fn behind_a_line_that_the_writer_refuses_nothing_is_performed(rt: HostRuntime) -> Result<(), Fail> {
-    let alloc = rt.alloc();
-    let worked = WRITTEN_AND_READ_BACK;
-    let deck = deck_of(alloc, worked.heading, worked.steps)?;
-    let transcript = transcript_of(alloc, worked.steps)?;
-    for (room, _) in transcript.bytes().enumerate() {
-        let mut out = Narrow {
-            taken: Vec::new(alloc),
-            room,
-        };
-        let shelf = MemShelf::new(alloc);
-        let frames = NonZeroUsize::MIN;
-        let (shelf, end) = run_on_shelf(alloc, deck.as_bytes(), shelf, 16, frames, &mut out);
-        assert_eq!(rt; end, Err(RunFault::Output));
-        assert!(rt; transcript.as_bytes().starts_with(&out.taken) && out.room == 0);
-        // The fourth line is that of CLOSE.
-        let lines = out.taken.iter().filter(|byte| **byte == b'\n').count();
-        let left = if lines < 3 { REFUSED } else { ONE_IS_READ };
-        let reads = reads_as(alloc, &shelf, worked.heading, left)?;
-        assert!(rt; reads, "{room}");
-    }
-    Ok(())
-}
 
 #[test]
 fn a_read_that_fails_takes_the_position_away(rt: HostRuntime) -> Result<(), Fail> {

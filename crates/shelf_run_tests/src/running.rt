@@ -1,5 +1,7 @@
 //! A deck that is run over a shelf, or over lists.
 
+ghost use Rattle.std.specs.Prelude.{◌≤◌};
+
 use deck_runner::{RunEnd, RunFault, run_deck};
 use list_library::ListLibrary;
 use page_store::{MemShelf, Shelf};
@@ -10,21 +12,34 @@ use std::test::Fail;
 use worked_decks::{Worked, deck_of};
 
 /// The most pages of a file.
-const LIMIT: u32 = 100;
+const LIMIT: u32 = 4000;
 
-/// Runs a deck over a shelf, whose units are forgotten, and gives the shelf back with the transcript and the end.
+/// Runs a deck over a shelf, whose units are forgotten, with so many pages of a file at most, and gives the shelf back with the transcript and the end.
+pub fn run_within<S: Shelf + Drop>(
+    alloc: Global,
+    shelf: S,
+    deck: &str,
+    limit: u32,
+    frames: usize,
+) -> Result<(S, String, Result<RunEnd, RunFault>), Fail>
+    requires { 16 ≤ limit }
+{
+    let mut shelf = shelf;
+    shelf.attach(&[])?;
+    let frames = NonZeroUsize::new(frames).unwrap_or(NonZeroUsize::MIN);
+    let mut out: Vec<u8> = Vec::with_capacity(alloc, 1000)?;
+    let (shelf, end) = run_on_shelf(alloc, deck.as_bytes(), shelf, limit, frames, &mut out);
+    Ok((shelf, String::from_utf8(out)?, end))
+}
+
+/// The same with room for every worked deck.
 pub fn run_to_end<S: Shelf + Drop>(
     alloc: Global,
     shelf: S,
     deck: &str,
     frames: usize,
 ) -> Result<(S, String, Result<RunEnd, RunFault>), Fail> {
-    let mut shelf = shelf;
-    shelf.attach(&[])?;
-    let frames = NonZeroUsize::new(frames).unwrap_or(NonZeroUsize::MIN);
-    let mut out: Vec<u8> = Vec::with_capacity(alloc, 1000)?;
-    let (shelf, end) = run_on_shelf(alloc, deck.as_bytes(), shelf, LIMIT, frames, &mut out);
-    Ok((shelf, String::from_utf8(out)?, end))
+    run_within(alloc, shelf, deck, LIMIT, frames)
 }
 
 /// A run that is not broken off.

@@ -26,7 +26,7 @@ PROCEDURE DIVISION.
 ";
 
 /// Makes a file of three customers of three cities.
-const THREE_CITIES: &[Step] = &[
+pub const THREE_CITIES: &[Step] = &[
     ("OPEN OUTPUT CUST.", "OPEN OUTPUT CUST 00"),
     ("MOVE 1 TO CUST-ID. MOVE \"ADAMS\" TO CUST-NAME.", ""),
     (

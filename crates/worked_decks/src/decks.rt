@@ -25,6 +25,12 @@ pub struct Worked {
     pub refused: &'static [Step],
 }
 
+/// Decks that are run one after another over the same files, each as its divisions but the statements, and its steps.
+#[derive(Clone, Copy)]
+pub struct Runs {
+    pub decks: &'static [(&'static str, &'static [Step])],
+}
+
 /// The deck of a heading and these statements.
 pub fn deck_of(alloc: Global, heading: &str, steps: &[Step]) -> Result<String, AllocError> {
     let mut deck = String::from_str(alloc, heading)?;

@@ -5,7 +5,7 @@ use crate::decks::{Step, Worked};
 use crate::plain_customers::REFUSED;
 
 /// Makes a file of three customers of one city.
-const ONE_CITY: &[Step] = &[
+pub const ONE_CITY: &[Step] = &[
     ("OPEN OUTPUT CUST.", "OPEN OUTPUT CUST 00"),
     ("MOVE \"OSLO\" TO CUST-CITY.", ""),
     ("MOVE 3 TO CUST-ID. MOVE \"CCC\" TO CUST-NAME.", ""),

@@ -3,7 +3,7 @@
 use crate::decks::{Step, Worked};
 
 /// Customers with a number and a text, read and written in order.
-const PLAIN: &str = "ENVIRONMENT DIVISION.
+pub const PLAIN: &str = "ENVIRONMENT DIVISION.
 INPUT-OUTPUT SECTION.
 FILE-CONTROL.
     SELECT CUST ASSIGN TO \"cust.dat\"
@@ -25,7 +25,7 @@ const ABSENT: &[Step] = &[("OPEN INPUT CUST.", "OPEN INPUT CUST 35")];
 pub const REFUSED: &[Step] = &[("OPEN INPUT CUST.", "OPEN INPUT CUST 91")];
 
 /// Makes a file of one customer, and reads it to its end.
-const ONE_IS_WRITTEN: &[Step] = &[
+pub const ONE_IS_WRITTEN: &[Step] = &[
     ("OPEN OUTPUT CUST.", "OPEN OUTPUT CUST 00"),
     ("MOVE 1 TO CUST-ID. MOVE \"SMITH\" TO CUST-TEXT.", ""),
     ("WRITE CUST-REC.", "WRITE CUST 00"),

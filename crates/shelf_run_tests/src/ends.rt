@@ -1,0 +1,31 @@
+//! How a run ended, judged by its transcript alone.
+
+use deck_runner::{RunEnd, RunFault};
+
+/// A line without the record that it delivers.
+fn head(line: &str) -> &str {
+    line.split_once(" [").map_or(line, |(head, _)| head)
+}
+
+/// Whether a line has no status of want of room, of a fault or of a connector that has failed; 91 may stand at an OPEN.
+fn is_clean(line: &str) -> bool {
+    let line = head(line);
+    let is_marred = line.ends_with(" 24")
+        || line.ends_with(" 30")
+        || line.ends_with(" 90")
+        || line.ends_with(" 92");
+    !is_marred && (line.starts_with("OPEN ") || !line.ends_with(" 91"))
+}
+
+/// Whether the end tells how many lines a transcript has, and whether all are clean.
+pub fn tells(end: &Result<RunEnd, RunFault>, transcript: &str) -> bool {
+    let (mut lines, mut clean) = (0u64, true);
+    for line in transcript.lines() {
+        lines = lines.saturating_add(1);
+        clean = clean && is_clean(line);
+    }
+    match end {
+        Ok(end) => end.lines == lines && end.clean == clean,
+        Err(_) => false,
+    }
+}
