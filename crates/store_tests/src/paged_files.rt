@@ -163,26 +163,27 @@ fn a_hundred_pages_are_read_as_written_with_any_number_of_frames(
 // How a call of a shelf fails: after it was made or before, and once or for good.
 const WAYS: [(bool, bool); 4] = [(false, false), (false, true), (true, false), (true, true)];
 
-// The n-th call of a kind fails, in a program that makes a file of eight pages. Whether it has so many calls.
+// The n-th call of a kind fails, in a program that makes a file of so many pages. Whether it has so many calls.
 fn fails_at(
     rt: &impl Abort,
     alloc: Global,
     kind: Kind,
     way: (bool, bool),
     held: usize,
+    pages: u32,
     at: u64,
 ) -> Result<bool, Fail> {
     let inner = new_shelf(alloc)?;
     let mut shelf = FuseShelf::new(inner, kind, at, way.0, way.1);
-    let made = make(alloc, &mut shelf, frames(held), 8);
+    let made = make(alloc, &mut shelf, frames(held), pages);
     let failed = shelf.faults() > 0;
     let mut inner = shelf.into_inner();
     inner.attach(&[name()])?;
     let found = find(alloc, &mut inner, frames(held))?;
     if made.is_ok() {
-        assert_equal_for(rt, (kind, at, held), found, Found::Closed(8, 8));
+        assert_equal_for(rt, (kind, at, held), found, Found::Closed(pages, pages));
     } else {
-        let holds = found == Found::Refused || found == Found::Closed(8, 8);
+        let holds = found == Found::Refused || found == Found::Closed(pages, pages);
         assert_equal_for(rt, (kind, at, held), failed && holds, true);
     }
     Ok(failed)
@@ -194,11 +195,30 @@ fn a_file_is_closed_whole_or_refused_whichever_call_failed(rt: HostRuntime) -> R
         for kind in [Kind::Reads, Kind::Writes, Kind::Syncs] {
             for way in WAYS {
                 for at in 1..200 {
-                    if !fails_at(&rt, rt.alloc(), kind, way, held, at)? {
+                    if !fails_at(&rt, rt.alloc(), kind, way, held, 8, at)? {
                         break;
                     }
                 }
             }
+        }
+    }
+    Ok(())
+}
+
+#[test]
+fn a_file_of_a_hundred_pages_is_closed_whole_or_refused_whichever_call_failed_once(
+    rt: HostRuntime,
+) -> Result<(), Fail> {
+    for held in [1, 64] {
+        for kind in [Kind::Reads, Kind::Writes, Kind::Syncs] {
+            let mut calls = 0u64;
+            for at in 1..1000 {
+                if !fails_at(&rt, rt.alloc(), kind, (false, false), held, 100, at)? {
+                    break;
+                }
+                calls = at;
+            }
+            assert!(rt; calls < 999, "{kind:?} {held}");
         }
     }
     Ok(())
