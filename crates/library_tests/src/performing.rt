@@ -84,7 +84,8 @@ fn most_asked<S: Shelf + Drop>(
     }
 }
 
-/// Performs a statement, and answers its status with the pages that it asked for, which are so many at most.
+/// Performs a statement, and answers its status with the pages that it asked for, which are so many at most. The statement begins the count, and not this test; OPEN and CLOSE do
+/// not, and none are counted of them.
 pub fn performs<S: Shelf + Drop>(
     rt: &impl Abort,
     connector: &mut Connector,
@@ -98,14 +99,14 @@ pub fn performs<S: Shelf + Drop>(
 {
     has_operands(rt, statement);
     let most = most_asked(library, statement, reference);
-    library.restart_count(0);
     let answer = connector.perform(library, 0, statement, LENGTH, area);
+    let Some(most) = most else {
+        return (answer.status, 0);
+    };
     let asked = library.asked(0);
-    if let Some(most) = most {
-        assert!(rt;
-            asked <= most,
-            "{statement:?}: {asked} pages, and not {most}"
-        );
-    }
+    assert!(rt;
+        asked <= most,
+        "{statement:?}: {asked} pages, and not {most}"
+    );
     (answer.status, asked)
 }
