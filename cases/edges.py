@@ -311,6 +311,8 @@ def unprivileged():
 
 
 def opened_to_all(room):
+    """Lets another user reach the folder, and a copy of the program in it."""
+    room.program = shutil.copy(room.program, room.place / "cobix")
     for it in (room.place, room.files):
         it.chmod(0o755)
 
@@ -477,7 +479,9 @@ def faults(program):
             try:
                 perform(Room(program, place))
                 yield Trial(name), ""
-            except Lacking as lacking:
-                yield Trial(name, str(lacking)), ""
             except (Wrong, subprocess.TimeoutExpired) as wrong:
                 yield Trial(name), str(wrong)
+            except Lacking as lacking:
+                yield Trial(name, str(lacking)), ""
+            except subprocess.SubprocessError as error:
+                yield Trial(name, f"leave that this machine does not give: {error}"), ""
