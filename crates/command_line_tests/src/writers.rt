@@ -3,6 +3,7 @@
 use command_line::{Fault, program};
 use std::fs;
 use std::io::{self, ErrorKind, Write};
+use std::os::fd::AsRawFd;
 use std::os::unix::fs::FileExt;
 use std::process::Abort;
 use std::rt::Files;
@@ -79,7 +80,7 @@ fn run<R: Files + AllocGlobal + Abort>(
     err: usize,
 ) -> Result<Ended, Fail>
 where
-    R::File: FileExt + LockFile,
+    R::File: FileExt + LockFile + AsRawFd,
 {
     let alloc = rt.alloc();
     let mut given = Vec::new(alloc);

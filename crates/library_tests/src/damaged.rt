@@ -5,6 +5,7 @@ ghost use Rattle.indexed_file.specs.Clients.{IsOpenWith};
 
 use crate::bounds::{HasTrees, asked_at_most, most_to_change, most_to_read, most_to_seek};
 use crate::keys::key_of;
+use crate::looks::puts;
 use indexed_file::Library;
 use io_state::{Fault, Key, Position, Relation};
 use page_store::{FuseShelf, Kind, MemShelf, Shelf};
@@ -96,13 +97,8 @@ fn fills<L: Library>(rt: &impl Abort, library: &mut L, schema: &Schema) -> Resul
     Ok(())
 }
 
-/// The bytes of such a file, and a page of zeros.
-fn made(rt: &impl Abort, alloc: Global, schema: &Schema) -> Result<Vec<u8>, Fail> {
-    let mut library = library_over(alloc, MemShelf::new(alloc), 100, 64)?;
-    creates(&mut library, 0, schema)?;
-    fills(rt, &mut library, schema)?;
-    shuts(&mut library, 0, schema)?;
-    let mut shelf = library.into_shelf();
+/// The bytes of the first file of a shelf.
+fn bytes_of<S: Shelf>(alloc: Global, shelf: &mut S) -> Result<Vec<u8>, Fail> {
     shelf.attach(&two_names())?;
     if !shelf.exists(0)? {
         return Ok(Vec::new(alloc));
@@ -110,32 +106,29 @@ fn made(rt: &impl Abort, alloc: Global, schema: &Schema) -> Result<Vec<u8>, Fail
     let size = shelf.size(0)?;
     let mut bytes = vec![in alloc; 0; size as usize]?;
     shelf.read_at(0, 0, &mut bytes)?;
-    for _ in 0..4096 {
-        bytes.push(0)?;
-    }
+    Ok(bytes)
+}
+
+/// The bytes of such a file, and a page of zeros.
+fn made(rt: &impl Abort, alloc: Global, schema: &Schema) -> Result<Vec<u8>, Fail> {
+    let mut library = library_over(alloc, MemShelf::new(alloc), 100, 64)?;
+    creates(&mut library, 0, schema)?;
+    fills(rt, &mut library, schema)?;
+    shuts(&mut library, 0, schema)?;
+    let mut shelf = library.into_shelf();
+    let mut bytes = bytes_of(alloc, &mut shelf)?;
+    bytes.extend_from_slice(&[0; 4096])?;
     assert_eq!(rt; bytes.len(), 5 * 4096);
     Ok(bytes)
 }
 
-/// Puts bytes into others.
-fn puts(bytes: &mut [u8], at: usize, new: &[u8]) {
+/// Writes bytes over others.
+fn overwrites(bytes: &mut [u8], at: usize, new: &[u8]) {
     for (i, byte) in new.iter().enumerate() {
         if let Some(place) = bytes.get_mut(at.saturating_add(i)) {
             *place = *byte;
         }
     }
-}
-
-/// A shelf with a file of these bytes alone.
-fn shelf_of(alloc: Global, bytes: &[u8]) -> Result<MemShelf, Fail> {
-    let mut shelf = MemShelf::new(alloc);
-    shelf.attach(&two_names())?;
-    if !shelf.exists(0)? {
-        shelf.create(0)?;
-        shelf.write_at(0, 0, bytes)?;
-        shelf.sync(0)?;
-    }
-    Ok(shelf)
 }
 
 /// Makes a call of one kind, and answers the most pages that it may ask for. What it says of the file is not looked at.
@@ -214,7 +207,8 @@ fn is_bounded(
     call: u8,
     what: &str,
 ) -> Result<(), Fail> {
-    let shelf = shelf_of(alloc, bytes)?;
+    let mut shelf = MemShelf::new(alloc);
+    puts(&mut shelf, bytes)?;
     let fuse = FuseShelf::new(shelf, Kind::Reads, 0, false, false);
     let mut library = library_over(alloc, fuse, 100, 1)?;
     assert_eq!(rt; opens(&mut library, 0, schema)?, Told::Sound, "{what}");
@@ -244,7 +238,7 @@ fn damage_takes_no_more_calls_of_the_shelf(rt: HostRuntime) -> Result<(), Fail> 
     for (what, edits) in DAMAGES {
         let mut bytes = made(&rt, alloc, &schema)?;
         for (at, new) in edits {
-            puts(&mut bytes, *at, new);
+            overwrites(&mut bytes, *at, new);
         }
         for call in 0..CALLS {
             is_bounded(&rt, alloc, &schema, &bytes, call, what)?;

@@ -20,7 +20,7 @@ fn numbers() -> Result<Schema, Fault> {
 }
 
 /// Puts a file of these bytes onto a shelf without files.
-fn puts<S: Shelf>(shelf: &mut S, bytes: &[u8]) -> Result<(), Fault> {
+pub fn puts<S: Shelf>(shelf: &mut S, bytes: &[u8]) -> Result<(), Fault> {
     shelf.attach(&two_names())?;
     if !shelf.exists(0)? {
         shelf.create(0)?;
