@@ -138,6 +138,11 @@ moved old new tree pages entries own spot e is key changes at = record {
     earlier = λ low. omega arith;
     at = λ same low some. record { entry = e.items; stands = subst (λ (s : Spot). StandsAt tree.shape pages own entries s e.items) (sym at) is.at; key = sym key };
   };
+  kept = λ here.
+      let within = is.at.within in
+      let count = is.at.count in
+      let some : 0 < spot.count = omega arith in
+      record { unchanged = changes; somewhere = subst (λ (s : Spot). 0 < s.count) (sym at) some };
 }
 
 -- ---- the cursor of a tree that changes, and of one that does not

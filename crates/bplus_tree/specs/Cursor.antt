@@ -1,5 +1,5 @@
 -- Where a cursor is in its tree.
-use Rattle.std.specs.Prelude.{◌≡◌, ℕ, ◌+◌, ◌^◌, ◌-◌, ◌<◌, ◌≤◌, Bool, false, List, take, Option, Some, None, Result, option_map}
+use Rattle.std.specs.Prelude.{◌≡◌, ℕ, ◌+◌, ◌^◌, ◌-◌, ◌<◌, ◌≤◌, Bool, false, List, take, Option, Some, None, IsSome, Result, option_map}
 use Rattle.std.specs.Option.{option_map_or}
 use Rattle.arrayvec.specs.ArrayVec.{ArrayVec}
 use Rattle.io_state.specs.declared.fault.Fault.{Fault}
@@ -45,10 +45,16 @@ TellsNext cursor tree pages start result =
     (entries : List (List ℕ)) (own : List ℕ) → TreeStands tree pages entries own → Belongs cursor tree pages entries own
     → IsAnswer result (λ told. told ≡ option_map_or (begins_with start) (first_after tree.shape.width cursor.key.items entries) false)
 
+-- The cursor knows where the entry that it gave last stands in the tree as it is, so that the step to its neighbour searches for nothing.
+pub record IsKept (cursor : Cursor) (tree : Tree) : Type 0 where
+  pub unchanged : cursor.changes ≡ tree.changes
+  pub somewhere : 0 < cursor.spot.count
+
 -- the first entry above the cursor's key, and a cursor at that entry
 pub record HasMoved (old new : Cursor) (tree : Tree) (pages : PageMap) (entries : List (List ℕ)) (own : List ℕ) (found : Option (ArrayVec ℕ)) : Type 0 where
   pub found_is : option_map (λ e. e.items) found ≡ first_after tree.shape.width old.key.items entries
   pub belongs : Belongs new tree pages entries own
+  pub kept : IsSome found → IsKept new tree
 
 abbrev pub CursorMoves : Cursor → Cursor → Tree → PageMap → Result (Option (ArrayVec ℕ)) Fault → Type 0
 CursorMoves old new tree pages result =

@@ -52,6 +52,7 @@ impl Cursor {
             ≡ key_after tree.now.shape.width self.old.key.items found) }
         ensures cause { IfErr result (IsCaused (P.HasFailed pages.old pages.new) ⊥) }
         ensures asked { (P.state pages.new).asked ≤ (P.state pages.old).asked + 2 * (tree.now.levels + 1) }
+        ensures near { HasNeighbour self.old tree.now → (P.state pages.new).asked ≤ (P.state pages.old).asked + 1 }
         ensures reads { P.Reads pages.old pages.new }
         ensures err { OnErr result (self.new ≡ self.old) }
     {

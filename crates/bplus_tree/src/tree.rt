@@ -15,6 +15,9 @@ use tree_search::{
     First, Spot, find_below, find_tail, first_within, has_below, last_below, next_below,
 };
 
+/// No tree that stands has so many levels above its leaves: it would have more entries than pages can hold.
+const GREATEST_LEVELS: u8 = 19;
+
 /// A tree: the page of its root, how many levels are above its leaves, how many entries it has, and how often it has changed, a number
 /// that stays at its greatest value. One that is read off a header begins at 0 changes.
 ///
@@ -206,7 +209,7 @@ impl Tree {
         ensures goes { P.Goes pages.old pages.new }
     {
         let room = 4096 * u64::from(pages.count());
-        if self.levels >= 19 || self.count >= room {
+        if self.levels >= GREATEST_LEVELS || self.count >= room {
             return Err(Fault::Damage);
         }
         if put_below(pages, self.shape, self.root, self.levels, entry)? {

@@ -7,7 +7,7 @@ use Rattle.bplus_tree.proofs.RaiseLemmas.{raises_none}
 use Rattle.bplus_tree.proofs.RootLemmas.{inserted_one}
 use Rattle.bplus_tree.proofs.DepthLemmas.{never_deep, never_full}
 use Rattle.bplus_tree.proofs.tree.Tree.insert.Goals as goal
-use Rattle.bplus_tree.proofs.tree.Tree.insert.Goals.{then-self-ge19-via-then-self-ge19, then-self-ge19-via-else-self-ge19+then-self-room}
+use Rattle.bplus_tree.proofs.tree.Tree.insert.Goals.{then-self-ge-GREATEST_LEVELS-via-then-self-ge-GREATEST_LEVELS, then-self-ge-GREATEST_LEVELS-via-else-self-ge-GREATEST_LEVELS+then-self-room}
 
 pub returns-in_err-put_below-clause-inserted : goal.returns-in_err-put_below-clause-inserted
 returns-in_err-put_below-clause-inserted g c honest sound entries own stands =
@@ -38,13 +38,13 @@ returns-clause-inserted g c honest sound entries own stands =
     (subst (λ (m : PageMap). Inserts m new.live (IsTrue new.is_sound) old c.insert_or_split.new.self c.args.entry.now c.insert_or_split.result) same
     (c.insert_or_split.ensures.inserted honest a.1)) entries own stands
 
-pub returns-then-self-ge19-clause-inserted : goal.returns-then-self-ge19-clause-inserted
-returns-then-self-ge19-clause-inserted g c honest sound entries own stands =
+pub returns-then-self-ge-GREATEST_LEVELS-clause-inserted : goal.returns-then-self-ge-GREATEST_LEVELS-clause-inserted
+returns-then-self-ge-GREATEST_LEVELS-clause-inserted g c honest sound entries own stands =
     let tree = c.args.self.now in
     let live = (g.P.Pages.state c.args.pages.now).live in
     let low = c.count.ensures.low in
-    let never : ⊥ = elim c.then-self-ge19.branch [
-      | then-self-ge19-via-then-self-ge19 w ↦ never_deep tree live entries own c.count.result stands low (omega (arith, c.count.type_inv)) (omega (arith, w.if-self-ge19))
-      | then-self-ge19-via-else-self-ge19+then-self-room w ↦ never_full tree live entries own c.count.result stands low (omega (arith, w.if-self-room, c.from-room.ensures))
+    let never : ⊥ = elim c.then-self-ge-GREATEST_LEVELS.branch [
+      | then-self-ge-GREATEST_LEVELS-via-then-self-ge-GREATEST_LEVELS w ↦ never_deep tree live entries own c.count.result stands low (omega (arith, c.count.type_inv)) (omega (arith, w.if-self-ge-GREATEST_LEVELS))
+      | then-self-ge-GREATEST_LEVELS-via-else-self-ge-GREATEST_LEVELS+then-self-room w ↦ never_full tree live entries own c.count.result stands low (omega (arith, w.if-self-room, c.from-room.ensures))
     ] in
     absurd never
