@@ -1,5 +1,8 @@
 -- What a fuse counts, and when it fails a call.
-use Rattle.std.specs.Prelude.{ℕ, ◌+◌, ◌-◌, ◌^◌, min, Bool, true, false, ◌==◌, ◌&&◌, ◌||◌, if◌then◌else◌}
+use Rattle.std.specs.Prelude.{◌≡◌, ◌⊎◌, Result, IsErr, IsErrOf, ℕ, ◌+◌, ◌-◌, ◌^◌, min, Bool, true, false, ◌==◌, ◌&&◌, ◌||◌, if◌then◌else◌}
+use Rattle.io_state.specs.declared.fault.Fault.{Fault}
+use Rattle.io_state.specs.declared.fault.Fault.TheVariants.{Device, Memory}
+use Rattle.page_store.specs.ShelfState.{FaultHasCause}
 use Rattle.page_store.specs.declared.fuse.Kind.{Kind}
 use Rattle.page_store.specs.declared.fuse.Kind.TheVariants.{Reads, Writes, Syncs, Changes}
 use Rattle.page_store.specs.declared.fuse.Call.{Call}
@@ -37,11 +40,6 @@ fires fuse call = is_counted fuse.kind call && (calls_of fuse fuse.kind + 1 == f
 abbrev pub turn_of : Fuse → Call → Turn
 turn_of fuse call = if fuse.blown then Fail else if fires fuse call then if fuse.after then PerformAndFail else Fail else Perform
 
-abbrev pub is_refused : Turn → Bool
-is_refused Perform = false
-is_refused PerformAndFail = true
-is_refused Fail = true
-
 abbrev pub counted : Fuse → Call → Fuse
 counted fuse Create = record fuse { creates = capped fuse.creates 1 }
 counted fuse Read = record fuse { reads = capped fuse.reads 1 }
@@ -49,9 +47,18 @@ counted fuse Write = record fuse { writes = capped fuse.writes 1 }
 counted fuse Sync = record fuse { syncs = capped fuse.syncs 1 }
 counted fuse Other = fuse
 
--- the fuse after a call
+-- the fuse when it has counted a call
 abbrev pub after_call : Fuse → Call → Fuse
-after_call fuse call = record (counted fuse call) {
-  blown = fuse.blown || (fires fuse call && fuse.for_good);
-  refused = if is_refused (turn_of fuse call) then capped fuse.refused 1 else fuse.refused;
-}
+after_call fuse call = record (counted fuse call) { blown = fuse.blown || (fires fuse call && fuse.for_good) }
+
+-- and when one more call was refused
+abbrev pub one_refused : Fuse → Fuse
+one_refused fuse = record fuse { refused = capped fuse.refused 1 }
+
+-- a call on a shelf behind a fuse. One that fails before its effect leaves the shelf as it was. One that fails behind its effect
+-- was performed, unless the shelf failed. No other fails unless the shelf does. What the fuse refuses is counted, and nothing else.
+pub record Fused {S T : Type 0} (call : Call) (faults : S → ℕ) (Effect : Type 0) (old new : Fuse) (before after : S) (result : Result T Fault) : Type 0 where
+  pub refused : turn_of old call ≡ Fail → IsErrOf result Device × (after ≡ before) × (new ≡ one_refused (after_call old call))
+  pub performed : turn_of old call ≡ PerformAndFail → IsErr result × (Effect ⊎ FaultHasCause (faults before) (faults after) result)
+  pub counted : turn_of old call ≡ PerformAndFail → (IsErrOf result Device × (new ≡ one_refused (after_call old call))) ⊎ (IsErrOf result Memory × (new ≡ after_call old call))
+  pub passed : turn_of old call ≡ Perform → FaultHasCause (faults before) (faults after) result × (new ≡ after_call old call)

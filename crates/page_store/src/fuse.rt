@@ -1,6 +1,9 @@
 //! A fuse: it counts calls, and says which of them fail.
-ghost use Rattle.std.specs.Prelude.{◌≡◌};
-ghost use Rattle.page_store.specs.Fuses.{is_counted, calls_of, turn_of, counted, after_call};
+ghost use Rattle.std.specs.Prelude.{◌≡◌, IsErrOf};
+ghost use Rattle.io_state.specs.declared.fault.Fault.TheVariants.{Device, Memory};
+ghost use Rattle.page_store.specs.Fuses.{is_counted, calls_of, turn_of, counted, after_call, one_refused};
+
+use io_state::Fault;
 
 /// Which calls a fuse counts.
 #[derive(Clone, Copy, Debug, PartialEq, Eq)]
@@ -81,10 +84,27 @@ impl Fuse {
         };
         self.count(call);
         self.blown = self.blown || fires && self.for_good;
-        if !matches!(turn, Turn::Perform) {
-            self.refused = self.refused.saturating_add(1);
-        }
         turn
+    }
+
+    /// Counts a call that failed.
+    pub(crate) fn fail<T>(&mut self) -> Result<T, Fault>
+        ensures device { IsErrOf result Device }
+        ensures noted { self.new ≡ one_refused self.old }
+    {
+        self.refused = self.refused.saturating_add(1);
+        Err(Fault::Device)
+    }
+
+    /// Fails a call that was performed. Where it wanted memory, that is what it answers.
+    pub(crate) fn fail_behind(&mut self, done: Result<(), Fault>) -> Result<(), Fault>
+        ensures memory { IsErrOf done Memory → (result ≡ done) × (self.new ≡ self.old) }
+        ensures device { ¬ IsErrOf done Memory → IsErrOf result Device × (self.new ≡ one_refused self.old) }
+    {
+        match done {
+            Err(Fault::Memory) => done,
+            _ => self.fail(),
+        }
     }
 
     fn count(&mut self, call: Call)

@@ -1,6 +1,10 @@
 //! A shelf whose calls fail on purpose, for tests.
-ghost use Rattle.std.specs.Prelude.{◌≡◌, false};
-ghost use Rattle.page_store.specs.Fuses.{capped, calls_of};
+ghost use Rattle.std.specs.Prelude.{◌≡◌, ◌+◌, ℕ, length, is_some, None, IsTrue, IfOk, OnOk, OnErr, ⊤, false};
+ghost use Rattle.page_store.specs.declared.fuse.Call.TheVariants.{Create, Read, Write, Sync, Other};
+ghost use Rattle.page_store.specs.DeviceFile.{content, IsWithin, IsThere};
+ghost use Rattle.page_store.specs.Calls.{ReadsBytes, Created, CreateFails, Written, WriteFails, Synced, SyncFails};
+ghost use Rattle.page_store.specs.ShelfState.{HasUnit, unit_file, WhereHonest, FileGoes, OnlyAnswers, ChangesOnly, FaultHasCause};
+ghost use Rattle.page_store.specs.Fuses.{capped, calls_of, Fused};
 
 use crate::fuse::{Call, Fuse, Kind, Turn};
 use crate::shelf::Shelf;
@@ -15,7 +19,8 @@ pub struct FuseShelf<S: Shelf + Drop> {
 
 impl<S: Shelf + Drop> FuseShelf<S> {
     /// The `at`-th call of this kind, counted from 1, answers `Fault::Device`; 0 is none. With `after` it is performed
-    /// first. With `for_good` every later call but `attach` and `faults` answers it too, and performs nothing.
+    /// first, and answers `Fault::Memory` where it wanted memory. With `for_good` every later call but `attach` and
+    /// `faults` answers `Fault::Device` too, and performs nothing.
     pub fn new(shelf: S, kind: Kind, at: u64, after: bool, for_good: bool) -> FuseShelf<S>
         ensures shelf { result.inner ≡ shelf }
         ensures fuse { result.fuse ≡ record {
@@ -75,61 +80,121 @@ impl<S: Shelf + Drop> Shelf for FuseShelf<S> {
         self.inner.faults().saturating_add(self.fuse.refused)
     }
 
-    fn exists(&mut self, unit: usize) -> Result<bool, Fault> {
+    fn exists(&mut self, unit: usize) -> Result<bool, Fault>
+        requires unit { HasUnit (S.Shelf.state self.old.inner) unit }
+        ensures answer { IfOk result (λ there. IsTrue (S.Shelf.state self.new.inner).is_honest →
+            there ≡ is_some (unit_file (S.Shelf.state self.old.inner) unit).seen) }
+        ensures only { OnlyAnswers (S.Shelf.state self.old.inner) (S.Shelf.state self.new.inner) }
+        ensures cause { FaultHasCause (capped (S.Shelf.fault_count self.old.inner) self.old.fuse.refused)
+            (capped (S.Shelf.fault_count self.new.inner) self.new.fuse.refused) result }
+        ensures fuse { Fused Other S.Shelf.fault_count ⊤
+            self.old.fuse self.new.fuse self.old.inner self.new.inner result }
+    {
         match self.fuse.turn(Call::Other) {
             Turn::Perform => self.inner.exists(unit),
-            _ => Err(Fault::Device),
+            _ => self.fuse.fail(),
         }
     }
 
-    fn create(&mut self, unit: usize) -> Result<(), Fault> {
+    fn create(&mut self, unit: usize) -> Result<(), Fault>
+        requires unit { HasUnit (S.Shelf.state self.old.inner) unit }
+        requires absent { WhereHonest (S.Shelf.state self.old.inner) unit (λ file. file.seen ≡ None) }
+        ensures made { OnOk result (FileGoes unit (S.Shelf.state self.old.inner) (S.Shelf.state self.new.inner) Created) }
+        ensures failed { OnErr result (FileGoes unit (S.Shelf.state self.old.inner) (S.Shelf.state self.new.inner) CreateFails) }
+        ensures only { ChangesOnly unit (S.Shelf.state self.old.inner) (S.Shelf.state self.new.inner) }
+        ensures cause { FaultHasCause (capped (S.Shelf.fault_count self.old.inner) self.old.fuse.refused)
+            (capped (S.Shelf.fault_count self.new.inner) self.new.fuse.refused) result }
+        ensures fuse { Fused Create S.Shelf.fault_count (FileGoes unit (S.Shelf.state self.old.inner) (S.Shelf.state self.new.inner) Created)
+            self.old.fuse self.new.fuse self.old.inner self.new.inner result }
+    {
         match self.fuse.turn(Call::Create) {
             Turn::Perform => self.inner.create(unit),
             Turn::PerformAndFail => {
-                let _ = self.inner.create(unit);
-                Err(Fault::Device)
+                let done = self.inner.create(unit);
+                self.fuse.fail_behind(done)
             }
-            Turn::Fail => Err(Fault::Device),
+            Turn::Fail => self.fuse.fail(),
         }
     }
 
-    fn size(&mut self, unit: usize) -> Result<u64, Fault> {
+    fn size(&mut self, unit: usize) -> Result<u64, Fault>
+        requires unit { HasUnit (S.Shelf.state self.old.inner) unit }
+        requires there { WhereHonest (S.Shelf.state self.old.inner) unit IsThere }
+        ensures answer { IfOk result (λ size. IsTrue (S.Shelf.state self.new.inner).is_honest →
+            size ≡ length (content (unit_file (S.Shelf.state self.old.inner) unit))) }
+        ensures only { OnlyAnswers (S.Shelf.state self.old.inner) (S.Shelf.state self.new.inner) }
+        ensures cause { FaultHasCause (capped (S.Shelf.fault_count self.old.inner) self.old.fuse.refused)
+            (capped (S.Shelf.fault_count self.new.inner) self.new.fuse.refused) result }
+        ensures fuse { Fused Other S.Shelf.fault_count ⊤
+            self.old.fuse self.new.fuse self.old.inner self.new.inner result }
+    {
         match self.fuse.turn(Call::Other) {
             Turn::Perform => self.inner.size(unit),
-            _ => Err(Fault::Device),
+            _ => self.fuse.fail(),
         }
     }
 
-    fn read_at(&mut self, unit: usize, at: u64, bytes: &mut [u8]) -> Result<(), Fault> {
+    fn read_at(&mut self, unit: usize, at: u64, bytes: &mut [u8]) -> Result<(), Fault>
+        requires unit { HasUnit (S.Shelf.state self.old.inner) unit }
+        requires within { WhereHonest (S.Shelf.state self.old.inner) unit (IsWithin (at + length bytes.old)) }
+        ensures answer { OnOk result (IsTrue (S.Shelf.state self.new.inner).is_honest →
+            ReadsBytes (unit_file (S.Shelf.state self.old.inner) unit) at bytes.new) }
+        ensures only { OnlyAnswers (S.Shelf.state self.old.inner) (S.Shelf.state self.new.inner) }
+        ensures cause { FaultHasCause (capped (S.Shelf.fault_count self.old.inner) self.old.fuse.refused)
+            (capped (S.Shelf.fault_count self.new.inner) self.new.fuse.refused) result }
+        ensures fuse { Fused Read S.Shelf.fault_count (IsTrue (S.Shelf.state self.new.inner).is_honest →
+            ReadsBytes (unit_file (S.Shelf.state self.old.inner) unit) at bytes.new)
+            self.old.fuse self.new.fuse self.old.inner self.new.inner result }
+    {
         match self.fuse.turn(Call::Read) {
             Turn::Perform => self.inner.read_at(unit, at, bytes),
             Turn::PerformAndFail => {
-                let _ = self.inner.read_at(unit, at, bytes);
-                Err(Fault::Device)
+                let done = self.inner.read_at(unit, at, bytes);
+                self.fuse.fail_behind(done)
             }
-            Turn::Fail => Err(Fault::Device),
+            Turn::Fail => self.fuse.fail(),
         }
     }
 
-    fn write_at(&mut self, unit: usize, at: u64, bytes: &[u8]) -> Result<(), Fault> {
+    fn write_at(&mut self, unit: usize, at: u64, bytes: &[u8]) -> Result<(), Fault>
+        requires unit { HasUnit (S.Shelf.state self.old.inner) unit }
+        requires within { WhereHonest (S.Shelf.state self.old.inner) unit (IsWithin at) }
+        ensures written { OnOk result (FileGoes unit (S.Shelf.state self.old.inner) (S.Shelf.state self.new.inner) (Written at bytes.now)) }
+        ensures failed { OnErr result (FileGoes unit (S.Shelf.state self.old.inner) (S.Shelf.state self.new.inner) (WriteFails at (length bytes.now))) }
+        ensures only { ChangesOnly unit (S.Shelf.state self.old.inner) (S.Shelf.state self.new.inner) }
+        ensures cause { FaultHasCause (capped (S.Shelf.fault_count self.old.inner) self.old.fuse.refused)
+            (capped (S.Shelf.fault_count self.new.inner) self.new.fuse.refused) result }
+        ensures fuse { Fused Write S.Shelf.fault_count (FileGoes unit (S.Shelf.state self.old.inner) (S.Shelf.state self.new.inner) (Written at bytes.now))
+            self.old.fuse self.new.fuse self.old.inner self.new.inner result }
+    {
         match self.fuse.turn(Call::Write) {
             Turn::Perform => self.inner.write_at(unit, at, bytes),
             Turn::PerformAndFail => {
-                let _ = self.inner.write_at(unit, at, bytes);
-                Err(Fault::Device)
+                let done = self.inner.write_at(unit, at, bytes);
+                self.fuse.fail_behind(done)
             }
-            Turn::Fail => Err(Fault::Device),
+            Turn::Fail => self.fuse.fail(),
         }
     }
 
-    fn sync(&mut self, unit: usize) -> Result<(), Fault> {
+    fn sync(&mut self, unit: usize) -> Result<(), Fault>
+        requires unit { HasUnit (S.Shelf.state self.old.inner) unit }
+        requires there { WhereHonest (S.Shelf.state self.old.inner) unit IsThere }
+        ensures synced { OnOk result (FileGoes unit (S.Shelf.state self.old.inner) (S.Shelf.state self.new.inner) Synced) }
+        ensures failed { OnErr result (FileGoes unit (S.Shelf.state self.old.inner) (S.Shelf.state self.new.inner) SyncFails) }
+        ensures only { ChangesOnly unit (S.Shelf.state self.old.inner) (S.Shelf.state self.new.inner) }
+        ensures cause { FaultHasCause (capped (S.Shelf.fault_count self.old.inner) self.old.fuse.refused)
+            (capped (S.Shelf.fault_count self.new.inner) self.new.fuse.refused) result }
+        ensures fuse { Fused Sync S.Shelf.fault_count (FileGoes unit (S.Shelf.state self.old.inner) (S.Shelf.state self.new.inner) Synced)
+            self.old.fuse self.new.fuse self.old.inner self.new.inner result }
+    {
         match self.fuse.turn(Call::Sync) {
             Turn::Perform => self.inner.sync(unit),
             Turn::PerformAndFail => {
-                let _ = self.inner.sync(unit);
-                Err(Fault::Device)
+                let done = self.inner.sync(unit);
+                self.fuse.fail_behind(done)
             }
-            Turn::Fail => Err(Fault::Device),
+            Turn::Fail => self.fuse.fail(),
         }
     }
 

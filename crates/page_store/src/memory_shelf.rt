@@ -72,6 +72,10 @@ impl MemShelf {
 }
 
 impl Shelf for MemShelf {
+    ghost use Rattle.std.specs.Prelude.{◌≡◌, ◌+◌, length, is_some, IsTrue, IsOk, IfOk, OnOk};
+    ghost use Rattle.page_store.specs.DeviceFile.{content, IsWithin, IsThere};
+    ghost use Rattle.page_store.specs.Calls.{ReadsBytes};
+    ghost use Rattle.page_store.specs.ShelfState.{HasUnit, unit_file};
     ghost use Rattle.page_store.specs.MemShelves.{state_of};
     ghost use Rattle.page_store.specs.MemLaws.{files_sound};
 
@@ -85,7 +89,12 @@ impl Shelf for MemShelf {
         0
     }
 
-    fn exists(&mut self, unit: usize) -> Result<bool, Fault> {
+    fn exists(&mut self, unit: usize) -> Result<bool, Fault>
+        requires unit { HasUnit (state_of self.old) unit }
+        ensures never { IsOk result }
+        ensures answer { IfOk result (λ there. there ≡ is_some (unit_file (state_of self.old) unit).seen) }
+        ensures stays { self.new ≡ self.old }
+    {
         Ok(self.place(unit).is_some())
     }
 
@@ -95,14 +104,26 @@ impl Shelf for MemShelf {
         Ok(())
     }
 
-    fn size(&mut self, unit: usize) -> Result<u64, Fault> {
+    fn size(&mut self, unit: usize) -> Result<u64, Fault>
+        requires unit { HasUnit (state_of self.old) unit }
+        requires there { IsTrue (state_of self.old).is_honest → IsThere (unit_file (state_of self.old) unit) }
+        ensures never { IsOk result }
+        ensures answer { IfOk result (λ size. size ≡ length (content (unit_file (state_of self.old) unit))) }
+        ensures stays { self.new ≡ self.old }
+    {
         match self.place(unit) {
             Some(place) => Ok(self.files[place].bytes.len() as u64),
             None => unreachable!(),
         }
     }
 
-    fn read_at(&mut self, unit: usize, at: u64, bytes: &mut [u8]) -> Result<(), Fault> {
+    fn read_at(&mut self, unit: usize, at: u64, bytes: &mut [u8]) -> Result<(), Fault>
+        requires unit { HasUnit (state_of self.old) unit }
+        requires within { IsTrue (state_of self.old).is_honest → IsWithin (at + length bytes.old) (unit_file (state_of self.old) unit) }
+        ensures never { IsOk result }
+        ensures answer { OnOk result (ReadsBytes (unit_file (state_of self.old) unit) at bytes.new) }
+        ensures stays { self.new ≡ self.old }
+    {
         match self.place(unit) {
             Some(place) => {
                 copy_from(&self.files[place].bytes, at as usize, bytes);

@@ -13,4 +13,4 @@ both fs name (Some i) found = there fs i found.at
     there (f ∷ fs) (suc i) at = rw at.0 (there fs i at.1)
 
 pub returns-clause-answer : goal.returns-clause-answer
-returns-clause-answer c h = c.is_some.ensures ∙ both c.args.self.now.files.items _ c.place.result c.place.ensures.found
+returns-clause-answer c = c.is_some.ensures ∙ both c.args.self.now.files.items _ c.place.result c.place.ensures.found
