@@ -1,0 +1,57 @@
+-- What the words ask for, by what a parse of them gave.
+use Rattle.std.proofs.Common.{◌≡◌, ◌≢◌, ◌⊎◌, List, Option, Result, Ok, Err, IfOk, IfErr, true, refl, sym, subst, inl, inr}
+use Rattle.clap.specs.Words.{App, HasKind, Row, Text, fault_of, is_simple, is_simple_and_free, kind_of, subcommand_of}
+use Rattle.clap.specs.declared.error.Error.{Error}
+use Rattle.clap.specs.declared.error.ErrorKind.TheVariants.{OutOfMemory}
+use Rattle.clap.proofs.OnLiterals.{clap_on_literals}
+use Rattle.command_words.specs.CommandLine.{program_app}
+use Rattle.command_words.specs.Asks.{Ask, AskNothing, AreFaultless, IsMet, IsShown}
+use Rattle.command_words.specs.declared.fault.WordsFault.{WordsFault}
+use Rattle.command_words.specs.declared.fault.WordsFault.TheVariants.{Usage}
+use Rattle.command_words.specs.declared.request.Request.{Request}
+use Rattle.command_words.specs.declared.request.Request.TheVariants.{Run, Check, Help}
+
+-- the matches of the program's command line, and its faults, are known
+is_known : is_simple program_app ≡ true
+unfolding clap_on_literals
+is_known = refl
+
+has_known_faults : is_simple_and_free program_app ≡ true
+unfolding clap_on_literals
+has_known_faults = refl
+
+pub simple : (app : App) → app ≡ program_app → is_simple app ≡ true
+simple app is = rw is is_known
+
+pub simple_and_free : (app : App) → app ≡ program_app → is_simple_and_free app ≡ true
+simple_and_free app is = rw is has_known_faults
+
+-- what was met is what the words ask for
+pub met_asked : (words : List Text) (met : Option (Text × List Row)) (request : Request) → AreFaultless words → met ≡ subcommand_of program_app words → IsMet met request → Ask words request
+met_asked words met (Run deck folder limits) faultless is h = (faultless, rw (← is) h)
+met_asked words met (Check file) faultless is h = (faultless, rw (← is) h)
+met_asked words met (Help text) faultless is h = absurd h
+
+-- of two things, the second
+second : {A B : Type 0} → A ⊎ B → (A → ⊥) → B
+second (inl a) never = absurd (never a)
+second (inr b) never = b
+
+shown_is_no_memory : (text : Error) → IsShown text → kind_of text ≡ OutOfMemory → ⊥
+shown_is_no_memory text (inl h) memory = absurd (cc)
+shown_is_no_memory text (inr h) memory = absurd (cc)
+
+-- help is what the words ask for
+pub help_asked : (words : List Text) (result : Result Request WordsFault) (error : Error) → HasKind (fault_of program_app words) error
+    → IfOk result (λ request. (request ≡ Help error) × IsShown error) → IfOk result (Ask words)
+help_asked words (Ok request) error kind h = subst (Ask words) (sym h.0) (second kind (shown_is_no_memory error h.1), h.1)
+help_asked words (Err fault) error kind h = tt
+
+-- nothing is what they ask for
+pub nothing_asked : (words : List Text) (result : Result Request WordsFault) (error : Error) → HasKind (fault_of program_app words) error
+    → IfErr result (λ fault. (text : Error) → fault ≡ Usage text → (text ≡ error) × (IsShown error → ⊥) × (kind_of error ≢ OutOfMemory))
+    → IfErr result (λ fault. (text : Error) → fault ≡ Usage text → AskNothing words text)
+nothing_asked words (Ok request) error kind h = tt
+nothing_asked words (Err fault) error kind h = λ text is.
+    let facts = h text is in
+    subst (AskNothing words) (sym facts.0) (inl (second kind facts.2, facts.1))

@@ -1,0 +1,40 @@
+-- The subcommand that a parse met, and its values.
+use Rattle.std.proofs.Common.{◌≡◌, List, Option, Some, None, option_map, sym, ap, ap₂, ◌∙◌, Bor}
+use Rattle.clap.specs.Words.{Text, Row, first_of, first_value, rows_of, subcommand_name_of, subcommand_rows_of}
+use Rattle.clap.specs.declared.parser.matches.ArgMatches.{ArgMatches}
+use Rattle.clap.specs.declared.parser.matches.ArgMatches.TheViews.{out-ArgMatches}
+use Rattle.clap.specs.declared.parser.matches.Found.{Found}
+use Rattle.clap.proofs.WalkLemmas.{first_value-rows}
+
+some_same : {X : Type 0} (x y : X) → Some x ≡ Some y → x ≡ y
+some_same x y e = cc
+
+-- a value that may be there, seen as two parts
+module _ {X : Type 0} (f : X → Text) (g : X → List Row) where
+  joined : (o : Option X) (name : Text) (rows : List Row) → option_map f o ≡ Some name → option_map (λ (p : Text × List Row). p.1) (option_map {U = Text × List Row} (λ x. (f x, g x)) o) ≡ Some rows
+      → option_map {U = Text × List Row} (λ x. (f x, g x)) o ≡ Some (name, rows)
+  joined None name rows n r = absurd (cc)
+  joined (Some x) name rows n r = ap Some (ap₂ (λ (a : Text) (b : List Row). (a, b)) (some_same (f x) name n) (some_same (g x) rows r))
+
+-- its name and its rows together
+pub met_rows : (m : ArgMatches) (name : Text) (rows : List Row) → subcommand_name_of m ≡ Some name → option_map (λ (p : Text × List Row). p.1) (subcommand_rows_of m) ≡ Some rows
+    → subcommand_rows_of m ≡ Some (name, rows)
+met_rows m name rows n r = joined _ _ (out-ArgMatches m).subcommand name rows n r
+
+-- the rows are those
+pub same_rows : (m : ArgMatches) (name : Text) (rows other : List Row) → option_map (λ (p : Text × List Row). p.1) (subcommand_rows_of m) ≡ Some rows
+    → subcommand_rows_of m ≡ Some (name, other) → other ≡ rows
+same_rows m name rows other r e = some_same other rows (sym (ap (λ (o : Option (Text × List Row)). option_map (λ (p : Text × List Row). p.1) o) e) ∙ r)
+
+-- a text that was read
+pub text_read : (f : Found) (id : Text) (text : Option Text) → text ≡ first_value f id → first_of id (rows_of f) ≡ text
+text_read f id text e = sym (first_value-rows f id) ∙ sym e
+
+-- none was read
+pub no_text : (f : Found) (id : Text) (read : Option (Bor Text)) → option_map (λ s. s.now) read ≡ first_value f id → read ≡ None
+    → (rows : List Row) → rows ≡ rows_of f → (text : Text) → first_of id rows ≡ Some text → ⊥
+no_text f id read e none rows same text given =
+    let absent : None ≡ first_value f id = rw none at e in
+    let first : first_of id rows ≡ None = rw same (text_read f id None absent) in
+    let bad : Some text ≡ None = sym given ∙ first in
+    absurd (cc)

@@ -1,0 +1,46 @@
+-- The command line of the program: its subcommands, and the arguments of each. All of this is ours, in the words of `clap`.
+use Rattle.std.specs.Prelude.{ℕ, [], ◌∷◌, Some, true, false, codes}
+use Rattle.clap.specs.Words.{App, Shape, Rule, Text, new_rule}
+use Rattle.clap.specs.Simple.{new_shape}
+use Rattle.clap.specs.declared.builder.value_parser.ValueParser.TheVariants.{Unsigned}
+
+-- a word that has to be given
+abbrev pub word_rule : Text → Rule
+word_rule name = record (new_rule name) { value_names = 1; required = true }
+
+-- an option that has to be given
+abbrev pub option_rule : Text → Rule
+option_rule name = record (word_rule name) { long = Some name }
+
+-- an option that is a number within these bounds
+abbrev pub number_rule : Text → ℕ → ℕ → Text → Rule
+number_rule name least most usual = record (new_rule name) {
+  long = Some name;
+  value_names = 1;
+  defaults = usual ∷ [];
+  parser = Some (Unsigned least most);
+}
+
+-- `run DECK --folder DIR [--pages N] [--frames N]`
+abbrev pub run_shape : Shape
+run_shape = record (new_shape (codes "run")) {
+  rules = word_rule (codes "deck") ∷ option_rule (codes "folder")
+      ∷ number_rule (codes "pages") 16 4294967295 (codes "1048576")
+      ∷ number_rule (codes "frames") 1 4096 (codes "64") ∷ [];
+}
+
+-- `check FILE`
+abbrev pub check_shape : Shape
+check_shape = record (new_shape (codes "check")) { rules = word_rule (codes "file") ∷ [] }
+
+-- one of the two, or help or the version
+abbrev pub program_app : App
+program_app = record {
+  top = record (new_shape (codes "cobix")) {
+    is_leaf = false;
+    has_version = true;
+    subcommand_required = true;
+    disable_help_subcommand = true;
+  };
+  subs = run_shape ∷ check_shape ∷ [];
+}

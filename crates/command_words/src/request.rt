@@ -1,0 +1,235 @@
+//! What a command line asks for.
+ghost use Rattle.std.specs.Prelude.{◌≡◌, ◌≢◌, ℕ, List, [], Some, None, true, false, map, codes, string_bytes, IfOk, IfErr};
+ghost use Rattle.std.specs.Option.{IfSome};
+ghost use Rattle.clap.specs.Words.{app_of, found_of, rows_of, rule_of, subcommand_rows_of, with_rule};
+ghost use Rattle.clap.specs.declared.builder.command.Command.TheViews.{out-Command};
+ghost use Rattle.clap.specs.Values.{kind_of};
+ghost use Rattle.command_words.specs.CommandLine.{word_rule, option_rule, number_rule, run_shape, check_shape, program_app};
+ghost use Rattle.command_words.specs.Asks.{AreLimits, IsRun, IsCheck, IsMet, IsNeither, Ask, AskNothing, HaveFault, IsShown};
+
+use crate::fault::WordsFault;
+use crate::help::{ANSWERS, REASONS, VERSION};
+use crate::limits::Limits;
+use clap::builder::ValueParser;
+use clap::error::ErrorKind;
+use clap::{Arg, ArgMatches, Command, Error};
+use std::alloc::{AllocError, Global};
+
+/// What a command line asks for.
+#[derive(Drop)]
+pub enum Request<'a> {
+    /// The run of the deck in the file of this path, over the files of a folder.
+    Run {
+        deck: &'a str,
+        folder: &'a str,
+        limits: Limits,
+    },
+    /// The check of the file of this path.
+    Check {
+        file: &'a str,
+    },
+    /// This text: help, or the version.
+    Help(Error),
+}
+
+/// An option that is a number within these bounds.
+fn number<'a>(
+    alloc: Global,
+    name: &'a str,
+    least: u64,
+    most: u64,
+    default: &'a str,
+    help: &'a str,
+) -> Arg<'a>
+    ensures rule { rule_of result ≡ number_rule name.entry.now least most default.entry.now }
+    ensures local { result.global ≡ false }
+{
+    Arg::new(alloc, name)
+        .long(name)
+        .value_name("N")
+        .default_value(default)
+        .help(help)
+        .value_parser(ValueParser::unsigned(least, most))
+}
+
+/// A word that has to be given.
+fn word<'a>(alloc: Global, name: &'a str, value: &'a str, help: &'a str) -> Arg<'a>
+    ensures rule { rule_of result ≡ word_rule name.entry.now }
+    ensures local { result.global ≡ false }
+{
+    Arg::new(alloc, name)
+        .value_name(value)
+        .required(true)
+        .help(help)
+}
+
+/// `run` with its deck and its folder.
+fn with_files<'a>(alloc: Global, run: Command<'a>) -> Result<Command<'a>, AllocError>
+    requires { (out-Command run).has_globals ≡ false }
+    ensures shape { IfOk result (λ command. app_of command ≡ with_rule (with_rule (app_of run.entry) (word_rule (codes "deck"))) (option_rule (codes "folder"))) }
+    ensures local { IfOk result (λ command. (out-Command command).has_globals ≡ false) }
+{
+    let deck = word(
+        alloc,
+        "deck",
+        "DECK",
+        "The file of the deck, of at most 1,048,576 bytes",
+    );
+    let folder = word(
+        alloc,
+        "folder",
+        "DIR",
+        "The folder in which the deck's files stay",
+    )
+    .long("folder");
+    run.arg(deck)?.arg(folder)
+}
+
+/// `run` with its limits.
+fn with_limits<'a>(alloc: Global, run: Command<'a>) -> Result<Command<'a>, AllocError>
+    requires { (out-Command run).has_globals ≡ false }
+    ensures shape { IfOk result (λ command. app_of command ≡ with_rule (with_rule (app_of run.entry) (number_rule (codes "pages") 16 4294967295 (codes "1048576"))) (number_rule (codes "frames") 1 4096 (codes "64"))) }
+    ensures local { IfOk result (λ command. (out-Command command).has_globals ≡ false) }
+{
+    let pages = number(
+        alloc,
+        "pages",
+        16,
+        4_294_967_295,
+        "1048576",
+        "The most pages of 4,096 bytes that a file may have, from 16 to 4,294,967,295",
+    );
+    let frames = number(
+        alloc,
+        "frames",
+        1,
+        4096,
+        "64",
+        "How many pages of an open file are held in memory at most, from 1 to 4,096",
+    );
+    run.arg(pages)?.arg(frames)
+}
+
+/// `run`, with its words and options.
+fn run_command<'a>(alloc: Global) -> Result<Command<'a>, AllocError>
+    ensures shape { IfOk result (λ command. app_of command ≡ record { top = run_shape; subs = [] }) }
+    ensures local { IfOk result (λ command. (out-Command command).has_globals ≡ false) }
+{
+    let run = Command::new(alloc, "run")
+        .about("Runs a deck, and writes its transcript to standard output")
+        .after_help(ANSWERS);
+    with_limits(alloc, with_files(alloc, run)?)
+}
+
+/// `check`.
+fn check_command<'a>(alloc: Global) -> Result<Command<'a>, AllocError>
+    ensures shape { IfOk result (λ command. app_of command ≡ record { top = check_shape; subs = [] }) }
+    ensures local { IfOk result (λ command. (out-Command command).has_globals ≡ false) }
+{
+    let file = word(
+        alloc,
+        "file",
+        "FILE",
+        "The file that is checked; it is not changed",
+    );
+    let check = Command::new(alloc, "check")
+        .about("Checks whether a file stands for records")
+        .after_help(REASONS);
+    check.arg(file)
+}
+
+fn command<'a>(alloc: Global) -> Result<Command<'a>, AllocError>
+    ensures { IfOk result (λ command. app_of command ≡ program_app) }
+{
+    let cobix = Command::new(alloc, "cobix")
+        .about("Indexed files of COBOL")
+        .version(VERSION)
+        .subcommand_required(true)
+        .disable_help_subcommand(true);
+    cobix
+        .subcommand(run_command(alloc)?)?
+        .subcommand(check_command(alloc)?)
+}
+
+/// The limits of a run.
+fn limits_of(run: &ArgMatches<'_>) -> Option<Limits>
+    ensures some { IfSome result (λ limits. AreLimits (rows_of (found_of run.now)) limits.pages limits.frames.value) }
+    ensures none { result ≡ None → (pages frames : ℕ) → AreLimits (rows_of (found_of run.now)) pages frames → ⊥ }
+{
+    let pages = run.get_one("pages")?;
+    let frames = run.get_one("frames")?;
+    Limits::of(pages, frames)
+}
+
+/// The run that the matches ask for, if they ask for one.
+fn run_of<'a>(matches: &ArgMatches<'a>) -> Option<Request<'a>>
+    ensures some { IfSome result (IsMet (subcommand_rows_of matches.now)) }
+    ensures none { result ≡ None → (deck folder : List ℕ) (pages frames : ℕ) → IsRun (subcommand_rows_of matches.now) deck folder pages frames → ⊥ }
+{
+    let run = matches.subcommand_matches("run")?;
+    let deck = run.get_str("deck")?;
+    let folder = run.get_str("folder")?;
+    let limits = limits_of(run)?;
+    Some(Request::Run {
+        deck,
+        folder,
+        limits,
+    })
+}
+
+/// The check that the matches ask for, if they ask for one.
+fn check_of<'a>(matches: &ArgMatches<'a>) -> Option<Request<'a>>
+    ensures some { IfSome result (IsMet (subcommand_rows_of matches.now)) }
+    ensures none { result ≡ None → (file : List ℕ) → IsCheck (subcommand_rows_of matches.now) file → ⊥ }
+{
+    let check = matches.subcommand_matches("check")?;
+    let file = check.get_str("file")?;
+    Some(Request::Check { file })
+}
+
+/// What the matches ask for.
+fn request_of<'a>(matches: &ArgMatches<'a>) -> Option<Request<'a>>
+    ensures some { IfSome result (IsMet (subcommand_rows_of matches.now)) }
+    ensures none { result ≡ None → IsNeither (subcommand_rows_of matches.now) }
+{
+    match run_of(matches) {
+        Some(run) => Some(run),
+        None => check_of(matches),
+    }
+}
+
+/// What an error of the parse means: it shows help, or tells a mistake.
+fn without_matches<'a>(error: Error) -> Result<Request<'a>, WordsFault>
+    ensures help { IfOk result (λ request. (request ≡ Request.Help error) × IsShown error) }
+    ensures mistake { IfErr result (λ fault. (text : _) → fault ≡ WordsFault.Usage text → (text ≡ error) × (IsShown error → ⊥) × (kind_of error ≢ ErrorKind.OutOfMemory)) }
+{
+    if error.kind() == ErrorKind::OutOfMemory {
+        return Err(WordsFault::Memory);
+    }
+    if error.use_stderr() {
+        Err(WordsFault::Usage(error))
+    } else {
+        Ok(Request::Help(error))
+    }
+}
+
+/// What the words ask for, of which the first is the program's name. `Usage`: they are not understood. `Memory`.
+pub fn read_words<'a>(alloc: Global, words: &'a [String]) -> Result<Request<'a>, WordsFault>
+    ensures asked { IfOk result (Ask (map string_bytes words.entry.now)) }
+    ensures nothing { IfErr result (λ fault. (text : _) → fault ≡ WordsFault.Usage text → AskNothing (map string_bytes words.entry.now) text) }
+{
+    let mut command = command(alloc)?;
+    match command.try_get_matches_from_mut(words) {
+        Ok(matches) => match request_of(&matches) {
+            Some(request) => Ok(request),
+            None => match command.error(
+                ErrorKind::MissingRequiredArgument,
+                "a deck and a folder, or a file, are wanted",
+            ) {
+                Ok(text) => Err(WordsFault::Usage(text)),
+                Err(_) => Err(WordsFault::Memory),
+            },
+        },
+        Err(error) => without_matches(error),
+    }
+}
