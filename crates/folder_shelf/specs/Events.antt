@@ -1,5 +1,5 @@
 -- What was asked of a folder, and what it answered.
-use Rattle.std.specs.Prelude.{ℕ, zero, suc, Bool, List, ◌∷◌, Option, Some, None, slice_index, ◌==◌, if◌then◌else◌}
+use Rattle.std.specs.Prelude.{ℕ, zero, suc, ◌+◌, ◌-◌, ◌^◌, min, Bool, false, not, List, [], ◌∷◌, Option, Some, None, is_some, length, slice_index, ◌==◌, if◌then◌else◌}
 
 pub data Event : Type 0 where
   -- the next call is on the file of this name
@@ -36,3 +36,19 @@ event_of numbers bytes = event (slice_index numbers 0) (slice_index numbers 1) (
 -- a call on the file of this name, noted in front of the earlier ones
 abbrev pub asked : Event → List ℕ → List Event → List Event
 asked call name earlier = call ∷ named name ∷ earlier
+
+-- what was asked for was not done, or not told
+abbrev pub is_failed : Event → Bool
+is_failed (named name) = false
+is_failed (made done) = not done
+is_failed (measured size) = not (is_some size)
+is_failed (read done at bytes) = not done
+is_failed (held done) = not done
+is_failed (written at n bytes) = not (n == length bytes)
+is_failed (flushed done) = not done
+is_failed (looked found) = not (is_some found)
+
+-- how many calls failed, as far as 64 bits can count
+abbrev pub failed_calls : List Event → ℕ
+failed_calls [] = 0
+failed_calls (call ∷ earlier) = if is_failed call then min (failed_calls earlier + 1) (2 ^ 64 - 1) else failed_calls earlier

@@ -1,7 +1,9 @@
 //! A shelf over a folder of the system: a unit is the file of that name in the folder.
-ghost use Rattle.std.specs.Prelude.{◌≡◌, ◌<◌, map, length, get_or, [], IsTrue, IsErrOf};
+ghost use Rattle.std.specs.Prelude.{◌≡◌, ◌+◌, ◌-◌, ◌^◌, ◌<◌, min, map, length, get_or, [], IsTrue, IsErrOf};
+ghost use Rattle.std.proofs.Props.{props};
 ghost use Rattle.io_state.specs.declared.fault.Fault.TheVariants.{Device};
 ghost use Rattle.page_store.specs.ShelfState.{FaultHasCause};
+ghost use Rattle.folder_shelf.specs.Events.{failed_calls};
 ghost use Rattle.folder_shelf.specs.Replay.{folder_state};
 
 use crate::disk::Disk;
@@ -22,6 +24,7 @@ pub struct FolderShelf<R: Files + Drop, D: Disk> {
     folder: Folder<R>,
     faults: u64,
     disk: PhantomData<D>,
+    ghost counted: { faults ≡ failed_calls folder.calls.events } by { Prim.hlevel props },
 }
 
 impl<R: Files + Drop, D: Disk> FolderShelf<R, D>
@@ -136,6 +139,7 @@ fn name_of(units: &[FileName], unit: usize) -> &FileName
 // Counts a call that failed.
 fn fail<T>(faults: &mut u64) -> Result<T, Fault>
     ensures device { IsErrOf result Device }
+    ensures counted { faults.new ≡ min (faults.old + 1) (2 ^ 64 - 1) }
     ensures cause { FaultHasCause faults.old faults.new result }
 {
     *faults = faults.saturating_add(1);
