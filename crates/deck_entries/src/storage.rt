@@ -32,12 +32,6 @@ impl Model for StorageItem {
 impl StorageItem {
     ghost use Rattle.std.specs.Prelude.{◌≡◌};
 
-    pub fn name_bytes(&self) -> &[u8]
-        ensures { result.now ≡ self.now.name }
-    {
-        self.name.as_str().as_bytes()
-    }
-
     pub fn picture_bytes(&self) -> &[u8]
         ensures { result.now ≡ self.now.picture }
     {

@@ -18,6 +18,5 @@ mod length_item;
 
 pub use deck_words::{DECK_LIMIT, DeckFault, Words, one_reading, words};
 pub use description::{Description, are_described, one_description, read_description};
-pub use field_places::{FieldPlaces, fields_by_name};
 pub use file::FileDesc;
 pub use files::{FileList, ItemList, LengthItem};
