@@ -3,12 +3,14 @@ use Rattle.std.proofs.Common.{◌≡◌, ◌≤◌, ◌<◌, ◌+◌, ◌-◌, �
 use Rattle.std.proofs.lemmas.List.{take-append-le, take_at, length-take-le}
 use Rattle.std.proofs.lemmas.Grind.{flat_map-append}
 use Rattle.std.proofs.Math.Seq.{take-append-add, drop-append-add}
+use Rattle.std.specs.Prelude.{Result, Ok, Err, IfErr, IsErrAnd}
+use Rattle.file_checker.specs.declared.verdict.CheckFault.{CheckFault}
 use borrow.Rule.Slice.PartMut.{put_mid, post_of}
-use Rattle.std.specs.Io.KnownBytes.{Consumes}
+use Rattle.std.specs.Io.KnownBytes.{Consumes, Keeps}
 use Rattle.page_bytes.specs.Each.{Each}
 use Rattle.page_marks.proofs.EachLemmas.{each_join}
 use Rattle.page_store.specs.Pages.{page_of}
-use Rattle.file_checker.specs.Bytes.{HasLess, HasGiven, bytes_of, AreRead, AreFirstPages}
+use Rattle.file_checker.specs.Bytes.{HasLess, HasGiven, HasGivenLess, HasGivenPages, bytes_of, AreRead, AreFirstPages}
 
 -- bytes that came, and then these
 pub consumes_on : (a b c : Option (List ℕ)) (xs ys zs : List ℕ) → Consumes a b xs → Consumes b c ys → zs ≡ xs ++ ys → Consumes a c zs
@@ -24,6 +26,26 @@ less_on (Some x) None xs m n p few sum = absurd p
 less_on (Some x) (Some y) xs m n p few sum =
     let all : length x ≡ length xs + length y = ap length p ∙ length-append xs y in
     omega arith
+
+-- and then none
+pub keeps_on : (a b c : Option (List ℕ)) (xs : List ℕ) → Consumes a b xs → Keeps b c → Consumes a c xs
+keeps_on None b c xs p k = tt
+keeps_on (Some x) None c xs p k = absurd p
+keeps_on (Some x) (Some y) None xs p k = absurd k
+keeps_on (Some x) (Some y) (Some z) xs p k = p ∙ ap (λ l. xs ++ l) (sym k)
+
+-- and then fewer than m
+pub less_given : (a b c : Option (List ℕ)) (xs : List ℕ) (m n : ℕ) → Consumes a b xs → HasGivenLess b c m → length xs + m ≤ n → HasGivenLess a c n
+less_given a b c xs m n came less sum = record {
+  bytes = xs ++ less.bytes;
+  given = consumes_on a b c xs less.bytes (xs ++ less.bytes) came less.given refl;
+  few = let all = length-append xs less.bytes in let few = less.few in omega arith;
+}
+
+-- the fault that a call answers is the one that it met
+pub on_fault : {X : Type 0} (r : Result X CheckFault) (fault : CheckFault) (P : CheckFault → Type 0) → IsErrAnd r (λ e. e ≡ fault) → P fault → IfErr r P
+on_fault (Ok x) fault P is p = tt
+on_fault (Err e) fault P is p = subst P (sym is) p
 
 -- ---- a page
 
@@ -61,6 +83,16 @@ read_more a b c list page had came long = record {
 pub pages_long : (list : List (List ℕ)) → Each (λ page. length page ≡ 4096) list → length (bytes_of list) ≡ 4096 * length list
 pages_long [] whole = refl
 pages_long (page ∷ list) whole = length-append page (bytes_of list) ∙ (let one = whole.0 in let rest = pages_long list whole.1 in omega arith)
+
+-- pages that came, and one more
+pub pages_more : (a b c : Option (List ℕ)) (list : List (List ℕ)) (page : List ℕ) (most : ℕ) → AreRead a b list → Consumes b c page → length page ≡ 4096
+    → length list < most → HasGivenPages a c most
+pages_more a b c list page most had came long few = record {
+  count = length list + 1;
+  some = omega arith;
+  few = omega arith;
+  given = given_more a b c page (4096 * length list) (4096 * (length list + 1)) (record { bytes = bytes_of list; given = had.given; many = pages_long list had.whole }) came long (omega arith);
+}
 
 -- page n of the bytes of pages
 page_is : (list : List (List ℕ)) (rest : List ℕ) (n : ℕ) → Each (λ page. length page ≡ 4096) list → n < length list → page_of (bytes_of list ++ rest) n ≡ slice_index_or list n []

@@ -1,5 +1,5 @@
 -- The bytes of a file, by its first page and the pages behind it.
-use Rattle.std.proofs.Common.{◌≡◌, ℕ, ◌+◌, ◌-◌, ◌*◌, ◌≤◌, ◌<◌, false, ltb, nat_lt, List, [], ◌∷◌, length, slice_index, Option, Some, None, IsSome, inr, refl, sym, ap, subst, ◌∙◌, append-nil, length-append, arith}
+use Rattle.std.proofs.Common.{◌≡◌, ℕ, ◌+◌, ◌-◌, ◌*◌, ◌≤◌, ◌<◌, false, ltb, nat_lt, List, [], ◌∷◌, ◌++◌, length, slice_index, Option, Some, None, IsSome, inr, refl, sym, ap, subst, ◌∙◌, append-nil, length-append, arith}
 use Rattle.std.proofs.lemmas.List.{take_at, get_or_append_left}
 use Rattle.std.proofs.lemmas.Bool.{le-ltb, ltb-true, and_parts}
 use Rattle.std.specs.Option.{IfSome}
@@ -18,10 +18,15 @@ use Rattle.shelf_file.specs.Named.{look_of, live_in, free_in}
 use Rattle.shelf_file.proofs.PagesLemmas.{AreAlike, same_chain, same_live}
 use Rattle.file_checker.specs.declared.verdict.Reason.{Reason}
 use Rattle.file_checker.specs.declared.verdict.Reason.TheVariants.{Short, Gate, Header as NoHeader, Shared, Node, Order, Heap, Index, Lost}
-use Rattle.file_checker.specs.Bytes.{HasLess, HasGiven, AreRead, AreFirstPages}
-use Rattle.file_checker.specs.Later.{IsLater}
+use Rattle.file_checker.specs.declared.verdict.Verdict.{Verdict}
+use Rattle.file_checker.specs.declared.verdict.Verdict.TheVariants.{Unsound}
+use Rattle.file_checker.specs.Bytes.{HasLess, HasGiven, HasGivenLess, HasGivenPages, AreRead, AreFirstPages, BreaksOff, bytes_of}
+use Rattle.file_checker.specs.Later.{IsMetIn}
 use Rattle.file_checker.specs.Parts.{PagesStand}
-use Rattle.file_checker.specs.Sound.{IsSound, IsAccepted, IsLong, HasReason, counted_in}
+use Rattle.file_checker.specs.declared.verdict.CheckFault.{CheckFault}
+use Rattle.file_checker.specs.declared.verdict.CheckFault.TheVariants.{Input, Memory}
+use Rattle.file_checker.specs.Sound.{IsSound, IsLong, HasPages, HasReason, GivesUp, counted_in, asked_in}
+use Rattle.file_checker.proofs.ReadLemmas.{consumes_on, less_given, pages_long}
 
 -- what holds of the bytes that are known, if they are
 pub of_known : (known : Option (List ℕ)) (P : List ℕ → Type 0) → ((bytes : List ℕ) → known ≡ Some bytes → P bytes) → IfSome known P
@@ -58,6 +63,19 @@ module _ (bytes first : List ℕ) (after end : Option (List ℕ)) (count : ℕ) 
   told : counted_in bytes ≡ count
   told = ap (λ (p : List ℕ). number_in p 12 4) (first_is bytes first after came long) ∙ sym counted
 
+  -- what came behind the first page came behind nothing else
+  pub read_whole : HasGiven after end (4096 * (count - 1)) → HasGiven (Some bytes) end (asked_in bytes)
+  read_whole given = record {
+    bytes = first ++ given.bytes;
+    given = consumes_on (Some bytes) after end first given.bytes (first ++ given.bytes) came given.given refl;
+    many = length-append first given.bytes ∙ (let many = given.many in let e = told in subst (λ (n : ℕ). length first + length given.bytes ≡ 4096 + 4096 * (n - 1)) (sym e) (omega arith));
+  }
+
+  pub read_less : HasGivenLess after end (4096 * (count - 1)) → HasGivenLess (Some bytes) end (asked_in bytes)
+  read_less less =
+      subst (λ (n : ℕ). HasGivenLess (Some bytes) end (4096 + 4096 * (n - 1))) (sym told)
+      (less_given (Some bytes) after end first (4096 * (count - 1)) (4096 + 4096 * (count - 1)) came less (omega arith))
+
   pub is_short : HasLess (4096 * (count - 1)) after → HasReason bytes Short
   is_short less =
       let there = behind bytes first after came long in
@@ -78,26 +96,66 @@ module _ (bytes first : List ℕ) (after end : Option (List ℕ)) (count : ℕ) 
 
 -- ---- a file that is accepted
 
--- of a later reason nothing more is known
-pub later : (bytes : List ℕ) (reason : Reason) → IsAccepted bytes → IsLater reason → HasReason bytes reason
-later bytes Short is after = absurd after
-later bytes Gate is after = absurd after
-later bytes NoHeader is after = absurd after
-later bytes Shared is after = is
-later bytes Node is after = is
-later bytes Order is after = is
-later bytes Heap is after = is
-later bytes Index is after = is
-later bytes Lost is after = is
+-- it is no want of bytes
+pub not_short : (header : Header) (list : List (List ℕ)) (reason : Reason) → IsMetIn header list reason → Unsound reason ≡ Unsound Short → ⊥
+not_short header list Short met is = met
+not_short header list Gate met is = met
+not_short header list NoHeader met is = met
+not_short header list Shared met is = cc is
+not_short header list Node met is = cc is
+not_short header list Order met is = cc is
+not_short header list Heap met is = cc is
+not_short header list Index met is = cc is
+not_short header list Lost met is = cc is
+
+-- what the reason says of the pages, it says of the bytes
+pub shown : (bytes : List ℕ) (header : Header) (list : List (List ℕ)) (reason : Reason) → HasPages bytes header list → IsMetIn header list reason → HasReason bytes reason
+shown bytes header list Short all met = absurd met
+shown bytes header list Gate all met = absurd met
+shown bytes header list NoHeader all met = absurd met
+shown bytes header list Shared all met = (header, all.accepted)
+shown bytes header list Node all met = (header, all.accepted)
+shown bytes header list Order all met = (header, all.accepted)
+shown bytes header list Heap all met = (header, all.accepted)
+shown bytes header list Index all met = (header, all.accepted)
+shown bytes header list Lost all met = (header, list, all, met)
 
 module _ (bytes first : List ℕ) (header : Header) (page : page_of bytes 0 ≡ first) (is : IsFirstPage header first) where
   pub too_few : HasLess (4096 * header.pages) (Some bytes) → HasReason bytes Short
   too_few less = inr (subst (λ (n : ℕ). length bytes < 4096 * n) (sym (counted_is bytes first header page is)) less)
 
-  module _ (list : List (List ℕ)) (pages : AreFirstPages bytes list) (many : length list ≡ header.pages) where
-    counted : 1 ≤ header.pages
-    counted = let c = is.allowed.within.counted in omega arith
+  counted : 1 ≤ header.pages
+  counted = let c = is.allowed.within.counted in omega arith
 
+  asked : 4096 * header.pages ≡ asked_in bytes
+  asked = subst (λ (n : ℕ). 4096 * header.pages ≡ 4096 + 4096 * (n - 1)) (sym (counted_is bytes first header page is)) (let some = counted in omega arith)
+
+  pub gives_up : (end : Option (List ℕ)) (fault : CheckFault) → BreaksOff (Some bytes) end header.pages fault → GivesUp bytes end fault
+  gives_up end Input less = subst (HasGivenLess (Some bytes) end) asked less
+  gives_up end Memory some =
+      (subst (HasGivenPages (Some bytes) end) (sym (counted_is bytes first header page is)) some, (header, ap header_in page ∙ first_read header first is))
+
+  -- the first page alone was read
+  pub one_given : (end : Option (List ℕ)) → Consumes (Some bytes) end first → length first ≡ 4096 → HasGivenPages (Some bytes) end header.pages
+  one_given end came long = record { count = 1; some = omega arith; few = counted; given = record { bytes = first; given = came; many = long } }
+
+  -- so many pages were read
+  pub all_given : (end : Option (List ℕ)) (list : List (List ℕ)) → AreRead (Some bytes) end list → length list ≡ header.pages → HasGivenPages (Some bytes) end header.pages
+  all_given end list had many = record {
+    count = header.pages;
+    some = counted;
+    few = omega arith;
+    given = record { bytes = bytes_of list; given = had.given; many = pages_long list had.whole ∙ ap (λ (n : ℕ). 4096 * n) many };
+  }
+
+  pub pages_read : (end : Option (List ℕ)) (list : List (List ℕ)) → AreRead (Some bytes) end list → length list ≡ header.pages → HasGiven (Some bytes) end (asked_in bytes)
+  pages_read end list had many = record {
+    bytes = bytes_of list;
+    given = had.given;
+    many = pages_long list had.whole ∙ ap (λ (n : ℕ). 4096 * n) many ∙ asked;
+  }
+
+  module _ (list : List (List ℕ)) (pages : AreFirstPages bytes list) (many : length list ≡ header.pages) where
     pub accepted : look_of (Some bytes) ≡ Accepted header
     accepted =
         let some = counted in
@@ -106,6 +164,9 @@ module _ (bytes first : List ℕ) (header : Header) (page : page_of bytes 0 ≡ 
         let all : nat_lt (length bytes) (4096 * header.pages) ≡ false = le-ltb (length bytes) (4096 * header.pages) (rw many at enough) in
         let read : header_in (page_of bytes 0) ≡ Some header = ap header_in page ∙ first_read header first is in
         rw (whole, read, all) refl
+
+    pub all_pages : HasPages bytes header list
+    all_pages = record { accepted = accepted; pages = pages; many = many }
 
     alike : AreAlike header.pages (page_of bytes) (page_in list)
     alike n inside =

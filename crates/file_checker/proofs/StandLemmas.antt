@@ -1,5 +1,5 @@
 -- A file whose parts were walked and compared stands.
-use Rattle.std.proofs.Common.{◌≡◌, ℕ, zero, suc, ◌+◌, ◌<◌, Bool, true, false, List, [], ◌∷◌, ◌++◌, length, slice_index_or, Option, refl, sym, subst, ◌∙◌, arith}
+use Rattle.std.proofs.Common.{◌≡◌, ◌≢◌, ◌≤◌, ℕ, zero, suc, ◌+◌, ◌<◌, Bool, true, false, List, [], ◌∷◌, ◌++◌, length, slice_index_or, Option, refl, sym, ap, subst, ◌∙◌, arith}
 use Rattle.std.proofs.lemmas.List.{length-map}
 use Rattle.pages.specs.PageMap.{PageMap}
 use Rattle.bplus_tree.specs.declared.tree.Tree.{Tree}
@@ -7,7 +7,7 @@ use Rattle.bplus_tree.specs.Standing.{TreeStands}
 use Rattle.page_marks.specs.Marks.{Marks}
 use Rattle.page_marks.specs.PageList.{pages_in}
 use Rattle.page_marks.specs.Parted.{own_at, all_of}
-use Rattle.page_marks.proofs.MarksLemmas.{marks_on}
+use Rattle.page_marks.proofs.MarksLemmas.{marks_on, outside_reached}
 use Rattle.page_walks.specs.declared.spot.Spot.{Spot}
 use Rattle.page_walks.specs.Spots.{entries_at}
 use Rattle.page_walks.specs.TreeWalk.{TreeWalked}
@@ -32,6 +32,7 @@ use Rattle.row_checks.specs.Alternate.{RanksDiffer}
 use Rattle.row_checks.specs.Laws.{RowsMakeAFile}
 use Rattle.row_checks.specs.Rows.{RowsStand, places_in, rows_in, row_at}
 use Rattle.file_checker.specs.Parts.{AlternatesFound, PagesStand}
+use Rattle.file_checker.specs.Lost.{IsTreeIn, LeavesOut}
 use Rattle.file_checker.proofs.AlternateLemmas.{spots_many}
 
 -- what is found of a file before all its pages are known to be reached
@@ -65,6 +66,34 @@ module _ (header : Header) (list : List (List ℕ)) (opened : OpenFile) (own : L
   all_marks : Marks start final (all_of (own ∷ found.prime.own ∷ found.alternates.owns))
   all_marks = marks_on start heaped final own (found.prime.own ++ all_of found.alternates.owns) found.heap_marks
       (marks_on heaped primed final found.prime.own (all_of found.alternates.owns) found.prime.marks found.alternates.marks)
+
+  -- a page without a mark is in no part
+  pub leaves_out : (n : ℕ) → n < length list → final n ≡ false → LeavesOut header list n
+  leaves_out n within off =
+      let parts = own ∷ found.prime.own ∷ found.alternates.owns in
+      let out = outside_reached final n (all_of parts) off all_marks.set in
+      let unfree : start n ≡ false = sym (all_marks.others n out) ∙ off in
+      let apart = outside_reached start n found.free.own unfree found.free.marks.set in
+      let unheaded : zeroth n ≡ false = sym (found.free.marks.others n apart) ∙ unfree in
+      let some : n ≢ 0 = λ same. (let yes : zeroth n ≡ true = ap zeroth same ∙ found.first.set.0 in cc (yes, unheaded)) in
+      record {
+        within = within;
+        some = omega (arith, some);
+        free = found.free.own;
+        free_are = found.free.is;
+        not_free = apart;
+        opened = opened;
+        by_header = by_header;
+        owns = parts;
+        owners = let many = found.alternates.as_many in omega arith;
+        heap = found.heap;
+        prime = (entries_at opened.prime.tree.shape list primes, found.prime.stands);
+        alternates = λ j index less is.
+            let at = found.alternates.each j index less is in
+            let place : suc (suc j) ≡ j + 2 = omega arith in
+            (entries_at index.tree.shape list at.spots, subst (λ (i : ℕ). TreeStands index.tree (pages_in list) (entries_at index.tree.shape list at.spots) (own_at parts i)) place at.tree);
+        outside = out;
+      }
 
   module _ (all : (n : ℕ) → n < length list → final n ≡ true) where
     abbrev live : PageMap

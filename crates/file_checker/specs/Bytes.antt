@@ -4,6 +4,8 @@ use Rattle.std.specs.Option.{IfSome}
 use Rattle.std.specs.Io.KnownBytes.{Consumes}
 use Rattle.page_bytes.specs.Each.{Each}
 use Rattle.page_store.specs.Pages.{page_of}
+use Rattle.file_checker.specs.declared.verdict.CheckFault.{CheckFault}
+use Rattle.file_checker.specs.declared.verdict.CheckFault.TheVariants.{Input, Memory}
 
 -- a reader has fewer bytes left than n
 abbrev pub HasLess : ℕ → Option (List ℕ) → Type 0
@@ -14,6 +16,24 @@ pub record HasGiven (before after : Option (List ℕ)) (n : ℕ) : Type 0 where
   pub bytes : List ℕ
   pub given : Consumes before after bytes
   pub many : length bytes ≡ n
+
+-- it had fewer than n bytes that were read
+pub record HasGivenLess (before after : Option (List ℕ)) (n : ℕ) : Type 0 where
+  pub bytes : List ℕ
+  pub given : Consumes before after bytes
+  pub few : length bytes < n
+
+-- it had some whole pages, so many at most, that were read
+pub record HasGivenPages (before after : Option (List ℕ)) (most : ℕ) : Type 0 where
+  pub count : ℕ
+  pub some : 1 ≤ count
+  pub few : count ≤ most
+  pub given : HasGiven before after (4096 * count)
+
+-- Where the reading of so many pages ends without an answer, what was read: for want of input, fewer bytes than they have; for want of memory, whole pages.
+abbrev pub BreaksOff : Option (List ℕ) → Option (List ℕ) → ℕ → CheckFault → Type 0
+BreaksOff before after count Input = HasGivenLess before after (4096 * count)
+BreaksOff before after count Memory = HasGivenPages before after count
 
 -- the bytes of pages, one page after another
 abbrev pub bytes_of : List (List ℕ) → List ℕ

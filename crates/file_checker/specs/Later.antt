@@ -1,22 +1,58 @@
--- Reasons that are told of a file that can be opened.
-use Rattle.std.specs.Prelude.{⊤}
+-- Why the walks of a file that can be opened stop.
+use Rattle.std.specs.Prelude.{◌≡◌, ℕ, List, ⊤}
+use Rattle.page_marks.specs.declared.walk_fault.WalkFault.{WalkFault}
+use Rattle.page_marks.specs.declared.walk_fault.WalkFault.TheVariants.{Memory as NoMemory, Shared as SharedPage, Node as WrongNode, Order as WrongOrder, Chain, Count}
+use Rattle.row_checks.specs.declared.row_fault.RowFault.{RowFault}
+use Rattle.row_checks.specs.declared.row_fault.RowFault.TheVariants.{Memory as NoRoom, Index as WrongIndex}
+use Rattle.file_header.specs.declared.header.Header.{Header}
 use Rattle.file_checker.specs.declared.verdict.Reason.{Reason}
-use Rattle.file_checker.specs.declared.verdict.Reason.TheVariants.{Short, Gate, Header, Shared, Node, Order, Heap, Index, Lost}
+use Rattle.file_checker.specs.declared.verdict.Reason.TheVariants.{Short, Gate, Header as NoHeader, Shared, Node, Order, Heap, Index, Lost}
 use Rattle.file_checker.specs.declared.stop.Stop.{Stop}
 use Rattle.file_checker.specs.declared.stop.Stop.TheVariants.{Memory, Unsound}
+use Rattle.file_checker.specs.Lost.{HasLostPage}
 
--- the reason is none of the first three
-abbrev pub IsLater : Reason → Type 0
-IsLater Short = ⊥
-IsLater Gate = ⊥
-IsLater Header = ⊥
-IsLater Shared = ⊤
-IsLater Node = ⊤
-IsLater Order = ⊤
-IsLater Heap = ⊤
-IsLater Index = ⊤
-IsLater Lost = ⊤
+-- how a fault of a walk is told
+abbrev pub stop_by_walk : WalkFault → Stop
+stop_by_walk NoMemory = Memory
+stop_by_walk SharedPage = Unsound Shared
+stop_by_walk WrongNode = Unsound Node
+stop_by_walk WrongOrder = Unsound Order
+stop_by_walk Chain = Unsound Heap
+stop_by_walk Count = Unsound Index
 
-abbrev pub StopsLater : Stop → Type 0
-StopsLater Memory = ⊤
-StopsLater (Unsound reason) = IsLater reason
+-- how a fault of rows is told
+abbrev pub stop_by_rows : RowFault → Stop
+stop_by_rows NoRoom = Memory
+stop_by_rows WrongIndex = Unsound Index
+
+-- the reason is one that a walk meets
+abbrev pub IsMet : Reason → Type 0
+IsMet Short = ⊥
+IsMet Gate = ⊥
+IsMet NoHeader = ⊥
+IsMet Shared = ⊤
+IsMet Node = ⊤
+IsMet Order = ⊤
+IsMet Heap = ⊤
+IsMet Index = ⊤
+IsMet Lost = ⊥
+
+abbrev pub StopsWalk : Stop → Type 0
+StopsWalk Memory = ⊤
+StopsWalk (Unsound reason) = IsMet reason
+
+-- what is known of the pages by the reason
+abbrev pub IsMetIn : Header → List (List ℕ) → Reason → Type 0
+IsMetIn header list Short = ⊥
+IsMetIn header list Gate = ⊥
+IsMetIn header list NoHeader = ⊥
+IsMetIn header list Shared = ⊤
+IsMetIn header list Node = ⊤
+IsMetIn header list Order = ⊤
+IsMetIn header list Heap = ⊤
+IsMetIn header list Index = ⊤
+IsMetIn header list Lost = HasLostPage header list
+
+abbrev pub StopsIn : Header → List (List ℕ) → Stop → Type 0
+StopsIn header list Memory = ⊤
+StopsIn header list (Unsound reason) = IsMetIn header list reason

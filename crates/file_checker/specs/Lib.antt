@@ -1,5 +1,6 @@
 pub mod Numbers
-pub mod Sound
 pub mod Bytes
 pub mod Parts
+pub mod Lost
 pub mod Later
+pub mod Sound

@@ -1,5 +1,6 @@
 -- What a check says of the bytes of a file.
-use Rattle.std.specs.Prelude.{◌≡◌, ◌≢◌, ◌⊎◌, ℕ, ◌*◌, ◌≤◌, ◌<◌, List, length, slice_index, Some, None}
+use Rattle.std.specs.Prelude.{◌≡◌, ◌≢◌, ◌⊎◌, ℕ, ◌+◌, ◌-◌, ◌*◌, ◌≤◌, ◌<◌, List, length, slice_index, Option, Some, None}
+use Rattle.std.specs.Io.KnownBytes.{IsAtEnd}
 use Rattle.indexed_file.specs.File.{File}
 use Rattle.page_store.specs.Pages.{page_of}
 use Rattle.file_header.specs.declared.header.Header.{Header}
@@ -10,6 +11,10 @@ use Rattle.file_checker.specs.declared.verdict.Reason.{Reason}
 use Rattle.file_checker.specs.declared.verdict.Reason.TheVariants.{Short, Gate, Header as NoHeader, Shared, Node, Order, Heap, Index, Lost}
 use Rattle.file_checker.specs.declared.verdict.Verdict.{Verdict}
 use Rattle.file_checker.specs.declared.verdict.Verdict.TheVariants.{Sound, Unsound}
+use Rattle.file_checker.specs.declared.verdict.CheckFault.{CheckFault}
+use Rattle.file_checker.specs.declared.verdict.CheckFault.TheVariants.{Input, Memory}
+use Rattle.file_checker.specs.Bytes.{HasGiven, HasGivenLess, HasGivenPages, AreFirstPages}
+use Rattle.file_checker.specs.Lost.{HasLostPage}
 
 -- a file of these bytes can be opened, and stands for so many records; its first page counts so many pages
 pub record IsSound (bytes : List ℕ) (records pages : ℕ) : Type 0 where
@@ -33,6 +38,16 @@ pub record IsLong (bytes : List ℕ) : Type 0 where
   pub first : 4096 ≤ length bytes
   pub counted : 4096 * counted_in bytes ≤ length bytes
 
+-- these are all its pages, and it can be opened
+pub record HasPages (bytes : List ℕ) (header : Header) (list : List (List ℕ)) : Type 0 where
+  pub accepted : look_of (Some bytes) ≡ Accepted header
+  pub pages : AreFirstPages bytes list
+  pub many : length list ≡ header.pages
+
+-- it can be opened, and this is so of its pages
+abbrev pub IsShown : List ℕ → (Header → List (List ℕ) → Type 0) → Type 0
+IsShown bytes P = (header : Header) × (list : List (List ℕ)) × HasPages bytes header list × P header list
+
 -- What is known of the bytes by the reason that is told: the first three are those of a file that cannot be opened, and tell why in this order.
 abbrev pub HasReason : List ℕ → Reason → Type 0
 HasReason bytes Short = (length bytes < 4096) ⊎ (length bytes < 4096 * counted_in bytes)
@@ -43,8 +58,23 @@ HasReason bytes Node = IsAccepted bytes
 HasReason bytes Order = IsAccepted bytes
 HasReason bytes Heap = IsAccepted bytes
 HasReason bytes Index = IsAccepted bytes
-HasReason bytes Lost = IsAccepted bytes
+HasReason bytes Lost = IsShown bytes HasLostPage
 
 abbrev pub IsRight : List ℕ → Verdict → Type 0
 IsRight bytes (Sound records pages) = IsSound bytes records pages
 IsRight bytes (Unsound reason) = HasReason bytes reason
+
+-- how many bytes are asked for: those of the first page, and of the others that it counts
+abbrev pub asked_in : List ℕ → ℕ
+asked_in bytes = 4096 + 4096 * (counted_in bytes - 1)
+
+-- what was read for a verdict: all bytes that are asked for and no more, or all that there are where they are too few
+pub record IsReadFor (bytes : List ℕ) (after : Option (List ℕ)) (verdict : Verdict) : Type 0 where
+  pub whole : verdict ≢ Unsound Short → HasGiven (Some bytes) after (asked_in bytes)
+  pub short : verdict ≡ Unsound Short → IsAtEnd after
+
+-- What was read where no verdict is told: for want of input, fewer bytes than are asked for; for want of memory, whole pages of a file whose first page is
+-- accepted.
+abbrev pub GivesUp : List ℕ → Option (List ℕ) → CheckFault → Type 0
+GivesUp bytes after Input = HasGivenLess (Some bytes) after (asked_in bytes)
+GivesUp bytes after Memory = HasGivenPages (Some bytes) after (counted_in bytes) × ((header : Header) × (header_in (page_of bytes 0) ≡ Some header))

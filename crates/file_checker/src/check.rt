@@ -1,14 +1,13 @@
 //! The check of a file.
 
-ghost use Rattle.std.specs.Prelude.{◌≡◌, ◌≢◌, List, ℕ, Some, None, IfOk, OnErr, OnOk};
+ghost use Rattle.std.specs.Prelude.{◌≡◌, ◌≢◌, List, ℕ, Some, None, IfOk, IfErr};
 ghost use Rattle.std.specs.Option.{IfSome};
 ghost use Rattle.std.specs.Io.KnownBytes.{Consumes};
-ghost use Rattle.file_header.specs.Bounds.{IsHeader};
 ghost use Rattle.file_header.specs.Reading.{header_in, IsFirstPage};
-ghost use Rattle.file_checker.specs.Sound.{HasReason, IsRight};
+ghost use Rattle.file_checker.specs.Sound.{HasReason, IsRight, IsReadFor, GivesUp};
 
 use crate::parts::check_pages;
-use crate::reading::{read_page, read_pages, skip_pages};
+use crate::reading::{push_page, read_page, read_pages, skip_pages};
 use crate::stop::Stop;
 use crate::verdict::{CheckFault, Reason, Verdict};
 use byteorder::{BigEndian, ByteOrder};
@@ -28,8 +27,12 @@ const CLOSED: u8 = b'C';
 /// Why a file is refused by its first page, behind which the reader stands.
 fn refusal<R: Read>(reader: &mut R, first: &[u8; PAGE_SIZE]) -> Result<Reason, CheckFault>
     requires { header_in first.now ≡ None }
-    ensures { (bytes : List ℕ) → Consumes (Some bytes) (R.remaining reader.old) first.now
+    ensures reason { (bytes : List ℕ) → Consumes (Some bytes) (R.remaining reader.old) first.now
         → IfOk result (HasReason bytes) }
+    ensures read { (bytes : List ℕ) → Consumes (Some bytes) (R.remaining reader.old) first.now
+        → IfOk result (λ reason. IsReadFor bytes (R.remaining reader.new) (Verdict.Unsound reason)) }
+    ensures fault { (bytes : List ℕ) → Consumes (Some bytes) (R.remaining reader.old) first.now
+        → IfErr result (GivesUp bytes (R.remaining reader.new)) }
 {
     let pages = BigEndian::read_u32(&first[PAGES..PAGES_END]);
     if !skip_pages(reader, pages.saturating_sub(1))? {
@@ -49,11 +52,15 @@ fn check_accepted<R: Read>(
     header: &Header,
 ) -> Result<Verdict, CheckFault>
     requires { IsFirstPage header.now first.now }
-    ensures { (bytes : List ℕ) → Consumes (Some bytes) (R.remaining reader.old) first.now
+    ensures right { (bytes : List ℕ) → Consumes (Some bytes) (R.remaining reader.old) first.now
         → IfOk result (IsRight bytes) }
+    ensures read { (bytes : List ℕ) → Consumes (Some bytes) (R.remaining reader.old) first.now
+        → IfOk result (IsReadFor bytes (R.remaining reader.new)) }
+    ensures fault { (bytes : List ℕ) → Consumes (Some bytes) (R.remaining reader.old) first.now
+        → IfErr result (GivesUp bytes (R.remaining reader.new)) }
 {
     let mut pages = Vec::new(alloc);
-    pages.push(*first).map_err(|_| CheckFault::Memory)?;
+    push_page(&mut pages, *first)?;
     if !read_pages(reader, header.pages, &mut pages)? {
         return Ok(Verdict::Unsound(Reason::Short));
     }
@@ -72,7 +79,9 @@ fn check_accepted<R: Read>(
 ///
 /// Input where the reader fails, or is interrupted a thousand times in a row; Memory.
 pub fn check_file<R: Read>(alloc: Global, reader: &mut R) -> Result<Verdict, CheckFault>
-    ensures { IfSome (R.remaining reader.old) (λ bytes. IfOk result (IsRight bytes)) }
+    ensures right { IfSome (R.remaining reader.old) (λ bytes. IfOk result (IsRight bytes)) }
+    ensures read { IfSome (R.remaining reader.old) (λ bytes. IfOk result (IsReadFor bytes (R.remaining reader.new))) }
+    ensures fault { IfSome (R.remaining reader.old) (λ bytes. IfErr result (GivesUp bytes (R.remaining reader.new))) }
 {
     let mut first = [0; PAGE_SIZE];
     if !read_page(reader, &mut first)? {

@@ -1,18 +1,19 @@
 //! The parts of a file whose pages were read into a list.
 
-ghost use Rattle.std.specs.Prelude.{◌≡◌, ℕ, ◌<◌, false, IfErr, OnOk, length, slice_index_or};
+ghost use Rattle.std.specs.Prelude.{◌≡◌, ℕ, ◌<◌, true, false, IfErr, OnOk, IsTrue, length, slice_index_or};
 ghost use Rattle.page_marks.specs.Marks.{marked_in};
 ghost use Rattle.file_header.specs.Bounds.{IsHeader};
 ghost use Rattle.key_index.specs.declared.alt_index.AltIndex.{AltIndex};
 ghost use Rattle.open_file.specs.Stands.{IsShaped};
-ghost use Rattle.file_checker.specs.Later.{StopsLater};
+ghost use Rattle.file_checker.specs.Later.{StopsIn, StopsWalk};
+ghost use Rattle.file_checker.specs.Lost.{HasUnmarked};
 ghost use Rattle.file_checker.specs.Parts.{AlternatesFound, PagesStand};
 
 use crate::stop::Stop;
 use crate::verdict::Reason;
 use file_header::Header;
 use open_file::OpenFile;
-use page_marks::{all_marked, mark};
+use page_marks::mark;
 use page_walks::{Spot, walk_free, walk_tree};
 use record_heap::walk_heap;
 use row_checks::{check_alternate, check_rows};
@@ -32,13 +33,21 @@ fn check_alternates(
         → index ≡ slice_index_or file.now.alternates.items j index → index.tree.count ≡ length primes.now }
     ensures found { OnOk result (AlternatesFound file.now pages.now primes.now (length file.now.alternates.items)
         (marked_in reached.old) (marked_in reached.new)) }
-    ensures later { IfErr result StopsLater }
+    ensures stop { IfErr result StopsWalk }
 {
     for &index in file.alternates.as_slice() {
         let spots = walk_tree(alloc, pages, &index.tree, reached)?;
         check_alternate(pages, file, primes, index, &spots)?;
     }
     Ok(())
+}
+
+/// Some page has no mark.
+fn is_page_lost(reached: &[bool]) -> bool
+    ensures lost { IsTrue result → HasUnmarked reached.now }
+    ensures none { result ≡ false → (n : ℕ) → n < length reached.now → marked_in reached.now n ≡ true }
+{
+    reached.contains(&false)
 }
 
 /// Checks the pages of a file, all that its header counts, where none is marked yet. Each part is walked, and its entries and records are compared, and in
@@ -53,7 +62,7 @@ fn check_parts(
     requires clear { (n : ℕ) → marked_in reached.old n ≡ false }
     requires many { length reached.old ≡ length pages.now }
     ensures stand { OnOk result (PagesStand header.now pages.now) }
-    ensures later { IfErr result StopsLater }
+    ensures stop { IfErr result (StopsIn header.now pages.now) }
 {
     let file = OpenFile::from_header(header);
     mark(reached, 0)?;
@@ -62,7 +71,7 @@ fn check_parts(
     let primes = walk_tree(alloc, pages, &file.prime.tree, reached)?;
     check_rows(alloc, pages, &file, &own, &primes)?;
     check_alternates(alloc, pages, &file, &primes, reached)?;
-    if !all_marked(reached) {
+    if is_page_lost(reached) {
         return Err(Stop::Unsound(Reason::Lost));
     }
     Ok(())
@@ -72,7 +81,7 @@ fn check_parts(
 pub fn check_pages(alloc: Global, pages: &[[u8; PAGE_SIZE]], header: &Header) -> Result<(), Stop>
     requires { IsHeader header.now }
     ensures stand { OnOk result (PagesStand header.now pages.now) }
-    ensures later { IfErr result StopsLater }
+    ensures stop { IfErr result (StopsIn header.now pages.now) }
 {
     let mut reached = match vec![in alloc; false; pages.len()] {
         Ok(reached) => reached,

@@ -1,8 +1,8 @@
 //! The pages of a file, as a reader gives them.
 
-ghost use Rattle.std.specs.Prelude.{◌≡◌, ◌≤◌, ◌<◌, ◌*◌, Option, List, ℕ, true, false, IfOk, length, take};
-ghost use Rattle.std.specs.Io.KnownBytes.{Consumes, IsAtEnd};
-ghost use Rattle.file_checker.specs.Bytes.{HasLess, HasGiven, AreRead};
+ghost use Rattle.std.specs.Prelude.{◌≡◌, ◌≤◌, ◌<◌, ◌*◌, Option, List, ℕ, true, false, [], ◌∷◌, ◌++◌, IfOk, IfErr, OnOk, length, take};
+ghost use Rattle.std.specs.Io.KnownBytes.{Consumes, IsAtEnd, Keeps};
+ghost use Rattle.file_checker.specs.Bytes.{HasLess, HasGiven, HasGivenLess, AreRead, BreaksOff};
 
 use crate::verdict::CheckFault;
 use std::io::{ErrorKind, Read};
@@ -17,6 +17,7 @@ fn read_part<R: Read>(reader: &mut R, part: &mut [u8]) -> Result<usize, CheckFau
     ensures length { length part.new ≡ length part.old }
     ensures bytes { IfOk result (λ n. Consumes (R.remaining reader.old) (R.remaining reader.new) (take n part.new)) }
     ensures end { IfOk result (λ n. n ≡ 0 → 0 < length part.old → IsAtEnd (R.remaining reader.new)) }
+    ensures input { IfErr result (λ fault. (fault ≡ CheckFault.Input) × Keeps (R.remaining reader.old) (R.remaining reader.new)) }
 {
     for _ in 0..MOST_INTERRUPTED {
         match reader.read(part) {
@@ -36,6 +37,9 @@ pub fn read_page<R: Read>(reader: &mut R, page: &mut [u8; PAGE_SIZE]) -> Result<
     ensures whole { IfOk result (λ whole. whole ≡ true
         → Consumes (R.remaining reader.old) (R.remaining reader.new) page.new) }
     ensures short { IfOk result (λ whole. whole ≡ false → HasLess 4096 (R.remaining reader.old)) }
+    ensures end { IfOk result (λ whole. whole ≡ false → IsAtEnd (R.remaining reader.new)) }
+    ensures input { IfErr result (λ fault. (fault ≡ CheckFault.Input)
+        × HasGivenLess (R.remaining reader.old) (R.remaining reader.new) 4096) }
 {
     let mut at = 0;
     'more: while at < PAGE_SIZE {
@@ -53,6 +57,9 @@ pub fn skip_pages<R: Read>(reader: &mut R, count: u32) -> Result<bool, CheckFaul
     ensures whole { IfOk result (λ whole. whole ≡ true
         → HasGiven (R.remaining reader.old) (R.remaining reader.new) (4096 * count)) }
     ensures short { IfOk result (λ whole. whole ≡ false → HasLess (4096 * count) (R.remaining reader.old)) }
+    ensures end { IfOk result (λ whole. whole ≡ false → IsAtEnd (R.remaining reader.new)) }
+    ensures input { IfErr result (λ fault. (fault ≡ CheckFault.Input)
+        × HasGivenLess (R.remaining reader.old) (R.remaining reader.new) (4096 * count)) }
 {
     let mut page = [0; PAGE_SIZE];
     for _ in 0..count {
@@ -65,7 +72,8 @@ pub fn skip_pages<R: Read>(reader: &mut R, count: u32) -> Result<bool, CheckFaul
 
 /// Has room for a page more in a list that is to have so many in the end: for twice as many as it has, but for no more than these.
 fn make_room(pages: &mut Vec<[u8; PAGE_SIZE]>, count: usize) -> Result<(), CheckFault>
-    ensures { pages.new.items ≡ pages.old.items }
+    ensures same { pages.new.items ≡ pages.old.items }
+    ensures memory { IfErr result (λ fault. fault ≡ CheckFault.Memory) }
 {
     let len = pages.len();
     if len < pages.capacity() || count <= len {
@@ -73,6 +81,14 @@ fn make_room(pages: &mut Vec<[u8; PAGE_SIZE]>, count: usize) -> Result<(), Check
     }
     let more = len.max(1).min(count - len);
     pages.reserve_exact(more).map_err(|_| CheckFault::Memory)
+}
+
+/// Adds a page to a list.
+pub fn push_page(pages: &mut Vec<[u8; PAGE_SIZE]>, page: [u8; PAGE_SIZE]) -> Result<(), CheckFault>
+    ensures pushed { OnOk result (pages.new.items ≡ pages.old.items ++ page ∷ []) }
+    ensures memory { IfErr result (λ fault. fault ≡ CheckFault.Memory) }
+{
+    pages.push(page).map_err(|_| CheckFault::Memory)
 }
 
 /// Reads pages behind those of the list until there are so many, and answers whether there were enough bytes for them.
@@ -90,6 +106,9 @@ pub fn read_pages<R: Read>(
     ensures many { IfOk result (λ whole. whole ≡ true → length pages.new.items ≡ count) }
     ensures short { IfOk result (λ whole. whole ≡ false → (known : Option (List ℕ))
         → AreRead known (R.remaining reader.old) pages.old.items → HasLess (4096 * count) known) }
+    ensures end { IfOk result (λ whole. whole ≡ false → IsAtEnd (R.remaining reader.new)) }
+    ensures fault { IfErr result (λ fault. (known : Option (List ℕ))
+        → AreRead known (R.remaining reader.old) pages.old.items → BreaksOff known (R.remaining reader.new) count fault) }
 {
     let wanted = count as usize;
     let mut page = [0; PAGE_SIZE];
@@ -98,7 +117,7 @@ pub fn read_pages<R: Read>(
             return Ok(false);
         }
         make_room(pages, wanted)?;
-        pages.push(page).map_err(|_| CheckFault::Memory)?;
+        push_page(pages, page)?;
     }
     Ok(true)
 }

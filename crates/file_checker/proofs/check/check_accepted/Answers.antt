@@ -1,35 +1,94 @@
-use Rattle.std.proofs.Common.{rules, ◌≡◌, [], ◌∷◌, Some, sym, subst}
+use Rattle.std.proofs.Common.{rules, ◌≡◌, [], ◌∷◌, Some, refl, sym, subst}
 use Rattle.file_checker.specs.Bytes.{AreRead}
 use Rattle.file_checker.specs.Parts.{PagesStand}
-use Rattle.file_checker.specs.Later.{StopsLater}
-use Rattle.file_checker.proofs.ReadLemmas.{first_pages}
-use Rattle.file_checker.proofs.SoundLemmas.{first_is, first_read_alone, too_few, accepted, is_sound, later}
+use Rattle.file_checker.specs.Later.{StopsIn}
+use Rattle.file_checker.specs.Sound.{GivesUp, HasPages}
+use Rattle.file_checker.specs.declared.verdict.CheckFault.TheVariants.{Memory}
+use Rattle.file_checker.proofs.ReadLemmas.{first_pages, on_fault}
+use Rattle.file_checker.proofs.SoundLemmas.{first_is, first_read_alone, too_few, all_pages, is_sound, shown, not_short, gives_up, one_given, all_given, pages_read}
 use Rattle.file_checker.proofs.check.check_accepted.Goals as goal
 
 pub returns-then-not-branch : goal.returns-then-not-branch
-returns-then-not-branch g c bytes came =
-    let items : c.push.new.self.items ≡ c.args.first.now ∷ [] = search rules in
-    let alone = first_read_alone bytes c.args.first.now (g.R.Read.remaining c.args.reader.now) came c.told-first in
-    too_few bytes c.args.first.now c.args.header.now (first_is bytes c.args.first.now (g.R.Read.remaining c.args.reader.now) came c.told-first) c.requires
-    (c.in_ok-read_pages.ensures.short c.if-not-branch.true (Some bytes) (subst (AreRead (Some bytes) (g.R.Read.remaining c.args.reader.now)) (sym items) alone))
+returns-then-not-branch g c = record {
+  right = λ bytes came.
+      let items : c.push_page.new.pages.items ≡ c.args.first.now ∷ [] = search rules in
+      let alone = first_read_alone bytes c.args.first.now (g.R.Read.remaining c.args.reader.now) came c.told-first in
+      too_few bytes c.args.first.now c.args.header.now (first_is bytes c.args.first.now (g.R.Read.remaining c.args.reader.now) came c.told-first) c.requires
+      (c.in_ok-read_pages.ensures.short c.if-not-branch.true (Some bytes) (subst (AreRead (Some bytes) (g.R.Read.remaining c.args.reader.now)) (sym items) alone));
+  read = λ bytes came. record { whole = λ other. absurd (other refl); short = λ is. c.in_ok-read_pages.ensures.end c.if-not-branch.true };
+  fault = λ bytes came. tt;
+}
 
 pub returns-in-Ok : goal.returns-in-Ok
-returns-in-Ok g c bytes came =
-    let items : c.push.new.self.items ≡ c.args.first.now ∷ [] = search rules in
-    let alone = first_read_alone bytes c.args.first.now (g.R.Read.remaining c.args.reader.now) came c.told-first in
-    let all = c.in_ok-read_pages.ensures.read c.if-not-branch.false (Some bytes) (subst (AreRead (Some bytes) (g.R.Read.remaining c.args.reader.now)) (sym items) alone) in
-    is_sound bytes c.args.first.now c.args.header.now (first_is bytes c.args.first.now (g.R.Read.remaining c.args.reader.now) came c.told-first) c.requires c.read_pages.new.pages.items
-    (first_pages bytes (g.R.Read.remaining c.read_pages.new.reader) c.read_pages.new.pages.items all) (c.in_ok-read_pages.ensures.many c.if-not-branch.false)
-    (subst (PagesStand c.args.header.now) c.deref.ensures.value c.in-Ok.ensures.stand)
+returns-in-Ok g c =
+    let items : c.push_page.new.pages.items ≡ c.args.first.now ∷ [] = search rules in
+    let many = c.in_ok-read_pages.ensures.many c.if-not-branch.false in
+    record {
+      right = λ bytes came.
+          let alone = first_read_alone bytes c.args.first.now (g.R.Read.remaining c.args.reader.now) came c.told-first in
+          let all = c.in_ok-read_pages.ensures.read c.if-not-branch.false (Some bytes) (subst (AreRead (Some bytes) (g.R.Read.remaining c.args.reader.now)) (sym items) alone) in
+          is_sound bytes c.args.first.now c.args.header.now (first_is bytes c.args.first.now (g.R.Read.remaining c.args.reader.now) came c.told-first) c.requires c.read_pages.new.pages.items
+          (first_pages bytes (g.R.Read.remaining c.read_pages.new.reader) c.read_pages.new.pages.items all) many
+          (subst (PagesStand c.args.header.now) c.deref.ensures.value c.in-Ok.ensures.stand);
+      read = λ bytes came.
+          let alone = first_read_alone bytes c.args.first.now (g.R.Read.remaining c.args.reader.now) came c.told-first in
+          let all = c.in_ok-read_pages.ensures.read c.if-not-branch.false (Some bytes) (subst (AreRead (Some bytes) (g.R.Read.remaining c.args.reader.now)) (sym items) alone) in
+          record {
+            whole = λ other. pages_read bytes c.args.first.now c.args.header.now (first_is bytes c.args.first.now (g.R.Read.remaining c.args.reader.now) came c.told-first) c.requires
+                (g.R.Read.remaining c.read_pages.new.reader) c.read_pages.new.pages.items all many;
+            short = λ is. cc is;
+          };
+      fault = λ bytes came. tt;
+    }
 
 pub returns-in-Err-Unsound : goal.returns-in-Err-Unsound
-returns-in-Err-Unsound g c bytes came =
-    let items : c.push.new.self.items ≡ c.args.first.now ∷ [] = search rules in
+returns-in-Err-Unsound g c =
+    let items : c.push_page.new.pages.items ≡ c.args.first.now ∷ [] = search rules in
+    let many = c.in_ok-read_pages.ensures.many c.if-not-branch.false in
+    let met = subst (StopsIn c.args.header.now c.deref.result.now) c.in-Err-Unsound.field-0-is c.in-Err-Unsound.ensures.stop in
+    record {
+      right = λ bytes came.
+          let alone = first_read_alone bytes c.args.first.now (g.R.Read.remaining c.args.reader.now) came c.told-first in
+          let all = c.in_ok-read_pages.ensures.read c.if-not-branch.false (Some bytes) (subst (AreRead (Some bytes) (g.R.Read.remaining c.args.reader.now)) (sym items) alone) in
+          shown bytes c.args.header.now c.deref.result.now c.in-Err-Unsound.reason
+          (subst (HasPages bytes c.args.header.now) (sym c.deref.ensures.value)
+          (all_pages bytes c.args.first.now c.args.header.now (first_is bytes c.args.first.now (g.R.Read.remaining c.args.reader.now) came c.told-first) c.requires c.read_pages.new.pages.items
+          (first_pages bytes (g.R.Read.remaining c.read_pages.new.reader) c.read_pages.new.pages.items all) many))
+          met;
+      read = λ bytes came.
+          let alone = first_read_alone bytes c.args.first.now (g.R.Read.remaining c.args.reader.now) came c.told-first in
+          let all = c.in_ok-read_pages.ensures.read c.if-not-branch.false (Some bytes) (subst (AreRead (Some bytes) (g.R.Read.remaining c.args.reader.now)) (sym items) alone) in
+          record {
+            whole = λ other. pages_read bytes c.args.first.now c.args.header.now (first_is bytes c.args.first.now (g.R.Read.remaining c.args.reader.now) came c.told-first) c.requires
+                (g.R.Read.remaining c.read_pages.new.reader) c.read_pages.new.pages.items all many;
+            short = λ is. absurd (not_short c.args.header.now c.deref.result.now c.in-Err-Unsound.reason met is);
+          };
+      fault = λ bytes came. tt;
+    }
+
+pub returns-in_err-push_page-clause-fault : goal.returns-in_err-push_page-clause-fault
+returns-in_err-push_page-clause-fault g c bytes came =
+    let end = g.R.Read.remaining c.args.reader.now in
+    let page = first_is bytes c.args.first.now end came c.told-first in
+    on_fault c.from_residual.result _ (GivesUp bytes end) c.from_residual.ensures.1
+    (subst (GivesUp bytes end) (sym c.in_err-push_page.ensures.memory)
+    (gives_up bytes c.args.first.now c.args.header.now page c.requires end Memory (one_given bytes c.args.first.now c.args.header.now page c.requires end came c.told-first)))
+
+pub returns-in_err-read_pages-clause-fault : goal.returns-in_err-read_pages-clause-fault
+returns-in_err-read_pages-clause-fault g c bytes came =
+    let items : c.push_page.new.pages.items ≡ c.args.first.now ∷ [] = search rules in
+    let end = g.R.Read.remaining c.read_pages.new.reader in
+    let alone = first_read_alone bytes c.args.first.now (g.R.Read.remaining c.args.reader.now) came c.told-first in
+    on_fault c.from_residual-in_err-read_pages.result _ (GivesUp bytes end) c.from_residual-in_err-read_pages.ensures.1
+    (gives_up bytes c.args.first.now c.args.header.now (first_is bytes c.args.first.now (g.R.Read.remaining c.args.reader.now) came c.told-first) c.requires end _
+    (c.in_err-read_pages.ensures.fault (Some bytes) (subst (AreRead (Some bytes) (g.R.Read.remaining c.args.reader.now)) (sym items) alone)))
+
+pub returns-clause-fault : goal.returns-clause-fault
+returns-clause-fault g c bytes came =
+    let items : c.push_page.new.pages.items ≡ c.args.first.now ∷ [] = search rules in
+    let many = c.in_ok-read_pages.ensures.many c.if-not-branch.false in
+    let end = g.R.Read.remaining c.read_pages.new.reader in
+    let page = first_is bytes c.args.first.now (g.R.Read.remaining c.args.reader.now) came c.told-first in
     let alone = first_read_alone bytes c.args.first.now (g.R.Read.remaining c.args.reader.now) came c.told-first in
     let all = c.in_ok-read_pages.ensures.read c.if-not-branch.false (Some bytes) (subst (AreRead (Some bytes) (g.R.Read.remaining c.args.reader.now)) (sym items) alone) in
-    later bytes c.in-Err-Unsound.reason (
-      c.args.header.now,
-      accepted bytes c.args.first.now c.args.header.now (first_is bytes c.args.first.now (g.R.Read.remaining c.args.reader.now) came c.told-first) c.requires c.read_pages.new.pages.items
-          (first_pages bytes (g.R.Read.remaining c.read_pages.new.reader) c.read_pages.new.pages.items all) (c.in_ok-read_pages.ensures.many c.if-not-branch.false),
-    )
-    (subst StopsLater c.in-Err-Unsound.field-0-is c.in-Err-Unsound.ensures.later)
+    gives_up bytes c.args.first.now c.args.header.now page c.requires end Memory (all_given bytes c.args.first.now c.args.header.now page c.requires end c.read_pages.new.pages.items all many)

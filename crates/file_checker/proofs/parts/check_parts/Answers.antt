@@ -8,7 +8,7 @@ use Rattle.row_checks.proofs.LawLemmas.{make_a_file}
 use Rattle.row_checks.specs.Rows.{RowsStand}
 use Rattle.file_checker.specs.Parts.{AlternatesFound}
 use Rattle.file_checker.proofs.AlternateLemmas.{entries_rise, spots_many}
-use Rattle.file_checker.proofs.StandLemmas.{Found, pages_stand}
+use Rattle.file_checker.proofs.StandLemmas.{Found, pages_stand, leaves_out}
 use Rattle.file_checker.proofs.parts.check_parts.Goals as goal
 
 pub check_rows-requires-clause-rises : goal.check_rows-requires-clause-rises
@@ -49,7 +49,37 @@ returns-clause-stand c =
       alternates = alternates;
     } in
     let all : (n : ℕ) → n < length list → marked_in c.check_alternates.new.reached n ≡ true = λ n within.
-    c.all_marked.ensures c.if-not-all_marked.false n (let a = c.mark.auto.reached in let b = c.walk_free.auto.reached in let d = c.walk_heap.auto.reached in let e = c.walk_tree.auto.reached in
+    c.is_page_lost.ensures.none c.if-is_page_lost.false n (let a = c.mark.auto.reached in let b = c.walk_free.auto.reached in let d = c.walk_heap.auto.reached in let e = c.walk_tree.auto.reached in
     let f = c.check_alternates.auto.reached in let many = c.requires.many in omega arith) in
     pages_stand c.args.header.now list file c.in_ok-own.own.items c.in_ok-primes.primes.items (marked_in c.args.reached.now) (marked_in c.mark.new.reached) (marked_in c.walk_free.new.reached)
     (marked_in c.walk_heap.new.reached) (marked_in c.walk_tree.new.reached) (marked_in c.check_alternates.new.reached) c.requires.header c.from_header-file.ensures found all make_a_file
+
+pub returns-then-is_page_lost-clause-stop : goal.returns-then-is_page_lost-clause-stop
+returns-then-is_page_lost-clause-stop c =
+    let file = c.from_header-file.result in
+    let list = c.args.pages.now in
+    let rows : RowsStand file list c.in_ok-own.own.items c.in_ok-primes.primes.items =
+    subst (λ (own : List ℕ). RowsStand file list own c.in_ok-primes.primes.items) c.deref.ensures.value
+    (subst (RowsStand file list c.deref.result.now) c.deref-2.ensures.value c.in_ok-check_rows.ensures) in
+    let alternates : AlternatesFound file list c.in_ok-primes.primes.items (length file.alternates.items) (marked_in c.walk_tree.new.reached) (marked_in c.check_alternates.new.reached) =
+    subst (λ (primes : List Spot). AlternatesFound file list primes (length file.alternates.items) (marked_in c.walk_tree.new.reached) (marked_in c.check_alternates.new.reached)) c.deref-3.ensures.value
+    c.in_ok-check_alternates.ensures.found in
+    let found : Found c.args.header.now list file c.in_ok-own.own.items c.in_ok-primes.primes.items (marked_in c.args.reached.now) (marked_in c.mark.new.reached) (marked_in c.walk_free.new.reached)
+    (marked_in c.walk_heap.new.reached) (marked_in c.walk_tree.new.reached) (marked_in c.check_alternates.new.reached) =
+    record {
+      clear = c.requires.clear;
+      first = c.in_ok-mark.ensures.marked;
+      free = c.in_ok-walk_free.ensures;
+      heap = c.in_ok-own.ensures.stands;
+      heap_marks = c.in_ok-own.ensures.marks;
+      prime = c.in_ok-primes.ensures;
+      rows = rows;
+      alternates = alternates;
+    } in
+    let lost = c.is_page_lost.ensures.lost c.if-is_page_lost.true in
+    let within : lost.0 < length list = (let some = lost.1 in let a = c.mark.auto.reached in let b = c.walk_free.auto.reached in let d = c.walk_heap.auto.reached in let e = c.walk_tree.auto.reached in
+    let f = c.check_alternates.auto.reached in let many = c.requires.many in omega arith) in (
+      lost.0,
+      leaves_out c.args.header.now list file c.in_ok-own.own.items c.in_ok-primes.primes.items (marked_in c.args.reached.now) (marked_in c.mark.new.reached) (marked_in c.walk_free.new.reached)
+          (marked_in c.walk_heap.new.reached) (marked_in c.walk_tree.new.reached) (marked_in c.check_alternates.new.reached) c.requires.header c.from_header-file.ensures found lost.0 within lost.2,
+    )

@@ -17,4 +17,6 @@ returns g c =
     record {
       whole = λ yes. subst (Consumes (g.R.Read.remaining c.args.reader.now) (g.R.Read.remaining c.more.reader)) all c.more.invariant.0;
       short = λ no. cc;
+      end = λ no. cc;
+      input = tt;
     }

@@ -1,0 +1,44 @@
+-- A page that nothing reaches.
+use Rattle.std.specs.Prelude.{◌≡◌, ℕ, ◌+◌, ◌<◌, ◌≤◌, Bool, false, List, [], Some, length, slice_index_or}
+use Rattle.pages.specs.Owners.{IsOutside}
+use Rattle.page_alloc.specs.Chain.{chain}
+use Rattle.page_marks.specs.Marks.{marked_in}
+use Rattle.page_marks.specs.PageList.{pages_in}
+use Rattle.page_marks.specs.Parted.{own_at, all_of}
+use Rattle.record_heap.specs.Standing.{HeapStands}
+use Rattle.record_heap.specs.Walk.{slots_of}
+use Rattle.bplus_tree.specs.declared.tree.Tree.{Tree}
+use Rattle.bplus_tree.specs.Standing.{TreeStands}
+use Rattle.key_index.specs.declared.alt_index.AltIndex.{AltIndex}
+use Rattle.file_header.specs.declared.header.Header.{Header}
+use Rattle.open_file.specs.declared.open_file.OpenFile.{OpenFile}
+use Rattle.open_file.specs.Headers.{IsOpenedBy}
+
+-- the tree stands in these pages
+abbrev pub IsTreeIn : Tree → List (List ℕ) → List ℕ → Type 0
+IsTreeIn tree list own = (entries : List (List ℕ)) × TreeStands tree (pages_in list) entries own
+
+-- Each part of the file stands in pages of its own, and this page is in none of them; nor is it the first page, or free. Part 0 is the heap, part 1 the prime
+-- index, part j + 2 alternate index j.
+pub record LeavesOut (header : Header) (list : List (List ℕ)) (n : ℕ) : Type 0 where
+  pub within : n < length list
+  pub some : 1 ≤ n
+  pub free : List ℕ
+  pub free_are : chain (λ m. slice_index_or list m []) (length list) header.first_free header.free ≡ Some free
+  pub not_free : IsOutside free n
+  pub opened : OpenFile
+  pub by_header : IsOpenedBy header opened
+  pub owns : List (List ℕ)
+  pub owners : length owns ≡ length opened.alternates.items + 2
+  pub heap : HeapStands opened.heap (pages_in list) (slots_of opened.heap.shape (pages_in list) (own_at owns 0)) (own_at owns 0)
+  pub prime : IsTreeIn opened.prime.tree list (own_at owns 1)
+  pub alternates : (j : ℕ) (index : AltIndex) → j < length opened.alternates.items → index ≡ slice_index_or opened.alternates.items j index
+      → IsTreeIn index.tree list (own_at owns (j + 2))
+  pub outside : IsOutside (all_of owns) n
+
+abbrev pub HasLostPage : Header → List (List ℕ) → Type 0
+HasLostPage header list = (n : ℕ) × LeavesOut header list n
+
+-- some page has no mark
+abbrev pub HasUnmarked : List Bool → Type 0
+HasUnmarked marks = (n : ℕ) × (n < length marks) × (marked_in marks n ≡ false)
