@@ -9,7 +9,7 @@ use Rattle.indexed_file.specs.Room.{most_to_change, room_of_new}
 use Rattle.indexed_file.specs.Shown.{Shown}
 use Rattle.indexed_file.specs.Believed.{Believed}
 use Rattle.indexed_file.specs.Images.{Trace, AllStay, CallGoes, untouched, trace_of_change, trace_of_shut}
-use Rattle.indexed_file.specs.Calls.{Keeps, OnlyReads, MayAnswer, MayAnswerShut, LeavesBroken, AsksAtMost}
+use Rattle.indexed_file.specs.Calls.{Keeps, OnlyReads, MayAnswer, MayAnswerShut, LeavesBroken, SamePages, is_unmade, AsksAtMost}
 
 -- the count of a unit's pages begins again, and nothing else changes
 pub record RestartsCount {S : Type 0} (shown : Shown S) (u : ℕ) (old new : S) : Type 0 where
@@ -17,10 +17,12 @@ pub record RestartsCount {S : Type 0} (shown : Shown S) (u : ℕ) (old new : S) 
   pub others : (v : ℕ) → v ≢ u → shown.pages_asked new v ≡ shown.pages_asked old v
   pub world : shown.world new ≡ shown.world old
   pub room : (v : ℕ) → shown.room new v ≡ shown.room old v
+  pub counts : (v : ℕ) → shown.page_counts new v ≡ shown.page_counts old v
   pub honest : shown.is_honest new ≡ shown.is_honest old
   pub truth : (name : List ℕ) → shown.IsShownTruly old name → shown.IsShownTruly new name
   pub count : shown.fault_count new ≡ shown.fault_count old
   pub limit : shown.page_limit new ≡ shown.page_limit old
+  pub frames : shown.frames new ≡ shown.frames old
   pub images : AllStay shown.Throughout old new
 
 -- a call that opens unit u, or looks whether it can be opened: a fault leaves it shut
@@ -36,7 +38,7 @@ pub record OpensUnit {S X : Type 0} (shown : Shown S) (u : ℕ) (trace : Trace) 
 pub record ReadsUnit {S X : Type 0} (shown : Shown S) (u most : ℕ) (old new : S) (result : Result X Fault) : Type 0 where
   pub asked : Believed shown u old new (AsksAtMost shown u most old new result)
   pub world : OnlyReads u (shown.is_honest new) (shown.world old) (shown.world new)
-  pub room : shown.room new u ≡ shown.room old u
+  pub pages : SamePages shown u old new
   pub broken : IsTrue (is_broken (holding_at (shown.world old) u)) → result ≡ Err BrokenUnit
   pub fault : IfErr result (MayAnswer shown u old new)
   pub images : CallGoes shown u untouched old new
@@ -57,6 +59,7 @@ pub record ChangesUnit {S X : Type 0} (shown : Shown S) (u : ℕ) (is_made : X �
   pub only : OnlyAt u (shown.world old) (shown.world new)
   pub opened : IsTrue (is_open (holding_at (shown.world new) u))
   pub schema : schema_at (shown.world new) u ≡ schema_at (shown.world old) u
+  pub unmade : IsTrue (is_unmade is_made result) → SamePages shown u old new
   pub images : CallGoes shown u (trace_of_change is_made result) old new
   pub keeps : Keeps shown old new
 

@@ -11,4 +11,4 @@ shows_all library name = all_show_files library.units.items library.others.items
 
 -- whatever a call did
 pub keeps_all : (old new : ListLibrary) → Keeps shown_in_memory old new
-keeps_all old new = record { honest = λ honest. honest; truth = λ honest name shown. shows_all new name; count = omega arith; limit = refl }
+keeps_all old new = record { honest = λ honest. honest; truth = λ honest name shown. shows_all new name; count = omega arith; limit = refl; frames = refl }

@@ -10,7 +10,7 @@ use Rattle.list_library.specs.Units.{named_among}
 abbrev pub world_of : ListLibrary → World
 world_of library = record { units = library.units.items; elsewhere = named_among library.others.items }
 
--- it is always honest, and what it shows of a name is true where the name stands for a file; no device fails, its files have no limit and
+-- it is always honest, and what it shows of a name is true where the name stands for a file; no device fails, its files have no limits and
 -- no pages, and a crash leaves nothing of them
 abbrev pub shown_in_memory : Shown ListLibrary
 shown_in_memory = record {
@@ -19,7 +19,10 @@ shown_in_memory = record {
   IsShownTruly = λ library name. ShowsFiles (world_of library) name;
   fault_count = λ library. 0;
   page_limit = λ library. None;
+  frames = λ library. None;
   room = λ library u. Endless;
+  page_counts = λ library u. record { count = 0; free = 0 };
+  unit_frames = λ library u. None;
   pages_asked = λ library u. 0;
   Throughout = λ test old new name. Unit {0};
 }

@@ -94,6 +94,7 @@ fn exchange(units: &mut [ListUnit], others: &mut [ListUnit])
 
 #[tactic(auto, using(crate::proofs::ShownLemmas::sound_set, crate::proofs::ListWorldLemmas::keeps_all))]
 impl Library for ListLibrary {
+    ghost use Rattle.std.specs.Prelude.{refl};
     ghost use Rattle.list_library.specs.ListWorld.{shown_in_memory};
 
     ghost shown = { shown_in_memory };
@@ -107,6 +108,8 @@ impl Library for ListLibrary {
     ghost shows_files = { λ library name shown. shown };
 
     ghost fills = { λ library u schema file honest shown opened. tt };
+
+    ghost limits = { λ library u opened. record { room = refl; frames = refl } };
 
     fn attach(&mut self, names: &[FileName]) -> Result<(), Fault> {
         let units = absent_units(self.alloc, names)?;

@@ -95,6 +95,7 @@ reads_after a b s t i j pager gate kept looks faults = record {
   goes = record {
     parts = parts_after a.cache b.cache s t i j kept.keeps kept.goes faults;
     gate = gate;
+    limit = ap (λ x. x.limit) pager;
     ready = λ r. record {
       joined = record { over = kept.over; counted = subst (λ x. x.count ≤ b.cache.store.pages) (sym pager) (subst (λ x. a.pager.count ≤ x.pages) (sym kept.keeps.store) r.joined.counted); header = subst (λ x. 0 < x.count) (sym pager) r.joined.header };
       clean = λ shut. looks.clean (r.clean (sym gate ∙ shut));
@@ -102,6 +103,7 @@ reads_after a b s t i j pager gate kept looks faults = record {
     };
     still = λ r shut. looks.file (r.clean shut);
   };
+  pager = pager;
   rests = subst (λ x. Rests (state_of a s) (pages_state b.cache x t)) (sym pager) (rested a.cache b.cache a.pager s t kept.pages kept.goes.others.honest);
 }
   where
@@ -110,10 +112,11 @@ reads_after a b s t i j pager gate kept looks faults = record {
         (open_kept (unit_file s a.cache.store.unit) (unit_file t a.cache.store.unit) (r.gate changed (kept.goes.others.honest honest)) kept.goes.quiet)
 
 -- pages were changed behind an open gate
-pub goes_after : (a b : PagedFile) (s t : ShelfState) (i j : ℕ) → a.changed ≡ true → b.changed ≡ a.changed → PartsGo a.cache b.cache s t i j → IsJoined b.cache b.pager t → Goes a b s t i j
-goes_after a b s t i j changed gate parts joined = record {
+pub goes_after : (a b : PagedFile) (s t : ShelfState) (i j : ℕ) → a.changed ≡ true → b.changed ≡ a.changed → b.pager.limit ≡ a.pager.limit → PartsGo a.cache b.cache s t i j → IsJoined b.cache b.pager t → Goes a b s t i j
+goes_after a b s t i j changed gate limit parts joined = record {
   parts = parts;
   gate = gate;
+  limit = limit;
   ready = λ r. record {
     joined = joined;
     clean = λ shut. absurd (both_ways b.changed shut (gate ∙ changed));

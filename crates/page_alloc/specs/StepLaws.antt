@@ -36,22 +36,24 @@ pub failed_after : (i j k : ℕ) → i ≤ j → HasFailed j k → HasFailed i k
 failed_after i j k p q = omega arith
 
 pub goes_nothing : (a : PagedFile) (s : ShelfState) (n : ℕ) → Goes a a s s n n
-goes_nothing a s n = record { parts = parts_stay a.cache s n; gate = refl; ready = λ r. r; still = λ r shut. refl }
+goes_nothing a s n = record { parts = parts_stay a.cache s n; gate = refl; limit = refl; ready = λ r. r; still = λ r shut. refl }
 
 pub goes_on : (a b c : PagedFile) (x y z : ShelfState) (i j k : ℕ) → Goes a b x y i j → Goes b c y z j k → Goes a c x z i k
 goes_on a b c x y z i j k ab bc = record {
   parts = parts_then a.cache b.cache c.cache x y z i j k ab.parts bc.parts;
   gate = bc.gate ∙ ab.gate;
+  limit = bc.limit ∙ ab.limit;
   ready = λ r. bc.ready (ab.ready r);
   still = λ r shut. bc.still (ab.ready r) (ab.gate ∙ shut) ∙ ab.still r shut;
 }
 
 pub reads_nothing : (a : PagedFile) (s : ShelfState) (n : ℕ) → ReadsPages a a s s n n
-reads_nothing a s n = record { goes = goes_nothing a s n; rests = record { live = λ h. refl; sound = λ h. refl; available = refl; honest = λ h. h } }
+reads_nothing a s n = record { goes = goes_nothing a s n; pager = refl; rests = record { live = λ h. refl; sound = λ h. refl; available = refl; honest = λ h. h } }
 
 pub reads_on : (a b c : PagedFile) (x y z : ShelfState) (i j k : ℕ) → ReadsPages a b x y i j → ReadsPages b c y z j k → ReadsPages a c x z i k
 reads_on a b c x y z i j k ab bc = record {
   goes = goes_on a b c x y z i j k ab.goes bc.goes;
+  pager = bc.pager ∙ ab.pager;
   rests = record {
     live = λ h. bc.rests.live h ∙ ab.rests.live (bc.rests.honest h);
     sound = λ h. bc.rests.sound h ∙ ab.rests.sound (bc.rests.honest h);
@@ -63,6 +65,8 @@ reads_on a b c x y z i j k ab bc = record {
 pub goes_moves : (a b : PagedFile) (x y : ShelfState) (i j : ℕ) → Goes a b x y i j → Moves a b x y i j
 goes_moves a b x y i j goes = record {
   unit = goes.parts.unit;
+  cap = goes.parts.cap;
+  limit = goes.limit;
   others = goes.parts.quietly.others;
   faults = goes.parts.faults;
   ready = goes.ready;
@@ -97,6 +101,8 @@ stands_then f g h gh (inl (inr refused)) (inl (inl again)) = inl (inr (subst IsR
 pub moves_on : (a b c : PagedFile) (x y z : ShelfState) (i j k : ℕ) → Moves a b x y i j → Moves b c y z j k → Moves a c x z i k
 moves_on a b c x y z i j k ab bc = record {
   unit = bc.unit ∙ ab.unit;
+  cap = bc.cap ∙ ab.cap;
+  limit = bc.limit ∙ ab.limit;
   others = others_then unit x y z ab.others others;
   faults = let p = ab.faults in let q = bc.faults in omega arith;
   ready = λ r. bc.ready (ab.ready r);

@@ -1,5 +1,6 @@
 //! A file that is open: its cache, its free pages, and its gate.
 ghost use Rattle.std.specs.Prelude.{◌≡◌, ℕ, ◌<◌, ◌≤◌, [], true, false, IsTrue, IfOk, OnOk, OnErr, if◌then◌else◌};
+ghost use Rattle.std.specs.NonZero.{non_zero_usize_get};
 ghost use Rattle.page_store.specs.DeviceFile.{content};
 ghost use Rattle.page_store.specs.Moments.{Throughout};
 ghost use Rattle.page_store.specs.Gate.{WasOrRefused};
@@ -26,8 +27,8 @@ pub struct PagedFile {
 }
 
 impl PagedFile {
-    /// Makes the file, or makes it anew, with this header and no other page. Its gate is open. A fault leaves the
-    /// file as it was, or one that is refused.
+    /// Makes the file, or makes it anew, with this header and no other page; at most `frames` pages are held later. Its
+    /// gate is open. A fault leaves the file as it was, or one that is refused.
     pub fn create<S: Shelf>(
         alloc: Global,
         shelf: &mut S,
@@ -39,6 +40,7 @@ impl PagedFile {
         requires unit { HasUnit (S.state shelf.old) unit }
         ensures made { IfOk result (λ held. IsNewPagedFile held unit limit) }
         ensures ready { IfOk result (λ held. IsOpenOver held (S.state shelf.new)) }
+        ensures frames { IfOk result (λ held. held.cache.frames.cap ≡ non_zero_usize_get frames) }
         // At each moment a crash leaves what it could leave before, or a refused file.
         ensures images { let old = unit_file (S.state shelf.old) unit in
             IsTrue (S.state shelf.new).is_honest →
@@ -58,8 +60,8 @@ impl PagedFile {
         })
     }
 
-    /// The pages of a file that is there, of which the pager was read from its header. Nothing is read, and its gate
-    /// stays as it is. Memory is the only fault.
+    /// The pages of a file that is there, of which the pager was read from its header; at most `frames` are held later.
+    /// Nothing is read, and its gate stays as it is. Memory is the only fault.
     pub fn open(
         alloc: Global,
         store: Store,
@@ -72,6 +74,7 @@ impl PagedFile {
         ensures changed { IfOk result (λ held. held.changed ≡ false) }
         ensures store { IfOk result (λ held. held.cache.store ≡ store) }
         ensures asked { IfOk result (λ held. held.cache.asked ≡ 0) }
+        ensures frames { IfOk result (λ held. held.cache.frames.cap ≡ non_zero_usize_get frames) }
         ensures ready { IfOk result (λ held. (shelf : ShelfState) → HasUnit shelf store.unit →
             WhereHonest shelf store.unit (HasPages store.pages) → IsOpenOver held shelf) }
         // It shows the pages of the file.

@@ -57,6 +57,7 @@ impl Pager {
             IfErr result (CallFails (IsTrue (S.state shelf.new).is_honest × IsTrue old.is_sound)
             (HasFailed (S.fault_count shelf.old) (S.fault_count shelf.new)) (available_of self.old ≡ 0)) }
         ensures asked { cache.new.asked ≤ cache.old.asked + 1 }
+        ensures limit { self.new.limit ≡ self.old.limit }
         ensures goes { PartsGo cache.old cache.new (S.state shelf.old) (S.state shelf.new)
             (S.fault_count shelf.old) (S.fault_count shelf.new) }
         ensures ready { IsJoined cache.new self.new (S.state shelf.new) }
@@ -80,6 +81,7 @@ impl Pager {
             IfErr result (CallFails (IsTrue (S.state shelf.new).is_honest × IsTrue old.is_sound)
             (HasFailed (S.fault_count shelf.old) (S.fault_count shelf.new)) ⊥) }
         ensures asked { cache.new.asked ≤ cache.old.asked + 1 }
+        ensures limit { self.new.limit ≡ self.old.limit }
         ensures goes { PartsGo cache.old cache.new (S.state shelf.old) (S.state shelf.new)
             (S.fault_count shelf.old) (S.fault_count shelf.new) }
         ensures ready { IsJoined cache.new self.new (S.state shelf.new) }
@@ -105,6 +107,7 @@ impl Pager {
         ensures fails { IfErr result (CallFails ⊤
             (HasFailed (S.fault_count shelf.old) (S.fault_count shelf.new)) (available_of self.old ≡ 0)) }
         ensures asked { cache.new.asked ≤ cache.old.asked + 1 }
+        ensures limit { self.new.limit ≡ self.old.limit }
         ensures goes { PartsGo cache.old cache.new (S.state shelf.old) (S.state shelf.new)
             (S.fault_count shelf.old) (S.fault_count shelf.new) }
         ensures ready { IsJoined cache.new self.new (S.state shelf.new) }
@@ -130,6 +133,7 @@ impl Pager {
             IfErr result (CallFails (IsTrue (S.state shelf.new).is_honest × IsSome (old.live n))
             (HasFailed (S.fault_count shelf.old) (S.fault_count shelf.new)) ⊥) }
         ensures asked { cache.new.asked ≤ cache.old.asked + 1 }
+        ensures limit { self.new.limit ≡ self.old.limit }
         ensures goes { PartsGo cache.old cache.new (S.state shelf.old) (S.state shelf.new)
             (S.fault_count shelf.old) (S.fault_count shelf.new) }
         ensures ready { IsJoined cache.new self.new (S.state shelf.new) }

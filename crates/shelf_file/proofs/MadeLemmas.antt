@@ -1,5 +1,5 @@
 -- What the making of a file leaves, from what it leaves of its pages and of its parts.
-use Rattle.std.proofs.Common.{zero, suc, ◌≡◌, ℕ, ◌+◌, ◌-◌, ◌≤◌, ◌<◌, false, IsTrue, length, None, Result, Ok, Err, IfErr, OnErr, refl, sym, ◌∙◌, subst, arith}
+use Rattle.std.proofs.Common.{zero, suc, ◌≡◌, ℕ, ◌+◌, ◌-◌, ◌≤◌, ◌<◌, false, IsTrue, length, None, Result, Ok, Err, IfErr, OnErr, refl, sym, ap, ◌∙◌, subst, arith}
 use Rattle.std.specs.Prelude.{IsErrAnd}
 use Rattle.std.proofs.lemmas.Bool.{le-ltb, lt-ltb}
 use Rattle.record_layout.specs.Schema.{Schema}
@@ -21,7 +21,9 @@ use Rattle.page_alloc.proofs.OpenLemmas.{made_quietly}
 use Rattle.open_file.specs.Creating.{IsNewFile, IsNewOpenFile}
 use Rattle.open_file.specs.Faults.{IsCausedIn}
 use Rattle.open_file.specs.declared.open_file.OpenFile.{OpenFile}
+use Rattle.page_alloc.specs.declared.pager.Pager.{Pager}
 use Rattle.shelf_file.specs.Shelves.{IsMade}
+use Rattle.shelf_file.specs.Standing.{HasLimits}
 
 -- no page but the header is counted
 none_counted : (n : ℕ) → is_page 1 n ≡ false
@@ -84,3 +86,11 @@ handed_on (Err e) fault P was p = subst P (sym was) p
 pub at_err : {X : Type 0} (result : Result X Fault) (P : Type 0) → P → OnErr result P
 at_err (Ok x) P p = tt
 at_err (Err e) P p = p
+
+-- what was made has as many frames as its pages had at the start, and their limit
+pub made_limits : (unit limit frames : ℕ) (a b : PagedFile) (s t : ShelfState) (failed fails : ℕ) → IsNewPagedFile a unit limit → a.cache.frames.cap ≡ frames
+    → Goes a b s t failed fails → (file : OpenFile) → HasLimits limit frames (record { file = file; pages = b })
+made_limits unit limit frames a b s t failed fails made cap goes file = record {
+  limit = goes.limit ∙ ap (λ (pager : Pager). pager.limit) made.pager;
+  cap = goes.parts.cap ∙ cap;
+}

@@ -1,5 +1,5 @@
 -- An indexed file that is open on a shelf, and what it stands for.
-use Rattle.std.specs.Prelude.{IsTrue}
+use Rattle.std.specs.Prelude.{◌≡◌, ℕ, IsTrue}
 use Rattle.indexed_file.specs.File.{File}
 use Rattle.indexed_file.specs.Room.{Room}
 use Rattle.pages.specs.PageMap.{PageMap}
@@ -32,3 +32,8 @@ pub record StandsFor (held : ShelfFile) (shelf : ShelfState) (file : File) : Typ
 -- the pages that it needs and has
 abbrev pub room_in : ShelfFile → Room
 room_in held = room_of held.file (available_of held.pages.pager)
+
+-- the limit of its pages, and the most of them that are held in memory
+pub record HasLimits (most frames : ℕ) (held : ShelfFile) : Type 0 where
+  pub limit : held.pages.pager.limit ≡ most
+  pub cap : held.pages.cache.frames.cap ≡ frames

@@ -1,17 +1,18 @@
 //! A file is made, opened and closed.
 
-ghost use Rattle.std.specs.Prelude.{◌≡◌, ◌≢◌, ◌+◌, ◌-◌, ◌≤◌, true, false, Err, length, IsTrue, IsFalse, IfOk, IfErr, OnOk, OnErr};
+ghost use Rattle.std.specs.Prelude.{◌≡◌, ◌≢◌, ◌≤◌, true, false, Err, length, IsTrue, IsFalse, IfOk, IfErr, OnOk, OnErr};
+ghost use Rattle.std.specs.NonZero.{non_zero_usize_get};
 ghost use Rattle.indexed_file.specs.File.{File};
 ghost use Rattle.page_store.specs.Moments.{Throughout};
 ghost use Rattle.page_store.specs.Gate.{WasOrRefused};
 ghost use Rattle.page_store.specs.ShelfState.{HasUnit, unit_file, FileGoes, KeepsOthers, FaultHasCause};
 ghost use Rattle.file_header.specs.Bounds.{FitsItsBytes, IsHeader};
-ghost use Rattle.page_alloc.specs.Joining.{HasFailed, available_of};
+ghost use Rattle.page_alloc.specs.Joining.{HasFailed};
 ghost use Rattle.page_alloc.specs.PagedFile.{StandsOrRefused};
 ghost use Rattle.open_file.specs.Faults.{IsCausedIn};
 ghost use Rattle.open_file.specs.Headers.{IsHeaderOf, Counts};
 ghost use Rattle.open_file.specs.Stands.{IsShaped};
-ghost use Rattle.shelf_file.specs.Standing.{IsReady, StandsFor};
+ghost use Rattle.shelf_file.specs.Standing.{IsReady, StandsFor, HasLimits};
 ghost use Rattle.shelf_file.specs.Shelves.{IsOpened, IsMade, Closes};
 
 use crate::shelf_file::ShelfFile;
@@ -25,8 +26,8 @@ use std::alloc::Global;
 use std::num::NonZeroUsize;
 
 impl ShelfFile {
-    /// Makes a file without records in the place of whatever the unit's name stands for, with at most `limit` pages. Its gate is open. A fault
-    /// leaves the file as it was, or one that is refused.
+    /// Makes a file without records in the place of whatever the unit's name stands for, with at most `limit` pages, of which at most `frames`
+    /// are held in memory. Its gate is open. A fault leaves the file as it was, or one that is refused.
     ///
     /// Device, Memory, Damage.
     pub fn create<S: Shelf>(
@@ -40,6 +41,7 @@ impl ShelfFile {
         requires unit { HasUnit (S.state shelf.old) unit }
         requires limit { 16 ≤ limit }
         ensures made { IfOk result (λ held. IsMade held unit limit schema.now (S.state shelf.new)) }
+        ensures limits { IfOk result (HasLimits limit (non_zero_usize_get frames)) }
         ensures images { let old = unit_file (S.state shelf.old) unit in
             IsTrue (S.state shelf.new).is_honest → Throughout (WasOrRefused old) old (unit_file (S.state shelf.new) unit) }
         ensures failed { OnErr result (IsTrue (S.state shelf.new).is_honest → FileGoes unit (S.state shelf.old) (S.state shelf.new) StandsOrRefused) }
@@ -61,7 +63,8 @@ impl ShelfFile {
         Ok(ShelfFile { file, pages })
     }
 
-    /// Opens the file of a unit that a look has found. Nothing is read.
+    /// Opens the file of a unit that a look has found: it may grow to `limit` pages, of which at most `frames` are held in memory. Nothing is
+    /// read.
     ///
     /// Memory.
     pub fn open(
@@ -73,7 +76,8 @@ impl ShelfFile {
     ) -> Result<ShelfFile, Fault>
         requires header { IsHeader header.now }
         ensures opened { IfOk result (λ held. IsOpened held unit header.now) }
-        ensures room { IfOk result (λ held. available_of held.pages.pager ≡ header.now.free + (limit - header.now.pages)) }
+        ensures counts { IfOk result (λ held. (held.pages.pager.count ≡ header.now.pages) × (held.pages.pager.free ≡ header.now.free)) }
+        ensures limits { IfOk result (HasLimits limit (non_zero_usize_get frames)) }
         ensures memory { OnErr result (result ≡ Err Fault.Memory) }
     {
         let store = Store {

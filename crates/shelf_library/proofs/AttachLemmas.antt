@@ -53,7 +53,7 @@ module _ (names : List (List ℕ)) (count : ℕ) (old new : LibraryState) (call 
   many : length new.held ≡ length new.shelf.names
   many = ap (λ (held : List Held). length held) call.held ∙ replicate_long count ∙ call.counted ∙ sym (ap (λ (l : List (List ℕ)). length l) same_names)
 
-  holds_nothing : (u : ℕ) → held_at new.held u ≡ Nothing
+  pub holds_nothing : (u : ℕ) → held_at new.held u ≡ Nothing
   holds_nothing u = ap (λ (held : List Held). held_at held u) call.held ∙ nothing_at count u
 
   pub units_attached : AreUnits new.shelf new.held
@@ -90,6 +90,7 @@ attach_keeps state names count old new call = record {
   truth = λ honest name. still_shown names count (state old) (state new) call name;
   count = let same = call.faults in omega (arith, same);
   limit = ap Some call.limit;
+  frames = ap Some call.frames;
 }
 
 pub attach_images : {S : Type 0} (state : S → LibraryState) (names : List (List ℕ)) (count : ℕ) (old new : S) → Attaches names count (state old) (state new)

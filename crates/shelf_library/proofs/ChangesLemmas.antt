@@ -1,12 +1,12 @@
 -- What a call that changes the open file of a unit promises of the library.
-use Rattle.std.proofs.Common.{ℕ, ◌+◌, ◌≤◌, Bool, Some, Result, Ok, Err, IsTrue, IsFalse, OnOk, refl, sym, ap, subst, ◌∙◌}
+use Rattle.std.proofs.Common.{ℕ, ◌+◌, ◌≤◌, Bool, true, not, Some, Result, Ok, Err, IsTrue, IsFalse, OnOk, refl, sym, ap, subst, ◌∙◌}
 use Rattle.record_layout.specs.Schema.{Schema}
 use Rattle.indexed_file.proofs.TestLemmas.{either}
 use Rattle.indexed_file.specs.File.{File}
 use Rattle.indexed_file.specs.Room.{most_to_change}
 use Rattle.indexed_file.specs.World.{holding_at, name_at, is_broken}
 use Rattle.indexed_file.specs.Images.{Trace, ImagesGo, unfinished, trace_if, trace_of_change}
-use Rattle.indexed_file.specs.Calls.{Keeps}
+use Rattle.indexed_file.specs.Calls.{Keeps, SamePages, is_unmade}
 use Rattle.indexed_file.specs.UnitCalls.{ChangesUnit}
 use Rattle.io_state.specs.declared.fault.Fault.{Fault}
 use Rattle.io_state.specs.declared.fault.Fault.TheVariants.{Device, Memory, Full, Damage, Broken as BrokenFile}
@@ -19,7 +19,7 @@ use Rattle.shelf_library.specs.Changing.{MovesAt, ChangesFile}
 use Rattle.shelf_library.specs.declared.held.Held.{Held}
 use Rattle.shelf_library.specs.declared.held.Held.TheVariants.{Opened}
 use Rattle.shelf_library.proofs.AsideLemmas.{only_here, held_truly, truth_after}
-use Rattle.shelf_library.proofs.ReadsLemmas.{reads_images}
+use Rattle.shelf_library.proofs.ReadsLemmas.{reads_images, reads_pages}
 use Rattle.shelf_library.proofs.MovingLemmas.{others, changes_at, reads_at, goes_unfinished}
 use Rattle.shelf_library.proofs.ChangingLemmas.{broken_now, schema_before, schema_now, open_now, held_now, broken_told, truly_after, fault_after}
 
@@ -54,6 +54,18 @@ module _
   images_after (Err BrokenFile) change honest =
       reads_images state a b u file after (reads_at u file after old new call (change.broken (change.cause.broken refl)).1) honest
 
+  -- where nothing was made the pages are as they were
+  pub unmade_after : (result : Result X Fault) → Change result → IsTrue (is_unmade is_made result) → SamePages (shown_by state) u a b
+  unmade_after (Ok x) change none =
+      either (is_made x) (SamePages (shown_by state) u a b)
+      (λ is. let e : IsTrue (not true) = subst (λ (made : Bool). IsTrue (not made)) is none in absurd (cc))
+      (λ rests. reads_pages state a b u file after (reads_at u file after old new call (change.rests rests)))
+  unmade_after (Err Device) change none = absurd (cc)
+  unmade_after (Err Memory) change none = absurd (cc)
+  unmade_after (Err Full) change none = reads_pages state a b u file after (reads_at u file after old new call (change.full refl))
+  unmade_after (Err Damage) change none = absurd (cc)
+  unmade_after (Err BrokenFile) change none = reads_pages state a b u file after (reads_at u file after old new call (change.broken (change.cause.broken refl)).1)
+
   unbroken_after : (result : Result X Fault) → Change result → OnOk result (IsFalse (is_broken (holding_at (world_of new.shelf new.held) u)))
   unbroken_after (Ok x) change = broken_now u file after old new call ∙ change.unbroken
   unbroken_after (Err fault) change = tt
@@ -68,6 +80,7 @@ module _
             (subst (λ (one : Held). IsTrulyHeld u one old.shelf) call.opened (held_truly u (Opened after) old.shelf new.shelf old.held new.held call.units at truly)));
         count = call.moves.faults;
         limit = ap Some call.limit;
+        frames = ap Some call.frames;
       }
 
   pub changes_unit : (result : Result X Fault) → Change result → ChangesUnit (shown_by state) u is_made a b result
@@ -81,6 +94,7 @@ module _
     only = only_here u (Opened after) old.shelf new.shelf old.held new.held call.units (changes_at u file after old new call);
     opened = open_now u file after old new call;
     schema = schema_now u file after old new call ∙ change.schema ∙ sym (schema_before u file after old new call);
+    unmade = unmade_after result change;
     images = λ honest shown. images_after result change honest;
     keeps = keeps_after result change;
   }

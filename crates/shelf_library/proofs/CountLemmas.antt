@@ -1,6 +1,6 @@
 -- A unit whose count of pages begins again.
 use Rattle.std.proofs.Common.{◌≡◌, ◌≢◌, ℕ, ◌<◌, List, length, IsTrue, IsFalse, refl, ap, sym, subst, ◌∙◌}
-use Rattle.std.specs.Prelude.{slice_set, slice_index_or, Some}
+use Rattle.std.specs.Prelude.{slice_set, slice_index_or, Option, Some}
 use Rattle.std.proofs.lemmas.List.{get_or_default}
 use Rattle.indexed_file.specs.Room.{Room}
 use Rattle.indexed_file.specs.UnitCalls.{RestartsCount}
@@ -13,7 +13,7 @@ use Rattle.shelf_file.specs.Named.{named_of}
 use Rattle.shelf_library.specs.declared.held.Held.{Held}
 use Rattle.shelf_library.specs.declared.held.Held.TheVariants.{Nothing, Looked, Opened}
 use Rattle.shelf_library.specs.State.{LibraryState, held_at, IsLooked, IsReadyAt}
-use Rattle.shelf_library.specs.Units.{holding_of, room_of_held, asked_of}
+use Rattle.shelf_library.specs.Units.{holding_of, room_of_held, counts_of_held, asked_of}
 use Rattle.shelf_library.specs.Truth.{IsTrulyOpen}
 use Rattle.shelf_library.specs.OneUnit.{AreUnits, ChangesAt, FitsItsFile, IsTrulyHeld}
 use Rattle.shelf_library.specs.Library.{shown_by}
@@ -100,6 +100,11 @@ recount_room Nothing = refl
 recount_room (Looked header) = refl
 recount_room (Opened file) = refl
 
+recount_counts : (seen : Option (List ℕ)) (one : Held) → counts_of_held seen (recount one) ≡ counts_of_held seen one
+recount_counts seen Nothing = refl
+recount_counts seen (Looked header) = refl
+recount_counts seen (Opened file) = refl
+
 recount_holding : (shelf : ShelfState) (one : Held) → holding_of shelf (recount one) ≡ holding_of shelf one
 recount_holding shelf Nothing = refl
 recount_holding shelf (Looked header) = refl
@@ -113,9 +118,9 @@ recount_none (Opened file) none = absurd (none file refl)
 
 pub recounts : {S : Type 0} (state : S → LibraryState) (u : ℕ) (old new : S)
     → AreUnits (state old).shelf (state old).held → ChangesAt u (recount (held_at (state old).held u)) (state old).shelf (state new).shelf (state old).held (state new).held
-    → (state new).shelf ≡ (state old).shelf → (state new).faults ≡ (state old).faults → (state new).limit ≡ (state old).limit
+    → (state new).shelf ≡ (state old).shelf → (state new).faults ≡ (state old).faults → (state new).limit ≡ (state old).limit → (state new).frames ≡ (state old).frames
     → RestartsCount (shown_by state) u old new
-recounts {S} state u old new are call shelf faults limit =
+recounts {S} state u old new are call shelf faults limit frames =
     let held = (state old).held in
     let now = (state new).held in
     let one = recount (held_at held u) in
@@ -131,11 +136,18 @@ recounts {S} state u old new are call shelf faults limit =
           (λ hit. let at = eqb-true v u hit in
           ap (λ w. room_of_held (held_at now w)) at ∙ ap room_of_held here ∙ recount_room (held_at held u) ∙ ap (λ w. room_of_held (held_at held w)) (sym at))
           (λ miss. ap room_of_held (aside v (eqb-false v u miss)));
+      counts = λ v. ap (λ s. counts_of_held (unit_file s v).seen (held_at now v)) shelf
+          ∙ (let seen = (unit_file (state old).shelf v).seen in
+          either (v == u) (counts_of_held seen (held_at now v) ≡ counts_of_held seen (held_at held v))
+          (λ hit. let at = eqb-true v u hit in
+          ap (λ w. counts_of_held seen (held_at now w)) at ∙ ap (counts_of_held seen) here ∙ recount_counts seen (held_at held u) ∙ ap (λ w. counts_of_held seen (held_at held w)) (sym at))
+          (λ miss. ap (counts_of_held seen) (aside v (eqb-false v u miss))));
       honest = ap (λ s. s.is_honest) shelf;
       truth = truth_after u one (state old).shelf (state new).shelf held now are call
           (λ truly. subst (λ s. IsTrulyHeld u one s) (sym shelf)
           (recount_truly (state old).shelf u (held_at held u) (held_truly u one (state old).shelf (state new).shelf held now are call truly)));
       count = faults;
       limit = ap Some limit;
+      frames = ap Some frames;
       images = λ name. images_aside state old new name (ap (λ s. s.file name) shelf);
     }

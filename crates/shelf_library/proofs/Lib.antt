@@ -5,6 +5,7 @@ pub mod RefusedLemmas
 pub mod FaultLemmas
 pub mod AcceptedLemmas
 pub mod UnitLemmas
+pub mod LimitLemmas
 pub mod LookingLemmas
 pub mod AttachLemmas
 pub mod OpensLemmas

@@ -137,7 +137,7 @@ look_opens {S} state u look old new call told is =
       fault = look_fault (state new).shelf.is_honest _ (state old).faults (state new).faults look call.cause;
       images = λ honest truly.
           images_at state u one old new call.units changes untouched (images_aside state old new name (ap (λ file. file name) call.only.file)) tt;
-      keeps = keeps_at state u one old new call.units changes call.limit call.cause.no_fewer (λ honest truly. still_true u look (state old) (state new) call truly);
+      keeps = keeps_at state u one old new call.units changes call.limit call.frames call.cause.no_fewer (λ honest truly. still_true u look (state old) (state new) call truly);
     })
   where
     shut : (l : Result Look Fault) → holding_at (world_of (state new).shelf (state new).held) u ≡ holding_of (state new).shelf (held_after l)

@@ -141,7 +141,7 @@ module _ {S : Type 0} (state : S → LibraryState) (u : ℕ) (schema : Schema) (
       (λ test passes all. was_or_refused test ((state old).shelf.file (unit_name (state old).shelf u)) ((state new).shelf.file (unit_name (state old).shelf u))
       (passed u schema r (state old) (state new) call honest) passes (and_parts _ _ all).0)
       tt)
-      (keeps_at state u (held_open r) old new call.units at call.limit call.count (truly u schema r (state old) (state new) call r call.made)))
+      (keeps_at state u (held_open r) old new call.units at call.limit call.frames call.count (truly u schema r (state old) (state new) call r call.made)))
 
   is_new : (x : Result ShelfFile Fault) → x ≡ r → IfOk x (λ file. IsMade file u (state new).limit schema (state new).shelf) → IsTrue (state new).shelf.is_honest
       → OnOk (answer_open x) (IsNew (shown_by state) u schema old new)

@@ -42,15 +42,16 @@ opened_is a b e = cc
 -- a call on the file that a unit holds
 pub moves_at :
     (shelf : ShelfState) (held : List Held) (u : ℕ) (one : Held) (units : AreUnits shelf held) (attached : u < length (world_of shelf held).units) (read : one ≡ slice_index_or held u one)
-    (file : ShelfFile) (is : one ≡ Opened file) (after : ShelfFile) (later : ShelfState) (failed fails limit : ℕ) → Moves file.pages after.pages shelf later failed fails → IsReady after later
+    (file : ShelfFile) (is : one ≡ Opened file) (after : ShelfFile) (later : ShelfState) (failed fails limit frames : ℕ) → Moves file.pages after.pages shelf later failed fails → IsReady after later
     → ((name : List ℕ) → IsTrue shelf.is_honest → Leaves (shelf.file name) (shelf.file name).seen) → ((name : List ℕ) → IsTrue later.is_honest → Leaves (later.file name) (later.file name).seen)
-    → MovesAt u file after (record { shelf = shelf; held = held; faults = failed; limit = limit }) (record { shelf = later; held = slice_set held u (Opened after); faults = fails; limit = limit })
-moves_at shelf held u one units attached read file is after later failed fails limit moves ready before after_it = record {
+    → MovesAt u file after (record { shelf = shelf; held = held; faults = failed; limit = limit; frames = frames }) (record { shelf = later; held = slice_set held u (Opened after); faults = fails; limit = limit; frames = frames })
+moves_at shelf held u one units attached read file is after later failed fails limit frames moves ready before after_it = record {
   units = units;
   attached = is_held shelf held u units.many attached;
   opened = opened_at shelf held u one units.many attached read file is;
   holds = refl;
   limit = refl;
+  frames = refl;
   moves = moves;
   ready = ready;
   image_before = before (unit_name shelf u);
@@ -104,6 +105,7 @@ module _ (u : ℕ) (file after : ShelfFile) (old new : LibraryState) (call : Mov
     opened = call.opened;
     holds = call.holds;
     limit = call.limit;
+    frames = call.frames;
     reads = reads;
     image_before = call.image_before;
     image_after = call.image_after;

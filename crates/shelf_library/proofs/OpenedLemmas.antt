@@ -63,15 +63,16 @@ module _ (shelf : ShelfState) (held : List Held) (u : ℕ) (one : Held) (many : 
 
     -- a call that only reads
     pub reads_at :
-        (after : ShelfFile) (later : ShelfState) (failed fails limit : ℕ) → AreUnits shelf held → OnlyReadsFile file after shelf later failed fails
+        (after : ShelfFile) (later : ShelfState) (failed fails limit frames : ℕ) → AreUnits shelf held → OnlyReadsFile file after shelf later failed fails
         → ((name : List ℕ) → IsTrue shelf.is_honest → Leaves (shelf.file name) (shelf.file name).seen) → ((name : List ℕ) → IsTrue later.is_honest → Leaves (later.file name) (later.file name).seen)
-        → ReadsAt u file after (record { shelf = shelf; held = held; faults = failed; limit = limit }) (record { shelf = later; held = slice_set held u (Opened after); faults = fails; limit = limit })
-    reads_at after later failed fails limit units reads before after_it = record {
+        → ReadsAt u file after (record { shelf = shelf; held = held; faults = failed; limit = limit; frames = frames }) (record { shelf = later; held = slice_set held u (Opened after); faults = fails; limit = limit; frames = frames })
+    reads_at after later failed fails limit frames units reads before after_it = record {
       units = units;
       attached = within;
       opened = opened_at;
       holds = refl;
       limit = refl;
+      frames = refl;
       reads = reads;
       image_before = before (unit_name shelf u);
       image_after = after_it (unit_name later u);

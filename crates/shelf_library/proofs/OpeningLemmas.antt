@@ -1,10 +1,12 @@
 -- The file of a unit, opened by the header that a look had accepted.
 use Rattle.std.proofs.Common.{◌≡◌, ℕ, ◌<◌, false, Bool, List, length, IsTrue, IsFalse, IfOk, IfErr, OnOk, OnErr, Result, Ok, Err, refl, sym, ap, subst, ◌∙◌, arith}
-use Rattle.std.specs.Prelude.{slice_set}
+use Rattle.std.specs.Prelude.{slice_set, Option}
 use Rattle.io_state.specs.declared.fault.Fault.{Fault}
 use Rattle.io_state.specs.declared.fault.Fault.TheVariants.{Memory}
 use Rattle.record_layout.specs.Schema.{Schema}
 use Rattle.indexed_file.specs.Calls.{MayFail}
+use Rattle.indexed_file.specs.Room.{PageCounts}
+use Rattle.shelf_file.specs.declared.look.Look.TheVariants.{Accepted}
 use Rattle.indexed_file.specs.World.{Holding, Named, Opened as HasOpened, opened_from}
 use Rattle.page_store.specs.ShelfState.{ShelfState, HasUnit, KeepsOthers, unit_file}
 use Rattle.file_header.specs.declared.header.Header.{Header}
@@ -24,13 +26,13 @@ use Rattle.indexed_file.specs.World.{holding_at, named_at, name_at, schema_at, s
 use Rattle.page_store.specs.DeviceFile.{DeviceFile}
 use Rattle.page_store.specs.ShelfState.{unit_name}
 use Rattle.shelf_library.specs.State.{LibraryState, IsLooked}
-use Rattle.shelf_library.specs.Units.{world_of}
+use Rattle.shelf_library.specs.Units.{world_of, counts_by, counts_of_held}
 use Rattle.shelf_library.specs.Truth.{IsShownTruly}
 use Rattle.shelf_library.specs.Library.{shown_by}
 use Rattle.shelf_library.specs.OneUnit.{AreUnits}
 use Rattle.shelf_library.specs.Opening.{OpensAt}
 use Rattle.shelf_library.proofs.WorldLemmas.{set_twice}
-use Rattle.shelf_library.proofs.AsideLemmas.{are_after, holding_before, holding_after, named_before, named_after, images_aside}
+use Rattle.shelf_library.proofs.AsideLemmas.{are_after, held_here, holding_before, holding_after, named_before, named_after, images_aside}
 use Rattle.shelf_library.proofs.UnitLemmas.{keeps_at, images_at}
 use Rattle.shelf_file.proofs.AcceptedLemmas.{accepted_there, accepted_named}
 use Rattle.shelf_library.proofs.OpensLemmas.{same_open, nothing_fits, open_fits, open_holding, is_opened, opens_unit}
@@ -149,6 +151,23 @@ module _ (u : ℕ) (header : Header) (r : Result ShelfFile Fault) (old new : Lib
       (subst (λ (n : Named). OnOk (answer_open r) (holding_of new.shelf (held_open r) ≡ opened_from n)) named
       (opened_reads u new.shelf header has_unit accepted_now r call.opened honest))
 
+  counts_after : (x : Result ShelfFile Fault) (seen : Option (List ℕ)) → IfOk x (λ held. (held.pages.pager.count ≡ header.pages) × (held.pages.pager.free ≡ header.free))
+      → OnOk (answer_open x) (counts_of_held seen (held_open x) ≡ counts_by (Accepted header))
+  counts_after (Ok file) seen is = let count = is.0 in let free = is.1 in λ i. record { count = count i; free = free i }
+  counts_after (Err fault) seen is = tt
+
+  -- it has the pages that it had closed
+  pub open_counts : IsTrue new.shelf.is_honest
+      → OnOk (answer_open r) (counts_of_held (unit_file new.shelf u).seen (held_at new.held u) ≡ counts_of_held (unit_file old.shelf u).seen (held_at old.held u))
+  open_counts honest =
+      let seen = (unit_file new.shelf u).seen in
+      let was_honest : IsTrue old.shelf.is_honest = subst (λ (s : ShelfState). IsTrue s.is_honest) call.shelf honest in
+      let before : counts_of_held (unit_file old.shelf u).seen (held_at old.held u) ≡ counts_by (Accepted header) =
+      ap (counts_of_held (unit_file old.shelf u).seen) call.looked ∙ ap counts_by (was.accepted was_honest) in
+      subst (λ (one : Held). OnOk (answer_open r) (counts_of_held seen one ≡ counts_of_held (unit_file old.shelf u).seen (held_at old.held u)))
+      (sym (held_here u (held_open r) old.shelf new.shelf old.held new.held call.units changes))
+      (subst (λ (pages : PageCounts). OnOk (answer_open r) (counts_of_held seen (held_open r) ≡ pages)) (sym before) (counts_after r seen call.counts))
+
   truly_now : IsTrue new.shelf.is_honest → IsTrulyHeld u (held_at old.held u) old.shelf → IsTrulyHeld u (held_open r) new.shelf
   truly_now honest truly =
       opened_truly u new.shelf header has_unit accepted_now r call.opened honest
@@ -165,4 +184,4 @@ open_opens {S} state u header r old new call answer is =
     (want_of_memory (state new).shelf.is_honest (IsShownTruly (state old).shelf (state old).held (name_at (world_of (state old).shelf (state old).held) u)) (state old).faults (state new).faults r call.memory)
     (λ honest truly. images_at state u (held_open r) old new call.units at untouched
     (images_aside state old new (unit_name (state old).shelf u) (ap (λ (s : ShelfState). s.file (unit_name (state old).shelf u)) call.shelf)) tt)
-    (keeps_at state u (held_open r) old new call.units at call.limit (omega (arith, same)) (truly_now u header r (state old) (state new) call)))
+    (keeps_at state u (held_open r) old new call.units at call.limit call.frames (omega (arith, same)) (truly_now u header r (state old) (state new) call)))

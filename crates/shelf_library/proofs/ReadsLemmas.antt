@@ -5,7 +5,7 @@ use Rattle.io_state.specs.declared.fault.Fault.{Fault}
 use Rattle.io_state.specs.declared.fault.Fault.TheVariants.{Damage, Broken as BrokenUnit}
 use Rattle.indexed_file.specs.World.{holding_at, name_at, schema_in, is_open, is_broken}
 use Rattle.indexed_file.specs.Images.{Stays, ImagesGo, untouched}
-use Rattle.indexed_file.specs.Calls.{Keeps, OnlyReads as ReadsWorld, MayFail}
+use Rattle.indexed_file.specs.Calls.{Keeps, OnlyReads as ReadsWorld, MayFail, SamePages}
 use Rattle.indexed_file.specs.UnitCalls.{ReadsUnit}
 use Rattle.page_store.specs.DeviceFile.{DeviceFile}
 use Rattle.page_store.specs.Moments.{Throughout}
@@ -18,7 +18,7 @@ use Rattle.page_alloc.specs.Joining.{available_of}
 use Rattle.shelf_file.specs.declared.shelf_file.ShelfFile.{ShelfFile}
 use Rattle.shelf_file.specs.Standing.{file_in, room_in}
 use Rattle.shelf_library.specs.State.{LibraryState, held_at}
-use Rattle.shelf_library.specs.Units.{world_of, holding_of, room_of_held, asked_of}
+use Rattle.shelf_library.specs.Units.{world_of, holding_of, room_of_held, counts_of_pager, counts_of_held, asked_of}
 use Rattle.shelf_library.specs.Truth.{IsShownTruly}
 use Rattle.shelf_library.specs.Crashes.{Passes}
 use Rattle.shelf_library.specs.Library.{shown_by}
@@ -109,6 +109,13 @@ module _ {S : Type 0} (state : S → LibraryState) (a b : S) (u : ℕ) (file aft
   pub reads_room : room_of_held (held_at new.held u) ≡ room_of_held (held_at old.held u)
   reads_room = ap room_of_held now_held ∙ same_room ∙ sym (ap room_of_held call.opened)
 
+  reads_counts : counts_of_held (unit_file new.shelf u).seen (held_at new.held u) ≡ counts_of_held (unit_file old.shelf u).seen (held_at old.held u)
+  reads_counts =
+      ap (counts_of_held (unit_file new.shelf u).seen) now_held ∙ ap counts_of_pager call.reads.pages.pager ∙ sym (ap (counts_of_held (unit_file old.shelf u).seen) call.opened)
+
+  pub reads_pages : SamePages (shown_by state) u a b
+  reads_pages = record { room = reads_room; counts = reads_counts }
+
   -- ---- what every call keeps
 
   pub reads_keeps : Keeps (shown_by state) a b
@@ -119,6 +126,7 @@ module _ {S : Type 0} (state : S → LibraryState) (a b : S) (u : ℕ) (file aft
         (subst (λ (one : Held). IsTrulyHeld u one old.shelf) call.opened (held_truly u (Opened after) old.shelf new.shelf old.held new.held call.units at truly)));
     count = call.reads.pages.goes.parts.faults;
     limit = ap Some call.limit;
+    frames = ap Some call.frames;
   }
 
   -- ---- all of it, with the pages that were asked for and with why the file gave up
@@ -130,7 +138,7 @@ module _ {S : Type 0} (state : S → LibraryState) (a b : S) (u : ℕ) (file aft
   reads_unit most result asks broken cause no_damage = record {
     asked = λ honest truly answered. asked;
     world = reads_world;
-    room = reads_room;
+    pages = reads_pages;
     broken = λ is. broken (sym broken_is ∙ is);
     fault = subst (λ (fails : Bool). IfErr result (MayFail fails new.shelf.is_honest (IsShownTruly old.shelf old.held (name_at (world_of old.shelf old.held) u)) old.faults new.faults)) (sym broken_is)
         (faults_are file.file.broken new.shelf.is_honest (IsShownTruly old.shelf old.held (name_at (world_of old.shelf old.held) u)) old.faults new.faults result cause broken no_damage);

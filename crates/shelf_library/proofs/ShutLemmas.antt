@@ -212,5 +212,5 @@ module _ {S : Type 0} (state : S → LibraryState) (u : ℕ) (file : ShelfFile) 
         (faults_are file.file.broken (state new).shelf.is_honest (IsShownTruly (state old).shelf (state old).held name) (state old).faults (state new).faults result
         call.cause call.broken (λ honest truly. call.damage));
     images = images;
-    keeps = keeps_at state u Nothing old new call.units changed_at call.limit call.count (closes_truly u file result (state old) (state new) call);
+    keeps = keeps_at state u Nothing old new call.units changed_at call.limit call.frames call.count (closes_truly u file result (state old) (state new) call);
   }

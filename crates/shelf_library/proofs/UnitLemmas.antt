@@ -18,15 +18,16 @@ apart_from name other apart same = let e = (bytes_eq-Decides name other).1 (sym 
 module _ {S : Type 0} (state : S → LibraryState) (u : ℕ) (one : Held) (old new : S)
     (are : AreUnits (state old).shelf (state old).held) (call : ChangesAt u one (state old).shelf (state new).shelf (state old).held (state new).held) where
   -- what is shown stays true, where it does of the unit's name
-  pub keeps_at : (state new).limit ≡ (state old).limit → (state old).faults ≤ (state new).faults
+  pub keeps_at : (state new).limit ≡ (state old).limit → (state new).frames ≡ (state old).frames → (state old).faults ≤ (state new).faults
       → (IsTrue (state new).shelf.is_honest → IsTrulyHeld u (held_at (state old).held u) (state old).shelf → IsTrulyHeld u one (state new).shelf) → Keeps (shown_by state) old new
-  keeps_at limit count truly = record {
+  keeps_at limit frames count truly = record {
     honest = call.others.honest;
     truth = λ honest name.
         truth_after u one (state old).shelf (state new).shelf (state old).held (state new).held are call
         (λ shown. truly honest (held_truly u one (state old).shelf (state new).shelf (state old).held (state new).held are call shown)) name;
     count = count;
     limit = ap Some limit;
+    frames = ap Some frames;
   }
 
   -- the images of other names stay

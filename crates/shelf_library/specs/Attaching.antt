@@ -14,3 +14,4 @@ pub record Attaches (names : List (List ℕ)) (count : ℕ) (old new : LibrarySt
   pub shelf : new.shelf ≡ record old.shelf { names = names }
   pub faults : new.faults ≡ old.faults
   pub limit : new.limit ≡ old.limit
+  pub frames : new.frames ≡ old.frames

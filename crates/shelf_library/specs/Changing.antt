@@ -24,6 +24,7 @@ pub record MovesAt (u : ℕ) (file after : ShelfFile) (old new : LibraryState) :
   pub opened : held_at old.held u ≡ Opened file
   pub holds : new.held ≡ slice_set old.held u (Opened after)
   pub limit : new.limit ≡ old.limit
+  pub frames : new.frames ≡ old.frames
   pub moves : Moves file.pages after.pages old.shelf new.shelf old.faults new.faults
   pub ready : IsReady after new.shelf
   -- what reads give is one of the images

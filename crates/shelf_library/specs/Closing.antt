@@ -21,6 +21,7 @@ pub record ClosesUnitAt (u : ℕ) (file : ShelfFile) (result : Result (Unit {0})
   pub opened : held_at old.held u ≡ Opened file
   pub holds : new.held ≡ slice_set old.held u Nothing
   pub limit : new.limit ≡ old.limit
+  pub frames : new.frames ≡ old.frames
   -- a broken file is not touched, nor is one that was not changed
   pub broken : IsTrue file.file.broken → result ≡ Err BrokenFile
   pub nothing : IsTrue file.file.broken → new.shelf.file ≡ old.shelf.file

@@ -1,14 +1,14 @@
 -- The laws of a library over a shelf.
-use Rattle.std.proofs.Common.{◌≡◌, ℕ, ◌<◌, ◌≤◌, List, [], length, Option, Some, None, IsTrue, IsFalse, refl, sym, ap, ◌∙◌, subst, arith, inl, inr}
+use Rattle.std.proofs.Common.{◌≡◌, ℕ, ◌+◌, ◌-◌, ◌<◌, ◌≤◌, List, [], length, Option, Some, None, IsTrue, IsFalse, refl, sym, ap, ◌∙◌, subst, arith, inl, inr}
 use Rattle.std.specs.Prelude.{nat_lt}
 use Rattle.std.proofs.lemmas.Bool.{cases_Bool, ltb-true, ltb-false}
 use Rattle.std.proofs.lemmas.List.{get_or_past}
 use Rattle.indexed_file.specs.File.{File}
 use Rattle.indexed_file.specs.Moments.{Test}
-use Rattle.indexed_file.specs.Room.{IsFilled}
+use Rattle.indexed_file.specs.Room.{IsFilled, available_under, available_in}
 use Rattle.indexed_file.specs.Sound.{is_file}
 use Rattle.indexed_file.specs.SoundWorld.{ShowsFiles, ShowsFilesAt, is_sound_named, is_sound_holding}
-use Rattle.indexed_file.specs.World.{FileUnit, Named, Absent, Closed, Unsound, Holding, Shut, Broken, Opened as HasOpened, unit_at, holding_at, name_at}
+use Rattle.indexed_file.specs.World.{FileUnit, Named, Absent, Closed, Unsound, Holding, Shut, Broken, Opened as HasOpened, unit_at, holding_at, name_at, is_open}
 use Rattle.record_layout.specs.Schema.{Schema}
 use Rattle.page_store.specs.DeviceFile.{DeviceFile, content}
 use Rattle.page_store.proofs.MomentLemmas.{throughout_then, throughout_last, throughout_none, throughout_weaker}
@@ -20,8 +20,8 @@ use Rattle.shelf_file.specs.declared.look.Look.TheVariants.{NoFile, Refused, Acc
 use Rattle.shelf_file.specs.declared.shelf_file.ShelfFile.{ShelfFile}
 use Rattle.shelf_file.specs.Named.{look_of, named_of, named_by}
 use Rattle.shelf_file.specs.Standing.{file_in, live_of, room_in}
-use Rattle.shelf_library.specs.State.{held_at, AreReady}
-use Rattle.shelf_library.specs.Units.{world_of, units_of, holding_of, room_of_held}
+use Rattle.shelf_library.specs.State.{held_at, AreReady, AreLimited}
+use Rattle.shelf_library.specs.Units.{world_of, units_of, holding_of, room_of_held, counts_of_held, frames_of_held}
 use Rattle.shelf_library.specs.Truth.{IsShownTruly, IsTrulyClosed}
 use Rattle.shelf_library.specs.Crashes.{Passes, PassesBy, AllPass}
 use Rattle.shelf_library.specs.WorldLaws.{named_anywhere, name_now, holding_now, named_now, units_long}
@@ -144,3 +144,33 @@ fills shelf held u schema file many ready truly is = elim (cases_Bool (nat_lt u 
       let e : Shut ≡ HasOpened schema file = sym none ∙ is in
       absurd (cc)
 ]
+
+-- ---- open files have the limits of the library
+
+open_file : (shelf : ShelfState) (one : Held) → IsTrue (is_open (holding_of shelf one)) → (file : ShelfFile) × (one ≡ Opened file)
+open_file shelf Nothing opened = absurd (cc)
+open_file shelf (Looked header) opened = absurd (cc)
+open_file shelf (Opened file) opened = (file, refl)
+
+module _
+    (shelf : ShelfState) (held : List Held) (limit frames u : ℕ) (many : length held ≡ length shelf.names) (are : AreLimited limit frames held)
+    (opened : IsTrue (is_open (holding_at (world_of shelf held) u))) where
+  file_at : (file : ShelfFile) × (held_at held u ≡ Opened file)
+  file_at = elim (cases_Bool (nat_lt u (length held))) [
+    | inl hit ↦
+        let within = ltb-true u (length held) hit in
+        open_file shelf (held_at held u) (subst (λ (holding : Holding). IsTrue (is_open holding)) (holding_now shelf held u within many) opened)
+    | inr miss ↦
+        let none = ap (λ (unit : FileUnit). unit.holding) (no_such shelf held many u (ltb-false u (length held) miss)) in
+        let e : IsTrue (is_open Shut) = subst (λ (holding : Holding). IsTrue (is_open holding)) none opened in
+        absurd (cc)
+  ]
+
+  pub room_within : available_in (room_of_held (held_at held u)) ≡ Some (available_under (counts_of_held (unit_file shelf u).seen (held_at held u)) limit)
+  room_within =
+      let file = file_at.0 in
+      subst (λ (one : Held). available_in (room_of_held one) ≡ Some (available_under (counts_of_held (unit_file shelf u).seen one) limit)) (sym file_at.1)
+      (ap (λ (n : ℕ). Some (file.pages.pager.free + (n - file.pages.pager.count))) (are u file file_at.1).limit)
+
+  pub frames_within : frames_of_held (held_at held u) ≡ Some frames
+  frames_within = ap frames_of_held file_at.1 ∙ ap Some (are u file_at.0 file_at.1).cap

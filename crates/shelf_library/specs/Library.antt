@@ -2,7 +2,8 @@
 use Rattle.std.specs.Prelude.{ℕ, Some}
 use Rattle.indexed_file.specs.Shown.{Shown}
 use Rattle.shelf_library.specs.State.{LibraryState, held_at}
-use Rattle.shelf_library.specs.Units.{world_of, room_of_held, asked_of}
+use Rattle.page_store.specs.ShelfState.{unit_file}
+use Rattle.shelf_library.specs.Units.{world_of, room_of_held, counts_of_held, frames_of_held, asked_of}
 use Rattle.shelf_library.specs.Truth.{IsShownTruly}
 use Rattle.shelf_library.specs.Crashes.{AllPass}
 
@@ -13,7 +14,10 @@ shown_by state = record {
   IsShownTruly = λ library name. IsShownTruly (state library).shelf (state library).held name;
   fault_count = λ library. (state library).faults;
   page_limit = λ library. Some (state library).limit;
+  frames = λ library. Some (state library).frames;
   room = λ library u. room_of_held (held_at (state library).held u);
+  page_counts = λ library u. counts_of_held (unit_file (state library).shelf u).seen (held_at (state library).held u);
+  unit_frames = λ library u. frames_of_held (held_at (state library).held u);
   pages_asked = λ library u. asked_of (held_at (state library).held u);
   Throughout = λ test old new name. AllPass test (state old).shelf (state new).shelf name;
 }

@@ -15,6 +15,7 @@ pub record LooksAt (u : ℕ) (look : Result Look Fault) (old new : LibraryState)
   pub attached : u < length old.held
   pub holds : new.held ≡ slice_set old.held u (held_after look)
   pub limit : new.limit ≡ old.limit
+  pub frames : new.frames ≡ old.frames
   -- what the shelf answered
   pub found : IsTrue new.shelf.is_honest → IfOk look (λ look. look ≡ look_of (unit_file old.shelf u).seen)
   pub header : IfOk look HasHeader

@@ -13,6 +13,7 @@ use Rattle.open_file.specs.Faults.{IsCausedIn}
 use Rattle.file_header.specs.declared.header.Header.{Header}
 use Rattle.shelf_file.specs.declared.shelf_file.ShelfFile.{ShelfFile}
 use Rattle.shelf_file.specs.Shelves.{IsOpened, IsMade}
+use Rattle.shelf_file.specs.Standing.{HasLimits}
 use Rattle.shelf_library.specs.State.{LibraryState, held_at}
 use Rattle.shelf_library.specs.Told.{held_open}
 use Rattle.shelf_library.specs.OneUnit.{AreUnits}
@@ -28,7 +29,10 @@ pub record OpensAt (u : ℕ) (header : Header) (r : Result ShelfFile Fault) (old
   pub shelf : new.shelf ≡ old.shelf
   pub faults : new.faults ≡ old.faults
   pub limit : new.limit ≡ old.limit
+  pub frames : new.frames ≡ old.frames
   pub opened : IfOk r (λ held. IsOpened held u header)
+  pub counts : IfOk r (λ held. (held.pages.pager.count ≡ header.pages) × (held.pages.pager.free ≡ header.free))
+  pub limits : IfOk r (HasLimits new.limit new.frames)
   pub memory : OnErr r (r ≡ Err Memory)
 
 -- unit u was not open, and a file was made in the place of whatever its name stood for
@@ -37,7 +41,9 @@ pub record MakesAt (u : ℕ) (schema : Schema) (r : Result ShelfFile Fault) (old
   pub attached : u < length old.held
   pub holds : new.held ≡ slice_set old.held u (held_open r)
   pub limit : new.limit ≡ old.limit
+  pub frames : new.frames ≡ old.frames
   pub made : IfOk r (λ held. IsMade held u new.limit schema new.shelf)
+  pub limits : IfOk r (HasLimits new.limit new.frames)
   pub images : IsTrue new.shelf.is_honest → Throughout (WasOrRefused (unit_file old.shelf u)) (unit_file old.shelf u) (unit_file new.shelf u)
   pub failed : OnErr r (IsTrue new.shelf.is_honest → FileGoes u old.shelf new.shelf StandsOrRefused)
   pub others : KeepsOthers u old.shelf new.shelf

@@ -22,6 +22,7 @@ pub record ReadsAt (u : ℕ) (file after : ShelfFile) (old new : LibraryState) :
   pub opened : held_at old.held u ≡ Opened file
   pub holds : new.held ≡ slice_set old.held u (Opened after)
   pub limit : new.limit ≡ old.limit
+  pub frames : new.frames ≡ old.frames
   pub reads : OnlyReadsFile file after old.shelf new.shelf old.faults new.faults
   -- what reads give is one of the images
   pub image_before : IsTrue old.shelf.is_honest → Leaves (unit_file old.shelf u) (unit_file old.shelf u).seen

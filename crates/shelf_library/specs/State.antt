@@ -4,7 +4,7 @@ use Rattle.page_store.specs.ShelfState.{ShelfState}
 use Rattle.file_header.specs.declared.header.Header.{Header}
 use Rattle.file_header.specs.Bounds.{IsHeader}
 use Rattle.shelf_file.specs.declared.shelf_file.ShelfFile.{ShelfFile}
-use Rattle.shelf_file.specs.Standing.{IsReady}
+use Rattle.shelf_file.specs.Standing.{IsReady, HasLimits}
 use Rattle.shelf_file.specs.Shelves.{HasAccepted}
 use Rattle.shelf_library.specs.declared.held.Held.{Held}
 use Rattle.shelf_library.specs.declared.held.Held.TheVariants.{Nothing, Looked, Opened}
@@ -16,6 +16,8 @@ pub record LibraryState : Type 0 where
   pub faults : ℕ
   -- the most pages that a file may have
   pub limit : ℕ
+  -- the most pages of an open file that are held in memory
+  pub frames : ℕ
 
 -- what unit u holds
 abbrev pub held_at : List Held → ℕ → Held
@@ -36,3 +38,7 @@ pub record IsReadyAt (shelf : ShelfState) (u : ℕ) (file : ShelfFile) : Type 0 
 
 abbrev pub AreReady : ShelfState → List Held → Type 0
 AreReady shelf held = (u : ℕ) (file : ShelfFile) → held_at held u ≡ Opened file → IsReadyAt shelf u file
+
+-- each open file has the limits of the library
+abbrev pub AreLimited : (limit frames : ℕ) → List Held → Type 0
+AreLimited limit frames held = (u : ℕ) (file : ShelfFile) → held_at held u ≡ Opened file → HasLimits limit frames file

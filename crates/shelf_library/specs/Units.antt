@@ -1,11 +1,14 @@
 -- What the names of a library stand for, and what its units hold: all of it is read off the files, and off the pages of the open ones.
-use Rattle.std.specs.Prelude.{ℕ, Bool, List, [], ◌∷◌, bytes_eq, if◌then◌else◌}
+use Rattle.std.specs.Prelude.{ℕ, Bool, List, [], ◌∷◌, Option, None, Some, bytes_eq, if◌then◌else◌}
 use Rattle.std.specs.List.{list_any}
-use Rattle.indexed_file.specs.Room.{Room, Endless}
+use Rattle.indexed_file.specs.Room.{Room, PageCounts, Endless}
 use Rattle.indexed_file.specs.World.{World, FileUnit, Named, Absent, Holding, Shut, Looked as HasLooked, Opened as HasOpened, Broken}
 use Rattle.page_store.specs.ShelfState.{ShelfState}
+use Rattle.page_alloc.specs.declared.pager.Pager.{Pager}
+use Rattle.shelf_file.specs.declared.look.Look.{Look}
+use Rattle.shelf_file.specs.declared.look.Look.TheVariants.{NoFile, Refused, Accepted}
 use Rattle.shelf_file.specs.declared.shelf_file.ShelfFile.{ShelfFile}
-use Rattle.shelf_file.specs.Named.{named_of}
+use Rattle.shelf_file.specs.Named.{look_of, named_of}
 use Rattle.shelf_file.specs.Standing.{file_in, room_in}
 use Rattle.shelf_library.specs.declared.held.Held.{Held}
 use Rattle.shelf_library.specs.declared.held.Held.TheVariants.{Nothing, Looked, Opened}
@@ -40,3 +43,23 @@ abbrev pub asked_of : Held → ℕ
 asked_of Nothing = 0
 asked_of (Looked header) = 0
 asked_of (Opened file) = file.pages.cache.asked
+
+-- the pages of an open file are those that its pager counts; of another one, those that its header counts, where a look accepts it
+abbrev pub counts_of_pager : Pager → PageCounts
+counts_of_pager pager = record { count = pager.count; free = pager.free }
+
+abbrev pub counts_by : Look → PageCounts
+counts_by NoFile = record { count = 0; free = 0 }
+counts_by Refused = record { count = 0; free = 0 }
+counts_by (Accepted header) = record { count = header.pages; free = header.free }
+
+abbrev pub counts_of_held : Option (List ℕ) → Held → PageCounts
+counts_of_held seen Nothing = counts_by (look_of seen)
+counts_of_held seen (Looked header) = counts_by (look_of seen)
+counts_of_held seen (Opened file) = counts_of_pager file.pages.pager
+
+-- the most pages of an open file that are held in memory
+abbrev pub frames_of_held : Held → Option ℕ
+frames_of_held Nothing = None
+frames_of_held (Looked header) = None
+frames_of_held (Opened file) = Some file.pages.cache.frames.cap

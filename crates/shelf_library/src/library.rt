@@ -2,12 +2,13 @@
 
 ghost use Rattle.std.specs.Prelude.{◌≡◌, ◌≤◌, ℕ, List, [], length, map, slice_index, replicate, bytes_eq, Ok, Err, IsTrue, IfOk, IsOkUnless};
 ghost use Rattle.std.specs.List.{IsDistinct};
+ghost use Rattle.std.specs.NonZero.{non_zero_usize_get};
 ghost use Rattle.std.proofs.Props.{props};
 ghost use Rattle.record_layout.proofs.PropLemmas.{keys_prop};
 ghost use Rattle.page_store.proofs.PropLemmas.{open_prop};
 ghost use Rattle.indexed_file.specs.Room.{height_at};
 ghost use Rattle.open_file.specs.Stands.{heights_of};
-ghost use Rattle.shelf_library.specs.State.{AreLooked, AreReady, held_at};
+ghost use Rattle.shelf_library.specs.State.{AreLooked, AreReady, AreLimited, held_at};
 ghost use Rattle.shelf_library.specs.Units.{room_of_held};
 ghost use Rattle.shelf_library.specs.Told.{held_after, seen_after, held_open, answer_open};
 
@@ -35,6 +36,7 @@ pub struct ShelfLibrary<S: Shelf> {
     ghost distinct: { IsDistinct bytes_eq (S.state shelf).names } by { Prim.hlevel (props, keys_prop, open_prop) },
     ghost looked: { AreLooked (S.state shelf) units.items } by { Prim.hlevel (props, keys_prop, open_prop) },
     ghost ready: { AreReady (S.state shelf) units.items } by { Prim.hlevel (props, keys_prop, open_prop) },
+    ghost limits: { AreLimited limit (non_zero_usize_get frames) units.items } by { Prim.hlevel props },
 }
 
 /// What a unit holds after a look, and what is answered.
@@ -100,6 +102,7 @@ impl<S: Shelf> ShelfLibrary<S> {
         ensures shelf { result.shelf ≡ shelf }
         ensures units { result.units.items ≡ [] }
         ensures limit { result.limit ≡ limit }
+        ensures frames { result.frames ≡ frames }
     {
         ShelfLibrary {
             alloc,
@@ -130,13 +133,14 @@ impl<S: Shelf> ShelfLibrary<S> {
 
 impl<S: Shelf> Library for ShelfLibrary<S> {
     ghost use Rattle.shelf_library.specs.Library.{shown_by};
-    ghost use Rattle.shelf_library.specs.Laws.{joins, ends, widens, shows_files, fills};
+    ghost use Rattle.shelf_library.specs.Laws.{joins, ends, widens, shows_files, fills, room_within, frames_within};
 
     ghost shown = { shown_by (λ library. record {
       shelf = S.state library.shelf;
       held = library.units.items;
       faults = S.fault_count library.shelf;
       limit = library.limit;
+      frames = non_zero_usize_get library.frames;
     }) };
 
     ghost joins = { λ test first then last name. joins test (S.state first.shelf) (S.state then.shelf) (S.state last.shelf) name };
@@ -148,6 +152,11 @@ impl<S: Shelf> Library for ShelfLibrary<S> {
     ghost shows_files = { λ library name. shows_files (S.state library.shelf) library.units.items name library.many };
 
     ghost fills = { λ library u schema file honest. fills (S.state library.shelf) library.units.items u schema file library.many library.ready };
+
+    ghost limits = { λ library u opened. record {
+      room = room_within (S.state library.shelf) library.units.items library.limit (non_zero_usize_get library.frames) u library.many library.limits opened;
+      frames = frames_within (S.state library.shelf) library.units.items library.limit (non_zero_usize_get library.frames) u library.many library.limits opened;
+    } };
 
     fn attach(&mut self, names: &[FileName]) -> Result<(), Fault> {
         let units = nothing_held(self.alloc, names.len())?;

@@ -19,7 +19,7 @@ use Rattle.deck_runner.specs.NoFalseFile.{Judged, DeckRuns, RunsWhole, RunsInPar
 use Rattle.deck_runner.specs.RunEnd.{Told, ToldInPart}
 use Rattle.shelf_library.specs.Library.{shown_by}
 use Rattle.shelf_library.specs.Laws.{joins}
-use Rattle.shelf_library.specs.State.{LibraryState}
+use Rattle.shelf_library.specs.State.{LibraryState, AreLimited}
 use Rattle.shelf_library.specs.Truth.{IsShownTruly}
 use Rattle.shelf_library.specs.Units.{world_of}
 use Rattle.shelf_library.specs.WorldLaws.{named_anywhere}
@@ -29,6 +29,14 @@ use Rattle.shelf_run.specs.ShelfRun.{OnShelf, IsExactRun, RunsBy, Runs, BreaksOf
 use Rattle.shelf_run.proofs.FilesLemmas.{world_at_first, named_same, sound_if_closed, shown_truly, any, image_passes, image_sound}
 use Rattle.shelf_run.proofs.StatesLemmas.{stays, runs_whole, runs_in_part}
 use Rattle.shelf_run.proofs.MomentsLemmas.{AreReal, over_run, over_broken_off}
+
+-- a library has the limits that were given
+pub record HasGiven (limit frames : ℕ) (state : LibraryState) : Type 0 where
+  pub limit_is : state.limit ≡ limit
+  pub frames_is : state.frames ≡ frames
+
+given : (limit frames : ℕ) (state : LibraryState) → HasGiven limit frames state → state ≡ over limit frames state.shelf state.held state.faults
+given limit frames state has = let l = has.limit_is in let f = has.frames_is in λ i. record { shelf = state.shelf; held = state.held; faults = state.faults; limit = l i; frames = f i }
 
 -- a library over a shelf before a run, which holds nothing, and after it
 module _ (old new : LibraryState) (none : old.shelf.names ≡ []) (empty : old.held ≡ []) (many : length new.held ≡ length new.shelf.names)
@@ -97,42 +105,47 @@ module _ (old new : LibraryState) (none : old.shelf.names ≡ []) (empty : old.h
 
   -- ---- a run, by the states of the library
 
-  by_states : (IsSuch : LibraryState → LibraryState → Deck → List Line → Type 0) (limit : ℕ) (deck : Deck) (lines : List Line) → old.limit ≡ limit → new.limit ≡ limit
+  by_states : (IsSuch : LibraryState → LibraryState → Deck → List Line → Type 0) (limit frames : ℕ) (deck : Deck) (lines : List Line) → HasGiven limit frames old → HasGiven limit frames new
+      → AreLimited limit frames new.held
       → IsSuch old new deck lines → (IsTrue new.shelf.is_honest → AreImagesSound old.shelf deck → AreSoundThroughout old.shelf new.shelf deck)
-      → RunsBy IsSuch limit old.shelf new.shelf old.faults new.faults deck lines
-  by_states IsSuch limit deck lines first last run safe = record {
+      → RunsBy IsSuch limit frames old.shelf new.shelf old.faults new.faults deck lines
+  by_states IsSuch limit frames deck lines first last limits run safe = record {
     held = new.held;
+    limits = limits;
     run =
-        subst (λ (state : LibraryState). IsSuch state (over new.shelf new.held new.faults limit) deck lines) (ap (λ (held : List Held). over old.shelf held old.faults old.limit) empty ∙ ap (over old.shelf [] old.faults) first)
-        (subst (λ (state : LibraryState). IsSuch old state deck lines) (ap (over new.shelf new.held new.faults) last) run);
+        subst (λ (state : LibraryState). IsSuch state (over limit frames new.shelf new.held new.faults) deck lines)
+        (given limit frames old first ∙ ap (λ (held : List Held). over limit frames old.shelf held old.faults) empty)
+        (subst (λ (state : LibraryState). IsSuch old state deck lines) (given limit frames new last) run);
     no_false_file = safe;
   }
 
-  module _ (limit : ℕ) (first : old.limit ≡ limit) (last : new.limit ≡ limit) (bytes : List ℕ) (written written_after : Option (List ℕ)) where
+  module _
+      (limit frames : ℕ) (first : HasGiven limit frames old) (last : HasGiven limit frames new) (limits : AreLimited limit frames new.held)
+      (bytes : List ℕ) (written written_after : Option (List ℕ)) where
     pub runs_on : (end : RunEnd) → OfDeck shown_in bytes old new (λ deck. Told written written_after end (RunsWhole shown_in old new deck))
-        → OnShelf bytes old.shelf new.shelf (λ deck. Told written written_after end (Runs limit old.shelf new.shelf old.faults new.faults deck))
+        → OnShelf bytes old.shelf new.shelf (λ deck. Told written written_after end (Runs limit frames old.shelf new.shelf old.faults new.faults deck))
     runs_on end of =
         let deck : Deck = of.0 in
         let told = of.3 in
         let safe = no_false_file deck (IsSafeRun shown_in old deck.statements) told.0
         (λ name before after real run begun. over_run old name real deck.statements before told.0 after run begun) told.3 in
-        (deck, of.1, elsewhere deck of.2, (told.0, told.1, told.2, by_states (RunsWhole shown_in) limit deck told.0 first last told.3 safe))
+        (deck, of.1, elsewhere deck of.2, (told.0, told.1, told.2, by_states (RunsWhole shown_in) limit frames deck told.0 first last limits told.3 safe))
 
     pub breaks_off : OfDeck shown_in bytes old new (λ deck. ToldInPart written written_after (RunsInPart shown_in old new deck))
-        → OnShelf bytes old.shelf new.shelf (λ deck. ToldInPart written written_after (BreaksOff limit old.shelf new.shelf old.faults new.faults deck))
+        → OnShelf bytes old.shelf new.shelf (λ deck. ToldInPart written written_after (BreaksOff limit frames old.shelf new.shelf old.faults new.faults deck))
     breaks_off of =
         let deck : Deck = of.0 in
         let told = of.3 in
         let lines = told.0 ++ told.1 ∷ [] in
         let safe = no_false_file deck (IsSafeBrokenOff shown_in old deck.statements) lines
         (λ name before after real run begun. over_broken_off old name real deck.statements before lines after run begun) told.7 in
-        (deck, of.1, elsewhere deck of.2, (told.0, told.1, told.2, told.3, told.4, told.5, told.6, by_states (RunsInPart shown_in) limit deck lines first last told.7 safe))
+        (deck, of.1, elsewhere deck of.2, (told.0, told.1, told.2, told.3, told.4, told.5, told.6, by_states (RunsInPart shown_in) limit frames deck lines first last limits told.7 safe))
 
 -- ---- over any library whose states these are
 
 module _ {S : Type 0} (state : S → LibraryState) where
   pub keeps_in : (old new : S) → Keeps (shown_by state) old new → Keeps shown_in (state old) (state new)
-  keeps_in old new keeps = record { honest = keeps.honest; truth = keeps.truth; count = keeps.count; limit = keeps.limit }
+  keeps_in old new keeps = record { honest = keeps.honest; truth = keeps.truth; count = keeps.count; limit = keeps.limit; frames = keeps.frames }
 
   pub untouched_in : (old new : S) → IsUntouched (shown_by state) old new → IsUntouched shown_in (state old) (state new)
   untouched_in old new is = record {

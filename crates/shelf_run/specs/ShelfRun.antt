@@ -12,7 +12,7 @@ use Rattle.deck_runner.specs.Line.{Line}
 use Rattle.deck_runner.specs.NoFalseFile.{RunsWhole, RunsInPart}
 use Rattle.shelf_library.specs.Crashes.{AllPass}
 use Rattle.shelf_library.specs.Library.{shown_by}
-use Rattle.shelf_library.specs.State.{LibraryState}
+use Rattle.shelf_library.specs.State.{LibraryState, AreLimited}
 use Rattle.shelf_library.specs.declared.held.Held.{Held}
 use Rattle.shelf_run.specs.Files.{files_of, IsSoundImage, AreSound, AreImagesSound, AreSoundThroughout}
 
@@ -28,22 +28,23 @@ WhereSound old new deck claim = IsTrue new.is_honest → AreSound old deck → c
 abbrev pub shown_in : Shown LibraryState
 shown_in = shown_by (λ state. state)
 
--- a library over this shelf, with a limit of pages, that holds these
-abbrev pub over : ShelfState → List Held → (faults limit : ℕ) → LibraryState
-over shelf held faults limit = record { shelf = shelf; held = held; faults = faults; limit = limit }
+-- a library over this shelf, with a limit of pages and so many frames for each file, that holds these
+abbrev pub over : (limit frames : ℕ) → ShelfState → List Held → (faults : ℕ) → LibraryState
+over limit frames shelf held faults = record { shelf = shelf; held = held; faults = faults; limit = limit; frames = frames }
 
--- a run, by the states of the library over the shelf, which holds nothing at the start; in so many words, where what a crash may leave of the deck's
+-- a run, by the states of the library over the shelf, which holds nothing at the start, and within its limits at the end; in so many words, where what a crash may leave of the deck's
 -- files was sound at the start, it was so at each moment
-pub record RunsBy (IsSuch : LibraryState → LibraryState → Deck → List Line → Type 0) (limit : ℕ) (old new : ShelfState) (faults faults_after : ℕ) (deck : Deck) (lines : List Line) : Type 0 where
+pub record RunsBy (IsSuch : LibraryState → LibraryState → Deck → List Line → Type 0) (limit frames : ℕ) (old new : ShelfState) (faults faults_after : ℕ) (deck : Deck) (lines : List Line) : Type 0 where
   pub held : List Held
-  pub run : IsSuch (over old [] faults limit) (over new held faults_after limit) deck lines
+  pub limits : AreLimited limit frames held
+  pub run : IsSuch (over limit frames old [] faults) (over limit frames new held faults_after) deck lines
   pub no_false_file : IsTrue new.is_honest → AreImagesSound old deck → AreSoundThroughout old new deck
 
 -- a whole run, and one that was broken off
-abbrev pub Runs : ℕ → (old new : ShelfState) → (faults faults_after : ℕ) → Deck → List Line → Type 0
+abbrev pub Runs : (limit frames : ℕ) → (old new : ShelfState) → (faults faults_after : ℕ) → Deck → List Line → Type 0
 Runs = RunsBy (RunsWhole shown_in)
 
-abbrev pub BreaksOff : ℕ → (old new : ShelfState) → (faults faults_after : ℕ) → Deck → List Line → Type 0
+abbrev pub BreaksOff : (limit frames : ℕ) → (old new : ShelfState) → (faults faults_after : ℕ) → Deck → List Line → Type 0
 BreaksOff = RunsBy (RunsInPart shown_in)
 
 -- the deck that the bytes are was run as the definitions say, where its files were sound: the transcript, what is told of it, and what the names stand for

@@ -1,5 +1,6 @@
 //! The run.
 ghost use Rattle.std.specs.Prelude.{◌≡◌, ◌≢◌, ◌≤◌, [], true, IfOk, IfErr};
+ghost use Rattle.std.specs.NonZero.{non_zero_usize_get};
 ghost use Rattle.deck_runner.specs.DeckRun.{IsRefusedDeck};
 ghost use Rattle.deck_runner.specs.RunEnd.{Told, ToldInPart};
 ghost use Rattle.shelf_run.specs.ShelfRun.{OnShelf, IsExactRun, Runs, BreaksOff, LeavesFiles, StaysSound};
@@ -31,10 +32,10 @@ pub fn run_on_shelf<S: Shelf, W: Write>(
         IsExactRun bytes.now (S.state shelf) (S.state result.0) (W.contents out.old) (W.contents out.new) end) }
     ensures run { IfOk result.1 (λ end. OnShelf bytes.now (S.state shelf) (S.state result.0) (λ deck.
         Told (W.contents out.old) (W.contents out.new) end
-        (Runs limit (S.state shelf) (S.state result.0) (S.fault_count shelf) (S.fault_count result.0) deck))) }
+        (Runs limit (non_zero_usize_get frames) (S.state shelf) (S.state result.0) (S.fault_count shelf) (S.fault_count result.0) deck))) }
     ensures output { IfErr result.1 (λ fault. fault ≡ RunFault.Output → OnShelf bytes.now (S.state shelf) (S.state result.0) (λ deck.
         ToldInPart (W.contents out.old) (W.contents out.new)
-        (BreaksOff limit (S.state shelf) (S.state result.0) (S.fault_count shelf) (S.fault_count result.0) deck))) }
+        (BreaksOff limit (non_zero_usize_get frames) (S.state shelf) (S.state result.0) (S.fault_count shelf) (S.fault_count result.0) deck))) }
     ensures nothing { IfErr result.1 (λ fault. fault ≢ RunFault.Output →
         (out.new ≡ out.old) × LeavesFiles (S.state shelf) (S.state result.0)) }
     ensures refused { IfErr result.1 (IsRefusedDeck bytes.now) }

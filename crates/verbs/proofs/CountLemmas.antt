@@ -9,7 +9,7 @@ use Rattle.indexed_file.specs.Room.{most_to_change}
 use Rattle.indexed_file.specs.Shown.{Shown}
 use Rattle.indexed_file.specs.Images.{Trace, ImagesGo, CallGoes, untouched, trace_of_change}
 use Rattle.indexed_file.proofs.ImageLemmas.{goes_then}
-use Rattle.indexed_file.specs.Calls.{Keeps, OnlyReads, HasRisen, MayFail, MayAnswer, LeavesBroken, AsksAtMost}
+use Rattle.indexed_file.specs.Calls.{Keeps, OnlyReads, HasRisen, MayFail, MayAnswer, LeavesBroken, SamePages, AsksAtMost}
 use Rattle.indexed_file.specs.UnitCalls.{RestartsCount, ReadsUnit, ChangesUnit}
 use Rattle.verbs.specs.Counted.{CountsAtMost}
 
@@ -28,7 +28,11 @@ module _
     truth = λ honest name truly. keeps.truth honest name (restarts.truth name truly);
     count = subst (λ (n : ℕ). n ≤ shown.fault_count new) restarts.count keeps.count;
     limit = keeps.limit ∙ restarts.limit;
+    frames = keeps.frames ∙ restarts.frames;
   }
+
+  pages_then : SamePages shown u mid new → SamePages shown u old new
+  pages_then pages = record { room = pages.room ∙ restarts.room u; counts = pages.counts ∙ restarts.counts u }
 
   untouched_then : ImagesGo shown.Throughout (name_at (shown.world old) u) untouched old mid
   untouched_then = record { may = restarts.images _; only = tt; others = λ other apart. restarts.images other }
@@ -75,7 +79,7 @@ module _
   reads_then most result reads = record {
     asked = λ honest truly. asks_then most result (reads.asked honest (truly_then truly));
     world = subst (λ (w : World). OnlyReads u (shown.is_honest new) w (shown.world new)) restarts.world reads.world;
-    room = reads.room ∙ restarts.room u;
+    pages = pages_then reads.pages;
     broken = subst (λ (w : World). IsTrue (is_broken (holding_at w u)) → result ≡ Err BrokenUnit) restarts.world reads.broken;
     fault = if_err result _ _ answers_then reads.fault;
     images = images_then untouched reads.images;
@@ -92,6 +96,7 @@ module _
     only = only_then changes.only;
     opened = changes.opened;
     schema = changes.schema ∙ ap (λ (w : World). schema_at w u) restarts.world;
+    unmade = λ none. pages_then (changes.unmade none);
     images = images_then (trace_of_change is_made result) changes.images;
     keeps = keeps_then changes.keeps;
   }

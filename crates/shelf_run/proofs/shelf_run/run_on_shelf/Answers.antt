@@ -1,5 +1,6 @@
 use Rattle.std.proofs.Common.{◌≡◌, ◌≢◌, ℕ, true, List, [], length, ap, sym, subst, ◌∙◌, IsTrue}
 use Rattle.std.proofs.lemmas.Result.{IfOk-weaker, IfErr-weaker}
+use Rattle.std.specs.NonZero.{non_zero_usize_get}
 use Rattle.deck_runner.specs.declared.fault.RunFault.TheVariants.{Output}
 use Rattle.deck_runner.specs.Beginning.{WhereFilesAreTrue, IsUntouched}
 use Rattle.deck_runner.specs.DeckRun.{OfDeck, RunsExactly}
@@ -8,7 +9,7 @@ use Rattle.deck_runner.specs.RunEnd.{Told, ToldInPart}
 use Rattle.indexed_file.specs.Calls.{Keeps}
 use Rattle.page_store.specs.Images.{Leaves}
 use Rattle.shelf_library.specs.Library.{shown_by}
-use Rattle.shelf_library.specs.State.{LibraryState}
+use Rattle.shelf_library.specs.State.{LibraryState, AreLimited}
 use Rattle.shelf_library.specs.Units.{world_of}
 use Rattle.shelf_library.specs.declared.library.ShelfLibrary.{ShelfLibrary}
 use Rattle.shelf_run.specs.ShelfRun.{OnShelf, IsExactRun, Runs, BreaksOff, LeavesFiles, StaysSound, shown_in}
@@ -19,7 +20,7 @@ use Rattle.shelf_run.proofs.shelf_run.run_on_shelf.Given as given
 -- the library before the run and after it, and what is so of them
 module _ (g : given.Over) (c : goal.After-into_shelf g) where
   state : ShelfLibrary g.row.S.Denot g.S.Shelf → LibraryState
-  state library = record { shelf = g.S.Shelf.state library.shelf; held = library.units.items; faults = g.S.Shelf.fault_count library.shelf; limit = library.limit }
+  state library = record { shelf = g.S.Shelf.state library.shelf; held = library.units.items; faults = g.S.Shelf.fault_count library.shelf; limit = library.limit; frames = non_zero_usize_get library.frames }
 
   old : LibraryState
   old = state c.new-library.result
@@ -53,13 +54,28 @@ module _ (g : given.Over) (c : goal.After-into_shelf g) where
   unfolding state old
   an_image = g.met.S.Shelf.reads_an_image c.new-library.result.shelf
 
-  first_limit : old.limit ≡ c.args.limit
-  unfolding state old
-  first_limit = c.new-library.ensures.limit
+  frames : ℕ
+  frames = non_zero_usize_get c.args.frames
 
-  last_limit : new.limit ≡ c.args.limit
-  unfolding state old new
-  last_limit = let same = keeps.limit in let is : new.limit ≡ old.limit = cc in is ∙ first_limit
+  first_given : run.HasGiven c.args.limit frames old
+  unfolding state old frames
+  first_given = record { limit_is = c.new-library.ensures.limit; frames_is = ap non_zero_usize_get c.new-library.ensures.frames }
+
+  last_given : run.HasGiven c.args.limit frames new
+  unfolding state old new frames
+  last_given =
+      let same_limit = keeps.limit in
+      let same_frames = keeps.frames in
+      let limit : new.limit ≡ old.limit = cc in
+      let held : new.frames ≡ old.frames = cc in
+      record { limit_is = limit ∙ first_given.limit_is; frames_is = held ∙ first_given.frames_is }
+
+  -- the files that are open at the end have the limits of the library
+  limits : AreLimited c.args.limit frames new.held
+  unfolding state old new frames
+  limits =
+      subst (λ (f : ℕ). AreLimited c.args.limit f new.held) last_given.frames_is
+      (subst (λ (l : ℕ). AreLimited l new.frames new.held) last_given.limit_is c.run_deck-end.new.library.limits)
 
 pub returns-clause-sound : goal.returns-clause-sound
 unfolding state old new
@@ -83,7 +99,7 @@ returns-clause-exact g c =
     c.run_deck-end.ensures.exact
 
 pub returns-clause-run : goal.returns-clause-run
-unfolding state old new
+unfolding state old new frames
 returns-clause-run g c =
     let bytes = c.args.bytes.now in
     let written = g.W.Write.contents c.args.out.now in
@@ -92,16 +108,16 @@ returns-clause-run g c =
     (λ end. OfDeck (shown_by (state g c)) bytes c.new-library.result c.run_deck-end.new.library (λ deck.
     Told written written_after end (RunsWhole (shown_by (state g c)) c.new-library.result c.run_deck-end.new.library deck)))
     (λ end. OnShelf bytes (g.S.Shelf.state c.args.shelf) (g.S.Shelf.state c.into_shelf.result) (λ deck. Told written written_after end
-    (Runs c.args.limit (g.S.Shelf.state c.args.shelf) (g.S.Shelf.state c.into_shelf.result) (g.S.Shelf.fault_count c.args.shelf) (g.S.Shelf.fault_count c.into_shelf.result) deck)))
+    (Runs c.args.limit (frames g c) (g.S.Shelf.state c.args.shelf) (g.S.Shelf.state c.into_shelf.result) (g.S.Shelf.fault_count c.args.shelf) (g.S.Shelf.fault_count c.into_shelf.result) deck)))
     (λ end runs. carried g c
     (λ first last. OnShelf bytes (g.S.Shelf.state first) (g.S.Shelf.state last) (λ deck. Told written written_after end
-    (Runs c.args.limit (g.S.Shelf.state first) (g.S.Shelf.state last) (g.S.Shelf.fault_count first) (g.S.Shelf.fault_count last) deck)))
-    (run.runs_on (old g c) (new g c) (none g c) (empty g c) (many g c) (keeps g c) (an_image g c) c.args.limit (first_limit g c) (last_limit g c) bytes written written_after end
+    (Runs c.args.limit (frames g c) (g.S.Shelf.state first) (g.S.Shelf.state last) (g.S.Shelf.fault_count first) (g.S.Shelf.fault_count last) deck)))
+    (run.runs_on (old g c) (new g c) (none g c) (empty g c) (many g c) (keeps g c) (an_image g c) c.args.limit (frames g c) (first_given g c) (last_given g c) (limits g c) bytes written written_after end
     (run.whole_in (state g c) bytes c.new-library.result c.run_deck-end.new.library written written_after end runs)))
     c.run_deck-end.ensures.run
 
 pub returns-clause-output : goal.returns-clause-output
-unfolding state old new
+unfolding state old new frames
 returns-clause-output g c =
     let bytes = c.args.bytes.now in
     let written = g.W.Write.contents c.args.out.now in
@@ -110,16 +126,16 @@ returns-clause-output g c =
     (λ fault. fault ≡ Output → OfDeck (shown_by (state g c)) bytes c.new-library.result c.run_deck-end.new.library (λ deck.
     ToldInPart written written_after (RunsInPart (shown_by (state g c)) c.new-library.result c.run_deck-end.new.library deck)))
     (λ fault. fault ≡ Output → OnShelf bytes (g.S.Shelf.state c.args.shelf) (g.S.Shelf.state c.into_shelf.result) (λ deck. ToldInPart written written_after
-    (BreaksOff c.args.limit (g.S.Shelf.state c.args.shelf) (g.S.Shelf.state c.into_shelf.result) (g.S.Shelf.fault_count c.args.shelf) (g.S.Shelf.fault_count c.into_shelf.result) deck)))
+    (BreaksOff c.args.limit (frames g c) (g.S.Shelf.state c.args.shelf) (g.S.Shelf.state c.into_shelf.result) (g.S.Shelf.fault_count c.args.shelf) (g.S.Shelf.fault_count c.into_shelf.result) deck)))
     (λ fault runs is. carried g c
     (λ first last. OnShelf bytes (g.S.Shelf.state first) (g.S.Shelf.state last) (λ deck. ToldInPart written written_after
-    (BreaksOff c.args.limit (g.S.Shelf.state first) (g.S.Shelf.state last) (g.S.Shelf.fault_count first) (g.S.Shelf.fault_count last) deck)))
-    (run.breaks_off (old g c) (new g c) (none g c) (empty g c) (many g c) (keeps g c) (an_image g c) c.args.limit (first_limit g c) (last_limit g c) bytes written written_after
+    (BreaksOff c.args.limit (frames g c) (g.S.Shelf.state first) (g.S.Shelf.state last) (g.S.Shelf.fault_count first) (g.S.Shelf.fault_count last) deck)))
+    (run.breaks_off (old g c) (new g c) (none g c) (empty g c) (many g c) (keeps g c) (an_image g c) c.args.limit (frames g c) (first_given g c) (last_given g c) (limits g c) bytes written written_after
     (run.part_in (state g c) bytes c.new-library.result c.run_deck-end.new.library written written_after (runs is))))
     c.run_deck-end.ensures.output
 
 pub returns-clause-nothing : goal.returns-clause-nothing
-unfolding state old new
+unfolding state old new frames
 returns-clause-nothing g c =
     IfErr-weaker c.run_deck-end.result
     (λ fault. fault ≢ Output → (c.run_deck-end.new.out ≡ c.args.out.now) × IsUntouched (shown_by (state g c)) c.new-library.result c.run_deck-end.new.library)

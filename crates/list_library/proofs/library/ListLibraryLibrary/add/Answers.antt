@@ -1,4 +1,4 @@
-use Rattle.std.proofs.Common.{rules, arith}
+use Rattle.std.proofs.Common.{rules, arith, refl}
 use Rattle.std.proofs.lemmas.Grind.{common_steps}
 use Rattle.list_library.proofs.ListWorldLemmas.{keeps_all}
 use Rattle.std.proofs.lemmas.Result.{on_ok_weaker}
@@ -29,6 +29,7 @@ returns-clause-changes c =
       only = only_set c.args.self.now.units.items (named_among c.args.self.now.others.items) c.args.u old c.add-added.new.self c.requires.attached c.index_mut-unit.ensures.value kept;
       opened = first_of (search rules, grind (arith, common_steps));
       schema = first_of (search rules, grind (arith, common_steps));
+      unmade = λ none. record { room = refl; counts = refl };
       images = first_of (search rules, grind (arith, common_steps));
       keeps = keeps_all _ _;
     }

@@ -1,4 +1,4 @@
-use Rattle.std.proofs.Common.{rules, arith, sym, ap, ◌∙◌}
+use Rattle.std.proofs.Common.{rules, arith, sym, ap, ◌∙◌, refl}
 use Rattle.std.proofs.lemmas.Grind.{common_steps}
 use Rattle.list_library.proofs.ListWorldLemmas.{keeps_all}
 use Rattle.std.proofs.lemmas.Result.{on_ok_weaker}
@@ -36,6 +36,7 @@ returns-clause-changes c =
       schema =
           rw (unit_set c.args.self.now.units.items (named_among c.args.self.now.others.items) c.args.u c.replace-replaced.new.self c.requires.attached)
           (kept.schema ∙ ap (λ (unit : FileUnit). schema_in unit.holding) (sym (unit_read c.args.self.now.units.items (named_among c.args.self.now.others.items) c.args.u old c.requires.attached c.index_mut-unit.ensures.value)));
+      unmade = λ none. record { room = refl; counts = refl };
       images = first_of (search rules, grind (arith, common_steps));
       keeps = keeps_all _ _;
     }

@@ -6,4 +6,4 @@ pub returns-clause-kept : goal.returns-clause-kept
 returns-clause-kept g c honest = err_weaker c.give.result (λ rests. rests.live honest) c.give.ensures.kept
 
 pub returns-clause-goes : goal.returns-clause-goes
-returns-clause-goes g c = (refl, refl, goes_after c.args.self.now.file.now _ _ _ _ _ c.requires.open refl c.give.ensures.goes c.give.ensures.ready)
+returns-clause-goes g c = (refl, refl, goes_after c.args.self.now.file.now _ _ _ _ _ c.requires.open refl c.give.ensures.limit c.give.ensures.goes c.give.ensures.ready)

@@ -38,7 +38,7 @@ returns g c =
             let joined = joined_after old.cache e old.pager s t c.requires.ready.joined (set.store ∙ load.kept.keeps.store) (over_set c.args.n w d e set t here load.kept.over) in (
               left c.args.n w old.cache d e old.pager s t set load.kept.pages load.kept.goes.others.honest,
               omega arith,
-              (refl, refl, goes_after old (record old { cache = e }) s t _ _ c.requires.open refl (parts_after old.cache e s t _ _ (record { store = set.store ∙ load.kept.keeps.store; cap = set.cap ∙ load.kept.keeps.cap }) load.kept.goes load.cause.no_fewer) joined),
+              (refl, refl, goes_after old (record old { cache = e }) s t _ _ c.requires.open refl refl (parts_after old.cache e s t _ _ (record { store = set.store ∙ load.kept.keeps.store; cap = set.cap ∙ load.kept.keeps.cap }) load.kept.goes load.cause.no_fewer) joined),
               (λ h. IfOk-weaker c.held_mut.result _ _ (λ page value. shown old.cache d old.pager s t c.args.n page.now (load.kept.pages h) value) c.held_mut.ensures.value),
             )),
         no_fault c.held_mut.result _ ok,

@@ -6,4 +6,4 @@ pub returns-clause-kept : goal.returns-clause-kept
 returns-clause-kept g c honest = err_weaker c.take.result (λ rests. rests.live honest) c.take.ensures.kept
 
 pub returns-clause-goes : goal.returns-clause-goes
-returns-clause-goes g c = (refl, refl, goes_after c.args.self.now.file.now _ _ _ _ _ c.requires.open refl c.take.ensures.goes c.take.ensures.ready)
+returns-clause-goes g c = (refl, refl, goes_after c.args.self.now.file.now _ _ _ _ _ c.requires.open refl c.take.ensures.limit c.take.ensures.goes c.take.ensures.ready)

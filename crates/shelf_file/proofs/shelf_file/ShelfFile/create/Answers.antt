@@ -8,7 +8,9 @@ use Rattle.page_alloc.specs.PagedFile.{StandsOrRefused}
 use Rattle.open_file.specs.Faults.{IsCausedIn}
 use Rattle.shelf_file.specs.Shelves.{IsMade}
 use Rattle.shelf_file.proofs.StepLemmas.{at_end, at_ends}
-use Rattle.shelf_file.proofs.MadeLemmas.{made_images, made_refused, made_cause, is_made, new_sound, new_free, handed_on, at_err}
+use Rattle.std.specs.NonZero.{non_zero_usize_get}
+use Rattle.shelf_file.specs.Standing.{HasLimits}
+use Rattle.shelf_file.proofs.MadeLemmas.{made_images, made_refused, made_cause, made_limits, is_made, new_sound, new_free, handed_on, at_err}
 use Rattle.shelf_file.proofs.shelf_file.ShelfFile.create.Goals as goal
 
 pub returns-in_err-file-clause-images : goal.returns-in_err-file-clause-images
@@ -55,6 +57,13 @@ returns-clause-made g c =
     (is_made c.args.unit c.args.limit a c.create-2.new.pages.file.now (g.S.Shelf.state c.create.new.shelf) (g.S.Shelf.state c.create-2.new.pages.shelf.now) _ _ made ready goes
     c.in_ok-file.file c.args.schema.now c.in_ok-file.ensures.made c.in_ok-file.ensures.spent
     (λ honest. (c.in_ok-file.ensures.new honest (new_sound c.args.unit c.args.limit a c.create-2.new.pages.file.now (g.S.Shelf.state c.create.new.shelf) _ _ _ made ready goes) (new_free c.args.unit c.args.limit a c.create-2.new.pages.file.now (g.S.Shelf.state c.create.new.shelf) _ _ _ made ready goes)).answer))
+
+pub returns-clause-limits : goal.returns-clause-limits
+returns-clause-limits g c =
+    let frames = non_zero_usize_get c.args.frames in
+    at_end (λ p. HasLimits c.args.limit frames (record { file = c.in_ok-file.file; pages = p }))
+    _ _ c.pages-3-1.given.1 c.create-2.ensures.goes.0
+    (made_limits c.args.unit c.args.limit frames c.in_ok-pages.pages c.create-2.new.pages.file.now _ _ _ _ c.in_ok-pages.ensures.made c.in_ok-pages.ensures.frames c.create-2.ensures.goes.2 c.in_ok-file.file)
 
 pub returns-clause-images : goal.returns-clause-images
 returns-clause-images g c =

@@ -36,3 +36,13 @@ returns-clause-opened c =
         sound = subst (λ free. IsSome free) (sym (opened_free pages shelf unit c.args.limit header held.pager held.store (held.pages shelf))) is.sound;
       };
     }
+
+pub returns-clause-limits : goal.returns-clause-limits
+returns-clause-limits c =
+    let held = c.in_ok-pages.ensures in
+    record { limit = ap (λ pager. pager.limit) held.pager; cap = held.frames }
+
+pub returns-clause-counts : goal.returns-clause-counts
+returns-clause-counts c =
+    let held = c.in_ok-pages.ensures in
+    (ap (λ pager. pager.count) held.pager, ap (λ pager. pager.free) held.pager)

@@ -1,4 +1,5 @@
 use Rattle.std.proofs.Common.{◌≡◌, ◌⊎◌, IsTrue, OnOk, OnErr, Result, refl, sym, ap, subst, arith, slice_set}
+use Rattle.std.specs.NonZero.{non_zero_usize_get}
 use Rattle.io_state.specs.declared.fault.Fault.{Fault}
 use Rattle.indexed_file.specs.World.{Unsound, is_open, holding_at, named_at, schema_at}
 use Rattle.page_store.specs.ShelfState.{unit_name}
@@ -8,6 +9,7 @@ use Rattle.shelf_library.specs.Units.{world_of}
 use Rattle.shelf_library.specs.Opening.{MakesAt}
 use Rattle.shelf_library.proofs.WorldLemmas.{is_held}
 use Rattle.shelf_library.proofs.MakingLemmas.{units_after, make_opened, make_named, make_made, make_opens}
+use Rattle.shelf_library.proofs.LimitLemmas.{limits_made}
 use Rattle.shelf_library.proofs.library.ShelfLibraryLibrary.create.Goals as goal
 
 pub create-file-requires-clause-unit : goal.create-file-requires-clause-unit
@@ -25,19 +27,22 @@ index_mut-requires g c =
 pub invariant_of-self : goal.invariant_of-self
 invariant_of-self g c =
     let s = c.args.self.now in
-    let old : LibraryState = record { shelf = g.S.Shelf.state s.shelf; held = s.units.items; faults = g.S.Shelf.fault_count s.shelf; limit = s.limit } in
+    let old : LibraryState = record { shelf = g.S.Shelf.state s.shelf; held = s.units.items; faults = g.S.Shelf.fault_count s.shelf; limit = s.limit; frames = non_zero_usize_get s.frames } in
     let new : LibraryState = record {
       shelf = g.S.Shelf.state c.create-file.new.shelf;
       held = slice_set s.units.items c.args.u c.opened-held.result.0;
       faults = g.S.Shelf.fault_count c.create-file.new.shelf;
       limit = s.limit;
+      frames = non_zero_usize_get s.frames;
     } in
     let call : MakesAt c.args.u c.args.schema.now c.create-file.result old new = record {
       units = record { many = s.many; distinct = s.distinct; looked = s.looked; ready = s.ready };
       attached = is_held old.shelf old.held c.args.u s.many c.requires.attached;
       holds = ap (slice_set old.held c.args.u) c.opened-held.ensures.held;
       limit = refl;
+      frames = refl;
       made = c.create-file.ensures.made;
+      limits = c.create-file.ensures.limits;
       images = c.create-file.ensures.images;
       failed = c.create-file.ensures.failed;
       others = c.create-file.ensures.others;
@@ -47,24 +52,27 @@ invariant_of-self g c =
       image_after = g.met.S.Shelf.reads_an_image c.create-file.new.shelf (unit_name new.shelf c.args.u);
     } in
     let after = units_after c.args.u c.args.schema.now c.create-file.result old new call in
-    record { room = s.room; many = after.many; distinct = after.distinct; looked = after.looked; ready = after.ready }
+    record { room = s.room; many = after.many; distinct = after.distinct; looked = after.looked; ready = after.ready; limits = limits_made c.args.u c.args.schema.now c.create-file.result old new call s.limits }
 
 pub returns-clause-made : goal.returns-clause-made
 returns-clause-made g c honest =
     let s = c.args.self.now in
-    let old : LibraryState = record { shelf = g.S.Shelf.state s.shelf; held = s.units.items; faults = g.S.Shelf.fault_count s.shelf; limit = s.limit } in
+    let old : LibraryState = record { shelf = g.S.Shelf.state s.shelf; held = s.units.items; faults = g.S.Shelf.fault_count s.shelf; limit = s.limit; frames = non_zero_usize_get s.frames } in
     let new : LibraryState = record {
       shelf = g.S.Shelf.state c.create-file.new.shelf;
       held = slice_set s.units.items c.args.u c.opened-held.result.0;
       faults = g.S.Shelf.fault_count c.create-file.new.shelf;
       limit = s.limit;
+      frames = non_zero_usize_get s.frames;
     } in
     let call : MakesAt c.args.u c.args.schema.now c.create-file.result old new = record {
       units = record { many = s.many; distinct = s.distinct; looked = s.looked; ready = s.ready };
       attached = is_held old.shelf old.held c.args.u s.many c.requires.attached;
       holds = ap (slice_set old.held c.args.u) c.opened-held.ensures.held;
       limit = refl;
+      frames = refl;
       made = c.create-file.ensures.made;
+      limits = c.create-file.ensures.limits;
       images = c.create-file.ensures.images;
       failed = c.create-file.ensures.failed;
       others = c.create-file.ensures.others;
@@ -73,25 +81,28 @@ returns-clause-made g c honest =
       damage = c.create-file.ensures.damage;
       image_after = g.met.S.Shelf.reads_an_image c.create-file.new.shelf (unit_name new.shelf c.args.u);
     } in
-    let state : ShelfLibrary g.row.S.Denot g.S.Shelf → LibraryState = λ library. record { shelf = g.S.Shelf.state library.shelf; held = library.units.items; faults = g.S.Shelf.fault_count library.shelf; limit = library.limit } in
+    let state : ShelfLibrary g.row.S.Denot g.S.Shelf → LibraryState = λ library. record { shelf = g.S.Shelf.state library.shelf; held = library.units.items; faults = g.S.Shelf.fault_count library.shelf; limit = library.limit; frames = non_zero_usize_get library.frames } in
     make_made state c.args.u c.args.schema.now c.create-file.result s _ call _ c.opened-held.ensures.answer honest
 
 pub returns-clause-opened : goal.returns-clause-opened
 returns-clause-opened g c =
     let s = c.args.self.now in
-    let old : LibraryState = record { shelf = g.S.Shelf.state s.shelf; held = s.units.items; faults = g.S.Shelf.fault_count s.shelf; limit = s.limit } in
+    let old : LibraryState = record { shelf = g.S.Shelf.state s.shelf; held = s.units.items; faults = g.S.Shelf.fault_count s.shelf; limit = s.limit; frames = non_zero_usize_get s.frames } in
     let new : LibraryState = record {
       shelf = g.S.Shelf.state c.create-file.new.shelf;
       held = slice_set s.units.items c.args.u c.opened-held.result.0;
       faults = g.S.Shelf.fault_count c.create-file.new.shelf;
       limit = s.limit;
+      frames = non_zero_usize_get s.frames;
     } in
     let call : MakesAt c.args.u c.args.schema.now c.create-file.result old new = record {
       units = record { many = s.many; distinct = s.distinct; looked = s.looked; ready = s.ready };
       attached = is_held old.shelf old.held c.args.u s.many c.requires.attached;
       holds = ap (slice_set old.held c.args.u) c.opened-held.ensures.held;
       limit = refl;
+      frames = refl;
       made = c.create-file.ensures.made;
+      limits = c.create-file.ensures.limits;
       images = c.create-file.ensures.images;
       failed = c.create-file.ensures.failed;
       others = c.create-file.ensures.others;
@@ -106,19 +117,22 @@ returns-clause-opened g c =
 pub returns-clause-named : goal.returns-clause-named
 returns-clause-named g c honest =
     let s = c.args.self.now in
-    let old : LibraryState = record { shelf = g.S.Shelf.state s.shelf; held = s.units.items; faults = g.S.Shelf.fault_count s.shelf; limit = s.limit } in
+    let old : LibraryState = record { shelf = g.S.Shelf.state s.shelf; held = s.units.items; faults = g.S.Shelf.fault_count s.shelf; limit = s.limit; frames = non_zero_usize_get s.frames } in
     let new : LibraryState = record {
       shelf = g.S.Shelf.state c.create-file.new.shelf;
       held = slice_set s.units.items c.args.u c.opened-held.result.0;
       faults = g.S.Shelf.fault_count c.create-file.new.shelf;
       limit = s.limit;
+      frames = non_zero_usize_get s.frames;
     } in
     let call : MakesAt c.args.u c.args.schema.now c.create-file.result old new = record {
       units = record { many = s.many; distinct = s.distinct; looked = s.looked; ready = s.ready };
       attached = is_held old.shelf old.held c.args.u s.many c.requires.attached;
       holds = ap (slice_set old.held c.args.u) c.opened-held.ensures.held;
       limit = refl;
+      frames = refl;
       made = c.create-file.ensures.made;
+      limits = c.create-file.ensures.limits;
       images = c.create-file.ensures.images;
       failed = c.create-file.ensures.failed;
       others = c.create-file.ensures.others;
@@ -134,19 +148,22 @@ returns-clause-named g c honest =
 pub returns-clause-opens : goal.returns-clause-opens
 returns-clause-opens g c =
     let s = c.args.self.now in
-    let old : LibraryState = record { shelf = g.S.Shelf.state s.shelf; held = s.units.items; faults = g.S.Shelf.fault_count s.shelf; limit = s.limit } in
+    let old : LibraryState = record { shelf = g.S.Shelf.state s.shelf; held = s.units.items; faults = g.S.Shelf.fault_count s.shelf; limit = s.limit; frames = non_zero_usize_get s.frames } in
     let new : LibraryState = record {
       shelf = g.S.Shelf.state c.create-file.new.shelf;
       held = slice_set s.units.items c.args.u c.opened-held.result.0;
       faults = g.S.Shelf.fault_count c.create-file.new.shelf;
       limit = s.limit;
+      frames = non_zero_usize_get s.frames;
     } in
     let call : MakesAt c.args.u c.args.schema.now c.create-file.result old new = record {
       units = record { many = s.many; distinct = s.distinct; looked = s.looked; ready = s.ready };
       attached = is_held old.shelf old.held c.args.u s.many c.requires.attached;
       holds = ap (slice_set old.held c.args.u) c.opened-held.ensures.held;
       limit = refl;
+      frames = refl;
       made = c.create-file.ensures.made;
+      limits = c.create-file.ensures.limits;
       images = c.create-file.ensures.images;
       failed = c.create-file.ensures.failed;
       others = c.create-file.ensures.others;
@@ -155,5 +172,5 @@ returns-clause-opens g c =
       damage = c.create-file.ensures.damage;
       image_after = g.met.S.Shelf.reads_an_image c.create-file.new.shelf (unit_name new.shelf c.args.u);
     } in
-    let state : ShelfLibrary g.row.S.Denot g.S.Shelf → LibraryState = λ library. record { shelf = g.S.Shelf.state library.shelf; held = library.units.items; faults = g.S.Shelf.fault_count library.shelf; limit = library.limit } in
+    let state : ShelfLibrary g.row.S.Denot g.S.Shelf → LibraryState = λ library. record { shelf = g.S.Shelf.state library.shelf; held = library.units.items; faults = g.S.Shelf.fault_count library.shelf; limit = library.limit; frames = non_zero_usize_get library.frames } in
     make_opens state c.args.u c.args.schema.now c.create-file.result s _ call _ c.opened-held.ensures.answer

@@ -1,4 +1,5 @@
 use Rattle.std.proofs.Common.{◌<◌, length, subst, ap, ◌∙◌, arith}
+use Rattle.std.specs.NonZero.{non_zero_usize_get}
 use Rattle.indexed_file.specs.Rank.{admits}
 use Rattle.indexed_file.specs.Room.{most_to_read}
 use Rattle.record_layout.specs.Schema.{Schema}
@@ -8,6 +9,7 @@ use Rattle.shelf_library.proofs.OpenedLemmas.{must_be_open, schema_is, may_call,
 use Rattle.shelf_library.proofs.ReadingLemmas.{reads_units}
 use Rattle.shelf_library.proofs.ReadsLemmas.{reads_unit}
 use Rattle.shelf_library.proofs.FoundLemmas.{delivers_found, delivers_area, delivers_undamaged}
+use Rattle.shelf_library.proofs.LimitLemmas.{limits_read}
 use Rattle.shelf_library.proofs.library.ShelfLibraryLibrary.next.Goals as goal
 
 pub index_mut-requires : goal.index_mut-requires
@@ -44,17 +46,17 @@ pub invariant_of-self : goal.invariant_of-self
 invariant_of-self g c =
     let s = c.args.self.now in
     let call = reads_at (g.S.Shelf.state s.shelf) s.units.items c.args.u c.index_mut.result.now s.many c.requires.attached c.index_mut.ensures.value c.in-Opened.file c.in-Opened.is
-    c.next.new.self (g.S.Shelf.state c.next.new.shelf) (g.S.Shelf.fault_count s.shelf) (g.S.Shelf.fault_count c.next.new.shelf) s.limit
+    c.next.new.self (g.S.Shelf.state c.next.new.shelf) (g.S.Shelf.fault_count s.shelf) (g.S.Shelf.fault_count c.next.new.shelf) s.limit (non_zero_usize_get s.frames)
     (record { many = s.many; distinct = s.distinct; looked = s.looked; ready = s.ready }) c.next.ensures.reads
     (g.met.S.Shelf.reads_an_image s.shelf) (g.met.S.Shelf.reads_an_image c.next.new.shelf) in
     let after = reads_units _ _ _ _ _ call in
-    record { room = s.room; many = after.many; distinct = after.distinct; looked = after.looked; ready = after.ready }
+    record { room = s.room; many = after.many; distinct = after.distinct; looked = after.looked; ready = after.ready; limits = limits_read _ _ _ _ _ call _ _ s.limits }
 
 pub returns-clause-found : goal.returns-clause-found
 returns-clause-found g c honest truly =
     let s = c.args.self.now in
     let call = reads_at (g.S.Shelf.state s.shelf) s.units.items c.args.u c.index_mut.result.now s.many c.requires.attached c.index_mut.ensures.value c.in-Opened.file c.in-Opened.is
-    c.next.new.self (g.S.Shelf.state c.next.new.shelf) (g.S.Shelf.fault_count s.shelf) (g.S.Shelf.fault_count c.next.new.shelf) s.limit
+    c.next.new.self (g.S.Shelf.state c.next.new.shelf) (g.S.Shelf.fault_count s.shelf) (g.S.Shelf.fault_count c.next.new.shelf) s.limit (non_zero_usize_get s.frames)
     (record { many = s.many; distinct = s.distinct; looked = s.looked; ready = s.ready }) c.next.ensures.reads
     (g.met.S.Shelf.reads_an_image s.shelf) (g.met.S.Shelf.reads_an_image c.next.new.shelf) in
     delivers_found _ _ _ _ _ call truly c.args.k (λ schema. admits schema c.args.k c.args.position.now) c.args.area.now c.next.new.area c.next.result c.next.ensures.broken
@@ -64,7 +66,7 @@ pub returns-clause-area : goal.returns-clause-area
 returns-clause-area g c honest truly =
     let s = c.args.self.now in
     let call = reads_at (g.S.Shelf.state s.shelf) s.units.items c.args.u c.index_mut.result.now s.many c.requires.attached c.index_mut.ensures.value c.in-Opened.file c.in-Opened.is
-    c.next.new.self (g.S.Shelf.state c.next.new.shelf) (g.S.Shelf.fault_count s.shelf) (g.S.Shelf.fault_count c.next.new.shelf) s.limit
+    c.next.new.self (g.S.Shelf.state c.next.new.shelf) (g.S.Shelf.fault_count s.shelf) (g.S.Shelf.fault_count c.next.new.shelf) s.limit (non_zero_usize_get s.frames)
     (record { many = s.many; distinct = s.distinct; looked = s.looked; ready = s.ready }) c.next.ensures.reads
     (g.met.S.Shelf.reads_an_image s.shelf) (g.met.S.Shelf.reads_an_image c.next.new.shelf) in
     delivers_area _ _ _ _ _ call truly c.args.k (λ schema. admits schema c.args.k c.args.position.now) c.args.area.now c.next.new.area c.next.result c.next.ensures.broken
@@ -74,10 +76,10 @@ pub returns-clause-reads : goal.returns-clause-reads
 returns-clause-reads g c =
     let s = c.args.self.now in
     let call = reads_at (g.S.Shelf.state s.shelf) s.units.items c.args.u c.index_mut.result.now s.many c.requires.attached c.index_mut.ensures.value c.in-Opened.file c.in-Opened.is
-    c.next.new.self (g.S.Shelf.state c.next.new.shelf) (g.S.Shelf.fault_count s.shelf) (g.S.Shelf.fault_count c.next.new.shelf) s.limit
+    c.next.new.self (g.S.Shelf.state c.next.new.shelf) (g.S.Shelf.fault_count s.shelf) (g.S.Shelf.fault_count c.next.new.shelf) s.limit (non_zero_usize_get s.frames)
     (record { many = s.many; distinct = s.distinct; looked = s.looked; ready = s.ready }) c.next.ensures.reads
     (g.met.S.Shelf.reads_an_image s.shelf) (g.met.S.Shelf.reads_an_image c.next.new.shelf) in
-    reads_unit (λ library. record { shelf = g.S.Shelf.state library.shelf; held = library.units.items; faults = g.S.Shelf.fault_count library.shelf; limit = library.limit })
+    reads_unit (λ library. record { shelf = g.S.Shelf.state library.shelf; held = library.units.items; faults = g.S.Shelf.fault_count library.shelf; limit = library.limit; frames = non_zero_usize_get library.frames })
     s _ c.args.u c.in-Opened.file c.next.new.self call
     (λ one. most_to_read (room_of_held one) c.args.k) c.next.result c.next.ensures.asked c.next.ensures.broken c.next.ensures.cause
     (λ honest truly. delivers_undamaged _ _ _ _ _ call truly c.args.k (admits c.in-Opened.file.file.schema c.args.k c.args.position.now) c.args.area.now c.next.new.area c.next.result

@@ -1,4 +1,5 @@
 use Rattle.std.proofs.Common.{is_some, arith}
+use Rattle.std.specs.NonZero.{non_zero_usize_get}
 use Rattle.std.specs.Prelude.{slice_set}
 use Rattle.indexed_file.specs.Answers.{world_after_remove}
 use Rattle.indexed_file.specs.Change.{row_of}
@@ -14,6 +15,7 @@ use Rattle.shelf_library.proofs.MovingLemmas.{moves_at}
 use Rattle.shelf_library.proofs.ChangingLemmas.{units_after, answers, done_at_ok}
 use Rattle.shelf_library.proofs.ChangesLemmas.{changes_unit}
 use Rattle.shelf_library.proofs.DoneLemmas.{removed_begun, removed_rests, breaks_always, never_full, not_at_full, after_removed}
+use Rattle.shelf_library.proofs.LimitLemmas.{limits_moved}
 use Rattle.shelf_library.proofs.library.ShelfLibraryLibrary.remove.Goals as goal
 
 pub index_mut-requires : goal.index_mut-requires
@@ -38,15 +40,16 @@ unreachable-requires g c =
 pub invariant_of-self : goal.invariant_of-self
 invariant_of-self g c =
     let s = c.args.self.now in
-    let after = units_after _ _ _ _ _
-    (moves_at (g.S.Shelf.state s.shelf) s.units.items c.args.u c.index_mut.result.now (record { many = s.many; distinct = s.distinct; looked = s.looked; ready = s.ready })
+    let call =
+    moves_at (g.S.Shelf.state s.shelf) s.units.items c.args.u c.index_mut.result.now (record { many = s.many; distinct = s.distinct; looked = s.looked; ready = s.ready })
     c.requires.attached c.index_mut.ensures.value c.in-Opened.file c.in-Opened.is c.remove.new.self (g.S.Shelf.state c.remove.new.shelf)
-    (g.S.Shelf.fault_count s.shelf) (g.S.Shelf.fault_count c.remove.new.shelf) s.limit c.remove.ensures.moves c.remove.ensures.ready
-    (g.met.S.Shelf.reads_an_image s.shelf) (g.met.S.Shelf.reads_an_image c.remove.new.shelf)) in
-    record { room = c.args.self.now.room; many = after.many; distinct = after.distinct; looked = after.looked; ready = after.ready }
+    (g.S.Shelf.fault_count s.shelf) (g.S.Shelf.fault_count c.remove.new.shelf) s.limit (non_zero_usize_get s.frames) c.remove.ensures.moves c.remove.ensures.ready
+    (g.met.S.Shelf.reads_an_image s.shelf) (g.met.S.Shelf.reads_an_image c.remove.new.shelf) in
+    let after = units_after _ _ _ _ _ call in
+    record { room = c.args.self.now.room; many = after.many; distinct = after.distinct; looked = after.looked; ready = after.ready; limits = limits_moved _ _ _ _ _ call _ _ s.limits }
 
 abbrev before : (g : _) (c : goal.After-self-in-Opened-1 g) → LibraryState
-before g c = record { shelf = g.S.Shelf.state c.args.self.now.shelf; held = c.args.self.now.units.items; faults = g.S.Shelf.fault_count c.args.self.now.shelf; limit = c.args.self.now.limit }
+before g c = record { shelf = g.S.Shelf.state c.args.self.now.shelf; held = c.args.self.now.units.items; faults = g.S.Shelf.fault_count c.args.self.now.shelf; limit = c.args.self.now.limit; frames = non_zero_usize_get c.args.self.now.frames }
 
 abbrev later : (g : _) (c : goal.After-self-in-Opened-1 g) → LibraryState
 later g c = record {
@@ -54,6 +57,7 @@ later g c = record {
   held = slice_set c.args.self.now.units.items c.args.u (Opened c.remove.new.self);
   faults = g.S.Shelf.fault_count c.remove.new.shelf;
   limit = c.args.self.now.limit;
+  frames = non_zero_usize_get c.args.self.now.frames;
 }
 
 call : (g : _) (c : goal.After-self-in-Opened-1 g) → MovesAt c.args.u c.in-Opened.file c.remove.new.self (before g c) (later g c)
@@ -61,7 +65,7 @@ call g c =
     let s = c.args.self.now in
     moves_at (g.S.Shelf.state s.shelf) s.units.items c.args.u c.index_mut.result.now (record { many = s.many; distinct = s.distinct; looked = s.looked; ready = s.ready })
     c.requires.attached c.index_mut.ensures.value c.in-Opened.file c.in-Opened.is c.remove.new.self (g.S.Shelf.state c.remove.new.shelf)
-    (g.S.Shelf.fault_count s.shelf) (g.S.Shelf.fault_count c.remove.new.shelf) s.limit c.remove.ensures.moves c.remove.ensures.ready
+    (g.S.Shelf.fault_count s.shelf) (g.S.Shelf.fault_count c.remove.new.shelf) s.limit (non_zero_usize_get s.frames) c.remove.ensures.moves c.remove.ensures.ready
     (g.met.S.Shelf.reads_an_image s.shelf) (g.met.S.Shelf.reads_an_image c.remove.new.shelf)
 
 change : (g : _) (c : goal.After-self-in-Opened-1 g)
@@ -93,5 +97,5 @@ returns-clause-not_full g c = never_full c.in-Opened.file.file.broken _ c.remove
 
 pub returns-clause-changes : goal.returns-clause-changes
 returns-clause-changes g c =
-    changes_unit (λ library. record { shelf = g.S.Shelf.state library.shelf; held = library.units.items; faults = g.S.Shelf.fault_count library.shelf; limit = library.limit })
+    changes_unit (λ library. record { shelf = g.S.Shelf.state library.shelf; held = library.units.items; faults = g.S.Shelf.fault_count library.shelf; limit = library.limit; frames = non_zero_usize_get library.frames })
     c.args.self.now _ c.args.u c.in-Opened.file c.remove.new.self (call g c) _ _ _ _ c.remove.result (change g c)

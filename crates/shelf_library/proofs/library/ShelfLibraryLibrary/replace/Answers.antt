@@ -1,4 +1,5 @@
 use Rattle.std.proofs.Common.{◌≤◌, ◌||◌, not, length, IsTrue, IsFalse, subst, arith}
+use Rattle.std.specs.NonZero.{non_zero_usize_get}
 use Rattle.std.specs.Prelude.{slice_set}
 use Rattle.record_layout.specs.Schema.{Schema}
 use Rattle.indexed_file.specs.Answers.{replaced_answer, world_after_replace}
@@ -16,6 +17,7 @@ use Rattle.shelf_library.proofs.MovingLemmas.{moves_at}
 use Rattle.shelf_library.proofs.ChangingLemmas.{units_after, answers, told_at_ok, told_at_full, rests_at_full, done_at_ok}
 use Rattle.shelf_library.proofs.ChangesLemmas.{changes_unit}
 use Rattle.shelf_library.proofs.DoneLemmas.{replaced_begun, replaced_rests, after_replaced}
+use Rattle.shelf_library.proofs.LimitLemmas.{limits_moved}
 use Rattle.shelf_library.proofs.library.ShelfLibraryLibrary.replace.Goals as goal
 
 pub index_mut-requires : goal.index_mut-requires
@@ -52,15 +54,16 @@ unreachable-requires g c =
 pub invariant_of-self : goal.invariant_of-self
 invariant_of-self g c =
     let s = c.args.self.now in
-    let after = units_after _ _ _ _ _
-    (moves_at (g.S.Shelf.state s.shelf) s.units.items c.args.u c.index_mut.result.now (record { many = s.many; distinct = s.distinct; looked = s.looked; ready = s.ready })
+    let call =
+    moves_at (g.S.Shelf.state s.shelf) s.units.items c.args.u c.index_mut.result.now (record { many = s.many; distinct = s.distinct; looked = s.looked; ready = s.ready })
     c.requires.attached c.index_mut.ensures.value c.in-Opened.file c.in-Opened.is c.replace.new.self (g.S.Shelf.state c.replace.new.shelf)
-    (g.S.Shelf.fault_count s.shelf) (g.S.Shelf.fault_count c.replace.new.shelf) s.limit c.replace.ensures.moves c.replace.ensures.ready
-    (g.met.S.Shelf.reads_an_image s.shelf) (g.met.S.Shelf.reads_an_image c.replace.new.shelf)) in
-    record { room = c.args.self.now.room; many = after.many; distinct = after.distinct; looked = after.looked; ready = after.ready }
+    (g.S.Shelf.fault_count s.shelf) (g.S.Shelf.fault_count c.replace.new.shelf) s.limit (non_zero_usize_get s.frames) c.replace.ensures.moves c.replace.ensures.ready
+    (g.met.S.Shelf.reads_an_image s.shelf) (g.met.S.Shelf.reads_an_image c.replace.new.shelf) in
+    let after = units_after _ _ _ _ _ call in
+    record { room = c.args.self.now.room; many = after.many; distinct = after.distinct; looked = after.looked; ready = after.ready; limits = limits_moved _ _ _ _ _ call _ _ s.limits }
 
 abbrev before : (g : _) (c : goal.After-self-in-Opened-1 g) → LibraryState
-before g c = record { shelf = g.S.Shelf.state c.args.self.now.shelf; held = c.args.self.now.units.items; faults = g.S.Shelf.fault_count c.args.self.now.shelf; limit = c.args.self.now.limit }
+before g c = record { shelf = g.S.Shelf.state c.args.self.now.shelf; held = c.args.self.now.units.items; faults = g.S.Shelf.fault_count c.args.self.now.shelf; limit = c.args.self.now.limit; frames = non_zero_usize_get c.args.self.now.frames }
 
 abbrev later : (g : _) (c : goal.After-self-in-Opened-1 g) → LibraryState
 later g c = record {
@@ -68,6 +71,7 @@ later g c = record {
   held = slice_set c.args.self.now.units.items c.args.u (Opened c.replace.new.self);
   faults = g.S.Shelf.fault_count c.replace.new.shelf;
   limit = c.args.self.now.limit;
+  frames = non_zero_usize_get c.args.self.now.frames;
 }
 
 call : (g : _) (c : goal.After-self-in-Opened-1 g) → MovesAt c.args.u c.in-Opened.file c.replace.new.self (before g c) (later g c)
@@ -75,7 +79,7 @@ call g c =
     let s = c.args.self.now in
     moves_at (g.S.Shelf.state s.shelf) s.units.items c.args.u c.index_mut.result.now (record { many = s.many; distinct = s.distinct; looked = s.looked; ready = s.ready })
     c.requires.attached c.index_mut.ensures.value c.in-Opened.file c.in-Opened.is c.replace.new.self (g.S.Shelf.state c.replace.new.shelf)
-    (g.S.Shelf.fault_count s.shelf) (g.S.Shelf.fault_count c.replace.new.shelf) s.limit c.replace.ensures.moves c.replace.ensures.ready
+    (g.S.Shelf.fault_count s.shelf) (g.S.Shelf.fault_count c.replace.new.shelf) s.limit (non_zero_usize_get s.frames) c.replace.ensures.moves c.replace.ensures.ready
     (g.met.S.Shelf.reads_an_image s.shelf) (g.met.S.Shelf.reads_an_image c.replace.new.shelf)
 
 change : (g : _) (c : goal.After-self-in-Opened-1 g)
@@ -118,5 +122,5 @@ returns-clause-full g c is =
 
 pub returns-clause-changes : goal.returns-clause-changes
 returns-clause-changes g c =
-    changes_unit (λ library. record { shelf = g.S.Shelf.state library.shelf; held = library.units.items; faults = g.S.Shelf.fault_count library.shelf; limit = library.limit })
+    changes_unit (λ library. record { shelf = g.S.Shelf.state library.shelf; held = library.units.items; faults = g.S.Shelf.fault_count library.shelf; limit = library.limit; frames = non_zero_usize_get library.frames })
     c.args.self.now _ c.args.u c.in-Opened.file c.replace.new.self (call g c) _ _ _ _ c.replace.result (change g c)

@@ -1,4 +1,6 @@
 use Rattle.std.proofs.Common.{◌≡◌, ℕ, ◌<◌, List, length, refl, ap, sym, ◌∙◌, arith, slice_set}
+use Rattle.std.specs.NonZero.{non_zero_usize_get}
+use Rattle.page_cache.specs.declared.cache.Cache.{Cache}
 use Rattle.page_store.specs.ShelfState.{ShelfState}
 use Rattle.shelf_file.specs.declared.shelf_file.ShelfFile.{ShelfFile}
 use Rattle.shelf_library.specs.declared.held.Held.{Held}
@@ -8,6 +10,7 @@ use Rattle.shelf_library.specs.OneUnit.{AreUnits, ChangesAt}
 use Rattle.shelf_library.proofs.WorldLemmas.{is_held}
 use Rattle.shelf_library.proofs.AsideLemmas.{are_after}
 use Rattle.shelf_library.proofs.CountLemmas.{rests, read_held, recount, recounted, recount_none, recount_fits, recounts}
+use Rattle.shelf_library.proofs.LimitLemmas.{limits_set, limits_after}
 use Rattle.shelf_library.proofs.library.ShelfLibraryLibrary.restart_count.Goals as goal
 
 pub index_mut-requires : goal.index_mut-requires
@@ -28,7 +31,7 @@ invariant_of-self g c =
     ap (λ cache. Opened (record { file = c.in-Opened.file.file; pages = record { cache = cache; pager = c.in-Opened.file.pages.pager; changed = c.in-Opened.file.pages.changed } })) c.restart_count.ensures ∙ sym (ap recount at) in
     let call : ChangesAt u (recount (held_at held u)) shelf shelf held (slice_set held u (Opened file)) = record { attached = within; others = rests shelf u; holds = ap (λ one. slice_set held u one) is } in
     let after = are_after u (recount (held_at held u)) shelf shelf held (slice_set held u (Opened file)) are call (recount_fits shelf held u (held_at held u) are refl) in
-    record { room = c.args.self.now.room; many = after.many; distinct = after.distinct; looked = after.looked; ready = after.ready }
+    record { room = c.args.self.now.room; many = after.many; distinct = after.distinct; looked = after.looked; ready = after.ready; limits = limits_after _ _ held u within c.args.self.now.limits c.in-Opened.file file at refl (ap (λ (cache : Cache). cache.frames.cap) c.restart_count.ensures) }
 
 pub invariant_of-self-in_default : goal.invariant_of-self-in_default
 invariant_of-self-in_default g c =
@@ -41,7 +44,7 @@ invariant_of-self-in_default g c =
     let is : c.index_mut.result.now ≡ recount (held_at held u) = sym (recount_none c.index_mut.result.now c.in_default.not-Opened) ∙ sym (ap recount at) in
     let call : ChangesAt u (recount (held_at held u)) shelf shelf held (slice_set held u c.index_mut.result.now) = record { attached = within; others = rests shelf u; holds = ap (λ one. slice_set held u one) is } in
     let after = are_after u (recount (held_at held u)) shelf shelf held (slice_set held u c.index_mut.result.now) are call (recount_fits shelf held u (held_at held u) are refl) in
-    record { room = c.args.self.now.room; many = after.many; distinct = after.distinct; looked = after.looked; ready = after.ready }
+    record { room = c.args.self.now.room; many = after.many; distinct = after.distinct; looked = after.looked; ready = after.ready; limits = limits_set _ _ held u within c.args.self.now.limits c.index_mut.result.now (λ file same. absurd (c.in_default.not-Opened file same)) }
 
 pub returns-in-Opened : goal.returns-in-Opened
 returns-in-Opened g c =
@@ -54,8 +57,8 @@ returns-in-Opened g c =
     let file : ShelfFile = record { file = c.in-Opened.file.file; pages = record { cache = c.restart_count.new.self; pager = c.in-Opened.file.pages.pager; changed = c.in-Opened.file.pages.changed } } in
     let is : Opened file ≡ recount (held_at held u) =
     ap (λ cache. Opened (record { file = c.in-Opened.file.file; pages = record { cache = cache; pager = c.in-Opened.file.pages.pager; changed = c.in-Opened.file.pages.changed } })) c.restart_count.ensures ∙ sym (ap recount at) in
-    recounts (λ library. record { shelf = g.S.Shelf.state library.shelf; held = library.units.items; faults = g.S.Shelf.fault_count library.shelf; limit = library.limit })
-    u c.args.self.now _ are (record { attached = within; others = rests shelf u; holds = ap (λ one. slice_set held u one) is }) refl refl refl
+    recounts (λ library. record { shelf = g.S.Shelf.state library.shelf; held = library.units.items; faults = g.S.Shelf.fault_count library.shelf; limit = library.limit; frames = non_zero_usize_get library.frames })
+    u c.args.self.now _ are (record { attached = within; others = rests shelf u; holds = ap (λ one. slice_set held u one) is }) refl refl refl refl
 
 pub returns-in_default : goal.returns-in_default
 returns-in_default g c =
@@ -66,5 +69,5 @@ returns-in_default g c =
     let within = is_held shelf held u are.many c.requires.attached in
     let at : held_at held u ≡ c.index_mut.result.now = read_held held u c.index_mut.result.now within c.index_mut.ensures.value in
     let is : c.index_mut.result.now ≡ recount (held_at held u) = sym (recount_none c.index_mut.result.now c.in_default.not-Opened) ∙ sym (ap recount at) in
-    recounts (λ library. record { shelf = g.S.Shelf.state library.shelf; held = library.units.items; faults = g.S.Shelf.fault_count library.shelf; limit = library.limit })
-    u c.args.self.now _ are (record { attached = within; others = rests shelf u; holds = ap (λ one. slice_set held u one) is }) refl refl refl
+    recounts (λ library. record { shelf = g.S.Shelf.state library.shelf; held = library.units.items; faults = g.S.Shelf.fault_count library.shelf; limit = library.limit; frames = non_zero_usize_get library.frames })
+    u c.args.self.now _ are (record { attached = within; others = rests shelf u; holds = ap (λ one. slice_set held u one) is }) refl refl refl refl

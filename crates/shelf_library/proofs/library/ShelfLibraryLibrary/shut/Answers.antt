@@ -1,4 +1,5 @@
 use Rattle.std.proofs.Common.{◌≡◌, refl, sym, ap, ◌∙◌, arith, slice_set}
+use Rattle.std.specs.NonZero.{non_zero_usize_get}
 use Rattle.page_store.specs.ShelfState.{unit_name}
 use Rattle.shelf_library.specs.declared.library.ShelfLibrary.{ShelfLibrary}
 use Rattle.shelf_library.specs.declared.held.Held.TheVariants.{Opened}
@@ -7,6 +8,7 @@ use Rattle.shelf_library.specs.Closing.{ClosesUnitAt}
 use Rattle.shelf_library.proofs.WorldLemmas.{is_held}
 use Rattle.shelf_library.proofs.OpenedLemmas.{is_one, must_be_open}
 use Rattle.shelf_library.proofs.ShutLemmas.{units_after, shut_ok, shut_err, shut_broken, shut_unchanged, shuts_unit}
+use Rattle.shelf_library.proofs.LimitLemmas.{limits_shut}
 use Rattle.shelf_library.proofs.library.ShelfLibraryLibrary.shut.Goals as goal
 
 pub index_mut-requires : goal.index_mut-requires
@@ -33,12 +35,13 @@ close-requires g c =
 pub invariant_of-self : goal.invariant_of-self
 invariant_of-self g c =
     let s = c.args.self.now in
-    let old : LibraryState = record { shelf = g.S.Shelf.state s.shelf; held = s.units.items; faults = g.S.Shelf.fault_count s.shelf; limit = s.limit } in
+    let old : LibraryState = record { shelf = g.S.Shelf.state s.shelf; held = s.units.items; faults = g.S.Shelf.fault_count s.shelf; limit = s.limit; frames = non_zero_usize_get s.frames } in
     let new : LibraryState = record {
       shelf = g.S.Shelf.state c.close.new.shelf;
       held = slice_set s.units.items c.args.u c.replace.new.dest;
       faults = g.S.Shelf.fault_count c.close.new.shelf;
       limit = s.limit;
+      frames = non_zero_usize_get s.frames;
     } in
     let within = is_held old.shelf old.held c.args.u s.many c.requires.attached in
     let call : ClosesUnitAt c.args.u c.in-Opened.file c.close.result old new = record {
@@ -47,6 +50,7 @@ invariant_of-self g c =
       opened = is_one old.shelf old.held c.args.u c.index_mut.result.now s.many c.requires.attached c.index_mut.ensures.value ∙ sym c.replace.ensures.value ∙ c.in-Opened.is;
       holds = ap (slice_set old.held c.args.u) c.replace.ensures.after;
       limit = refl;
+      frames = refl;
       broken = c.close.ensures.broken;
       nothing = c.close.ensures.nothing;
       unchanged = c.close.ensures.unchanged;
@@ -59,17 +63,18 @@ invariant_of-self g c =
       image_after = g.met.S.Shelf.reads_an_image c.close.new.shelf (unit_name new.shelf c.args.u);
     } in
     let after = units_after c.args.u c.in-Opened.file c.close.result old new call in
-    record { room = s.room; many = after.many; distinct = after.distinct; looked = after.looked; ready = after.ready }
+    record { room = s.room; many = after.many; distinct = after.distinct; looked = after.looked; ready = after.ready; limits = limits_shut c.args.u c.in-Opened.file c.close.result old new call _ _ s.limits }
 
 pub returns-clause-ok : goal.returns-clause-ok
 returns-clause-ok g c honest truly =
     let s = c.args.self.now in
-    let old : LibraryState = record { shelf = g.S.Shelf.state s.shelf; held = s.units.items; faults = g.S.Shelf.fault_count s.shelf; limit = s.limit } in
+    let old : LibraryState = record { shelf = g.S.Shelf.state s.shelf; held = s.units.items; faults = g.S.Shelf.fault_count s.shelf; limit = s.limit; frames = non_zero_usize_get s.frames } in
     let new : LibraryState = record {
       shelf = g.S.Shelf.state c.close.new.shelf;
       held = slice_set s.units.items c.args.u c.replace.new.dest;
       faults = g.S.Shelf.fault_count c.close.new.shelf;
       limit = s.limit;
+      frames = non_zero_usize_get s.frames;
     } in
     let within = is_held old.shelf old.held c.args.u s.many c.requires.attached in
     let call : ClosesUnitAt c.args.u c.in-Opened.file c.close.result old new = record {
@@ -78,6 +83,7 @@ returns-clause-ok g c honest truly =
       opened = is_one old.shelf old.held c.args.u c.index_mut.result.now s.many c.requires.attached c.index_mut.ensures.value ∙ sym c.replace.ensures.value ∙ c.in-Opened.is;
       holds = ap (slice_set old.held c.args.u) c.replace.ensures.after;
       limit = refl;
+      frames = refl;
       broken = c.close.ensures.broken;
       nothing = c.close.ensures.nothing;
       unchanged = c.close.ensures.unchanged;
@@ -94,12 +100,13 @@ returns-clause-ok g c honest truly =
 pub returns-clause-err : goal.returns-clause-err
 returns-clause-err g c honest truly =
     let s = c.args.self.now in
-    let old : LibraryState = record { shelf = g.S.Shelf.state s.shelf; held = s.units.items; faults = g.S.Shelf.fault_count s.shelf; limit = s.limit } in
+    let old : LibraryState = record { shelf = g.S.Shelf.state s.shelf; held = s.units.items; faults = g.S.Shelf.fault_count s.shelf; limit = s.limit; frames = non_zero_usize_get s.frames } in
     let new : LibraryState = record {
       shelf = g.S.Shelf.state c.close.new.shelf;
       held = slice_set s.units.items c.args.u c.replace.new.dest;
       faults = g.S.Shelf.fault_count c.close.new.shelf;
       limit = s.limit;
+      frames = non_zero_usize_get s.frames;
     } in
     let within = is_held old.shelf old.held c.args.u s.many c.requires.attached in
     let call : ClosesUnitAt c.args.u c.in-Opened.file c.close.result old new = record {
@@ -108,6 +115,7 @@ returns-clause-err g c honest truly =
       opened = is_one old.shelf old.held c.args.u c.index_mut.result.now s.many c.requires.attached c.index_mut.ensures.value ∙ sym c.replace.ensures.value ∙ c.in-Opened.is;
       holds = ap (slice_set old.held c.args.u) c.replace.ensures.after;
       limit = refl;
+      frames = refl;
       broken = c.close.ensures.broken;
       nothing = c.close.ensures.nothing;
       unchanged = c.close.ensures.unchanged;
@@ -124,12 +132,13 @@ returns-clause-err g c honest truly =
 pub returns-clause-broken : goal.returns-clause-broken
 returns-clause-broken g c =
     let s = c.args.self.now in
-    let old : LibraryState = record { shelf = g.S.Shelf.state s.shelf; held = s.units.items; faults = g.S.Shelf.fault_count s.shelf; limit = s.limit } in
+    let old : LibraryState = record { shelf = g.S.Shelf.state s.shelf; held = s.units.items; faults = g.S.Shelf.fault_count s.shelf; limit = s.limit; frames = non_zero_usize_get s.frames } in
     let new : LibraryState = record {
       shelf = g.S.Shelf.state c.close.new.shelf;
       held = slice_set s.units.items c.args.u c.replace.new.dest;
       faults = g.S.Shelf.fault_count c.close.new.shelf;
       limit = s.limit;
+      frames = non_zero_usize_get s.frames;
     } in
     let within = is_held old.shelf old.held c.args.u s.many c.requires.attached in
     let call : ClosesUnitAt c.args.u c.in-Opened.file c.close.result old new = record {
@@ -138,6 +147,7 @@ returns-clause-broken g c =
       opened = is_one old.shelf old.held c.args.u c.index_mut.result.now s.many c.requires.attached c.index_mut.ensures.value ∙ sym c.replace.ensures.value ∙ c.in-Opened.is;
       holds = ap (slice_set old.held c.args.u) c.replace.ensures.after;
       limit = refl;
+      frames = refl;
       broken = c.close.ensures.broken;
       nothing = c.close.ensures.nothing;
       unchanged = c.close.ensures.unchanged;
@@ -154,12 +164,13 @@ returns-clause-broken g c =
 pub returns-clause-unchanged : goal.returns-clause-unchanged
 returns-clause-unchanged g c honest truly =
     let s = c.args.self.now in
-    let old : LibraryState = record { shelf = g.S.Shelf.state s.shelf; held = s.units.items; faults = g.S.Shelf.fault_count s.shelf; limit = s.limit } in
+    let old : LibraryState = record { shelf = g.S.Shelf.state s.shelf; held = s.units.items; faults = g.S.Shelf.fault_count s.shelf; limit = s.limit; frames = non_zero_usize_get s.frames } in
     let new : LibraryState = record {
       shelf = g.S.Shelf.state c.close.new.shelf;
       held = slice_set s.units.items c.args.u c.replace.new.dest;
       faults = g.S.Shelf.fault_count c.close.new.shelf;
       limit = s.limit;
+      frames = non_zero_usize_get s.frames;
     } in
     let within = is_held old.shelf old.held c.args.u s.many c.requires.attached in
     let call : ClosesUnitAt c.args.u c.in-Opened.file c.close.result old new = record {
@@ -168,6 +179,7 @@ returns-clause-unchanged g c honest truly =
       opened = is_one old.shelf old.held c.args.u c.index_mut.result.now s.many c.requires.attached c.index_mut.ensures.value ∙ sym c.replace.ensures.value ∙ c.in-Opened.is;
       holds = ap (slice_set old.held c.args.u) c.replace.ensures.after;
       limit = refl;
+      frames = refl;
       broken = c.close.ensures.broken;
       nothing = c.close.ensures.nothing;
       unchanged = c.close.ensures.unchanged;
@@ -184,12 +196,13 @@ returns-clause-unchanged g c honest truly =
 pub returns-clause-shuts : goal.returns-clause-shuts
 returns-clause-shuts g c =
     let s = c.args.self.now in
-    let old : LibraryState = record { shelf = g.S.Shelf.state s.shelf; held = s.units.items; faults = g.S.Shelf.fault_count s.shelf; limit = s.limit } in
+    let old : LibraryState = record { shelf = g.S.Shelf.state s.shelf; held = s.units.items; faults = g.S.Shelf.fault_count s.shelf; limit = s.limit; frames = non_zero_usize_get s.frames } in
     let new : LibraryState = record {
       shelf = g.S.Shelf.state c.close.new.shelf;
       held = slice_set s.units.items c.args.u c.replace.new.dest;
       faults = g.S.Shelf.fault_count c.close.new.shelf;
       limit = s.limit;
+      frames = non_zero_usize_get s.frames;
     } in
     let within = is_held old.shelf old.held c.args.u s.many c.requires.attached in
     let call : ClosesUnitAt c.args.u c.in-Opened.file c.close.result old new = record {
@@ -198,6 +211,7 @@ returns-clause-shuts g c =
       opened = is_one old.shelf old.held c.args.u c.index_mut.result.now s.many c.requires.attached c.index_mut.ensures.value ∙ sym c.replace.ensures.value ∙ c.in-Opened.is;
       holds = ap (slice_set old.held c.args.u) c.replace.ensures.after;
       limit = refl;
+      frames = refl;
       broken = c.close.ensures.broken;
       nothing = c.close.ensures.nothing;
       unchanged = c.close.ensures.unchanged;
@@ -209,5 +223,5 @@ returns-clause-shuts g c =
       image_before = g.met.S.Shelf.reads_an_image s.shelf (unit_name old.shelf c.args.u);
       image_after = g.met.S.Shelf.reads_an_image c.close.new.shelf (unit_name new.shelf c.args.u);
     } in
-    let state : ShelfLibrary g.row.S.Denot g.S.Shelf → LibraryState = λ library. record { shelf = g.S.Shelf.state library.shelf; held = library.units.items; faults = g.S.Shelf.fault_count library.shelf; limit = library.limit } in
+    let state : ShelfLibrary g.row.S.Denot g.S.Shelf → LibraryState = λ library. record { shelf = g.S.Shelf.state library.shelf; held = library.units.items; faults = g.S.Shelf.fault_count library.shelf; limit = library.limit; frames = non_zero_usize_get library.frames } in
     shuts_unit state c.args.u c.in-Opened.file c.close.result s _ call
