@@ -84,7 +84,7 @@ module _ {S : Type 0} (library : Shown S) (old between new : S) (deck : Deck) (b
         let many : length after.files.items ≡ length before.files.items = sym (length-map after.files.items schema_of) ∙ ap (λ (l : List Schema). length l) goes.schemas ∙ length-map before.files.items schema_of in (
           between,
           next,
-          record { names = begun.units; images = untouched.images (goes.keeps.honest honest) },
+          record { keeps = begun.keeps; names = begun.units; images = untouched.images (goes.keeps.honest honest) },
           subst (λ (first : Run). AreSuch (record { run = first; library = between }) lines (record { run = next; library = new })) begun.run (p.steps honest (begun.trusted (goes.keeps.honest honest) shown)),
           leaves (library.world new) deck after.files.items after.items.items (goes.units ∙ begun.units) runs.described.distinct (many ∙ begun.many),
         );

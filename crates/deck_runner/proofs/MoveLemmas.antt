@@ -11,7 +11,7 @@ use Rattle.verbs.specs.Held.{state_of}
 use Rattle.deck_runner.specs.declared.running_deck.RunningDeck.{RunningDeck}
 use Rattle.deck_runner.specs.Running.{Running, schema_of, run_file, run_files, run_of}
 use Rattle.deck_runner.specs.State.{state, IsSafeIn, GoesOn}
-use Rattle.deck_runner.specs.Stretches.{Point, IsStretch, HasCauses, name_by, trace_by}
+use Rattle.deck_runner.specs.Stretches.{Point, IsStretch, HasCauses, ShowsRun, name_by, trace_by}
 use Rattle.indexed_file.specs.Images.{untouched, ImagesGo}
 use Rattle.indexed_file.proofs.ImageLemmas.{goes_none}
 use Rattle.indexed_file.specs.Shown.{Shown}
@@ -65,9 +65,14 @@ module _ {S : Type 0} (library : Shown S) (lib : S) (deck left : RunningDeck) wh
 
 -- a step that asks nothing of the library
 pub still : {S : Type 0} (library : Shown S) (statement : Statement) (lib : S) (run next : Run) (lines : List Line) → name_by (library.world lib) statement ≡ [] → trace_by statement run lines ≡ untouched
-    → HasCauses library statement run lines lib lib → IsStep statement run lines next → IsStretch library statement (record { run = run; library = lib }) lines (record { run = next; library = lib })
-still library statement lib run next lines name trace causes step = record {
+    → HasCauses library statement run lines lib lib
+    → ShowsRun library (record { run = run; library = lib }) → ShowsRun library (record { run = next; library = lib })
+    → IsStep statement run lines next → IsStretch library statement (record { run = run; library = lib }) lines (record { run = next; library = lib })
+still library statement lib run next lines name trace causes shows shows_after step = record {
   step = step;
+  shows = shows;
+  shows_after = shows_after;
+  keeps = keeps_same library lib;
   causes = causes;
   names = refl;
   images = rw (name, trace) (goes_none library.Throughout lib []);

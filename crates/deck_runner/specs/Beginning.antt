@@ -5,6 +5,7 @@ use Rattle.record_layout.specs.Area.{blank_area}
 use Rattle.record_layout.specs.Layout.{length_of}
 use Rattle.indexed_file.specs.World.{World, named_in}
 use Rattle.indexed_file.specs.Images.{Stays}
+use Rattle.indexed_file.specs.Calls.{Keeps}
 use Rattle.indexed_file.specs.Shown.{Shown}
 use Rattle.verbs.specs.Connector.{closed_connector}
 use Rattle.verbs.specs.Held.{held_at_start}
@@ -83,8 +84,10 @@ abbrev pub WhereFilesAreTrue : {S : Type 0} → Shown S → (old new : S) → De
 WhereFilesAreTrue library old new deck claim =
     IsTrue (library.is_honest new) → All (library.IsShownTruly old) (file_names deck.files) → claim
 
--- the stretch before the first step: the units have the names of the deck's files, and no image changes
+-- the stretch before the first step: the library keeps what every call of it does, the units have the names of the deck's files, and no
+-- image changes
 pub record IsAttached {S : Type 0} (library : Shown S) (old begun : S) (deck : Deck) : Type 0 where
+  pub keeps : Keeps library old begun
   pub names : unit_names (library.world begun) ≡ file_names deck.files
   pub images : (name : List ℕ) → Stays library.Throughout old begun name
 
@@ -106,6 +109,7 @@ pub record DeckLeads {S : Type 0} (library : Shown S) (old new : S) (deck : Deck
 -- the files and items of a deck in memory, and its file names attached to a library: together they show the deck before its first
 -- statement, and what a run needs is so
 pub record IsBegun {S : Type 0} (library : Shown S) (old new : S) (deck : Deck) (begun : RunningDeck) : Type 0 where
+  pub keeps : Keeps library old new
   pub run : run_in library (state new begun) ≡ run_before (library.world old) deck
   pub many : length begun.files.items ≡ length deck.files
   pub names : names_in begun ≡ program_names deck

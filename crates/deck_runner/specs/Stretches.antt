@@ -1,7 +1,8 @@
 -- A run as stretches of time, one for each step: what a crash in it may leave. All of this is ours.
 use Rattle.std.specs.Prelude.{◌≡◌, ℕ, List, [], ◌∷◌, ◌++◌, slice_get, Option, Some, None, true, ◌⊎◌, IsTrue}
 use Rattle.std.specs.List.{list_all}
-use Rattle.indexed_file.specs.World.{World, name_at}
+use Rattle.indexed_file.specs.World.{World, name_at, named_at, holding_at, file_in}
+use Rattle.indexed_file.specs.Calls.{Keeps}
 use Rattle.indexed_file.specs.Images.{Trace, untouched, ImagesGo}
 use Rattle.indexed_file.specs.Shown.{Shown}
 use Rattle.io_state.specs.declared.statement.FileStatement.{FileStatement}
@@ -23,6 +24,16 @@ use Rattle.deck_runner.specs.Steps.{IsStep, AreStepsOf, until_stop, close_at, cl
 pub record Point (S : Type 0) : Type 0 where
   pub run : Run
   pub library : S
+
+-- a file of a run is what the library shows of the unit of its number
+pub record IsShownBy (world : World) (u : ℕ) (shown : RunFile) : Type 0 where
+  pub named : shown.state.named ≡ named_at world u
+  pub file : shown.state.file ≡ file_in (holding_at world u)
+
+-- the library shows the files of the run there
+abbrev pub ShowsRun : {S : Type 0} → Shown S → Point S → Type 0
+ShowsRun library point =
+    (u : ℕ) → (file : RunFile) → slice_get point.run.files u ≡ Some file → IsShownBy (library.world point.library) u file
 
 -- the file name that a statement is about
 abbrev pub name_by : World → Statement → List ℕ
@@ -64,9 +75,14 @@ HasCauses library (Move u field source) run lines before after = Unit {0}
 HasCauses library (MoveLength i source) run lines before after = Unit {0}
 HasCauses library StopRun run lines before after = Unit {0}
 
--- a step, and its stretch of time: its line has a cause, and the images go as the step says
+-- a step, and its stretch of time, from the library that its statement met to the one that it left: both show the files of the run, the
+-- library keeps what every call of it does, so that the device's faults of the stretches add up to those of the run, the line has a cause,
+-- and the images go as the step says
 pub record IsStretch {S : Type 0} (library : Shown S) (statement : Statement) (before : Point S) (lines : List Line) (after : Point S) : Type 0 where
   pub step : IsStep statement before.run lines after.run
+  pub shows : ShowsRun library before
+  pub shows_after : ShowsRun library after
+  pub keeps : Keeps library before.library after.library
   pub causes : HasCauses library statement before.run lines before.library after.library
   pub names : unit_names (library.world after.library) ≡ unit_names (library.world before.library)
   pub images : ImagesGo library.Throughout (name_by (library.world before.library) statement) (trace_by statement before.run lines)

@@ -1,6 +1,7 @@
 -- A run over a library, by the states of the library.
 use Rattle.std.proofs.Common.{◌≡◌, ◌⊎◌, ℕ, true, List, [], ◌∷◌, ◌++◌, slice_get, Option, Some, None, IsTrue, inl, inr, refl, ap}
 use Rattle.indexed_file.specs.Images.{Trace, Stays, LibraryMayLeave, LeavesOnly, ImagesGo}
+use Rattle.indexed_file.specs.Calls.{Keeps}
 use Rattle.indexed_file.specs.World.{Named}
 use Rattle.io_state.specs.declared.statement.FileStatement.{FileStatement}
 use Rattle.procedure_division.specs.declared.statement.Statement.{Statement}
@@ -11,7 +12,7 @@ use Rattle.deck_runner.specs.Line.{Line}
 use Rattle.deck_runner.specs.NoFalseFile.{Judged, first_ledger, IsSafeStretch, IsSafeRun, AreSafeInPart, IsSafeBrokenOff, DeckRuns, RunsWhole, RunsInPart}
 use Rattle.deck_runner.specs.Run.{RunFile, Run}
 use Rattle.deck_runner.specs.Steps.{AreStepsOf, until_stop, closes_from}
-use Rattle.deck_runner.specs.Stretches.{Point, IsStretch, HasCauses, IsCausedOn, name_by, trace_by}
+use Rattle.deck_runner.specs.Stretches.{Point, IsStretch, HasCauses, IsCausedOn, ShowsRun, name_by, trace_by}
 use Rattle.shelf_library.specs.Library.{shown_by}
 use Rattle.shelf_library.specs.State.{LibraryState}
 use Rattle.shelf_run.specs.ShelfRun.{shown_in}
@@ -22,6 +23,12 @@ module _ {S : Type 0} (state : S → LibraryState) where
 
   abbrev judged : Judged S → Judged LibraryState
   judged at = record { point = point at.point; ledger = at.ledger }
+
+  keeps : (old new : S) → Keeps (shown_by state) old new → Keeps shown_in (state old) (state new)
+  keeps old new is = record { honest = is.honest; truth = is.truth; count = is.count; limit = is.limit; frames = is.frames }
+
+  shows : (at : Point S) → ShowsRun (shown_by state) at → ShowsRun shown_in (point at)
+  shows at shown u file e = let is = shown u file e in record { named = is.named; file = is.file }
 
   pub stays : (old new : S) (name : List ℕ) → Stays (shown_by state).Throughout old new name → Stays shown_in.Throughout (state old) (state new) name
   stays old new name is = record { within = is.within; back = is.back }
@@ -58,6 +65,9 @@ module _ {S : Type 0} (state : S → LibraryState) where
       → IsStretch (shown_by state) statement before lines after → IsStretch shown_in statement (point before) lines (point after)
   stretch statement before lines after is = record {
     step = is.step;
+    shows = shows before is.shows;
+    shows_after = shows after is.shows_after;
+    keeps = keeps before.library after.library is.keeps;
     causes = causes statement before.run lines before.library after.library is.causes;
     names = is.names;
     images = images_go (name_by ((shown_by state).world before.library) statement) (trace_by statement before.run lines) before.library after.library is.images;
@@ -117,7 +127,7 @@ module _ {S : Type 0} (state : S → LibraryState) where
     stretches = λ honest truly.
         let is = runs.stretches honest truly in
         let first : Judged S = record { point = record { run = run_before ((shown_by state).world old) deck; library = is.0 }; ledger = λ name. first_ledger } in
-        (state is.0, judged is.1, record { names = is.2.names; images = λ name. stays old is.0 name (is.2.images name) }, these first is.1 is.3, ap state is.4, is.5, is.6);
+        (state is.0, judged is.1, record { keeps = keeps old is.0 is.2.keeps; names = is.2.names; images = λ name. stays old is.0 name (is.2.images name) }, these first is.1 is.3, ap state is.4, is.5, is.6);
     lines_are = runs.lines_are;
   }
 

@@ -1,4 +1,4 @@
-use Rattle.std.proofs.Common.{◌≡◌, List, [], ◌∷◌, length, Option, refl, sym, ap, ◌∙◌, subst}
+use Rattle.std.proofs.Common.{◌≡◌, List, [], ◌∷◌, length, slice_set, Option, refl, sym, ap, ◌∙◌, subst}
 use Rattle.indexed_file.specs.World.{name_at}
 use Rattle.indexed_file.specs.Images.{ImagesGo}
 use Rattle.verbs.specs.Held.{record_in}
@@ -6,7 +6,7 @@ use Rattle.verbs.specs.Fits.{HasOperands}
 use Rattle.deck_runner.specs.Run.{RunFile, LengthValue, items_after_read}
 use Rattle.deck_runner.specs.Stretches.{trace_on}
 use Rattle.deck_runner.specs.Running.{line_answered}
-use Rattle.deck_runner.proofs.FrameLemmas.{unit_elsewhere, as_many_units, name_kept, names_after as units_after, elsewhere_after}
+use Rattle.deck_runner.proofs.FrameLemmas.{unit_elsewhere, as_many_units, name_kept, names_after as units_after, elsewhere_after, shows_run}
 use Rattle.deck_runner.proofs.VerbLemmas.{file_within, file_at, of_file, safe_after, trusted_after, schemas_after, names_after, step_on, as_many_items, run_here, written_over, line_is, caused}
 use Rattle.deck_runner.proofs.running_deck.RunningDeck.perform_on.Goals as goal
 
@@ -79,6 +79,9 @@ returns-clause-line g c =
               step = step_on world (g.L.Library.shown.world c.perform-answer.new.library) c.args.u files file next items _
                   c.args.statement.now c.record_length-length.result answer get c.perform-answer.ensures.performed.only c.perform-answer.ensures.same c.perform-answer.ensures.limit
                   (rw c.deref.ensures.value at c.record_length-length.ensures) (c.perform-answer.ensures.performed.step honest shown standing) noted;
+              shows = shows_run g.L.Library.shown c.args.library.now files items;
+              shows_after = shows_run g.L.Library.shown c.perform-answer.new.library (slice_set files c.args.u next) items;
+              keeps = c.perform-answer.ensures.performed.keeps;
               causes = caused g.L.Library.shown c.args.library.now c.perform-answer.new.library c.args.u files file next items c.args.statement.now c.record_length-length.result answer
                   get c.perform-answer.ensures.limit c.perform-answer.ensures.short (rw c.deref.ensures.value at c.record_length-length.ensures) c.perform-answer.ensures.performed.cause
                   (c.perform-answer.ensures.performed.room honest shown standing) (c.perform-answer.ensures.performed.step honest shown standing);

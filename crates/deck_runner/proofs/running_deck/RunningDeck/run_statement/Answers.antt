@@ -1,9 +1,10 @@
-use Rattle.std.proofs.Common.{◌≤◌, ◌+◌, [], length, refl}
+use Rattle.std.proofs.Common.{◌≤◌, ◌+◌, [], length, refl, slice_set}
 use Rattle.std.proofs.KnownBytes.{Appends-nil}
 use Rattle.std.proofs.lemmas.List.Elements.{All-nil}
 use Rattle.std.proofs.lemmas.Option.{slice_get_read}
 use Rattle.record_layout.specs.Area.{sent, moved}
 use Rattle.deck_runner.specs.State.{IsLineOf}
+use Rattle.deck_runner.proofs.FrameLemmas.{shows_run}
 use Rattle.deck_runner.proofs.VerbLemmas.{file_at}
 use Rattle.deck_runner.proofs.MoveLemmas.{goes_by_move, move_step, length_step, still}
 use Rattle.procedure_division.specs.declared.statement.Statement.TheVariants.{Move, MoveLength, StopRun}
@@ -29,7 +30,8 @@ returns-in-Move-clause-done g c =
       record {
         steps = λ honest trusted.
             rw (c.in-Move.is, c.put.ensures, c.as_ref.ensures)
-            (still g.L.Library.shown (Move c.in-Move.file c.in-Move.field c.in-Move.source) c.args.library.now _ _ [] refl refl tt
+            (still g.L.Library.shown (Move c.in-Move.file c.in-Move.field c.in-Move.source) c.args.library.now _ _ [] refl refl tt (shows_run g.L.Library.shown c.args.library.now files c.args.self.now.items.items)
+            (shows_run g.L.Library.shown c.args.library.now (slice_set files c.in-Move.file (record file { area = moved c.in-Move.field c.in-Move.source file.area })) c.args.self.now.items.items)
             (move_step (g.L.Library.shown.world c.args.library.now) files c.args.self.now.items.items c.in-Move.file file c.in-Move.field c.in-Move.source get));
         lines_are = All-nil (IsLineOf _ _ _);
       },
@@ -47,7 +49,7 @@ returns-in-MoveLength-clause-done g c =
       record {
         steps = λ honest trusted.
             rw (c.in-MoveLength.is, c.put-in-MoveLength.ensures, c.as_ref-in-MoveLength.ensures)
-            (still g.L.Library.shown (MoveLength c.in-MoveLength.item c.in-MoveLength.source) c.args.library.now _ _ [] refl refl tt
+            (still g.L.Library.shown (MoveLength c.in-MoveLength.item c.in-MoveLength.source) c.args.library.now _ _ [] refl refl tt (shows_run g.L.Library.shown c.args.library.now c.args.self.now.files.items c.args.self.now.items.items) (shows_run g.L.Library.shown c.args.library.now c.args.self.now.files.items c.args.self.now.items.items)
             (length_step (g.L.Library.shown.world c.args.library.now) c.args.self.now.files.items items c.in-MoveLength.item item c.in-MoveLength.source get));
         lines_are = All-nil (IsLineOf _ _ _);
       },
@@ -59,7 +61,7 @@ returns-in-StopRun-clause-done g c = (
   Appends-nil (g.W.Write.contents c.args.out.now),
   c.none-in-StopRun.ensures,
   record {
-    steps = λ honest trusted. rw c.in-StopRun.is (still g.L.Library.shown StopRun c.args.library.now _ _ [] refl refl tt (refl, refl));
+    steps = λ honest trusted. rw c.in-StopRun.is (still g.L.Library.shown StopRun c.args.library.now _ _ [] refl refl tt (shows_run g.L.Library.shown c.args.library.now c.args.self.now.files.items c.args.self.now.items.items) (shows_run g.L.Library.shown c.args.library.now c.args.self.now.files.items c.args.self.now.items.items) (refl, refl));
     lines_are = All-nil (IsLineOf _ _ _);
   },
 )
