@@ -2,7 +2,7 @@
 ghost use Rattle.std.specs.Prelude.{◌≡◌, IfOk, IfErr};
 ghost use Rattle.std.specs.Option.{IfSome};
 ghost use Rattle.file_checker.specs.Sound.{IsRight};
-ghost use Rattle.command_line.specs.Status.{status_of, status_by};
+ghost use Rattle.command_line.specs.Status.{status_of};
 
 use crate::fault::Fault;
 use file_checker::{CheckFault, Verdict, check_file};
@@ -21,20 +21,15 @@ pub fn check<R: Read>(alloc: Global, reader: &mut R) -> Result<Verdict, Fault>
     }
 }
 
-/// Writes a verdict, and answers the exit status.
-pub fn write_verdict<W: Write>(verdict: Verdict, out: &mut W) -> Result<u8, Fault>
-    ensures status { IfOk result (λ status. status ≡ status_by verdict) }
-    ensures fault { IfErr result (λ fault. fault ≡ Fault.Output) }
+/// Writes a verdict.
+pub fn write_verdict<W: Write>(verdict: Verdict, out: &mut W) -> Result<(), Fault>
+    ensures { IfErr result (λ fault. fault ≡ Fault.Output) }
 {
-    let (written, status) = match verdict {
-        Verdict::Sound { records, pages } => (
-            writeln!(out, "sound records {records} pages {pages}"),
-            0,
-        ),
-        Verdict::Unsound(reason) => (writeln!(out, "unsound {}", reason.number()), 1),
+    let written = match verdict {
+        Verdict::Sound { records, pages } => {
+            writeln!(out, "sound records {records} pages {pages}")
+        }
+        Verdict::Unsound(reason) => writeln!(out, "unsound {}", reason.number()),
     };
-    match written {
-        Ok(()) => Ok(status),
-        Err(_) => Err(Fault::Output),
-    }
+    written.map_err(|_| Fault::Output)
 }

@@ -1,6 +1,8 @@
 //! The program, run over writers that refuse a byte.
 
 use command_line::{Fault, program};
+use folder_shelf::EmptyDisk;
+use standard_output::StandardOutput;
 use std::fs;
 use std::io::{self, ErrorKind, Write};
 use std::os::fd::AsRawFd;
@@ -88,18 +90,28 @@ where
     for word in words {
         given.push(word.to_string(alloc)?)?;
     }
-    let mut out = Narrow {
+    let mut out = StandardOutput::new(Narrow {
         taken: Vec::new(alloc),
         at_once,
         room: out,
-    };
+    });
     let mut err = Narrow {
         taken: Vec::new(alloc),
         at_once: usize::MAX,
         room: err,
     };
-    let status = program(rt, alloc, given.as_slice(), &mut out, &mut err);
-    Ok(Ended { status, out, err })
+    let (status, _ran) = program::<R, EmptyDisk, Narrow, Narrow>(
+        rt,
+        alloc,
+        given.as_slice(),
+        &mut out,
+        &mut err,
+    );
+    Ok(Ended {
+        status,
+        out: out.into_inner(),
+        err,
+    })
 }
 
 #[test]

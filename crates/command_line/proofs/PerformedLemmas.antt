@@ -1,0 +1,53 @@
+-- What a run of a deck came to, by what is told of it.
+use Rattle.std.proofs.Common.{◌≡◌, ◌≢◌, ℕ, true, List, Option, Some, Result, Ok, Err, IfOk, IfErr, sym, subst}
+use Rattle.arrayvec.specs.ArrayString.{ArrayString}
+use Rattle.folder_shelf.specs.Events.{Event}
+use Rattle.folder_shelf.specs.Replay.{Unseen}
+use Rattle.deck_words.specs.declared.fault.DeckFault.{DeckFault}
+use Rattle.deck_runner.specs.DeckRun.{IsNoDeck}
+use Rattle.deck_runner.specs.RunEnd.{Told, ToldInPart}
+use Rattle.deck_runner.specs.declared.run_end.RunEnd.{RunEnd}
+use Rattle.shelf_run.specs.ShelfRun.{OnShelf, IsExactRun, Runs, BreaksOff, LeavesFiles, StaysSound}
+use Rattle.command_line.specs.Folder.{OverFolder}
+use Rattle.command_line.specs.Performed.{Begun, Written, CameToEnd, begun, outcome_of}
+use Rattle.command_line.specs.declared.fault.Fault.{Fault}
+use Rattle.command_line.specs.declared.fault.Fault.TheVariants.{Deck, Output}
+
+module _ (limit frames : ℕ) (disk : Unseen) (names : List ArrayString) (calls : List Event) (faults : ℕ) (bytes : List ℕ) (before behind : Option (List ℕ)) where
+  abbrev run : Begun
+  run = begun disk bytes names calls faults
+
+  abbrev out : Written
+  out = record { before = before; behind = behind }
+
+  pub came_to : (end : Result RunEnd Fault)
+      → IfOk end (λ e. e.clean ≡ true → OverFolder disk names calls (λ first last. IsExactRun bytes first last before behind e))
+      → IfOk end (λ e. OverFolder disk names calls (λ first last. OnShelf bytes first last (λ deck. Told before behind e (Runs limit frames first last 0 faults deck))))
+      → IfErr end (λ fault. fault ≡ Output → OverFolder disk names calls (λ first last. OnShelf bytes first last (λ deck. ToldInPart before behind (BreaksOff limit frames first last 0 faults deck))))
+      → IfErr end (λ fault. fault ≢ Output → (behind ≡ before) × OverFolder disk names calls LeavesFiles)
+      → IfErr end (λ fault. (told : DeckFault) → fault ≡ Deck told → IsNoDeck bytes told)
+      → OverFolder disk names calls StaysSound
+      → CameToEnd limit frames (Some run) out (outcome_of end)
+  came_to (Ok e) exact whole part nothing refused sound = (
+    record {
+      exact = λ end is clean. let same : e ≡ end = cc in subst (λ (x : RunEnd). x.clean ≡ true → OverFolder disk names calls (λ first last. IsExactRun bytes first last before behind x)) same exact clean;
+      whole = λ end is. let same : e ≡ end = cc in
+          subst (λ (x : RunEnd). OverFolder disk names calls (λ first last. OnShelf bytes first last (λ deck. Told before behind x (Runs limit frames first last 0 faults deck)))) same whole;
+      part = λ is. absurd (cc);
+      nothing = λ fault is other. absurd (cc);
+      refused = λ told is. absurd (cc);
+      sound = sound;
+    },
+    tt,
+  )
+  came_to (Err f) exact whole part nothing refused sound = (
+    record {
+      exact = λ end is clean. absurd (cc);
+      whole = λ end is. absurd (cc);
+      part = λ is. let same : f ≡ Output = cc in part same;
+      nothing = λ fault is other. let same : f ≡ fault = cc in nothing (subst (λ (x : Fault). x ≢ Output) (sym same) other);
+      refused = λ told is. let same : f ≡ Deck told = cc in refused told same;
+      sound = sound;
+    },
+    tt,
+  )

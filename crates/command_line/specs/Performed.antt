@@ -1,0 +1,90 @@
+-- What the program did for the words of its command line. All of this is ours.
+use Rattle.std.specs.Prelude.{◌≡◌, ◌≢◌, ℕ, true, List, Option, Some, None, Result, Ok, Err, IfOk, ⊤}
+use Rattle.arrayvec.specs.ArrayString.{ArrayString}
+use Rattle.clap.specs.Words.{Text}
+use Rattle.clap.specs.declared.error.Error.{Error}
+use Rattle.folder_shelf.specs.Events.{Event}
+use Rattle.folder_shelf.specs.Replay.{Unseen}
+use Rattle.deck_words.specs.declared.fault.DeckFault.{DeckFault}
+use Rattle.deck_runner.specs.DeckRun.{IsNoDeck}
+use Rattle.deck_runner.specs.RunEnd.{Told, ToldInPart}
+use Rattle.deck_runner.specs.declared.run_end.RunEnd.{RunEnd}
+use Rattle.shelf_run.specs.ShelfRun.{OnShelf, IsExactRun, Runs, BreaksOff, LeavesFiles, StaysSound}
+use Rattle.command_words.specs.Asks.{AskRun, AskCheck, AskHelp, AskNothing}
+use Rattle.command_line.specs.Folder.{OverFolder}
+use Rattle.command_line.specs.Status.{status_of}
+use Rattle.command_line.specs.declared.fault.Fault.{Fault}
+use Rattle.command_line.specs.declared.fault.Fault.TheVariants.{Deck, Usage, Input, Output, Memory}
+use Rattle.command_line.specs.declared.outcome.Outcome.{Outcome}
+use Rattle.command_line.specs.declared.outcome.Outcome.TheVariants.{Helped, Checked, Ended}
+
+-- a run that was begun: the bytes of its deck, and what the folder was asked and answered
+pub record Begun : Type 0 where
+  pub bytes : List ℕ
+  pub disk : Unseen
+  pub names : List ArrayString
+  pub calls : List Event
+  pub faults : ℕ
+
+-- the same, by its parts
+abbrev pub begun : Unseen → List ℕ → List ArrayString → List Event → ℕ → Begun
+begun disk bytes names calls faults = record { bytes = bytes; disk = disk; names = names; calls = calls; faults = faults }
+
+-- how a run ended, as what was done
+abbrev pub outcome_of : Result RunEnd Fault → Result Outcome Fault
+outcome_of (Ok end) = Ok (Ended end)
+outcome_of (Err fault) = Err fault
+
+-- the end of a run
+abbrev pub IsEnd : Outcome → Type 0
+IsEnd Helped = ⊥
+IsEnd (Checked verdict) = ⊥
+IsEnd (Ended end) = ⊤
+
+-- what was written before and after it
+pub record Written : Type 0 where
+  pub before : Option (List ℕ)
+  pub behind : Option (List ℕ)
+
+-- the run of these bytes, with this limit of pages and this number of frames, came to this
+pub record CameTo (limit frames : ℕ) (run : Begun) (out : Written) (outcome : Result Outcome Fault) : Type 0 where
+  pub exact : (end : RunEnd) → outcome ≡ Ok (Ended end) → end.clean ≡ true
+      → OverFolder run.disk run.names run.calls (λ first last. IsExactRun run.bytes first last out.before out.behind end)
+  pub whole : (end : RunEnd) → outcome ≡ Ok (Ended end)
+      → OverFolder run.disk run.names run.calls (λ first last. OnShelf run.bytes first last (λ deck.
+      Told out.before out.behind end (Runs limit frames first last 0 run.faults deck)))
+  pub part : outcome ≡ Err Output
+      → OverFolder run.disk run.names run.calls (λ first last. OnShelf run.bytes first last (λ deck.
+      ToldInPart out.before out.behind (BreaksOff limit frames first last 0 run.faults deck)))
+  pub nothing : (fault : Fault) → outcome ≡ Err fault → fault ≢ Output
+      → (out.behind ≡ out.before) × OverFolder run.disk run.names run.calls LeavesFiles
+  pub refused : (fault : DeckFault) → outcome ≡ Err (Deck fault) → IsNoDeck run.bytes fault
+  pub sound : OverFolder run.disk run.names run.calls StaysSound
+
+-- a run came to its end or to a fault, or was not begun since a file, a folder or memory was wanting
+abbrev pub CameToEnd : (limit frames : ℕ) → Option Begun → Written → Result Outcome Fault → Type 0
+CameToEnd limit frames (Some run) out outcome = CameTo limit frames run out outcome × IfOk outcome IsEnd
+CameToEnd limit frames None out (Ok outcome) = ⊥
+CameToEnd limit frames None out (Err fault) = status_of fault ≡ 4
+
+-- the words ask for a run, and this run, with their limit of pages and number of frames, came to this
+pub record RanAsAsked (words : List Text) (run : Begun) (out : Written) (outcome : Result Outcome Fault) : Type 0 where
+  pub deck : Text
+  pub folder : Text
+  pub pages : ℕ
+  pub frames : ℕ
+  pub asked : AskRun words deck folder pages frames
+  pub came : CameTo pages frames run out outcome
+
+-- what was done for the words: help was written for those that ask for it, a file checked for those that ask for that, and a run came to its end or to a
+-- fault for those that ask for one; a fault that is told of the words is theirs. The input, the output or memory may fail for any words.
+abbrev pub Did : List Text → Option Begun → Written → Result Outcome Fault → Type 0
+Did words None out (Ok Helped) = (text : Error) × AskHelp words text
+Did words None out (Ok (Checked verdict)) = (file : Text) × AskCheck words file
+Did words None out (Err (Usage text)) = AskNothing words text
+Did words None out (Err Input) = ⊤
+Did words None out (Err Output) = ⊤
+Did words None out (Err Memory) = ⊤
+Did words (Some run) out (Ok (Ended end)) = RanAsAsked words run out (Ok (Ended end))
+Did words (Some run) out (Err fault) = RanAsAsked words run out (Err fault)
+Did words run out outcome = ⊥
