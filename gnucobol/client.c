@@ -1,0 +1,125 @@
+/* The processes `cobix serve`: one for each folder in use, from the first OPEN there to the end of the program. */
+#define _GNU_SOURCE
+#include "handler.h"
+#include <errno.h>
+#include <fcntl.h>
+#include <spawn.h>
+#include <stdio.h>
+#include <stdlib.h>
+#include <sys/socket.h>
+#include <sys/stat.h>
+#include <sys/wait.h>
+#include <unistd.h>
+
+static struct server *servers;
+static pid_t owner; /* the program; a copy that it makes of itself leaves the processes alone */
+
+static void hang_up(struct server *server) { if (server->socket >= 0) close(server->socket); server->socket = -1; }
+
+/* Ends each process, which then closes the files that are open, and waits for it. */
+static void end_all(void)
+{
+    if (getpid() != owner)
+        return;
+    for (struct server *server = servers; server; server = server->next)
+        hang_up(server);
+    while (servers) {
+        struct server *server = servers;
+        int status = 0;
+        while (waitpid(server->process, &status, 0) < 0 && errno == EINTR)
+            continue;
+        if (status)
+            fprintf(stderr, "cobix: the process that closes the files ended with status %#x\n", (unsigned)status);
+        servers = server->next;
+        free(server);
+    }
+}
+
+/* The same socket, not under the number of standard input, output or error. */
+static int above_standard(int socket) { int above = fcntl(socket, F_DUPFD_CLOEXEC, 3); close(socket); return above; }
+
+/* The process is in a group of its own, so that a key that interrupts the program leaves it the time to close the files. */
+static bool start(struct server *server, const char *folder)
+{
+    const char *program = getenv("COBIX"), *frames = getenv("COBIX_FRAMES");
+    const char *words[] = {"cobix", "serve", "--folder", folder, frames ? "--frames" : NULL, frames, NULL};
+    int ends[2];
+    if (socketpair(AF_UNIX, SOCK_STREAM | SOCK_CLOEXEC, 0, ends))
+        return false;
+    int end = above_standard(ends[1]);
+    server->socket = above_standard(ends[0]);
+    posix_spawn_file_actions_t actions;
+    posix_spawnattr_t attributes;
+    posix_spawn_file_actions_init(&actions);
+    posix_spawnattr_init(&attributes);
+    bool fault = end < 0 || server->socket < 0 || posix_spawn_file_actions_adddup2(&actions, end, 0) ||
+                 posix_spawn_file_actions_adddup2(&actions, end, 1) ||
+                 posix_spawnattr_setflags(&attributes, POSIX_SPAWN_SETPGROUP) ||
+                 posix_spawnp(&server->process, program && *program ? program : "cobix", &actions, &attributes,
+                              (char *const *)(uintptr_t)words, environ);
+    posix_spawnattr_destroy(&attributes);
+    posix_spawn_file_actions_destroy(&actions);
+    close(end);
+    if (fault)
+        hang_up(server);
+    return !fault;
+}
+
+struct server *server_of(const char *folder)
+{
+    struct stat found;
+    if (stat(folder, &found) || !S_ISDIR(found.st_mode) || (owner && owner != getpid()))
+        return NULL;
+    for (struct server *server = servers; server; server = server->next)
+        if (server->socket >= 0 && server->device == found.st_dev && server->folder == found.st_ino)
+            return server;
+    if (!owner && atexit(end_all))
+        return NULL;
+    owner = getpid();
+    struct server *server = calloc(1, sizeof *server);
+    if (!server || !start(server, folder)) {
+        free(server);
+        return NULL;
+    }
+    server->device = found.st_dev, server->folder = found.st_ino, server->next = servers;
+    return servers = server;
+}
+
+static bool put(int socket, const uint8_t *bytes, size_t length)
+{
+    for (ssize_t sent; length; bytes += sent, length -= (size_t)sent) {
+        while ((sent = send(socket, bytes, length, MSG_NOSIGNAL)) < 0 && errno == EINTR)
+            continue;
+        if (sent <= 0)
+            return false;
+    }
+    return true;
+}
+
+/* Takes one frame. Its length, or 0. */
+static size_t get(int socket, uint8_t *frame)
+{
+    size_t had = 0, wanted = 3;
+    while (had < wanted) {
+        ssize_t got = recv(socket, frame + had, FRAME - had, 0);
+        if (got < 0 && errno == EINTR)
+            continue;
+        had += got > 0 ? (size_t)got : 0;
+        wanted = had < 2 ? 3 : 2 + ((size_t)frame[0] << 8 | frame[1]);
+        if (got <= 0 || wanted < 3 || wanted > FRAME)
+            return 0;
+    }
+    return had == wanted ? had : 0;
+}
+
+size_t exchange(struct server *server, uint8_t *request, size_t length, uint8_t *answer)
+{
+    if (server->socket < 0 || owner != getpid())
+        return 0;
+    request[0] = (uint8_t)((length - 2) >> 8);
+    request[1] = (uint8_t)(length - 2);
+    size_t got = put(server->socket, request, length) ? get(server->socket, answer) : 0;
+    if (got == 0)
+        hang_up(server);
+    return got;
+}

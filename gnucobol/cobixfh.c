@@ -1,0 +1,326 @@
+/* The handler: from an FCD to a frame and back. */
+#define _GNU_SOURCE
+#include "handler.h"
+#include <stdio.h>
+#include <stdlib.h>
+#include <string.h>
+
+enum { KEYS = 9 };
+enum { DESCRIBE = 1, PERFORM = 2, RELEASE = 3 };                             /* kinds of frames */
+enum { NO_SUCH_FILE = 4, NAME_IN_USE = 5, FILE_IS_OPEN = 6, NO_MEMORY = 7 }; /* why a request is refused */
+enum { OPEN, CLOSE, READ_NEXT, READ, START, WRITE, REWRITE, DELETE, NO_EFFECT, REFUSED };
+
+struct verb {
+    int code; /* GnuCOBOL's */
+    uint8_t verb, operand;
+    const char *name;
+};
+
+static const struct verb verbs[] = {
+    {OP_READ_SEQ, READ_NEXT, 0, "READ NEXT"},          {OP_READ_RAN, READ, 0, "READ"},
+    {OP_WRITE, WRITE, 0, "WRITE"},                     {OP_REWRITE, REWRITE, 0, "REWRITE"},
+    {OP_DELETE, DELETE, 0, "DELETE"},                  {OP_START_EQ, START, 0, "START"},
+    {OP_START_GT, START, 1, "START"},                  {OP_START_GE, START, 2, "START"},
+    {OP_OPEN_INPUT, OPEN, 0, "OPEN INPUT"},            {OP_OPEN_OUTPUT, OPEN, 1, "OPEN OUTPUT"},
+    {OP_OPEN_IO, OPEN, 2, "OPEN I-O"},                 {OP_OPEN_EXTEND, OPEN, 3, "OPEN EXTEND"},
+    {OP_CLOSE, CLOSE, 0, "CLOSE"},                     {OP_CLOSE_LOCK, CLOSE, 1, "CLOSE"},
+    {OP_UNLOCK, NO_EFFECT, 0, "UNLOCK"},               {OP_UNLOCK_REC, NO_EFFECT, 0, "UNLOCK"},
+    {OP_COMMIT, NO_EFFECT, 0, "COMMIT"},               {OP_FLUSH, NO_EFFECT, 0, "flush"},
+    {OP_ROLLBACK, REFUSED, 0, "ROLLBACK"},             {OP_READ_PREV, REFUSED, 0, "READ PREVIOUS"},
+    {OP_START_LT, REFUSED, 0, "START LESS"},           {OP_START_LE, REFUSED, 0, "START NOT GREATER"},
+    {OP_START_FI, REFUSED, 0, "START FIRST"},          {OP_START_LA, REFUSED, 0, "START LAST"},
+    {0, REFUSED, 0, "a verb"},
+};
+
+/* A file connector. It is described to its process from an OPEN that succeeds to the CLOSE, and for good where that is WITH LOCK. */
+struct connector {
+    struct connector *next;
+    unsigned char *area; /* the record area, which tells it from others while GnuCOBOL has no FCD of it */
+    FCD3 *fcd;           /* NULL before its first verb and after CLOSE */
+    cob_file *file;      /* NULL where interpose.c does not tell it */
+    struct server *server;
+    char path[PATH];
+    bool described, locked;
+    uint8_t number, key_count, place[KEYS]; /* the place in the description of each key of the FCD */
+    unsigned greatest;
+};
+
+static struct connector *connectors;
+static cob_file *opening;
+static uint8_t request[FRAME], answer[FRAME];
+
+static const char *refuse(const struct connector *connector, const struct verb *verb, const char *status, const char *why)
+{
+    fprintf(stderr, "cobix: %s %s: %s\n", verb->name, connector->path, why);
+    return status;
+}
+
+static const char *name_in(const char *path) { return strrchr(path, '/') ? strrchr(path, '/') + 1 : path; }
+
+static unsigned two(const unsigned char *from) { return (unsigned)from[0] << 8 | from[1]; }
+
+static unsigned four(const void *from) { return two(from) << 16 | two((const unsigned char *)from + 2); }
+
+static uint8_t *put_two(uint8_t *at, unsigned value)
+{
+    *at++ = (uint8_t)(value >> 8);
+    *at++ = (uint8_t)value;
+    return at;
+}
+
+/* ---- connectors */
+
+static bool is_of(const struct connector *connector, const cob_file *file)
+{
+    return file && file->organization == COB_ORG_INDEXED && file->record && file->record->data == connector->area;
+}
+
+static struct connector *connector_of(FCD3 *fcd)
+{
+    char path[PATH] = "";
+    struct connector *found = NULL, *c;
+    for (c = connectors; c; c = c->next)
+        if (c->area == fcd->recPtr && c->fcd == fcd)
+            return c;
+    if (!path_of(fcd->fnamePtr, two(fcd->fnameLen), path))
+        *path = 0;
+    for (c = connectors; c; c = c->next) /* several files may have one record area */
+        if (c->area == fcd->recPtr && !c->fcd && (!found || strcmp(c->path, path) == 0))
+            found = c;
+    if (!found && (found = calloc(1, sizeof *found)))
+        found->area = fcd->recPtr, found->next = connectors, connectors = found;
+    if (found && !found->described)
+        strcpy(found->path, path);
+    if (found)
+        found->fcd = fcd;
+    return found;
+}
+
+/* ---- descriptions */
+
+/* Puts the keys of the FCD, the alternates by rising offset. Where they end, or NULL where cobix cannot have them. */
+static uint8_t *put_keys(struct connector *connector, const FCD3 *fcd, uint8_t *at)
+{
+    const KDB *block = fcd->kdbPtr;
+    unsigned count = block ? two(block->nkeys) : 0;
+    if (count < 1 || count > KEYS || fcd->colPtr)
+        return NULL;
+    *at++ = connector->key_count = (uint8_t)count;
+    for (unsigned i = 0, place; i < count; i++) {
+        const KDB_KEY *key = &block->key[i];
+        const EXTKEY *part = (const void *)((const char *)block + two(key->offset));
+        if (two(key->count) != 1 || (key->keyFlags & KEY_SPARSE) || four(part->pos) > 65535 || four(part->len) > 65535)
+            return NULL;
+        for (place = i; place > 1 && two(at + 5 * (place - 1)) > four(part->pos); place--)
+            memcpy(at + 5 * place, at + 5 * (place - 1), 5);
+        for (unsigned j = 1; j < i; j++)
+            connector->place[j] = (uint8_t)(connector->place[j] + (connector->place[j] >= place));
+        connector->place[i] = (uint8_t)place;
+        *put_two(put_two(at + 5 * place, four(part->pos)), four(part->len)) = (key->keyFlags & KEY_DUPS) != 0;
+    }
+    return at + 5 * count;
+}
+
+/* Takes the process for the file's folder, and a number that is free there. */
+static bool take_server(struct connector *connector, size_t folder_length)
+{
+    char folder[PATH] = ".";
+    uint8_t number = 0;
+    if (folder_length) /* with its slash, which is all of the root */
+        memcpy(folder, connector->path, folder_length), folder[folder_length] = 0;
+    connector->server = server_of(folder);
+    while (connector->server && number < FILES && connector->server->taken[number])
+        number++;
+    connector->number = number;
+    return connector->server && number < FILES;
+}
+
+/* Whether another connector of this program closed the file WITH LOCK. */
+static bool was_locked(const struct connector *connector)
+{
+    const struct connector *c = connectors;
+    while (c && !(c->locked && c->server == connector->server && strcmp(name_in(c->path), name_in(connector->path)) == 0))
+        c = c->next;
+    return c != NULL;
+}
+
+/* Describes the file for an OPEN. The status where that fails, else NULL. */
+static const char *describe(struct connector *connector, const struct verb *verb, const FCD3 *fcd)
+{
+    const char *name = name_in(connector->path);
+    unsigned least = four(fcd->minRecLen), greatest = connector->greatest = four(fcd->maxRecLen);
+    put_two(put_two(request + 6, least ? least : 1), greatest);
+    uint8_t *end = put_keys(connector, fcd, request + 10);
+    if (!end)
+        return refuse(connector, verb, "39", "cobix has 1 to 9 keys, none split or suppressed, and no collating sequence");
+    if (!*name || strlen(name) > 255 || greatest > 65535)
+        return refuse(connector, verb, "39", "cobix has no files of this name or these lengths");
+    if (!take_server(connector, (size_t)(name - connector->path)))
+        return refuse(connector, verb, "30", "the folder is not there, or cobix cannot be started");
+    uint8_t access = fcd->accessFlags & ACCESS_DYNAMIC ? 2 : fcd->accessFlags & ACCESS_RANDOM ? 1 : 0;
+    memcpy(request + 2, (uint8_t[]){DESCRIBE, connector->number, access, (fcd->otherFlags & OTH_OPTIONAL) != 0}, 4);
+    end = (uint8_t *)stpcpy((char *)end, name);
+    size_t got = exchange(connector->server, request, (size_t)(end - request), answer);
+    connector->described = connector->server->taken[connector->number] = got == 3 && answer[2] == DESCRIBE;
+    if (connector->described)
+        return NULL;
+    switch (got > 3 && answer[2] == 0 ? answer[3] : 0) {
+    case NO_SUCH_FILE:
+        return refuse(connector, verb, "39", "cobix has no files of this name, these lengths or these keys");
+    case NAME_IN_USE:
+        return was_locked(connector) ? "38" : refuse(connector, verb, "30", "this program has it open under another SELECT");
+    case NO_MEMORY:
+        return "90";
+    }
+    return refuse(connector, verb, "30", got ? "cobix did not understand the description" : "cobix has ended");
+}
+
+static void release(struct connector *connector)
+{
+    memcpy(request + 2, (uint8_t[]){RELEASE, connector->number}, 2);
+    size_t got = exchange(connector->server, request, 4, answer);
+    connector->described = got > 3 && answer[2] == 0 && answer[3] == FILE_IS_OPEN;
+    connector->server->taken[connector->number] = connector->described;
+}
+
+/* ---- verbs */
+
+/* The length of the record to be stored. GnuCOBOL does not always take it from the item of DEPENDING ON. */
+static unsigned record_length(const struct connector *connector, const FCD3 *fcd)
+{
+    unsigned length = four(fcd->curRecLen);
+    if (connector->file && connector->file->variable_record) {
+        int depending = cob_get_int(connector->file->variable_record);
+        length = depending < 0 ? 0 : (unsigned)depending;
+    }
+    return length > 65535 ? 65535 : length;
+}
+
+/* Puts the request for a verb, with those bytes of the record area that the verb looks at. */
+static size_t put_verb(const struct connector *connector, const struct verb *verb, const FCD3 *fcd)
+{
+    bool keyed = verb->verb == READ || verb->verb == START, stores = verb->verb == WRITE || verb->verb == REWRITE;
+    unsigned length = stores ? record_length(connector, fcd) : 0;
+    unsigned bytes = keyed || verb->verb == DELETE || length > connector->greatest ? connector->greatest : length;
+    uint8_t key = keyed ? connector->place[two(fcd->refKey)] : 0;
+    memcpy(request + 2, (uint8_t[]){PERFORM, connector->number, verb->verb, verb->operand, key}, 5);
+    put_two(put_two(request + 7, verb->verb == START ? two(fcd->effKeyLen) : 0), length);
+    memcpy(request + 11, connector->area, bytes);
+    return 11 + (size_t)bytes;
+}
+
+/* Gives the program the record that was read. */
+static void deliver(struct connector *connector, FCD3 *fcd, size_t length)
+{
+    if (length > connector->greatest)
+        length = connector->greatest;
+    memcpy(connector->area, answer + 5, length);
+    put_two(put_two(fcd->curRecLen, 0), (unsigned)length);
+    if (!connector->file)
+        return;
+    connector->file->record->size = length;
+    if (connector->file->variable_record)
+        cob_set_int(connector->file->variable_record, (int)length);
+}
+
+static const char *perform(struct connector *connector, const struct verb *verb, FCD3 *fcd)
+{
+    static char status[3];
+    size_t got = exchange(connector->server, request, put_verb(connector, verb, fcd), answer);
+    if (got < 5 || answer[2] != PERFORM || answer[3] < '0' || answer[3] > '9')
+        return refuse(connector, verb, "30", got ? "cobix did not understand the request" : "cobix has ended");
+    memcpy(status, answer + 3, 2);
+    if ((verb->verb == READ || verb->verb == READ_NEXT) && *status == '0')
+        deliver(connector, fcd, got - 5);
+    return status;
+}
+
+static const char *open_file(struct connector *connector, const struct verb *verb, FCD3 *fcd)
+{
+    bool described = connector->described;
+    const char *status = described ? NULL : describe(connector, verb, fcd);
+    if (!status)
+        status = perform(connector, verb, fcd);
+    if (!described && connector->described && *status != '0')
+        release(connector);
+    return status;
+}
+
+static const char *close_file(struct connector *connector, struct verb verb, FCD3 *fcd)
+{
+    verb.operand |= four(fcd->opt) == COB_CLOSE_LOCK;
+    const char *status = perform(connector, &verb, fcd);
+    connector->locked |= verb.operand && *status == '0';
+    if (!connector->locked)
+        release(connector);
+    return status;
+}
+
+static const char *answer_to(struct connector *connector, const struct verb *verb, FCD3 *fcd)
+{
+    static const char *const when_closed[] = {"47", "42", "47", "47", "47", "48", "49", "49"};
+    bool back = verb->verb == READ_NEXT && four(fcd->opt) & (COB_READ_PREVIOUS | COB_READ_FIRST | COB_READ_LAST);
+    if (verb->verb == NO_EFFECT)
+        return "00";
+    if (verb->verb == REFUSED || back)
+        return refuse(connector, verb, "95", "the COBOL of 1985 does not have it");
+    if (verb->verb == OPEN)
+        return open_file(connector, verb, fcd);
+    if (!connector->described) /* as the proved verbs answer on a file that is not open */
+        return when_closed[verb->verb];
+    if (verb->verb == CLOSE)
+        return close_file(connector, *verb, fcd);
+    if ((verb->verb == READ || verb->verb == START) && two(fcd->refKey) >= connector->key_count)
+        return refuse(connector, verb, "95", "this is no key of the file");
+    if (fcd->recordMode == REC_MODE_VARIABLE && !connector->file)
+        return refuse(connector, verb, "95", "whether it has DEPENDING ON is not known: set LD_PRELOAD as README says");
+    return perform(connector, verb, fcd);
+}
+
+int cobixfh(unsigned char *opcode, FCD3 *fcd)
+{
+    const struct verb *verb = verbs;
+    if (fcd->fileOrg != ORG_INDEXED)
+        return EXTFH(opcode, fcd);
+    while (verb->code && verb->code != (opcode[0] == 0xFA ? 0xFA00 | opcode[1] : opcode[1]))
+        verb++;
+    struct connector *connector = connector_of(fcd);
+    if (connector && verb->verb == OPEN && is_of(connector, opening))
+        connector->file = opening;
+    memcpy(fcd->fileStatus, connector ? answer_to(connector, verb, fcd) : "90", 2);
+    if (connector && verb->verb == CLOSE)
+        connector->fcd = NULL; /* GnuCOBOL frees it */
+    fcd->openMode = OPEN_NOT_OPEN | 0x10; /* or GnuCOBOL's own handler would close it, too */
+    return 0;
+}
+
+/* ---- for interpose.c */
+
+void cobixfh_opens(cob_file *file) { opening = file; }
+
+static struct connector **place_of(const cob_file *file)
+{
+    struct connector **at = &connectors;
+    while (*at && !(is_of(*at, file) && (!(*at)->file || (*at)->file == file)))
+        at = &(*at)->next;
+    return at;
+}
+
+bool cobixfh_has_open(const cob_file *file)
+{
+    const struct connector *connector = *place_of(file);
+    return connector && connector->described && !connector->locked;
+}
+
+bool cobixfh_leaves(const cob_file *file)
+{
+    static const struct verb close = {OP_CLOSE, CLOSE, 0, "CLOSE"};
+    struct connector **at = place_of(file), *connector = *at;
+    if (cobixfh_has_open(file))
+        close_file(connector, close, connector->fcd);
+    if (connector && !connector->locked) {
+        *at = connector->next;
+        free(connector);
+    }
+    return connector != NULL;
+}

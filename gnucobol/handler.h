@@ -1,0 +1,41 @@
+/* What the parts of the handler ask of each other. */
+#ifndef HANDLER_H
+#define HANDLER_H
+#include <stddef.h>
+#include <libcob.h>
+#include <stdbool.h>
+#include <stdint.h>
+#include <sys/types.h>
+
+enum { FRAME = 2 + 8192, FILES = 64, PATH = 4096 };
+
+/* A process `cobix serve`, for one folder. */
+struct server {
+    struct server *next;
+    dev_t device;
+    ino_t folder;
+    pid_t process;
+    int socket;        /* -1 once it has ended */
+    bool taken[FILES]; /* which numbers are those of described files */
+};
+
+/* The process for this folder, started where there is none. NULL where it cannot be had. */
+struct server *server_of(const char *folder);
+
+/* Sends a request and takes its answer, both whole frames; the first two bytes of the request are filled in. The length of the
+   answer, or 0 where the process has ended or sent what is no frame: then it is asked no more. */
+size_t exchange(struct server *server, uint8_t *request, size_t length, uint8_t *answer);
+
+/* The path of a file, of less than PATH bytes, by GnuCOBOL's rules: what the environment has as DD_NAME, dd_NAME or NAME stands
+   for the first part of the name, and a path that does not begin with a slash is below COB_FILE_PATH. Whether there is one. */
+bool path_of(const char *name, size_t length, char *path);
+
+/* What GnuCOBOL calls for each verb on each file. Files that are not indexed go on to its own handler. The status is put into the
+   FCD; the answer is 0. */
+int cobixfh(unsigned char *opcode, FCD3 *fcd);
+
+void cobixfh_opens(cob_file *file);            /* tells which file the next OPEN is of */
+bool cobixfh_has_open(const cob_file *file);   /* whether this handler has it open */
+bool cobixfh_leaves(const cob_file *file);     /* closes and forgets it; whether this handler knew it */
+
+#endif
