@@ -29,7 +29,8 @@ static void end_all(void)
         while (waitpid(server->process, &status, 0) < 0 && errno == EINTR)
             continue;
         if (status)
-            fprintf(stderr, "cobix: the process that closes the files ended with status %#x\n", (unsigned)status);
+            fprintf(stderr, "cobix: the process that closes the files ended with status %d\n",
+                    status >> 8 ? status >> 8 : 128 + (status & 127));
         servers = server->next;
         free(server);
     }
