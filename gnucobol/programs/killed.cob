@@ -1,0 +1,52 @@
+      *> Writes and rewrites until it is killed, and tells each answer
+      *> on standard error after the verb.
+       IDENTIFICATION DIVISION.
+       PROGRAM-ID. KILLED.
+       ENVIRONMENT DIVISION.
+       INPUT-OUTPUT SECTION.
+       FILE-CONTROL.
+           SELECT STAFF ASSIGN TO "staff.dat"
+               ORGANIZATION IS INDEXED ACCESS MODE IS DYNAMIC
+               RECORD KEY IS STAFF-NUMBER
+               ALTERNATE RECORD KEY IS DEPARTMENT WITH DUPLICATES
+               FILE STATUS IS ST.
+       DATA DIVISION.
+       FILE SECTION.
+       FD STAFF.
+       01 STAFF-RECORD.
+           05 STAFF-NUMBER PIC 9(6).
+           05 DEPARTMENT PIC 9(2).
+           05 TIMES-CHANGED PIC 9(6).
+           05 FILLER PIC X(86).
+       WORKING-STORAGE SECTION.
+       77 ST PIC XX.
+       77 N PIC 9(9) COMP-5 VALUE 0.
+       PROCEDURE DIVISION.
+       MAIN-LINE.
+           OPEN OUTPUT STAFF.
+           DISPLAY "OPEN " ST UPON SYSERR.
+           PERFORM CLOSE-AND-OPEN.
+           PERFORM ONE-STEP UNTIL ST (1:1) NOT = "0".
+           STOP RUN.
+       ONE-STEP.
+           ADD 1 TO N.
+           COMPUTE STAFF-NUMBER = FUNCTION MOD (N * 7919 1000003).
+           COMPUTE DEPARTMENT = FUNCTION MOD (N 37).
+           MOVE 0 TO TIMES-CHANGED.
+           WRITE STAFF-RECORD.
+           DISPLAY "WRITE " STAFF-NUMBER " " TIMES-CHANGED " " ST
+               UPON SYSERR.
+           IF FUNCTION MOD (N 3) = 0 PERFORM CHANGE-ONE.
+           IF FUNCTION MOD (N 50) = 0 PERFORM CLOSE-AND-OPEN.
+       CHANGE-ONE.
+           COMPUTE STAFF-NUMBER =
+               FUNCTION MOD (N / 3 * 7919 1000003).
+           READ STAFF.
+           ADD 1 TO TIMES-CHANGED.
+           COMPUTE DEPARTMENT = FUNCTION MOD (N 31).
+           REWRITE STAFF-RECORD.
+           DISPLAY "REWRITE " STAFF-NUMBER " " TIMES-CHANGED " " ST
+               UPON SYSERR.
+       CLOSE-AND-OPEN.
+           CLOSE STAFF. DISPLAY "CLOSE " ST UPON SYSERR.
+           OPEN I-O STAFF. DISPLAY "OPEN " ST UPON SYSERR.
