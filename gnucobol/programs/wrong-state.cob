@@ -1,0 +1,109 @@
+      *> Verbs in the wrong state, and files that are not there.
+       IDENTIFICATION DIVISION.
+       PROGRAM-ID. WRONG-STATE.
+       ENVIRONMENT DIVISION.
+       INPUT-OUTPUT SECTION.
+       FILE-CONTROL.
+           SELECT S ASSIGN TO "s.dat" ORGANIZATION IS INDEXED
+               ACCESS MODE IS SEQUENTIAL RECORD KEY IS S-KEY
+               FILE STATUS IS ST.
+           SELECT OPTIONAL D ASSIGN TO "d.dat" ORGANIZATION IS INDEXED
+               ACCESS MODE IS DYNAMIC RECORD KEY IS D-KEY
+               FILE STATUS IS ST.
+       DATA DIVISION.
+       FILE SECTION.
+       FD S.
+       01 S-RECORD.
+           05 S-KEY PIC X.
+           05 S-TEXT PIC X.
+       FD D.
+       01 D-RECORD.
+           05 D-KEY PIC X.
+       WORKING-STORAGE SECTION.
+       77 ST PIC XX.
+       PROCEDURE DIVISION.
+       NOT-OPEN.
+           OPEN INPUT S. DISPLAY "OPEN INPUT " ST.
+           OPEN I-O S. DISPLAY "OPEN I-O " ST.
+           OPEN EXTEND S. DISPLAY "OPEN EXTEND " ST.
+           CLOSE S. DISPLAY "CLOSE " ST.
+           READ S. DISPLAY "READ " ST.
+           START S. DISPLAY "START " ST.
+           WRITE S-RECORD. DISPLAY "WRITE " ST.
+           REWRITE S-RECORD. DISPLAY "REWRITE " ST.
+           DELETE S. DISPLAY "DELETE " ST.
+       FOR-OUTPUT.
+           OPEN OUTPUT S. DISPLAY "OPEN OUTPUT " ST.
+           OPEN I-O S. DISPLAY "OPEN I-O " ST.
+           READ S. DISPLAY "READ " ST.
+           START S. DISPLAY "START " ST.
+           REWRITE S-RECORD. DISPLAY "REWRITE " ST.
+           DELETE S. DISPLAY "DELETE " ST.
+           MOVE "B1" TO S-RECORD.
+           WRITE S-RECORD. DISPLAY "WRITE B " ST.
+           MOVE "A1" TO S-RECORD.
+           WRITE S-RECORD. DISPLAY "WRITE A " ST.
+           CLOSE S. DISPLAY "CLOSE " ST.
+           CLOSE S. DISPLAY "CLOSE " ST.
+       TO-EXTEND.
+           OPEN EXTEND S. DISPLAY "OPEN EXTEND " ST.
+           MOVE "B2" TO S-RECORD.
+           WRITE S-RECORD. DISPLAY "WRITE B " ST.
+           MOVE "D1" TO S-RECORD.
+           WRITE S-RECORD. DISPLAY "WRITE D " ST.
+           READ S. DISPLAY "READ " ST.
+           CLOSE S. DISPLAY "CLOSE " ST.
+       FOR-BOTH.
+           OPEN I-O S. DISPLAY "OPEN I-O " ST.
+           WRITE S-RECORD. DISPLAY "WRITE " ST.
+           REWRITE S-RECORD. DISPLAY "REWRITE " ST.
+           DELETE S. DISPLAY "DELETE " ST.
+           READ S. DISPLAY "READ " ST " " S-RECORD.
+           MOVE "3" TO S-TEXT.
+           REWRITE S-RECORD. DISPLAY "REWRITE " ST.
+           REWRITE S-RECORD. DISPLAY "REWRITE " ST.
+           READ S. DISPLAY "READ " ST " " S-RECORD.
+           MOVE "X" TO S-KEY.
+           REWRITE S-RECORD. DISPLAY "REWRITE X " ST.
+           READ S. DISPLAY "READ " ST.
+           READ S. DISPLAY "READ " ST.
+           CLOSE S. DISPLAY "CLOSE " ST.
+           OPEN I-O S. DISPLAY "OPEN I-O " ST.
+           READ S. DISPLAY "READ " ST " " S-RECORD.
+           DELETE S. DISPLAY "DELETE " ST.
+           DELETE S. DISPLAY "DELETE " ST.
+           READ S. DISPLAY "READ " ST " " S-RECORD.
+           CLOSE S. DISPLAY "CLOSE " ST.
+       FOR-INPUT.
+           OPEN INPUT S. DISPLAY "OPEN INPUT " ST.
+           WRITE S-RECORD. DISPLAY "WRITE " ST.
+           REWRITE S-RECORD. DISPLAY "REWRITE " ST.
+           DELETE S. DISPLAY "DELETE " ST.
+           READ S. DISPLAY "READ " ST " " S-RECORD.
+           READ S. DISPLAY "READ " ST.
+           READ S. DISPLAY "READ " ST.
+           MOVE "D" TO S-KEY.
+           START S. DISPLAY "START " ST.
+           READ S. DISPLAY "READ " ST " " S-RECORD.
+           CLOSE S WITH LOCK. DISPLAY "CLOSE WITH LOCK " ST.
+           OPEN INPUT S. DISPLAY "OPEN INPUT " ST.
+           OPEN OUTPUT S. DISPLAY "OPEN OUTPUT " ST.
+           CLOSE S. DISPLAY "CLOSE " ST.
+           READ S. DISPLAY "READ " ST.
+       NOT-THERE.
+           OPEN INPUT D. DISPLAY "OPEN INPUT " ST.
+           MOVE "A" TO D-KEY.
+           READ D. DISPLAY "READ " ST.
+           CLOSE D. DISPLAY "CLOSE " ST.
+           OPEN INPUT D. DISPLAY "OPEN INPUT " ST.
+           READ D NEXT. DISPLAY "READ NEXT " ST.
+           READ D NEXT. DISPLAY "READ NEXT " ST.
+           START D. DISPLAY "START " ST.
+           CLOSE D. DISPLAY "CLOSE " ST.
+           OPEN I-O D. DISPLAY "OPEN I-O " ST.
+           WRITE D-RECORD. DISPLAY "WRITE " ST.
+           CLOSE D. DISPLAY "CLOSE " ST.
+           OPEN INPUT D. DISPLAY "OPEN INPUT " ST.
+           READ D NEXT. DISPLAY "READ NEXT " ST " " D-RECORD.
+           CLOSE D. DISPLAY "CLOSE " ST.
+           STOP RUN.
