@@ -1,0 +1,5 @@
+pub mod FileName
+pub mod Request
+pub mod Reading
+pub mod Writing
+pub mod Answer
