@@ -61,30 +61,27 @@ static unsigned two(const unsigned char *from) { return (unsigned)from[0] << 8 |
 
 static unsigned four(const void *from) { return two(from) << 16 | two((const unsigned char *)from + 2); }
 
-static uint8_t *put_two(uint8_t *at, unsigned value)
-{
-    *at++ = (uint8_t)(value >> 8);
-    *at++ = (uint8_t)value;
-    return at;
-}
+static uint8_t *put_two(uint8_t *at, unsigned value) { at[0] = (uint8_t)(value >> 8); at[1] = (uint8_t)value; return at + 2; }
 
 /* ---- connectors */
 
-static bool is_of(const struct connector *connector, const cob_file *file)
+static bool has_area(const cob_file *file, const unsigned char *area)
 {
-    return file && file->organization == COB_ORG_INDEXED && file->record && file->record->data == connector->area;
+    return file && file->organization == COB_ORG_INDEXED && file->record && file->record->data == area;
 }
 
 static struct connector *connector_of(FCD3 *fcd)
 {
     char path[PATH] = "";
-    struct connector *found = NULL, *c;
-    for (c = connectors; c; c = c->next)
-        if (c->area == fcd->recPtr && c->fcd == fcd)
-            return c;
-    if (!path_of(fcd->fnamePtr, two(fcd->fnameLen), path))
+    struct connector *found = connectors, *c;
+    while (found && !(found->area == fcd->recPtr && found->fcd == fcd))
+        found = found->next;
+    if (found && found->described)
+        return found;
+    const cob_field *name = has_area(opening, fcd->recPtr) ? opening->assign : NULL; /* after an OPEN that failed, the FCD's is old */
+    if (!(name ? path_of((char *)name->data, name->size, path) : path_of(fcd->fnamePtr, two(fcd->fnameLen), path)))
         *path = 0;
-    for (c = connectors; c; c = c->next) /* several files may have one record area */
+    for (c = found ? NULL : connectors; c; c = c->next) /* several files may have one record area */
         if (c->area == fcd->recPtr && !c->fcd && (!found || strcmp(c->path, path) == 0))
             found = c;
     if (!found && (found = calloc(1, sizeof *found)))
@@ -285,11 +282,12 @@ int cobixfh(unsigned char *opcode, FCD3 *fcd)
     while (verb->code && verb->code != (opcode[0] == 0xFA ? 0xFA00 | opcode[1] : opcode[1]))
         verb++;
     struct connector *connector = connector_of(fcd);
-    if (connector && verb->verb == OPEN && is_of(connector, opening))
+    if (connector && verb->verb == OPEN && has_area(opening, connector->area))
         connector->file = opening;
     memcpy(fcd->fileStatus, connector ? answer_to(connector, verb, fcd) : "90", 2);
     if (connector && verb->verb == CLOSE)
         connector->fcd = NULL; /* GnuCOBOL frees it */
+    opening = NULL;
     fcd->openMode = OPEN_NOT_OPEN | 0x10; /* or GnuCOBOL's own handler would close it, too */
     return 0;
 }
@@ -301,7 +299,7 @@ void cobixfh_opens(cob_file *file) { opening = file; }
 static struct connector **place_of(const cob_file *file)
 {
     struct connector **at = &connectors;
-    while (*at && !(is_of(*at, file) && (!(*at)->file || (*at)->file == file)))
+    while (*at && !(has_area(file, (*at)->area) && (!(*at)->file || (*at)->file == file)))
         at = &(*at)->next;
     return at;
 }

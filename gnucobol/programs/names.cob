@@ -28,6 +28,9 @@
            MOVE "sub/apr" TO F-NAME. PERFORM MAKE-ONE.
            MOVE "plain" TO F-NAME. PERFORM READ-ONE.
            MOVE "YEAR/jan" TO F-NAME. PERFORM READ-ONE.
+           MOVE "absent" TO F-NAME. OPEN INPUT F.
+           DISPLAY "OPEN INPUT " F-NAME " " ST.
+           MOVE "STAFF" TO F-NAME. PERFORM READ-ONE.
            STOP RUN.
        MAKE-ONE.
            OPEN OUTPUT F. DISPLAY "OPEN OUTPUT " F-NAME " " ST.
