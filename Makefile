@@ -1,4 +1,4 @@
-# cobix: `make try` runs a deck over the files of DIR in about a minute, without the proofs;
+# cobix: `make try` runs a deck over the files of DIR without the proofs, in one to two minutes;
 # `make run` proves and builds the program, and runs a deck; `make test` proves and tests everything,
 # runs the examples, the cases and some of them out of memory, and checks the documents;
 # `make install` puts the program that one of the last two built into PREFIX/bin.

@@ -5,7 +5,7 @@
 //! `FuseShelf` fails calls on purpose. `Store` reads and writes pages: a page read is the page last written, and only the
 //! gate protocol writes byte 0, so that a crash leaves the old file, the new one, or one that is refused.
 //!
-//! What lies in the pages is the business of the layers above. Read `specs/File.antt` and `specs/Images.antt` first, then
+//! What lies in the pages is the business of the layers above. Read `specs/DeviceFile.antt` and `specs/Images.antt` first, then
 //! `Shelf`, then `Store`.
 #![tactic(auto)]
 
