@@ -10,10 +10,9 @@ ghost use Rattle.bplus_tree.specs.Grow.{AddsToLeaf, AddsToInner, IsRootOver, Add
 use crate::split::write_parts;
 use io_state::Fault;
 use node_balance::{Separator, put_in_inner, put_in_leaf};
+use page_bytes::PAGE_SIZE;
 use pages::{Pages, copy, store};
-use tree_node::{
-    InnerView, InnerViewMut, LeafView, PAGE_SIZE, Shape, is_inner, is_leaf, write_inner,
-};
+use tree_node::{InnerView, InnerViewMut, LeafView, Shape, is_inner, is_leaf, write_inner};
 
 /// Puts an entry before entry `place` of a leaf. Where the leaf is full, its upper half goes to a
 /// new page, to which the separator leads that is answered.

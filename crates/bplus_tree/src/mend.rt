@@ -10,8 +10,9 @@ ghost use Rattle.bplus_tree.specs.Remove.{Mends};
 
 use io_state::Fault;
 use node_balance::even;
+use page_bytes::PAGE_SIZE;
 use pages::{Pages, copy, store};
-use tree_node::{InnerView, PAGE_SIZE, Shape, is_inner};
+use tree_node::{InnerView, Shape, is_inner};
 
 /// Two children side by side: the number of the separator between them, and their pages.
 #[derive(Clone, Copy)]

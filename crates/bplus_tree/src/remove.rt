@@ -9,8 +9,9 @@ ghost use Rattle.bplus_tree.specs.Remove.{Removes, TakesOut, OutOfLeaf, TakesBel
 
 use crate::mend::mend;
 use io_state::Fault;
+use page_bytes::PAGE_SIZE;
 use pages::Pages;
-use tree_node::{Entry, LeafView, LeafViewMut, PAGE_SIZE, Shape, is_leaf};
+use tree_node::{Entry, LeafView, LeafViewMut, Shape, is_leaf};
 use tree_search::{Look, descend, fill, has_key, seek};
 
 /// What is left below a page.

@@ -12,9 +12,9 @@ use crate::stop::Stop;
 use crate::verdict::{CheckFault, Reason, Verdict};
 use byteorder::{BigEndian, ByteOrder};
 use file_header::Header;
+use page_bytes::PAGE_SIZE;
 use std::alloc::Global;
 use std::io::Read;
-use tree_node::PAGE_SIZE;
 
 /// Where the first page counts the pages, itself among them.
 const PAGES: usize = 12;

@@ -13,12 +13,12 @@ use crate::stop::Stop;
 use crate::verdict::Reason;
 use file_header::Header;
 use open_file::OpenFile;
+use page_bytes::PAGE_SIZE;
 use page_marks::mark;
 use page_walks::{Spot, walk_free, walk_tree};
 use record_heap::walk_heap;
 use row_checks::{check_alternate, check_rows};
 use std::alloc::Global;
-use tree_node::PAGE_SIZE;
 
 /// Walks the index of each alternate key, and compares it with the rows to which the entries at `primes` lead.
 fn check_alternates(

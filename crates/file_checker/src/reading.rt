@@ -5,8 +5,8 @@ ghost use Rattle.std.specs.Io.KnownBytes.{Consumes, IsAtEnd, Keeps};
 ghost use Rattle.file_checker.specs.Bytes.{HasLess, HasGiven, HasGivenLess, AreRead, BreaksOff};
 
 use crate::verdict::CheckFault;
+use page_bytes::PAGE_SIZE;
 use std::io::{ErrorKind, Read};
-use tree_node::PAGE_SIZE;
 
 /// So many interrupted reads in a row are a fault of the input.
 const MOST_INTERRUPTED: u32 = 1000;

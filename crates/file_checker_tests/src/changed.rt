@@ -3,12 +3,10 @@
 use crate::files::made;
 use crate::readers::records_of;
 use arrayvec::ArrayVec;
+use page_bytes::PAGE_SIZE;
 use std::alloc::Global;
 use std::process::Abort;
 use std::test::Fail;
-
-/// The bytes of a page.
-const PAGE: usize = 4096;
 
 /// What a byte is changed to, each once.
 fn others(was: u8) -> ArrayVec<u8, 3> {
@@ -57,10 +55,10 @@ fn changes(
 /// Changes each byte of a page of a file of three records. In each page there are bytes that have a meaning, and others.
 fn changes_page(rt: &impl Abort, alloc: Global, page: usize) -> Result<(), Fail> {
     let mut bytes = made(rt, alloc, 3, 0)?;
-    assert_eq!(rt; bytes.len(), 5 * PAGE);
+    assert_eq!(rt; bytes.len(), 5 * PAGE_SIZE);
     let mut counts = Counts { stand: 0, fall: 0 };
-    let start = page.saturating_mul(PAGE);
-    for at in start..start.saturating_add(PAGE) {
+    let start = page.saturating_mul(PAGE_SIZE);
+    for at in start..start.saturating_add(PAGE_SIZE) {
         changes(rt, alloc, bytes.as_mut_slice(), at, &mut counts)?;
     }
     assert!(rt; counts.stand > 0 && counts.fall > 0);
@@ -96,7 +94,7 @@ fn a_changed_byte_of_the_heap(rt: HostRuntime) -> Result<(), Fail> {
 /// How many pages begin with this byte.
 fn count_of(bytes: &[u8], kind: u8) -> usize {
     bytes
-        .chunks(PAGE)
+        .chunks(PAGE_SIZE)
         .filter(|page| page.first() == Some(&kind))
         .count()
 }
@@ -111,7 +109,7 @@ fn a_changed_byte_of_a_file_that_shrank(rt: HostRuntime) -> Result<(), Fail> {
     }
     let mut counts = Counts { stand: 0, fall: 0 };
     for at in 0..bytes.len() {
-        if at % PAGE < 24 || at % 61 == 0 {
+        if at % PAGE_SIZE < 24 || at % 61 == 0 {
             changes(&rt, alloc, bytes.as_mut_slice(), at, &mut counts)?;
         }
     }

@@ -3,12 +3,10 @@
 use crate::files::made;
 use byteorder::{BigEndian, ByteOrder};
 use file_checker::{Reason, Verdict, check_file};
+use page_bytes::PAGE_SIZE;
 use std::alloc::Global;
 use std::process::Abort;
 use std::test::Fail;
-
-/// The bytes of a page.
-const PAGE: usize = 4096;
 
 fn check(alloc: Global, bytes: &[u8]) -> Result<Verdict, Fail> {
     let mut reader = bytes;
@@ -19,7 +17,7 @@ fn check(alloc: Global, bytes: &[u8]) -> Result<Verdict, Fail> {
 fn sound(records: u32, bytes: &[u8]) -> Verdict {
     Verdict::Sound {
         records: u64::from(records),
-        pages: u32::try_from(bytes.len() / PAGE).unwrap_or(u32::MAX),
+        pages: u32::try_from(bytes.len() / PAGE_SIZE).unwrap_or(u32::MAX),
     }
 }
 
@@ -57,8 +55,8 @@ fn a_file_that_shrank_is_sound(rt: HostRuntime) -> Result<(), Fail> {
 fn each_part_of_a_file_is_short(rt: HostRuntime) -> Result<(), Fail> {
     let alloc = rt.alloc();
     let bytes = made(&rt, alloc, 2000, 0)?;
-    for page in bytes.chunks(PAGE).enumerate().map(|(n, _)| n) {
-        let end = PAGE.saturating_mul(page).min(bytes.len());
+    for page in bytes.chunks(PAGE_SIZE).enumerate().map(|(n, _)| n) {
+        let end = PAGE_SIZE.saturating_mul(page).min(bytes.len());
         let found = check(alloc, &bytes[..end])?;
         assert_eq!(rt; found, Verdict::Unsound(Reason::Short), "{page} pages");
     }
@@ -75,7 +73,7 @@ fn number(rt: &impl Abort, bytes: &[u8], at: usize) -> u32 {
 fn first_leaf(rt: &impl Abort, bytes: &[u8]) -> usize {
     let mut page = number(rt, bytes, 72) as usize;
     for _ in 0..20 {
-        let at = PAGE.saturating_mul(page);
+        let at = PAGE_SIZE.saturating_mul(page);
         assert!(rt; at < bytes.len());
         if bytes[at] == b'L' {
             return at;

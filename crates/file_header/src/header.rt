@@ -4,10 +4,8 @@ use crate::bounds::is_within;
 use crate::key_rows::key_rows;
 use crate::numbers::{END, GATE, first_bytes, numbers_in};
 use arrayvec::ArrayVec;
+use page_bytes::PAGE_SIZE;
 use record_layout::Schema;
-
-/// The bytes of a page.
-pub const PAGE_SIZE: usize = 4096;
 
 /// The tree of a key: how many levels it has, and the page of its root.
 #[derive(Clone, Copy, Debug, PartialEq, Eq, Default)]

@@ -13,10 +13,11 @@ ghost use Rattle.std.specs.Prelude.{◌≡◌, ◌≤◌, length, map};
 ghost use Rattle.file_header.specs.FirstPage.{kind_of, row_of, rows_from};
 ghost use Rattle.file_header.specs.Reading.{part_in, tree_in, rows_in};
 
-use crate::header::{PAGE_SIZE, TreeNumbers};
+use crate::header::TreeNumbers;
 use crate::numbers::END;
 use arrayvec::ArrayVec;
 use byteorder::{BigEndian, ByteOrder};
+use page_bytes::PAGE_SIZE;
 use record_layout::KeyPart;
 
 const OFFSET: usize = 0;

@@ -13,5 +13,5 @@ mod key_rows;
 mod laws;
 mod numbers;
 
-pub use header::{Header, PAGE_SIZE, TreeNumbers};
+pub use header::{Header, TreeNumbers};
 pub use laws::{read_is_written, written_is_read};

@@ -24,9 +24,10 @@ ghost use Rattle.file_header.specs.Bounds.{FitsItsBytes};
 ghost use Rattle.file_header.specs.FirstPage.{first_bytes, version_of, least_told};
 ghost use Rattle.file_header.specs.Reading.{least_in, greatest_in, numbers_in};
 
-use crate::header::{Header, PAGE_SIZE};
+use crate::header::Header;
 use crate::key_rows::{parts_in, trees_in};
 use byteorder::{BigEndian, ByteOrder};
+use page_bytes::PAGE_SIZE;
 use record_layout::Schema;
 
 pub const GATE: usize = 0;

@@ -1,7 +1,8 @@
 //! The first pages of two files, byte for byte, and what one changed byte does.
 
 use crate::checks::{assert_equal, assert_equal_for};
-use file_header::{Header, PAGE_SIZE, TreeNumbers};
+use file_header::{Header, TreeNumbers};
+use page_bytes::PAGE_SIZE;
 use record_layout::KeyPart;
 use std::process::Abort;
 

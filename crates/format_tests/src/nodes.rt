@@ -1,7 +1,8 @@
 //! The numbers and bytes of a node that a person reads off the format.
 
+use page_bytes::PAGE_SIZE;
 use std::process::Abort;
-use tree_node::{InnerView, LeafView, PAGE_SIZE, Shape, is_inner, is_leaf, is_node};
+use tree_node::{InnerView, LeafView, Shape, is_inner, is_leaf, is_node};
 
 const PRIME: Shape = Shape {
     key: 0,

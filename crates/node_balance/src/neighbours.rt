@@ -6,8 +6,9 @@ ghost use Rattle.tree_node.specs.Inner.{IsInner, separators, children, inner_roo
 ghost use Rattle.node_balance.specs.Fill.{least};
 ghost use Rattle.node_balance.specs.Even.{LosesSeparator, HasSeparator, LeavesJoined, LeavesShared, InnersJoined, InnersShared, Joins, Shares, Evens};
 
+use page_bytes::PAGE_SIZE;
 use tree_node::{
-    InnerView, InnerViewMut, LeafView, LeafViewMut, PAGE_SIZE, Shape, TreeKey, is_inner, is_leaf,
+    InnerView, InnerViewMut, LeafView, LeafViewMut, Shape, TreeKey, is_inner, is_leaf,
 };
 
 /// Takes a separator out, and the child to its right.

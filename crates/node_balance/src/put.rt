@@ -6,7 +6,8 @@ ghost use Rattle.tree_node.specs.Inner.{IsInner, separators, children};
 ghost use Rattle.node_balance.specs.Put.{PutInLeaf, PutInInner};
 
 use crate::separator::Separator;
-use tree_node::{InnerView, InnerViewMut, LeafView, LeafViewMut, PAGE_SIZE, Shape, TreeKey};
+use page_bytes::PAGE_SIZE;
+use tree_node::{InnerView, InnerViewMut, LeafView, LeafViewMut, Shape, TreeKey};
 
 /// Puts an entry before entry `place` of a leaf. Where the leaf is full, its upper half goes to
 /// another page, and the first key there is answered.

@@ -2,6 +2,7 @@
 
 use crate::paged_file::PagedFile;
 use io_state::Fault;
+use page_bytes::PAGE_SIZE;
 use page_store::Shelf;
 use pages::Pages;
 
@@ -82,7 +83,7 @@ impl<'a, S: Shelf> Pages for FilePages<'a, S> {
     ghost failed_later = { λ a b c moves failed. failed_after
         (S.Shelf.fault_count a.shelf.now) (S.Shelf.fault_count b.shelf.now) (S.Shelf.fault_count c.shelf.now) moves.2.faults failed };
 
-    fn page(&mut self, n: u32) -> Result<&[u8; 4096], Fault> {
+    fn page(&mut self, n: u32) -> Result<&[u8; PAGE_SIZE], Fault> {
         if n == 0 || n >= self.file.pager.count {
             return Err(Fault::Damage);
         }
@@ -90,7 +91,7 @@ impl<'a, S: Shelf> Pages for FilePages<'a, S> {
         self.file.cache.held(n)
     }
 
-    fn page_mut(&mut self, n: u32) -> Result<&mut [u8; 4096], Fault> {
+    fn page_mut(&mut self, n: u32) -> Result<&mut [u8; PAGE_SIZE], Fault> {
         if n == 0 || n >= self.file.pager.count {
             return Err(Fault::Damage);
         }

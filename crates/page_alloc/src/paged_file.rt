@@ -13,6 +13,7 @@ ghost use Rattle.page_alloc.specs.Steps.{Moves};
 
 use crate::pager::Pager;
 use io_state::Fault;
+use page_bytes::PAGE_SIZE;
 use page_cache::Cache;
 use page_store::{Shelf, Store};
 use std::alloc::Global;
@@ -35,7 +36,7 @@ impl PagedFile {
         unit: usize,
         frames: NonZeroUsize,
         limit: u32,
-        header: &[u8; 4096],
+        header: &[u8; PAGE_SIZE],
     ) -> Result<PagedFile, Fault>
         requires unit { HasUnit (S.state shelf.old) unit }
         ensures made { IfOk result (λ held. IsNewPagedFile held unit limit) }
@@ -111,7 +112,7 @@ impl PagedFile {
 
     /// Writes what was changed, and this header, and closes the gate. Where nothing was changed, it does nothing.
     /// After a fault the file is refused, or it is closed.
-    pub fn close<S: Shelf>(&mut self, shelf: &mut S, header: &[u8; 4096]) -> Result<(), Fault>
+    pub fn close<S: Shelf>(&mut self, shelf: &mut S, header: &[u8; PAGE_SIZE]) -> Result<(), Fault>
         requires ready { IsOpenOver self.old (S.state shelf.old) }
         ensures nothing { self.old.changed ≡ false → (S.state shelf.new).file ≡ (S.state shelf.old).file }
         ensures closed { OnOk result (IsTrue (S.state shelf.new).is_honest → self.old.changed ≡ true →

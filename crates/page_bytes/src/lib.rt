@@ -5,3 +5,6 @@
 #![tactic(auto)]
 
 pub mod chunks;
+
+/// The bytes of a page.
+pub const PAGE_SIZE: usize = 4096;

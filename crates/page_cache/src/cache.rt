@@ -13,6 +13,7 @@ ghost use Rattle.page_cache.specs.Turning.{HasRoom, IsLastWritten, settled, Turn
 use crate::frame::{self, Frame};
 use crate::frames::Frames;
 use io_state::Fault;
+use page_bytes::PAGE_SIZE;
 use page_store::{Shelf, Store};
 use std::alloc::Global;
 use std::num::NonZeroUsize;
@@ -22,7 +23,7 @@ use std::num::NonZeroUsize;
 pub struct Cache {
     pub store: Store,
     pub frames: Frames,
-    pub spare: Option<Box<[u8; 4096]>>,
+    pub spare: Option<Box<[u8; PAGE_SIZE]>>,
     pub asked: u64,
     pub alloc: Global,
 }
@@ -319,7 +320,7 @@ impl Cache {
     }
 
     // A box with the bytes of page n.
-    fn read<S: Shelf>(&mut self, shelf: &mut S, n: u32) -> Result<Box<[u8; 4096]>, Fault>
+    fn read<S: Shelf>(&mut self, shelf: &mut S, n: u32) -> Result<Box<[u8; PAGE_SIZE]>, Fault>
         requires over { IsOver self.old (S.state shelf.old) }
         requires page { IsTrue (is_counted self.old n) }
         ensures bytes { let file = unit_file (S.state shelf.old) self.old.store.unit in
@@ -341,7 +342,7 @@ impl Cache {
     }
 
     // A box with any bytes: the one left over, or a new one.
-    fn box_for_page(&mut self) -> Result<Box<[u8; 4096]>, Fault>
+    fn box_for_page(&mut self) -> Result<Box<[u8; PAGE_SIZE]>, Fault>
         ensures frames { self.new.frames ≡ self.old.frames }
         ensures store { self.new.store ≡ self.old.store }
         ensures asked { self.new.asked ≡ self.old.asked }
@@ -349,7 +350,7 @@ impl Cache {
     {
         match self.spare.take() {
             Some(page) => Ok(page),
-            None => Box::new(self.alloc, [0; 4096]).map_err(|_| Fault::Memory),
+            None => Box::new(self.alloc, [0; PAGE_SIZE]).map_err(|_| Fault::Memory),
         }
     }
 

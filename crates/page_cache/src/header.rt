@@ -12,11 +12,16 @@ ghost use Rattle.page_cache.specs.Calls.{KeepsPages, ShowsSame};
 
 use crate::cache::Cache;
 use io_state::Fault;
+use page_bytes::PAGE_SIZE;
 use page_store::Shelf;
 
 impl Cache {
     /// Reads the header page, past the frames.
-    pub fn read_header<S: Shelf>(&self, shelf: &mut S, page: &mut [u8; 4096]) -> Result<(), Fault>
+    pub fn read_header<S: Shelf>(
+        &self,
+        shelf: &mut S,
+        page: &mut [u8; PAGE_SIZE],
+    ) -> Result<(), Fault>
         requires over { IsOver self.now (S.state shelf.old) }
         requires header { 0 < self.now.store.pages }
         ensures answer { let file = unit_file (S.state shelf.old) self.now.store.unit in
@@ -29,7 +34,11 @@ impl Cache {
     }
 
     /// Writes the header page, past the frames, but for its first byte.
-    pub fn write_header<S: Shelf>(&mut self, shelf: &mut S, page: &[u8; 4096]) -> Result<(), Fault>
+    pub fn write_header<S: Shelf>(
+        &mut self,
+        shelf: &mut S,
+        page: &[u8; PAGE_SIZE],
+    ) -> Result<(), Fault>
         requires over { IsOver self.old (S.state shelf.old) }
         requires header { 0 < self.old.store.pages }
         ensures written { OnOk result (IsTrue (S.state shelf.new).is_honest →

@@ -10,9 +10,10 @@ ghost use Rattle.page_store.specs.Pages.{page_of, PageWritten, PageFails, HasPag
 use crate::gate::{self, CLOSED};
 use crate::shelf::Shelf;
 use io_state::Fault;
+use page_bytes::PAGE_SIZE;
 
 /// The number of bytes of a page.
-pub const PAGE: u64 = 4096;
+pub const PAGE: u64 = PAGE_SIZE as u64;
 
 /// The pages of one unit of a shelf, and its gate.
 #[derive(Clone, Copy, Debug)]
@@ -118,7 +119,7 @@ impl Store {
         &self,
         shelf: &mut S,
         n: u32,
-        page: &mut [u8; 4096],
+        page: &mut [u8; PAGE_SIZE],
     ) -> Result<(), Fault>
         requires unit { HasUnit (S.state shelf.old) self.now.unit }
         requires page { n < self.now.pages }
@@ -139,7 +140,7 @@ impl Store {
         &mut self,
         shelf: &mut S,
         n: u32,
-        page: &[u8; 4096],
+        page: &[u8; PAGE_SIZE],
     ) -> Result<(), Fault>
         requires unit { HasUnit (S.state shelf.old) self.old.unit }
         requires page { (n ≤ self.old.pages) × (n < 2 ^ 32 - 1) }
@@ -167,7 +168,7 @@ fn write_at_page<S: Shelf>(
     shelf: &mut S,
     unit: usize,
     n: u32,
-    page: &[u8; 4096],
+    page: &[u8; PAGE_SIZE],
 ) -> Result<(), Fault>
     requires unit { HasUnit (S.state shelf.old) unit }
     requires within { WhereHonest (S.state shelf.old) unit (IsWithin (offset_of n)) }

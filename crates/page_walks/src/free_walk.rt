@@ -10,8 +10,8 @@ ghost use Rattle.page_marks.specs.Marks.{marked_in};
 ghost use Rattle.page_walks.specs.FreeWalk.{IsFreePageAt, FreeWalked};
 
 use byteorder::{BigEndian, ByteOrder};
+use page_bytes::PAGE_SIZE;
 use page_marks::{WalkFault, mark};
-use tree_node::PAGE_SIZE;
 
 /// The first four bytes, as a number.
 const FREE: u32 = 0x4600_0000;

@@ -9,7 +9,8 @@ ghost use Rattle.tree_node.specs.Order.{less, Ascends};
 ghost use Rattle.tree_search.specs.Tree.{NotBelow, Above, Below};
 ghost use Rattle.page_walks.specs.Order.{AreBetween};
 
-use tree_node::{InnerView, LeafView, PAGE_SIZE, Shape};
+use page_bytes::PAGE_SIZE;
+use tree_node::{InnerView, LeafView, Shape};
 
 /// The bytes `a` come before the bytes `b`.
 fn is_below(a: &[u8], b: &[u8]) -> bool

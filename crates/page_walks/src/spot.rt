@@ -2,7 +2,8 @@
 
 ghost use Rattle.std.specs.Prelude.{◌≡◌, ◌↔◌, IsSome, IfSome};
 
-use tree_node::{LeafView, PAGE_SIZE, Shape, is_leaf};
+use page_bytes::PAGE_SIZE;
+use tree_node::{LeafView, Shape, is_leaf};
 
 /// A place in a leaf of a tree: the leaf's page, and how many entries stand before it.
 #[derive(Clone, Copy, Debug, PartialEq, Eq)]

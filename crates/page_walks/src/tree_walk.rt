@@ -12,9 +12,10 @@ ghost use Rattle.page_walks.specs.TreeWalk.{InnerFits, LeafFits, Walked, TreeWal
 use crate::order::{leaf_rises, separators_rise};
 use crate::spot::Spot;
 use bplus_tree::Tree;
+use page_bytes::PAGE_SIZE;
 use page_marks::{WalkFault, mark};
 use std::alloc::Global;
-use tree_node::{InnerView, LeafView, PAGE_SIZE, Shape, is_inner, is_leaf};
+use tree_node::{InnerView, LeafView, Shape, is_inner, is_leaf};
 
 /// What the place of a node requires: how many entries or separators it has at least, and between which keys its own lie.
 #[derive(Clone, Copy)]

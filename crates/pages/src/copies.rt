@@ -6,9 +6,10 @@ ghost use Rattle.pages.specs.Cause.{IsCaused};
 
 use crate::pages::Pages;
 use io_state::Fault;
+use page_bytes::PAGE_SIZE;
 
 /// Copies page `n` into `to`, which at a fault is as it was.
-pub fn copy<P: Pages>(pages: &mut P, n: u32, to: &mut [u8; 4096]) -> Result<(), Fault>
+pub fn copy<P: Pages>(pages: &mut P, n: u32, to: &mut [u8; PAGE_SIZE]) -> Result<(), Fault>
     requires ready { P.IsReady pages.old }
     ensures copied { IsTrue (P.state pages.new).is_honest → IsSome ((P.state pages.old).live n)
         → OnOk result ((P.state pages.old).live n ≡ Some to.new) }
@@ -24,7 +25,7 @@ pub fn copy<P: Pages>(pages: &mut P, n: u32, to: &mut [u8; 4096]) -> Result<(), 
 }
 
 /// Writes page `n` whole.
-pub fn store<P: Pages>(pages: &mut P, n: u32, from: &[u8; 4096]) -> Result<(), Fault>
+pub fn store<P: Pages>(pages: &mut P, n: u32, from: &[u8; PAGE_SIZE]) -> Result<(), Fault>
     requires ready { P.IsReady pages.old }
     requires open { P.CanChange pages.old }
     ensures stored { IsTrue (P.state pages.new).is_honest → IsSome ((P.state pages.old).live n)

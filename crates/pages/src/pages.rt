@@ -8,6 +8,7 @@ ghost use Rattle.pages.specs.PagesState.{PagesState, Shows, Rests, LeavesPage};
 ghost use Rattle.pages.specs.Cause.{IsCaused};
 
 use io_state::Fault;
+use page_bytes::PAGE_SIZE;
 
 /// The pages of a file that is open. Page numbers are from 0.
 ///
@@ -35,7 +36,7 @@ pub trait Pages {
     ghost HasFailed: { Self → Self → Type 0 };
 
     /// Lends a page for reading. A page that is in use is shown as it is.
-    fn page(&mut self, n: u32) -> Result<&[u8; 4096], Fault>
+    fn page(&mut self, n: u32) -> Result<&[u8; PAGE_SIZE], Fault>
         requires ready { IsReady self.old }
         ensures* lends { sem 𝓛 (follows_so Self.row Self.row self.entry.ghost_name none (λ _ _. ⊤)
             (λ after. Rests (state self.entry.now) (state after)
@@ -46,7 +47,7 @@ pub trait Pages {
             × IfErr result (IsCaused (HasFailed self.entry.now after) ⊥))) };
 
     /// Lends a page for writing. A page that is in use is shown as it is, and holds what is left in it; every other page stays.
-    fn page_mut(&mut self, n: u32) -> Result<&mut [u8; 4096], Fault>
+    fn page_mut(&mut self, n: u32) -> Result<&mut [u8; PAGE_SIZE], Fault>
         requires ready { IsReady self.old }
         requires open { CanChange self.old }
         ensures* lends { sem 𝓛 (LendsSoOk Self.row (Array byte 4096) self.entry result

@@ -15,9 +15,7 @@ ghost use Rattle.record_heap.specs.Slots.{slot_at, start_of, behind_new, AreLink
 use crate::shape::{Place, Shape};
 use crate::slot;
 use byteorder::{BigEndian, ByteOrder};
-
-/// The bytes of a page.
-pub const PAGE_SIZE: usize = 4096;
+use page_bytes::PAGE_SIZE;
 
 /// The next heap page.
 pub const NEXT: usize = 4;

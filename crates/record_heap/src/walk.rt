@@ -13,8 +13,9 @@ use crate::heap::Heap;
 use crate::shape::{Place, Shape};
 use crate::slot::{behind, is_used};
 use crate::slot_marks::SlotMarks;
-use crate::slots::{FIRST_SLOT, NEXT, NEXT_END, PAGE_SIZE, slot, start_of};
+use crate::slots::{FIRST_SLOT, NEXT, NEXT_END, slot, start_of};
 use byteorder::{BigEndian, ByteOrder};
+use page_bytes::PAGE_SIZE;
 use page_marks::{WalkFault, mark};
 use std::alloc::Global;
 

@@ -18,8 +18,8 @@ use crate::row_fault::RowFault;
 use byteorder::{BigEndian, ByteOrder};
 use key_index::AltIndex;
 use open_file::OpenFile;
+use page_bytes::PAGE_SIZE;
 use page_walks::Spot;
-use tree_node::PAGE_SIZE;
 
 /// The bytes of a stamp.
 const STAMP: usize = 8;

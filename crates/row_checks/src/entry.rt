@@ -8,9 +8,10 @@ ghost use Rattle.key_index.specs.Stored.{prime_entry_in};
 
 use byteorder::{BigEndian, ByteOrder};
 use open_file::OpenFile;
+use page_bytes::PAGE_SIZE;
 use page_walks::Spot;
 use record_heap::Place;
-use tree_node::{PAGE_SIZE, Shape};
+use tree_node::Shape;
 
 /// Bytes are below 256. It does nothing.
 pub fn bytes_fit(bytes: &[u8])

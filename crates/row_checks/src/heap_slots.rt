@@ -13,9 +13,9 @@ use crate::entry::{entry, entry_near, place_in};
 use crate::record::stored_at;
 use crate::row::value;
 use open_file::OpenFile;
+use page_bytes::PAGE_SIZE;
 use page_walks::Spot;
 use record_heap::Place;
-use tree_node::PAGE_SIZE;
 
 /// The slot is not in use, or an entry of the prime index leads to it.
 fn has_entry(pages: &[[u8; PAGE_SIZE]], file: &OpenFile, primes: &[Spot], place: Place) -> bool

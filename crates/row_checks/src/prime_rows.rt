@@ -15,10 +15,10 @@ use crate::record::stored_at;
 use crate::row::{is_row, value};
 use crate::row_fault::RowFault;
 use open_file::OpenFile;
+use page_bytes::PAGE_SIZE;
 use page_marks::mark;
 use page_walks::Spot;
 use std::alloc::Global;
-use tree_node::PAGE_SIZE;
 
 /// No marks, for so many pages.
 fn no_marks(alloc: Global, count: usize) -> Result<Vec<bool>, RowFault>

@@ -13,8 +13,8 @@ ghost use Rattle.row_checks.specs.Leading.{IsStoredRecord};
 use crate::entry::bytes_fit;
 use byteorder::{BigEndian, ByteOrder};
 use open_file::OpenFile;
+use page_bytes::PAGE_SIZE;
 use record_heap::{Place, Shape};
-use tree_node::PAGE_SIZE;
 
 /// The mark of a slot in use.
 const USED: u8 = 1;

@@ -8,6 +8,7 @@ ghost use Rattle.shelf_file.specs.Shelves.{HasHeader};
 
 use file_header::Header;
 use io_state::Fault;
+use page_bytes::PAGE_SIZE;
 use page_store::{PAGE, Shelf};
 
 /// What a look at a file finds: no file; one whose first page is refused, or that is shorter than it counts; or one that can be opened.
@@ -35,7 +36,7 @@ pub fn look_at<S: Shelf>(shelf: &mut S, unit: usize) -> Result<Look, Fault>
     if size < PAGE {
         return Ok(Look::Refused);
     }
-    let mut page = [0; 4096];
+    let mut page = [0; PAGE_SIZE];
     shelf.read_at(unit, 0, &mut page)?;
     Ok(judged(size, Header::read(&page)))
 }

@@ -20,6 +20,7 @@ use file_header::Header;
 use io_state::Fault;
 use open_file::OpenFile;
 use page_alloc::{FilePages, PagedFile, Pager};
+use page_bytes::PAGE_SIZE;
 use page_store::{Shelf, Store};
 use record_layout::Schema;
 use std::alloc::Global;
@@ -52,7 +53,7 @@ impl ShelfFile {
     {
         // There are at most nine, so that each has a page for its tree.
         let _keys = schema.key_count();
-        let mut pages = PagedFile::create(alloc, shelf, unit, frames, limit, &[0; 4096])?;
+        let mut pages = PagedFile::create(alloc, shelf, unit, frames, limit, &[0; PAGE_SIZE])?;
         let file = OpenFile::create(
             &mut FilePages {
                 file: &mut pages,
@@ -118,7 +119,7 @@ impl ShelfFile {
         if self.file.broken {
             return Err(Fault::Broken);
         }
-        let mut page = [0; 4096];
+        let mut page = [0; PAGE_SIZE];
         self.header().write(&mut page);
         self.pages.close(shelf, &page)
     }

@@ -1,10 +1,9 @@
 //! What tells whether a file was changed.
 
 use crate::calls::{again, read};
+use page_bytes::PAGE_SIZE;
 use std::fs::{Metadata, OpenFile};
 use std::os::unix::fs::{FileExt, MetadataExt};
-
-const PAGE: u64 = 4096;
 
 /// The length of a file, the times of its last changes, and the bytes of its first page, zeros where it has none.
 #[derive(PartialEq, Eq, Drop)]
@@ -12,15 +11,15 @@ pub(crate) struct Appearance {
     length: u64,
     modified: (i64, i64),
     changed: (i64, i64),
-    first_page: [u8; 4096],
+    first_page: [u8; PAGE_SIZE],
 }
 
 impl Appearance {
     /// What a file looks like, if the system tells it.
     pub(crate) fn of<F: OpenFile + FileExt>(file: &F) -> Option<Appearance> {
         let found = again(|| file.metadata()).ok()?;
-        let mut first_page = [0; 4096];
-        let there = found.len().min(PAGE) as usize;
+        let mut first_page = [0; PAGE_SIZE];
+        let there = found.len().min(PAGE_SIZE as u64) as usize;
         if !read(file, 0, &mut first_page[..there]) {
             return None;
         }

@@ -9,8 +9,9 @@ ghost use Rattle.tree_node.specs.Order.{Ascends, IsRank};
 
 use crate::spot::entry_with;
 use io_state::Fault;
+use page_bytes::PAGE_SIZE;
 use pages::Pages;
-use tree_node::{Entry, InnerView, LeafView, PAGE_SIZE, Shape, is_inner, is_leaf};
+use tree_node::{Entry, InnerView, LeafView, Shape, is_inner, is_leaf};
 
 /// The child of an inner node below which a key belongs: its place, its page, the page of the next one (or its own, where it is the last),
 /// and how many separators the node has.

@@ -11,8 +11,9 @@ use crate::descent::{StepDown, step_in};
 use crate::search::first_child;
 use crate::spot::fill;
 use io_state::Fault;
+use page_bytes::PAGE_SIZE;
 use pages::Pages;
-use tree_node::{Entry, InnerView, LeafView, PAGE_SIZE, Shape, is_inner, is_leaf};
+use tree_node::{Entry, InnerView, LeafView, Shape, is_inner, is_leaf};
 
 /// The first entry of a range, and whether the next entry of the tree is one of the range too.
 #[derive(Drop)]

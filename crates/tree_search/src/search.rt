@@ -11,8 +11,9 @@ ghost use Rattle.tree_search.specs.Search.{Finds, FindsFilled, FindsInLeaf, Find
 use crate::descent::{descend, has_key};
 use crate::spot::{Spot, entry_at, entry_in_leaf, entry_with, fill};
 use io_state::Fault;
+use page_bytes::PAGE_SIZE;
 use pages::Pages;
-use tree_node::{Entry, InnerView, LeafView, PAGE_SIZE, Shape, is_inner, is_leaf};
+use tree_node::{Entry, InnerView, LeafView, Shape, is_inner, is_leaf};
 
 /// The entry of a key in a tree with `levels` levels above its leaves.
 pub fn find_below<P: Pages>(

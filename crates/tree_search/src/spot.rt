@@ -5,8 +5,9 @@ ghost use Rattle.tree_node.specs.Leaf.{IsLeaf, leaf_entries};
 ghost use Rattle.pages.specs.Cause.{IsCaused};
 
 use io_state::Fault;
+use page_bytes::PAGE_SIZE;
 use pages::Pages;
-use tree_node::{Entry, LeafView, PAGE_SIZE, Shape, is_leaf};
+use tree_node::{Entry, LeafView, Shape, is_leaf};
 
 /// The leaf of an entry, its place there, and how many entries the leaf has. Nowhere, where it has none.
 #[derive(Clone, Copy)]

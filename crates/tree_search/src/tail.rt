@@ -10,8 +10,9 @@ ghost use Rattle.tree_search.specs.Tail.{IsTail, TellsPresence, TellsBelow, Tell
 use crate::descent::has_key;
 use crate::search::leaf_below;
 use io_state::Fault;
+use page_bytes::PAGE_SIZE;
 use pages::Pages;
-use tree_node::{LeafView, PAGE_SIZE, Shape, is_leaf};
+use tree_node::{LeafView, Shape, is_leaf};
 
 /// The bytes behind the key of an entry go to `tail`, in a tree with `levels` levels above its leaves. The answer is whether the key has an entry.
 pub fn find_tail<P: Pages>(

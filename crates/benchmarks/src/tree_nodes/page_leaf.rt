@@ -4,8 +4,9 @@ ghost use Rattle.std.specs.Prelude.{◌≡◌};
 ghost use Rattle.tree_node.specs.Leaf.{IsLeaf};
 
 use super::leaf::Leaf;
+use page_bytes::PAGE_SIZE;
 use std::alloc::AllocError;
-use tree_node::{LeafView, LeafViewMut, PAGE_SIZE, Shape, write_leaf};
+use tree_node::{LeafView, LeafViewMut, Shape, write_leaf};
 
 #[derive(Drop)]
 pub struct PageLeaf<const ENTRY: usize> {
