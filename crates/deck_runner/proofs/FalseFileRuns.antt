@@ -5,10 +5,10 @@ use Rattle.indexed_file.specs.Shown.{Shown}
 use Rattle.procedure_division.specs.declared.statement.Statement.{Statement}
 use Rattle.deck_reader.specs.declared.deck.Deck.{Deck}
 use Rattle.deck_runner.specs.Line.{Line}
-use Rattle.deck_runner.specs.Steps.{until_stop, closes_from, AreStepsOf}
+use Rattle.deck_runner.specs.Steps.{until_stop, closes_from, AreStepsOf, AreStepsInPart}
 use Rattle.deck_runner.specs.Stretches.{Point, AreStretches, IsRunOver, AreStretchesInPart, IsBrokenOff}
 use Rattle.deck_runner.specs.Beginning.{run_before, WorldIsLeft, DeckLeads}
-use Rattle.deck_runner.specs.NoFalseFile.{first_ledger, Judged, IsSafeStretch, StandNow, IsSafeRun, AreSafeInPart, IsSafeBrokenOff, DeckRuns, RunsWhole, RunsInPart}
+use Rattle.deck_runner.specs.NoFalseFile.{first_ledger, Judged, IsSafeStretch, StandNow, IsSafeRun, IsSafeBrokenOff, DeckRuns, RunsWhole, RunsInPart}
 use Rattle.deck_runner.proofs.FalseFileLaws.{no_false_file}
 
 module _
@@ -20,7 +20,7 @@ module _
   Safe AreSuch before lines next = (after : Judged S) × (after.point ≡ next) × AreSuch before lines after × StandNow library start after
 
   part : (statements : List Statement) (before : Judged S) (lines : List Line) (next : Point S) → AreStretchesInPart library statements before.point lines next → StandNow library start before
-      → Safe (AreSafeInPart library start statements) before lines next
+      → Safe (AreStepsInPart (IsSafeStretch library start) statements) before lines next
   part statements before lines next p now =
       let done = no_false_file library ends start p.0 before lines next p.3 now in
       (done.0, done.1, (p.0, p.1, p.2, done.2), done.3)

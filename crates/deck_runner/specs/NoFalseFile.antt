@@ -11,7 +11,7 @@ use Rattle.procedure_division.specs.declared.statement.Statement.{Statement}
 use Rattle.deck_runner.specs.Line.{Line}
 use Rattle.deck_runner.specs.Run.{Run}
 use Rattle.deck_reader.specs.declared.deck.Deck.{Deck}
-use Rattle.deck_runner.specs.Steps.{AreStepsOf, until_stop, closes_from}
+use Rattle.deck_runner.specs.Steps.{AreStepsOf, IsRunOf, IsRunInPart, closes_from}
 use Rattle.deck_runner.specs.Stretches.{Point, IsStretch, AreStretches, name_by, trace_by}
 use Rattle.deck_runner.specs.State.{AreLinesOf}
 use Rattle.deck_runner.specs.Beginning.{run_before, WorldIsLeft, WhereFilesAreTrue, IsAttached, program_names}
@@ -88,23 +88,11 @@ ImagesAreOfLedger {S} library =
 
 -- a whole run of such stretches, the closes at its end among them
 abbrev pub IsSafeRun : {S : Type 0} → Shown S → S → List Statement → Judged S → List Line → Judged S → Type 0
-IsSafeRun {S} library start statements before lines after =
-    (stopped : Judged S) × (first : List Line) × (others : List Line)
-    × AreStepsOf (IsSafeStretch library start) (until_stop statements) before first stopped
-    × AreStepsOf (IsSafeStretch library start) (closes_from 0 stopped.point.run.files) stopped others after × (lines ≡ first ++ others)
-
--- some of such stretches
-abbrev pub AreSafeInPart : {S : Type 0} → Shown S → S → List Statement → Judged S → List Line → Judged S → Type 0
-AreSafeInPart library start statements before lines after =
-    (done : List Statement) × (rest : List Statement) × (statements ≡ done ++ rest) × AreStepsOf (IsSafeStretch library start) done before lines after
+IsSafeRun library start = IsRunOf (IsSafeStretch library start) (λ judged. closes_from 0 judged.point.run.files)
 
 -- a run that was broken off
 abbrev pub IsSafeBrokenOff : {S : Type 0} → Shown S → S → List Statement → Judged S → List Line → Judged S → Type 0
-IsSafeBrokenOff {S} library start statements before lines after =
-    AreSafeInPart library start (until_stop statements) before lines after
-    ⊎ ((stopped : Judged S) × (first : List Line) × (others : List Line)
-    × AreStepsOf (IsSafeStretch library start) (until_stop statements) before first stopped
-    × AreSafeInPart library start (closes_from 0 stopped.point.run.files) stopped others after × (lines ≡ first ++ others))
+IsSafeBrokenOff library start = IsRunInPart (IsSafeStretch library start) (λ judged. closes_from 0 judged.point.run.files)
 
 -- where the files are true, such stretches lead with these lines from the deck before its first statement to what the library shows then,
 -- behind the stretch in which its names are attached; from the start on each name stands by its ledger, and so it does at the end. In any

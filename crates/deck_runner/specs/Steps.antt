@@ -73,13 +73,25 @@ closes_from u [] = []
 closes_from u (file ∷ files) = close_of u file ++ closes_from (suc u) files
 
 -- a whole run of such steps: the statements up to STOP RUN, and then the closes of the files that are open there
-abbrev pub IsRunOf : (Statement → Run → List Line → Run → Type 0) → List Statement → Run → List Line → Run → Type 0
-IsRunOf IsOne statements run lines next =
-    (stopped : Run) × (first : List Line) × (others : List Line)
-    × AreStepsOf IsOne (until_stop statements) run first stopped × AreStepsOf IsOne (closes_from 0 stopped.files) stopped others next × (lines ≡ first ++ others)
+abbrev pub IsRunOf : {X : Type 0} → (Statement → X → List Line → X → Type 0) → (X → List Statement) → List Statement → X → List Line → X → Type 0
+IsRunOf {X} IsOne closes statements run lines next =
+    (stopped : X) × (first : List Line) × (others : List Line)
+    × AreStepsOf IsOne (until_stop statements) run first stopped × AreStepsOf IsOne (closes stopped) stopped others next × (lines ≡ first ++ others)
+
+-- some such steps, from the first statement on
+abbrev pub AreStepsInPart : {X : Type 0} → (Statement → X → List Line → X → Type 0) → List Statement → X → List Line → X → Type 0
+AreStepsInPart IsOne statements run lines next =
+    (done : List Statement) × (rest : List Statement) × (statements ≡ done ++ rest) × AreStepsOf IsOne done run lines next
+
+-- a run that was broken off, before STOP RUN or among the closes
+abbrev pub IsRunInPart : {X : Type 0} → (Statement → X → List Line → X → Type 0) → (X → List Statement) → List Statement → X → List Line → X → Type 0
+IsRunInPart {X} IsOne closes statements run lines next =
+    AreStepsInPart IsOne (until_stop statements) run lines next
+    ⊎ ((stopped : X) × (first : List Line) × (others : List Line)
+    × AreStepsOf IsOne (until_stop statements) run first stopped × AreStepsInPart IsOne (closes stopped) stopped others next × (lines ≡ first ++ others))
 
 abbrev pub IsRun : List Statement → Run → List Line → Run → Type 0
-IsRun = IsRunOf IsStep
+IsRun = IsRunOf IsStep (λ run. closes_from 0 run.files)
 
 -- ---- the law
 

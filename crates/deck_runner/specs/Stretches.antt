@@ -18,7 +18,7 @@ use Rattle.procedure_division.specs.declared.statement.Statement.TheVariants.{Pe
 use Rattle.deck_runner.specs.Line.{Line, is_clean}
 use Rattle.deck_runner.specs.Run.{RunFile, Run, record_length, lines_of_run}
 use Rattle.deck_runner.specs.Running.{unit_names}
-use Rattle.deck_runner.specs.Steps.{IsStep, AreStepsOf, until_stop, close_at, closes_from}
+use Rattle.deck_runner.specs.Steps.{IsStep, AreStepsOf, IsRunOf, AreStepsInPart, IsRunInPart, close_at, closes_from}
 
 -- a point between two steps: the run there, and the library
 pub record Point (S : Type 0) : Type 0 where
@@ -98,27 +98,21 @@ ClosesAt library u run lines next = AreStretches library (close_at u (slice_get 
 abbrev pub ClosesFiles : {S : Type 0} → Shown S → Point S → List Line → Point S → Type 0
 ClosesFiles library run lines next = AreStretches library (closes_from 0 run.run.files) run lines next
 
--- a whole run: the statements up to STOP RUN, and then the closes of the files that are open there
+-- a whole run
 abbrev pub IsRunOver : {S : Type 0} → Shown S → List Statement → Point S → List Line → Point S → Type 0
-IsRunOver {S} library statements run lines next =
-    (stopped : Point S) × (first : List Line) × (others : List Line)
-    × AreStretches library (until_stop statements) run first stopped × ClosesFiles library stopped others next × (lines ≡ first ++ others)
+IsRunOver library = IsRunOf (IsStretch library) (λ point. closes_from 0 point.run.files)
 
 -- some of the statements, from the first on, one after another
 abbrev pub AreStretchesInPart : {S : Type 0} → Shown S → List Statement → Point S → List Line → Point S → Type 0
-AreStretchesInPart library statements run lines next =
-    (done : List Statement) × (rest : List Statement) × (statements ≡ done ++ rest) × AreStretches library done run lines next
+AreStretchesInPart library = AreStepsInPart (IsStretch library)
 
 -- some of the closes
 abbrev pub ClosesInPart : {S : Type 0} → Shown S → Point S → List Line → Point S → Type 0
 ClosesInPart library run lines next = AreStretchesInPart library (closes_from 0 run.run.files) run lines next
 
--- a run that was broken off, before STOP RUN or among the closes
+-- a run that was broken off
 abbrev pub IsBrokenOff : {S : Type 0} → Shown S → List Statement → Point S → List Line → Point S → Type 0
-IsBrokenOff {S} library statements run lines next =
-    AreStretchesInPart library (until_stop statements) run lines next
-    ⊎ ((stopped : Point S) × (first : List Line) × (others : List Line)
-    × AreStretches library (until_stop statements) run first stopped × ClosesInPart library stopped others next × (lines ≡ first ++ others))
+IsBrokenOff library = IsRunInPart (IsStretch library) (λ point. closes_from 0 point.run.files)
 
 -- ---- the law
 

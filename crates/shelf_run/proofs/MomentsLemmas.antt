@@ -9,8 +9,8 @@ use Rattle.procedure_division.specs.declared.statement.Statement.{Statement}
 use Rattle.file_control.specs.Described.{file_names}
 use Rattle.deck_reader.specs.declared.deck.Deck.{Deck}
 use Rattle.deck_runner.specs.Line.{Line}
-use Rattle.deck_runner.specs.NoFalseFile.{Judged, IsSafeStretch, IsSafeRun, AreSafeInPart, IsSafeBrokenOff, DeckRuns, during, trace_for}
-use Rattle.deck_runner.specs.Steps.{AreStepsOf, until_stop, closes_from}
+use Rattle.deck_runner.specs.NoFalseFile.{Judged, IsSafeStretch, IsSafeRun, IsSafeBrokenOff, DeckRuns, during, trace_for}
+use Rattle.deck_runner.specs.Steps.{AreStepsOf, until_stop, closes_from, AreStepsInPart}
 use Rattle.shelf_library.specs.Crashes.{Passes, AllPass}
 use Rattle.shelf_library.specs.Laws.{joins}
 use Rattle.shelf_library.specs.State.{LibraryState}
@@ -38,7 +38,7 @@ module _ (start : LibraryState) (name : List ℕ) (real : AreReal start start na
       over_steps (closes_from 0 is.0.point.run.files) is.0 is.2 after is.4 (over_steps (until_stop statements) before is.1 is.0 is.3 begun)
 
   over_part : (statements : List Statement) (before : Judged LibraryState) (lines : List Line) (after : Judged LibraryState)
-      → AreSafeInPart shown_in start statements before lines after → AreReal start before.point.library name → AreReal start after.point.library name
+      → AreStepsInPart (IsSafeStretch shown_in start) statements before lines after → AreReal start before.point.library name → AreReal start after.point.library name
   over_part statements before lines after is begun = over_steps is.0 before lines after is.3 begun
 
   pub over_broken_off : (statements : List Statement) (before : Judged LibraryState) (lines : List Line) (after : Judged LibraryState)

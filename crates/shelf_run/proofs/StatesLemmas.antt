@@ -9,9 +9,9 @@ use Rattle.procedure_division.specs.declared.statement.Statement.TheVariants.{Pe
 use Rattle.deck_reader.specs.declared.deck.Deck.{Deck}
 use Rattle.deck_runner.specs.Beginning.{run_before}
 use Rattle.deck_runner.specs.Line.{Line}
-use Rattle.deck_runner.specs.NoFalseFile.{Judged, first_ledger, IsSafeStretch, IsSafeRun, AreSafeInPart, IsSafeBrokenOff, DeckRuns, RunsWhole, RunsInPart}
+use Rattle.deck_runner.specs.NoFalseFile.{Judged, first_ledger, IsSafeStretch, IsSafeRun, IsSafeBrokenOff, DeckRuns, RunsWhole, RunsInPart}
 use Rattle.deck_runner.specs.Run.{RunFile, Run}
-use Rattle.deck_runner.specs.Steps.{AreStepsOf, until_stop, closes_from}
+use Rattle.deck_runner.specs.Steps.{AreStepsOf, until_stop, closes_from, AreStepsInPart}
 use Rattle.deck_runner.specs.Stretches.{Point, IsStretch, HasCauses, IsCausedOn, ShowsRun, name_by, trace_by}
 use Rattle.shelf_library.specs.Library.{shown_by}
 use Rattle.shelf_library.specs.State.{LibraryState}
@@ -105,7 +105,7 @@ module _ {S : Type 0} (state : S → LibraryState) where
   )
 
   safe_part : (start : S) (statements : List Statement) (before : Judged S) (lines : List Line) (after : Judged S)
-      → AreSafeInPart (shown_by state) start statements before lines after → AreSafeInPart shown_in (state start) statements (judged before) lines (judged after)
+      → AreStepsInPart (IsSafeStretch (shown_by state) start) statements before lines after → AreStepsInPart (IsSafeStretch shown_in (state start)) statements (judged before) lines (judged after)
   safe_part start statements before lines after is = (is.0, is.1, is.2, safe_steps start is.0 before lines after is.3)
 
   safe_broken_off : (start : S) (statements : List Statement) (before : Judged S) (lines : List Line) (after : Judged S)
