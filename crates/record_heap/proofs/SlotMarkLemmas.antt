@@ -1,13 +1,13 @@
 -- A mark is set, and every other one stays.
-use Rattle.std.proofs.Common.{◌≡◌, ◌⊎◌, ℕ, ◌+◌, ◌*◌, ◌/◌, ◌<◌, Bool, false, List, Option, Some, None, length, get_or, set, refl, ap, sym, ◌∙◌, arith, inl, inr}
-use Rattle.std.specs.Prelude.{nat_lt, slice_get, slice_index_or}
+use Rattle.std.proofs.Common.{◌≡◌, ◌≢◌, ◌⊎◌, ℕ, ◌+◌, ◌*◌, ◌/◌, ◌<◌, Bool, false, List, Option, Some, None, refl, ap, sym, ◌∙◌, arith, inl, inr}
+use Rattle.std.specs.Prelude.{nat_lt, slice_get}
 use Rattle.std.proofs.lemmas.Bool.{cases_Bool, lt-ltb, ltb-true, eq-eqb}
 use Rattle.std.proofs.lemmas.Bool.Decides.{eqb_tells}
-use Rattle.std.proofs.lemmas.List.{get_or-set_same, get_or-set_other}
 use Rattle.std.proofs.lemmas.Nat.{div-mul-add}
 use Rattle.std.proofs.lemmas.Option.{slice_get_cases}
 use Rattle.record_heap.specs.declared.shape.Place.{Place}
 use Rattle.record_heap.specs.declared.slot_marks.SlotMarks.{SlotMarks}
+use Rattle.record_heap.specs.Bits.{bit_of}
 use Rattle.record_heap.specs.SlotMarks.{MarkAt, SetsMark, marked_slot}
 use Rattle.record_heap.proofs.ChainLemmas.{place_made}
 
@@ -34,7 +34,7 @@ record IsSeen (m : SlotMarks) (p : Place) : Type 0 where
   pub page : slice_get m.own.now at ≡ Some p.page
   pub slot : p.slot < m.room
 
-told : (m : SlotMarks) (p : Place) (seen : IsSeen m p) → marked_slot m p ≡ slice_index_or m.marks.items (seen.at * m.room + p.slot) false
+told : (m : SlotMarks) (p : Place) (seen : IsSeen m p) → marked_slot m p ≡ bit_of m.marks.words.items (seen.at * m.room + p.slot)
 told m p seen = rw (seen.position, seen.page, eq-eqb p.page p.page refl, lt-ltb p.slot m.room seen.slot) refl
 
 looks : (m : SlotMarks) (p : Place) → IsSeen m p ⊎ ((w : SlotMarks) → IsAlike m w → marked_slot w p ≡ false)
@@ -67,13 +67,13 @@ still_seen m w p alike seen = record {
 }
 
 -- the mark at i is set
-pub mark_set : (m w : SlotMarks) (place : Place) (to : Bool) (i : ℕ) → MarkAt m place i → i < length m.marks.items → w.own.now ≡ m.own.now → w.positions.items ≡ m.positions.items → w.room ≡ m.room
-    → w.marks.items ≡ set m.marks.items i to → SetsMark place to m w
-mark_set m w place to i at within own positions room is = record {
-  here = now place here ∙ ap (λ (n : ℕ). get_or (set m.marks.items i to) n false) (sym at.is) ∙ get_or-set_same m.marks.items i to false within;
+pub mark_set : (m w : SlotMarks) (place : Place) (to : Bool) (i : ℕ) → MarkAt m place i → w.own.now ≡ m.own.now → w.positions.items ≡ m.positions.items → w.room ≡ m.room
+    → bit_of w.marks.words.items i ≡ to → ((j : ℕ) → j ≢ i → bit_of w.marks.words.items j ≡ bit_of m.marks.words.items j) → SetsMark place to m w
+mark_set m w place to i at own positions room is others = record {
+  here = now place here ∙ ap (bit_of w.marks.words.items) (sym at.is) ∙ is;
   others = λ p d. elim (looks m p) [
     | inr none ↦ none w alike ∙ sym (none m (alike_itself m))
-    | inl seen ↦ now p seen ∙ get_or-set_other m.marks.items i (seen.at * m.room + p.slot) to false (λ e. d (one_place p seen e)) ∙ sym (told m p seen)
+    | inl seen ↦ now p seen ∙ others (seen.at * m.room + p.slot) (λ e. d (one_place p seen e)) ∙ sym (told m p seen)
   ];
 }
   where
@@ -83,8 +83,8 @@ mark_set m w place to i at within own positions room is = record {
     here : IsSeen m place
     here = record { at = at.at; position = at.position; page = at.page; slot = at.slot }
 
-    now : (p : Place) (seen : IsSeen m p) → marked_slot w p ≡ get_or (set m.marks.items i to) (seen.at * m.room + p.slot) false
-    now p seen = told w p (still_seen m w p alike seen) ∙ ap (λ (r : ℕ). get_or w.marks.items (seen.at * r + p.slot) false) room ∙ ap (λ (l : List Bool). get_or l (seen.at * m.room + p.slot) false) is
+    now : (p : Place) (seen : IsSeen m p) → marked_slot w p ≡ bit_of w.marks.words.items (seen.at * m.room + p.slot)
+    now p seen = told w p (still_seen m w p alike seen) ∙ ap (λ (r : ℕ). bit_of w.marks.words.items (seen.at * r + p.slot)) room
 
     one_place : (p : Place) (seen : IsSeen m p) → seen.at * m.room + p.slot ≡ i → p ≡ place
     one_place p seen e =

@@ -1,7 +1,8 @@
 -- Marks on the slots of some pages.
-use Rattle.std.specs.Prelude.{◌≡◌, ◌≢◌, ℕ, ◌+◌, ◌*◌, ◌<◌, ◌==◌, ◌&&◌, nat_lt, Bool, false, Some, slice_get, slice_index_or, if◌then◌else◌}
+use Rattle.std.specs.Prelude.{◌≡◌, ◌≢◌, ℕ, ◌+◌, ◌*◌, ◌<◌, ◌==◌, ◌&&◌, nat_lt, Bool, false, Some, slice_get, if◌then◌else◌}
 use Rattle.std.specs.Option.{option_map_or}
 use Rattle.record_heap.specs.declared.shape.Place.{Place}
+use Rattle.record_heap.specs.Bits.{bit_of}
 use Rattle.record_heap.specs.declared.slot_marks.SlotMarks.{SlotMarks}
 
 -- page n is the one at this position, and has a slot of this number
@@ -10,7 +11,7 @@ is_at marks at p = option_map_or (λ n. n == p.page) (slice_get marks.own.now at
 
 -- the mark of a slot, where the position of its page is this
 abbrev pub mark_from : SlotMarks → Place → ℕ → Bool
-mark_from marks p at = if is_at marks at p then slice_index_or marks.marks.items (at * marks.room + p.slot) false else false
+mark_from marks p at = if is_at marks at p then bit_of marks.marks.words.items (at * marks.room + p.slot) else false
 
 -- the slot is marked
 abbrev pub marked_slot : SlotMarks → Place → Bool

@@ -7,6 +7,7 @@
 //! checks a file whose pages were all read.
 #![tactic(auto)]
 
+mod bits;
 mod calls;
 mod heap;
 mod laws;

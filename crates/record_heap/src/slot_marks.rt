@@ -1,20 +1,22 @@
 //! Marks on the slots of a heap's own pages.
 
-ghost use Rattle.std.specs.Prelude.{◌≡◌, ℕ, true, false, slice_index_or, IfOk, IfSome, IsTrue};
+ghost use Rattle.std.specs.Prelude.{◌≡◌, true, false, IfOk, IfSome, IsTrue};
 ghost use Rattle.record_heap.specs.declared.shape.Place.{Place as AnyPlace};
 ghost use Rattle.record_heap.specs.SlotMarks.{MarkAt, SetsMark, marked_slot};
 
+use crate::bits::Bits;
 use crate::shape::Place;
 use page_marks::WalkFault;
 use std::alloc::Global;
 
-/// A mark for each slot of these pages, in their order. Where a page stands among them is looked up by its number, and compared with what stands there.
+/// A mark for each slot of these pages, in their order, of one bit. Where a page stands among them is looked up by its number, and compared with what stands there.
 #[derive(Drop)]
 pub struct SlotMarks<'a> {
     pub own: &'a [u32],
     pub positions: Vec<u32>,
     pub room: u16,
-    pub marks: Vec<bool>,
+    pub slots: usize,
+    pub marks: Bits,
 }
 
 /// Where each of these pages stands among them, by its number below `count`.
@@ -28,13 +30,6 @@ fn positions_of(alloc: Global, count: usize, own: &[u32]) -> Result<Vec<u32>, Wa
         positions[n] = i as u32;
     }
     Ok(positions)
-}
-
-/// No marks.
-fn no_marks(alloc: Global, count: usize) -> Result<Vec<bool>, WalkFault>
-    ensures { IfOk result (λ marks. (i : ℕ) → slice_index_or marks.items i false ≡ false) }
-{
-    vec![in alloc; false; count].map_err(|_| WalkFault::Memory)
 }
 
 impl<'a> SlotMarks<'a> {
@@ -51,11 +46,13 @@ impl<'a> SlotMarks<'a> {
         if own.len() > u32::MAX as usize {
             return Err(WalkFault::Memory);
         }
-        let marks = no_marks(alloc, own.len() * usize::from(room))?;
+        let slots = own.len() * usize::from(room);
+        let marks = Bits::none(alloc, slots).map_err(|_| WalkFault::Memory)?;
         Ok(SlotMarks {
             own,
             positions,
             room,
+            slots,
             marks,
         })
     }
@@ -77,7 +74,7 @@ impl<'a> SlotMarks<'a> {
         ensures { IsTrue result → marked_slot self.now place ≡ true }
     {
         match self.index(place) {
-            Some(i) => i < self.marks.len() && self.marks[i],
+            Some(i) => self.marks.has(i),
             None => false,
         }
     }
@@ -87,13 +84,7 @@ impl<'a> SlotMarks<'a> {
         ensures { IsTrue result → SetsMark place to self.old self.new }
     {
         match self.index(place) {
-            Some(i) => {
-                if i >= self.marks.len() {
-                    return false;
-                }
-                self.marks[i] = to;
-                true
-            }
+            Some(i) => self.marks.put(i, to),
             None => false,
         }
     }
@@ -102,6 +93,6 @@ impl<'a> SlotMarks<'a> {
     pub fn are_none(&self) -> bool
         ensures { IsTrue result → (p : AnyPlace) → marked_slot self.now p ≡ false }
     {
-        !self.marks.contains(&true)
+        self.marks.are_none()
     }
 }

@@ -159,7 +159,7 @@ fn walk_slots(
         × ((free : List Place) × SlotsWalked shape (pages_in pages.now) first at marks.old marks.new free)) }
 {
     let mut at = first;
-    for _ in 0..marks.marks.len() {
+    for _ in 0..marks.slots {
         if at.page == 0 {
             return Ok(());
         }

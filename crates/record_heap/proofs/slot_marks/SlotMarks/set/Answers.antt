@@ -1,7 +1,7 @@
-use Rattle.std.proofs.Common.{refl, arith}
+use Rattle.std.proofs.Common.{refl}
 use Rattle.record_heap.proofs.SlotMarkLemmas.{mark_set}
 use Rattle.record_heap.proofs.slot_marks.SlotMarks.set.Goals as goal
 
-pub returns-else-i-len : goal.returns-else-i-len
-returns-else-i-len c done =
-    mark_set c.args.self.now _ c.args.place c.args.to c.in-Some.i c.in-Some.ensures (omega (arith, c.if-i-len.false, c.len.ensures)) refl refl refl refl
+pub returns-in-Some : goal.returns-in-Some
+returns-in-Some c done =
+    mark_set c.args.self.now _ c.args.place c.args.to c.in-Some.i c.in-Some.ensures refl refl refl (c.put.ensures.here done) c.put.ensures.others
