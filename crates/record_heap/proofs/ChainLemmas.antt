@@ -68,7 +68,7 @@ pub some_same : {X : Type 0} (x y : X) → Some x ≡ Some y → x ≡ y
 some_same x y e = cc
 
 -- a free place is not one in use
-not_used : (slots : Slots) (place : Place) (bytes : List ℕ) → slots place ≡ Some bytes → (q : Place) → slots q ≡ None → q ≢ place
+pub not_used : (slots : Slots) (place : Place) (bytes : List ℕ) → slots place ≡ Some bytes → (q : Place) → slots q ≡ None → q ≢ place
 not_used slots place bytes used q none e = some_none bytes (sym used ∙ ap slots (sym e) ∙ none)
 
 still_free : (room : ℕ) (own : List ℕ) (slots : Slots) (place : Place) (b : Option (List ℕ)) (free : List Place) → Each (λ q. q ≢ place) free

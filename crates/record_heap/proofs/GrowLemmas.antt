@@ -15,13 +15,9 @@ use Rattle.record_heap.specs.Chain.{Slots, IsOneOf, AreOnce, IsPlaceOf, IsFreeCh
 use Rattle.record_heap.specs.Calls.{slot_of, used_at, behind_at, IsHeapAt}
 use Rattle.record_heap.specs.Standing.{HeapStands}
 use Rattle.record_heap.specs.Found.{HeapHas}
+use Rattle.record_heap.specs.Order.{HasChains, rising, free_or_new, own_or_new}
 use Rattle.record_heap.proofs.ChainLemmas.{place_made, each_weaker, some_none}
 use Rattle.record_heap.proofs.StandLemmas.{chain_live, chain_same, each_of, slot_still, slot_there}
-
--- k places of page n, from slot i on
-abbrev pub rising : ℕ → ℕ → ℕ → List Place
-rising n i zero = []
-rising n i (suc k) = (record { page = n; slot = i }) ∷ rising n (suc i) k
 
 -- what each place of the rising ones has
 each_rising : (P : Place → Type 0) (n i k : ℕ) → ((j : ℕ) → i ≤ j → j < i + k → P (record { page = n; slot = j })) → Each P (rising n i k)
@@ -62,6 +58,12 @@ rising_chain behind room n i (suc k) end linked =
     let step : Some (behind_new room n i) ≡ Some next = rw more (ap (λ (j : ℕ). let it : Place = record { page = n; slot = j } in Some it) up) in
     (refl, (next, linked i here ∙ step, rising_chain behind room n (suc i) k rest linked))
 
+rising_all : (behind : Place → Option Place) (room n : ℕ) → 1 ≤ room → ((j : ℕ) → j < room → behind (record { page = n; slot = j }) ≡ Some (behind_new room n j))
+    → IsFreeChain behind (record { page = n; slot = 0 }) (rising n 0 room)
+rising_all behind room n wide linked =
+    let e : suc (room - 1) ≡ room = omega arith in
+    subst (λ (k : ℕ). IsFreeChain behind (record { page = n; slot = 0 }) (rising n 0 k)) e (rising_chain behind room n 0 (room - 1) (omega arith) linked)
+
 -- where the first free slot is none, the chain is empty
 no_free : (room : ℕ) (own : List ℕ) (behind : Place → Option Place) (slots : Slots) (first : Place) (free : List Place) → first.page ≡ 0 → IsFreeChain behind first free
     → Each (λ p. IsPlaceOf room own p × (slots p ≡ None)) free → free ≡ []
@@ -78,8 +80,7 @@ pub grown : (room : ℕ) (own : List ℕ) (used used' : Slots) (behind behind' :
     → KeepsSlots room (n ∷ own) used' behind' slots (record { page = n; slot = 0 })
 grown room own used used' behind behind' slots first n keeps none some wide outside linked same = record {
   free = rising n 0 room;
-  chain = let e : suc (room - 1) ≡ room = omega arith in
-      subst (λ (k : ℕ). IsFreeChain behind' (record { page = n; slot = 0 }) (rising n 0 k)) e (rising_chain behind' room n 0 (room - 1) (omega arith) linked);
+  chain = rising_all behind' room n wide linked;
   once = rising_once n 0 room;
   used_are = λ p bytes is. let u = keeps.used_are p bytes is in (old p u.0, same p (not_new p u.0) ∙ u.1);
   free_are = each_rising (λ p. IsPlaceOf room (n ∷ own) p × (slots p ≡ None)) n 0 room (λ j low high. (record { page = inl refl; some = some; slot = (let below : j < room = omega arith in below) }, unused (record { page = n; slot = j }) refl (slots (record { page = n; slot = j })) refl));
@@ -139,6 +140,25 @@ heap_grown heap before after slots own bytes n stands none some wide takes page 
   where
     taken_not : (m : ℕ) → IsSome (before m) → m ≡ n → ⊥
     taken_not m here e = live_free (before m) here (ap before e ∙ takes.free)
+
+-- its chains: the new page is the first one, and its slots are free in rising order
+pub chains_grown : (heap : Heap) (before after : PageMap) (slots : Slots) (own bytes : List ℕ) (n : ℕ) → heap.free.page ≡ 0 → 1 ≤ room heap.shape
+    → Takes before after n bytes → IsHeapPage heap.first bytes → AreLinked heap.shape n (room heap.shape) bytes → (stands : HeapStands heap before slots own)
+    → HasChains (record heap { first = n; free = record { page = n; slot = 0 } }) after (free_or_new heap.shape n stands.keeps.free) (own_or_new n stands.keeps.free own)
+chains_grown heap before after slots own bytes n none wide takes page linked stands =
+    let live = chain_live before heap.first own stands.chain in
+    let outside = free_outside before own n takes.free live in
+    let same = each_weaker (λ m. n ≢ m) (λ m. after m ≡ before m) (λ m d. takes.others m (λ e. d (sym e))) own outside in
+    let heap_page : IsHeapAt after n heap.first = record { bytes = bytes; there = takes.page; heap = page } in
+    let grown_heap : Heap = record heap { first = n; free = record { page = n; slot = 0 } } in
+    let chains : HasChains grown_heap after (rising n 0 (room heap.shape)) (n ∷ own) = record {
+      free_chain = rising_all (behind_at heap.shape after) (room heap.shape) n wide
+          (λ j below. ap behind_in (slot_there heap.shape after (record { page = n; slot = j }) n bytes refl takes.page) ∙ linked j below);
+      once = rising_once n 0 (room heap.shape);
+      page_chain = (refl, (heap.first, heap_page, chain_same before after heap.first own same stands.chain));
+    } in
+    let empty = no_free (room heap.shape) own (behind_at heap.shape before) slots heap.free stands.keeps.free none stands.keeps.chain stands.keeps.free_are in
+    subst (λ (free : List Place). HasChains grown_heap after (free_or_new heap.shape n free) (own_or_new n free own)) (sym empty) chains
 
 -- a page was taken, and then written
 pub taken_written : (a b c : PageMap) (n : ℕ) (first bytes : List ℕ) → Takes a b n first → Writes b c n bytes → Takes a c n bytes

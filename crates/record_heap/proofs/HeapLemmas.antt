@@ -82,15 +82,15 @@ heap_refilled heap before after slots own bytes next stands some f w =
     }
 
 -- a heap that has room: what the first free slot's call is told
-record HasFront (old mid : Heap) (before middle : PagesState) (slots : Slots) (own : List ℕ) : Type 0 where
-  has : HeapHas before.live middle.live mid own slots
-  some : 1 ≤ mid.free.page
-  sound : IsTrue middle.is_sound
-  front : Front (room mid.shape) has.own_now (used_at mid.shape middle.live) (behind_at mid.shape middle.live) slots mid.free
-  next : ℕ
-  page : IsHeapAt middle.live mid.free.page next
+pub record HasFront (old mid : Heap) (before middle : PagesState) (slots : Slots) (own : List ℕ) : Type 0 where
+  pub has : HeapHas before.live middle.live mid own slots
+  pub some : 1 ≤ mid.free.page
+  pub sound : IsTrue middle.is_sound
+  pub front : Front (room mid.shape) has.own_now (used_at mid.shape middle.live) (behind_at mid.shape middle.live) slots mid.free
+  pub next : ℕ
+  pub page : IsHeapAt middle.live mid.free.page next
 
-has_front : (u : ⊤) (old mid : Heap) (before middle : PagesState) (slots : Slots) (own : List ℕ) → IsTrue middle.is_honest → IsTrue before.is_sound → HeapStands old before.live slots own
+pub has_front : (u : ⊤) (old mid : Heap) (before middle : PagesState) (slots : Slots) (own : List ℕ) → IsTrue middle.is_honest → IsTrue before.is_sound → HeapStands old before.live slots own
     → MakesRoom before middle old mid (Ok u) → HasFront old mid before middle slots own
 has_front u old mid before middle slots own honest sound stands made =
     let m = (made honest sound slots own stands).answer in

@@ -4,6 +4,7 @@ pub mod EditLemmas
 pub mod StandLemmas
 pub mod GrowLemmas
 pub mod HeapLemmas
+pub mod OrderLemmas
 pub mod WalkLemmas
 pub mod SlotMarkLemmas
 pub mod SlotWalkLemmas

@@ -16,12 +16,13 @@ pub struct Heap {
 }
 
 impl Heap {
-    ghost use Rattle.std.specs.Prelude.{◌≡◌, ◌≢◌, ◌≤◌, ◌+◌, ◌++◌, ℕ, [], None, Some, IsTrue, IfOk, IfErr, OnOk, OnErr, length};
+    ghost use Rattle.std.specs.Prelude.{◌≡◌, ◌≢◌, ◌≤◌, ◌+◌, ◌++◌, ℕ, [], ◌∷◌, None, Some, IsTrue, IfOk, IfErr, OnOk, OnErr, length};
     ghost use Rattle.pages.specs.PageMap.{PageMap};
     ghost use Rattle.pages.specs.Cause.{IsCaused};
     ghost use Rattle.record_heap.specs.Chain.{no_slots};
     ghost use Rattle.record_heap.specs.Calls.{FillsFront};
     ghost use Rattle.record_heap.specs.Standing.{HeapStands};
+    ghost use Rattle.record_heap.specs.Order.{AddsInOrder, MakesRoomInOrder, SetsInOrder};
     ghost use Rattle.record_heap.specs.Found.{Got, GotRecord, Adds, MakesRoom, Sets, TakesFew, LacksSlot};
 
     /// A heap without records and without pages.
@@ -96,6 +97,7 @@ impl Heap {
             (LacksSlot self.old (P.state pages.old))) }
         ensures asked { (P.state pages.new).asked ≤ (P.state pages.old).asked + 3 }
         ensures goes { P.Goes pages.old pages.new }
+        ensures order { AddsInOrder (P.state pages.old) (P.state pages.new) self.old self.new result }
     {
         self.make_room(pages)?;
         let place = self.free;
@@ -124,6 +126,7 @@ impl Heap {
         ensures cause { IfErr result (IsCaused (P.HasFailed pages.old pages.new) ⊥) }
         ensures asked { (P.state pages.new).asked ≤ (P.state pages.old).asked + 1 }
         ensures goes { P.Goes pages.old pages.new }
+        ensures order { SetsInOrder (P.state pages.old) (P.state pages.new) self.now self.now place [] result }
     {
         fill(pages, self.shape, place, stamps, record)?;
         Ok(())
@@ -141,6 +144,8 @@ impl Heap {
         ensures cause { IfErr result (IsCaused (P.HasFailed pages.old pages.new) ⊥) }
         ensures asked { (P.state pages.new).asked ≤ (P.state pages.old).asked + 1 }
         ensures goes { P.Goes pages.old pages.new }
+        ensures order { SetsInOrder (P.state pages.old) (P.state pages.new) self.old self.new place
+            (place ∷ []) result }
     {
         link(pages, self.shape, place, self.free)?;
         self.free = place;
@@ -158,6 +163,7 @@ impl Heap {
             (LacksSlot self.old (P.state pages.old))) }
         ensures asked { (P.state pages.new).asked ≤ (P.state pages.old).asked + 2 }
         ensures goes { P.Goes pages.old pages.new }
+        ensures order { MakesRoomInOrder (P.state pages.old) (P.state pages.new) self.old self.new result }
     {
         if self.free.page != 0 {
             return Ok(());
@@ -177,6 +183,7 @@ impl Heap {
             ((P.state pages.old).available ≡ 0)) }
         ensures asked { (P.state pages.new).asked ≤ (P.state pages.old).asked + 2 }
         ensures goes { P.Goes pages.old pages.new }
+        ensures order { MakesRoomInOrder (P.state pages.old) (P.state pages.new) self.old self.new result }
     {
         let n = pages.take()?;
         let mut page = [0; PAGE_SIZE];

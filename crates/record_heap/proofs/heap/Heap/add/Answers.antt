@@ -1,4 +1,5 @@
 use Rattle.std.proofs.Common.{◌++◌}
+use Rattle.record_heap.proofs.OrderLemmas.{adds_in_order}
 use Rattle.record_heap.proofs.HeapLemmas.{adds_ok, room_fails, refill_fails}
 use Rattle.record_heap.proofs.heap.Heap.add.Goals as goal
 
@@ -20,3 +21,10 @@ returns-clause-added g c =
     (g.P.Pages.state c.refill.new.pages) (c.args.stamps.now ++ c.args.record.now) c.in_ok-self.field-0
     (λ honest. g.met.P.Pages.goes_honestly c.make_room.new.pages c.refill.new.pages c.refill.ensures.goes honest)
     c.in_ok-make_room.ensures.room c.in_ok-self.ensures.refilled
+
+pub returns-clause-order : goal.returns-clause-order
+returns-clause-order g c =
+    adds_in_order c.in_ok-make_room.field-0 c.args.self.now c.make_room.new.self (g.P.Pages.state c.args.pages.now) (g.P.Pages.state c.make_room.new.pages)
+    (g.P.Pages.state c.refill.new.pages) (c.args.stamps.now ++ c.args.record.now) c.in_ok-self.field-0
+    (λ honest. g.met.P.Pages.goes_honestly c.make_room.new.pages c.refill.new.pages c.refill.ensures.goes honest)
+    c.in_ok-make_room.ensures.room c.in_ok-make_room.ensures.order c.in_ok-self.ensures.refilled

@@ -1,5 +1,6 @@
 use Rattle.std.proofs.Common.{◌≡◌, Some, None}
 use Rattle.record_heap.specs.Slot.{behind_in}
+use Rattle.record_heap.proofs.OrderLemmas.{frees_in_order}
 use Rattle.record_heap.proofs.HeapLemmas.{frees_ok, rewriting_fails}
 use Rattle.record_heap.proofs.heap.Heap.free.Goals as goal
 
@@ -11,3 +12,7 @@ returns-in_err-link-clause-freed g c =
 pub returns-clause-freed : goal.returns-clause-freed
 returns-clause-freed g c =
     frees_ok c.in_ok-link.field-0 c.args.self.now (g.P.Pages.state c.args.pages.now) (g.P.Pages.state c.link.new.pages) c.args.place c.in_ok-link.ensures.linked
+
+pub returns-clause-order : goal.returns-clause-order
+returns-clause-order g c =
+    frees_in_order c.in_ok-link.field-0 c.args.self.now (g.P.Pages.state c.args.pages.now) (g.P.Pages.state c.link.new.pages) c.args.place c.in_ok-link.ensures.linked

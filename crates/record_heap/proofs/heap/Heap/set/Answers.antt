@@ -1,5 +1,6 @@
 use Rattle.std.proofs.Common.{◌≡◌, ◌++◌, Some}
 use Rattle.record_heap.specs.Slot.{used_in}
+use Rattle.record_heap.proofs.OrderLemmas.{sets_in_order}
 use Rattle.record_heap.proofs.HeapLemmas.{sets_ok, rewriting_fails}
 use Rattle.record_heap.proofs.heap.Heap.set.Goals as goal
 
@@ -11,3 +12,8 @@ returns-in_err-fill-clause-set g c =
 pub returns-clause-set : goal.returns-clause-set
 returns-clause-set g c =
     sets_ok c.in_ok-fill.field-0 c.args.self.now (g.P.Pages.state c.args.pages.now) (g.P.Pages.state c.fill.new.pages) c.args.place (c.args.stamps.now ++ c.args.record.now) c.in_ok-fill.ensures.filled
+
+pub returns-clause-order : goal.returns-clause-order
+returns-clause-order g c =
+    sets_in_order c.in_ok-fill.field-0 c.args.self.now (g.P.Pages.state c.args.pages.now) (g.P.Pages.state c.fill.new.pages) c.args.place
+    (λ u slot. used_in c.args.self.now.shape slot ≡ Some (c.args.stamps.now ++ c.args.record.now)) c.in_ok-fill.ensures.filled
