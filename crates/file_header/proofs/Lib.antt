@@ -1,3 +1,4 @@
+pub mod WriteLemmas
 pub mod RowLemmas
 pub mod PageLemmas
 pub mod BoundsLemmas

@@ -63,11 +63,11 @@ fn row(k: usize, part: KeyPart, tree: TreeNumbers) -> [u8; ROW]
     ensures { result ≡ row_of k part tree }
 {
     let mut bytes = [0; ROW];
-    bytes[OFFSET..LENGTH].copy_from_slice(&part.offset.to_be_bytes());
-    bytes[LENGTH..KIND].copy_from_slice(&part.length.to_be_bytes());
+    BigEndian::write_u16(&mut bytes[OFFSET..LENGTH], part.offset);
+    BigEndian::write_u16(&mut bytes[LENGTH..KIND], part.length);
     bytes[KIND] = kind(k, part.duplicates);
     bytes[HEIGHT] = tree.height;
-    bytes[ROOT..ROOT_END].copy_from_slice(&tree.root.to_be_bytes());
+    BigEndian::write_u32(&mut bytes[ROOT..ROOT_END], tree.root);
     bytes
 }
 

@@ -74,18 +74,18 @@ pub fn first_bytes(header: &Header) -> [u8; END]
     let mut bytes = [0; END];
     bytes[GATE] = b'D';
     bytes[TEXT..VERSION].copy_from_slice(b"COBIXIF");
-    bytes[VERSION..GREATEST].copy_from_slice(&version(least, greatest).to_be_bytes());
-    bytes[GREATEST..PAGES].copy_from_slice(&greatest.to_be_bytes());
-    bytes[PAGES..FIRST_FREE].copy_from_slice(&header.pages.to_be_bytes());
-    bytes[FIRST_FREE..FREE].copy_from_slice(&header.first_free.to_be_bytes());
-    bytes[FREE..FIRST_HEAP].copy_from_slice(&header.free.to_be_bytes());
-    bytes[FIRST_HEAP..FREE_SLOT_PAGE].copy_from_slice(&header.first_heap.to_be_bytes());
-    bytes[FREE_SLOT_PAGE..FREE_SLOT].copy_from_slice(&header.free_slot_page.to_be_bytes());
-    bytes[FREE_SLOT..KEY_COUNT].copy_from_slice(&header.free_slot.to_be_bytes());
+    BigEndian::write_u16(&mut bytes[VERSION..GREATEST], version(least, greatest));
+    BigEndian::write_u16(&mut bytes[GREATEST..PAGES], greatest);
+    BigEndian::write_u32(&mut bytes[PAGES..FIRST_FREE], header.pages);
+    BigEndian::write_u32(&mut bytes[FIRST_FREE..FREE], header.first_free);
+    BigEndian::write_u32(&mut bytes[FREE..FIRST_HEAP], header.free);
+    BigEndian::write_u32(&mut bytes[FIRST_HEAP..FREE_SLOT_PAGE], header.first_heap);
+    BigEndian::write_u32(&mut bytes[FREE_SLOT_PAGE..FREE_SLOT], header.free_slot_page);
+    BigEndian::write_u16(&mut bytes[FREE_SLOT..KEY_COUNT], header.free_slot);
     bytes[KEY_COUNT] = header.schema.key_count() as u8;
-    bytes[LEAST..LEAST_END].copy_from_slice(&least_told(least, greatest).to_be_bytes());
-    bytes[NEXT_STAMP..RECORDS].copy_from_slice(&header.next_stamp.to_be_bytes());
-    bytes[RECORDS..RECORDS_END].copy_from_slice(&header.records.to_be_bytes());
+    BigEndian::write_u16(&mut bytes[LEAST..LEAST_END], least_told(least, greatest));
+    BigEndian::write_u64(&mut bytes[NEXT_STAMP..RECORDS], header.next_stamp);
+    BigEndian::write_u64(&mut bytes[RECORDS..RECORDS_END], header.records);
     bytes
 }
 
