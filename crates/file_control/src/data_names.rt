@@ -7,14 +7,14 @@ ghost use Rattle.file_control.specs.Description.{is_new, are_new};
 use io_state::Name;
 use record_layout::Item;
 use std::alloc::{AllocError, Global};
-use std::collections::BTreeMap;
+use std::collections::BTreeSet;
 use std::marker::Model;
 
 /// Names of data items, which contracts see as a list. They are kept in their order too, so that a name is found by a search.
 #[derive(Drop)]
 pub struct DataNames<'a> {
     names: Vec<&'a str>,
-    in_order: BTreeMap<&'a str, ()>,
+    in_order: BTreeSet<&'a str>,
 }
 
 impl<'a> Model for DataNames<'a> {
@@ -38,7 +38,7 @@ impl<'a> DataNames<'a> {
     {
         DataNames {
             names: Vec::new(alloc),
-            in_order: BTreeMap::new(alloc),
+            in_order: BTreeSet::new(alloc),
         }
     }
 
@@ -46,7 +46,7 @@ impl<'a> DataNames<'a> {
     pub fn has(&self, name: &str) -> bool
         ensures { result ≡ has_name self.now name.now }
     {
-        self.in_order.contains_key(name)
+        self.in_order.contains(name)
     }
 
     pub fn push(&mut self, name: &'a Name) -> Result<(), AllocError>
@@ -54,7 +54,7 @@ impl<'a> DataNames<'a> {
     {
         let text = name.as_str();
         self.names.push(text)?;
-        match self.in_order.insert(text, ()) {
+        match self.in_order.insert(text) {
             Ok(_) => Ok(()),
             Err(_) => {
                 self.names.pop();
