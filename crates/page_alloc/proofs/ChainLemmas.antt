@@ -241,3 +241,29 @@ given_at pages after count n first free more is others marked linked there = rw 
 pub given_sound_at : (pages after : Bytes) (count n first free more : ℕ) → more ≡ suc free → ((k : ℕ) → k ≢ n → after k ≡ pages k) → is_free (after n) ≡ true → next_of (after n) ≡ first
     → IsSome (used pages count (chain pages count first free) n) → is_some (chain after count n more) ≡ is_some (chain pages count first free)
 given_sound_at pages after count n first free more is others marked linked there = rw is (given_sound pages after count n first free others marked linked there)
+
+-- the first page was taken: the others are left
+pub first_taken : (pages after : Bytes) (count first next free : ℕ) (ns : List ℕ) → 0 < free → after ≡ pages → next ≡ next_of (pages first) → chain pages count first free ≡ Some ns
+    → (rest : List ℕ) × (ns ≡ first ∷ rest) × (chain after count next (free - 1) ≡ Some rest)
+first_taken pages after count first next zero ns low same linked is = absurd (omega arith)
+first_taken pages after count first next (suc free) ns low same linked is =
+    let s = chain_step pages count first free ns is in
+    let e : suc free - 1 ≡ free = omega arith in
+    (s.rest, s.is, rw (e, same, linked) s.goes_on)
+
+-- no page is free, and none is where there are more
+pub still_none : (pages after : Bytes) (count more first : ℕ) (ns : List ℕ) → chain pages count first 0 ≡ Some ns → (ns ≡ []) × (chain after more first 0 ≡ Some [])
+still_none pages after count more first ns is = elim (cases_Bool (first == 0)) [
+  | inl end ↦ let h : Some [] ≡ Some ns = rw end at is in let e : [] ≡ ns = cc in (sym e, rw end refl)
+  | inr other ↦ let h = rw other at is in absurd (cc)
+]
+
+-- page n stands before the others
+pub given_first : (pages after : Bytes) (count n first free more : ℕ) (ns : List ℕ) → more ≡ suc free → ((k : ℕ) → k ≢ n → after k ≡ pages k) → is_free (after n) ≡ true → next_of (after n) ≡ first
+    → IsSome (used pages count (chain pages count first free) n) → chain pages count first free ≡ Some ns → chain after count n more ≡ Some (n ∷ ns)
+given_first pages after count n first free more ns is others marked linked there before =
+    let found = was pages after count n first free others marked linked there in
+    let front = now pages after count n first free others marked linked there in
+    let same : Some found.0 ≡ Some ns = sym found.1 ∙ before in
+    let e : found.0 ≡ ns = cc in
+    rw is (front ∙ ap (λ (l : List ℕ). Some (n ∷ l)) e)

@@ -2,6 +2,7 @@ pub mod FreePage
 pub mod Chain
 pub mod Joining
 pub mod Taking
+pub mod Order
 pub mod HeaderNumbers
 pub mod PagedFile
 pub mod Steps

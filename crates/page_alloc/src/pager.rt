@@ -4,7 +4,8 @@ ghost use Rattle.page_cache.specs.Cached.{is_counted, pages_of, IsOver};
 ghost use Rattle.page_cache.specs.Calls.{KeepsPages};
 ghost use Rattle.pages.specs.PagesState.{Rests};
 ghost use Rattle.page_alloc.specs.FreePage.{is_free, next_of};
-ghost use Rattle.page_alloc.specs.Joining.{pages_state, available_of, IsJoined, PartsGo, HasFailed};
+ghost use Rattle.page_alloc.specs.Joining.{pages_state, free_pages, available_of, IsJoined, PartsGo, HasFailed};
+ghost use Rattle.page_alloc.specs.Order.{TakesInOrder, GivesInOrder};
 ghost use Rattle.page_alloc.specs.Taking.{Taken, Given, Freed, CallFails};
 
 use crate::free_page;
@@ -61,6 +62,8 @@ impl Pager {
         ensures goes { PartsGo cache.old cache.new (S.state shelf.old) (S.state shelf.new)
             (S.fault_count shelf.old) (S.fault_count shelf.new) }
         ensures ready { IsJoined cache.new self.new (S.state shelf.new) }
+        ensures order { IsTrue (S.state shelf.new).is_honest → TakesInOrder self.old self.new
+            (free_pages cache.old self.old (S.state shelf.old)) (free_pages cache.new self.new (S.state shelf.new)) result }
     {
         if self.free > 0 {
             self.take_free(cache, shelf)
@@ -85,6 +88,8 @@ impl Pager {
         ensures goes { PartsGo cache.old cache.new (S.state shelf.old) (S.state shelf.new)
             (S.fault_count shelf.old) (S.fault_count shelf.new) }
         ensures ready { IsJoined cache.new self.new (S.state shelf.new) }
+        ensures order { IsTrue (S.state shelf.new).is_honest → TakesInOrder self.old self.new
+            (free_pages cache.old self.old (S.state shelf.old)) (free_pages cache.new self.new (S.state shelf.new)) result }
     {
         let n = self.first;
         if n == 0 || n >= self.count {
@@ -111,6 +116,8 @@ impl Pager {
         ensures goes { PartsGo cache.old cache.new (S.state shelf.old) (S.state shelf.new)
             (S.fault_count shelf.old) (S.fault_count shelf.new) }
         ensures ready { IsJoined cache.new self.new (S.state shelf.new) }
+        ensures order { IsTrue (S.state shelf.new).is_honest → TakesInOrder self.old self.new
+            (free_pages cache.old self.old (S.state shelf.old)) (free_pages cache.new self.new (S.state shelf.new)) result }
     {
         if self.count >= self.limit {
             return Err(Fault::Full);
@@ -137,6 +144,9 @@ impl Pager {
         ensures goes { PartsGo cache.old cache.new (S.state shelf.old) (S.state shelf.new)
             (S.fault_count shelf.old) (S.fault_count shelf.new) }
         ensures ready { IsJoined cache.new self.new (S.state shelf.new) }
+        ensures order { let old = pages_state cache.old self.old (S.state shelf.old) in
+            IsTrue (S.state shelf.new).is_honest → IsSome (old.live n) → GivesInOrder n self.old self.new
+            (free_pages cache.old self.old (S.state shelf.old)) (free_pages cache.new self.new (S.state shelf.new)) result }
     {
         if n == 0 || n >= self.count || self.free >= self.count - 1 {
             return Err(Fault::Damage);

@@ -1,6 +1,6 @@
-use Rattle.std.proofs.Common.{◌≡◌, ◌+◌, suc, arith}
+use Rattle.std.proofs.Common.{◌≡◌, ◌+◌, suc, refl, arith}
 use Rattle.page_cache.specs.Cached.{pages_of}
-use Rattle.page_alloc.proofs.ChainLemmas.{can_give, given_at, given_sound_at}
+use Rattle.page_alloc.proofs.ChainLemmas.{can_give, given_at, given_sound_at, given_first}
 use Rattle.page_alloc.proofs.JoinLemmas.{damaged, at_err, rested}
 use Rattle.page_alloc.proofs.pager.Pager.give.Goals.{then-n-eq0-via-then-n-eq0, then-n-eq0-via-else-n-eq0+then-n-self, then-n-eq0-via-else-n-eq0+else-n-self+then-self}
 use Rattle.page_alloc.proofs.pager.Pager.give.Goals as goal
@@ -38,3 +38,12 @@ returns-clause-given g c =
       sound = λ honest there. given_sound_at old new p.count c.args.n p.first p.free (p.free + 1) more (freed.others honest) freed.free freed.linked there;
       one = omega arith;
     }
+
+pub returns-clause-order : goal.returns-clause-order
+returns-clause-order g c honest there free before =
+    let p = c.args.self.now in
+    let old = pages_of c.args.cache.now (g.S.Shelf.state c.args.shelf.now) in
+    let new = pages_of c.make_free.new.cache (g.S.Shelf.state c.make_free.new.shelf) in
+    let more : p.free + 1 ≡ suc p.free = omega arith in
+    let freed = c.in_ok-make_free.ensures.freed in
+    (refl, given_first old new p.count c.args.n p.first p.free (p.free + 1) free more (freed.others honest) freed.free freed.linked there before)

@@ -1,7 +1,7 @@
-use Rattle.std.proofs.Common.{arith}
+use Rattle.std.proofs.Common.{refl, arith}
 use Rattle.std.proofs.lemmas.Result.{err_from_is_err_and}
 use Rattle.page_cache.specs.Cached.{pages_of}
-use Rattle.page_alloc.proofs.ChainLemmas.{front_marked_at, taken_at, taken_sound_at}
+use Rattle.page_alloc.proofs.ChainLemmas.{front_marked_at, taken_at, taken_sound_at, first_taken}
 use Rattle.page_alloc.proofs.JoinLemmas.{at_err, rested}
 use Rattle.page_alloc.proofs.pager.Pager.take_free.Goals as goal
 
@@ -33,3 +33,11 @@ returns-clause-taken g c =
       sound = λ honest sound. taken_sound_at old new p.count p.first c.in_ok-next.next p.free some (c.next_free.ensures.kept.pages honest) (c.in_ok-next.ensures.next honest) sound;
       one = omega arith;
     }
+
+pub returns-clause-order : goal.returns-clause-order
+returns-clause-order g c honest free before =
+    let p = c.args.self.now in
+    let old = pages_of c.args.cache.now (g.S.Shelf.state c.args.shelf.now) in
+    let new = pages_of c.next_free.new.cache (g.S.Shelf.state c.next_free.new.shelf) in
+    let taken = first_taken old new p.count p.first c.in_ok-next.next p.free free c.requires.free (c.next_free.ensures.kept.pages honest) (c.in_ok-next.ensures.next honest) before in
+    rw taken.1 (refl, refl, taken.2)

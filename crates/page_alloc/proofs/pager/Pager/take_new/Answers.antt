@@ -1,6 +1,7 @@
-use Rattle.std.proofs.Common.{arith}
+use Rattle.std.proofs.Common.{◌≡◌, ◌+◌, Some, refl, arith}
 use Rattle.page_cache.specs.Cached.{pages_of}
-use Rattle.page_alloc.proofs.ChainLemmas.{added}
+use Rattle.page_alloc.specs.Chain.{chain}
+use Rattle.page_alloc.proofs.ChainLemmas.{added, still_none}
 use Rattle.page_alloc.proofs.JoinLemmas.{at_err, rested}
 use Rattle.page_alloc.proofs.pager.Pager.take_new.Goals as goal
 
@@ -23,3 +24,12 @@ returns-clause-taken g c =
       sound = λ honest sound. sound;
       one = omega arith;
     })
+
+pub returns-clause-order : goal.returns-clause-order
+returns-clause-order g c honest free before =
+    let p = c.args.self.now in
+    let old = pages_of c.args.cache.now (g.S.Shelf.state c.args.shelf.now) in
+    let new = pages_of c.zero.new.self (g.S.Shelf.state c.zero.new.shelf) in
+    let was : chain old p.count p.first 0 ≡ Some free = rw c.requires.free at before in
+    let none = still_none old new p.count (p.count + 1) p.first free was in
+    rw (none.0, c.requires.free) (refl, refl, none.1)
