@@ -2,6 +2,7 @@
 
 ghost use Rattle.std.specs.Prelude.{◌≡◌, ℕ, ◌<◌, true, false, IfErr, OnOk, IsTrue, length, slice_index_or};
 ghost use Rattle.page_marks.specs.Marks.{marked_in};
+ghost use Rattle.page_walks.specs.Spots.{spots_in};
 ghost use Rattle.file_header.specs.Bounds.{IsHeader};
 ghost use Rattle.key_index.specs.declared.alt_index.AltIndex.{AltIndex};
 ghost use Rattle.open_file.specs.Stands.{IsShaped};
@@ -15,29 +16,29 @@ use file_header::Header;
 use open_file::OpenFile;
 use page_bytes::PAGE_SIZE;
 use page_marks::mark;
-use page_walks::{Spot, walk_free, walk_tree};
+use page_walks::{Leaf, walk_free, walk_tree};
 use record_heap::walk_heap;
 use row_checks::{check_alternate, check_rows};
 use std::alloc::Global;
 
-/// Walks the index of each alternate key, and compares it with the rows to which the entries at `primes` lead.
+/// Walks the index of each alternate key, and compares it with the rows to which the entries of `primes` lead.
 fn check_alternates(
     alloc: Global,
     pages: &[[u8; PAGE_SIZE]],
     file: &OpenFile,
-    primes: &[Spot],
+    primes: &[Leaf],
     reached: &mut [bool],
 ) -> Result<(), Stop>
     requires shaped { IsShaped file.now }
     requires many { (j : ℕ) (index : AltIndex) → j < length file.now.alternates.items
-        → index ≡ slice_index_or file.now.alternates.items j index → index.tree.count ≡ length primes.now }
-    ensures found { OnOk result (AlternatesFound file.now pages.now primes.now (length file.now.alternates.items)
+        → index ≡ slice_index_or file.now.alternates.items j index → index.tree.count ≡ length (spots_in primes.now) }
+    ensures found { OnOk result (AlternatesFound file.now pages.now (spots_in primes.now) (length file.now.alternates.items)
         (marked_in reached.old) (marked_in reached.new)) }
     ensures stop { IfErr result StopsWalk }
 {
     for &index in file.alternates.as_slice() {
-        let spots = walk_tree(alloc, pages, &index.tree, reached)?;
-        check_alternate(pages, file, primes, index, &spots)?;
+        let leaves = walk_tree(alloc, pages, &index.tree, reached)?;
+        check_alternate(pages, file, primes, index, &leaves)?;
     }
     Ok(())
 }

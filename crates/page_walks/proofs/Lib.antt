@@ -1,4 +1,5 @@
 pub mod RisenLemmas
+pub mod SpotLemmas
 pub mod WalkLemmas
 pub mod FreeLemmas
 pub mod FileLemmas

@@ -1,8 +1,9 @@
 -- Where entries of trees stand in a list of pages.
-use Rattle.std.specs.Prelude.{◌<◌, List, [], length, map, ℕ, slice_index_or}
+use Rattle.std.specs.Prelude.{◌<◌, List, [], ◌∷◌, ◌++◌, length, map, flat_map, ℕ, zero, suc, slice_index_or}
 use Rattle.tree_node.specs.declared.shape.Shape.{Shape}
 use Rattle.tree_node.specs.Leaf.{IsLeaf, leaf_entries}
 use Rattle.page_walks.specs.declared.spot.Spot.{Spot}
+use Rattle.page_walks.specs.declared.leaf.Leaf.{Leaf}
 
 -- the entry at a place of a leaf
 abbrev pub entry_at : Shape → List (List ℕ) → Spot → List ℕ
@@ -16,3 +17,12 @@ pub record IsSpotThere (shape : Shape) (list : List (List ℕ)) (spot : Spot) : 
   pub page : spot.page < length list
   pub leaf : IsLeaf shape (slice_index_or list spot.page [])
   pub place : spot.place < length (leaf_entries shape (slice_index_or list spot.page []))
+
+-- the first places of a page, so many
+abbrev pub spots_below : ℕ → ℕ → List Spot
+spots_below page zero = []
+spots_below page (suc n) = spots_below page n ++ record { page = page; place = n } ∷ []
+
+-- the places of the entries of these leaves, in order
+abbrev pub spots_in : List Leaf → List Spot
+spots_in leaves = flat_map (λ leaf. spots_below leaf.page leaf.count) leaves

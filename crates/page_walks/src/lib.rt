@@ -8,11 +8,13 @@
 
 mod free_walk;
 mod law;
+mod leaf;
 mod order;
 mod spot;
 mod tree_walk;
 
 pub use free_walk::walk_free;
 pub use law::{trees_stay, walks_part_the_file};
+pub use leaf::Leaf;
 pub use spot::Spot;
 pub use tree_walk::walk_tree;

@@ -6,11 +6,11 @@ ghost use Rattle.tree_node.specs.Leaf.{IsLeaf, leaf_entries, leaf_room};
 ghost use Rattle.node_balance.specs.Fill.{least};
 ghost use Rattle.page_marks.specs.Marks.{marked_in};
 ghost use Rattle.page_marks.specs.PageList.{pages_in};
-ghost use Rattle.page_walks.specs.Spots.{entries_at};
+ghost use Rattle.page_walks.specs.Spots.{entries_at, spots_in};
 ghost use Rattle.page_walks.specs.TreeWalk.{InnerFits, LeafFits, Walked, TreeWalked, reach_of};
 
+use crate::leaf::{Leaf, have_entries, push};
 use crate::order::{leaf_rises, separators_rise};
-use crate::spot::Spot;
 use bplus_tree::Tree;
 use page_bytes::PAGE_SIZE;
 use page_marks::{WalkFault, mark};
@@ -79,31 +79,25 @@ fn least_in_root(levels: u8) -> usize
     levels.min(1) as usize
 }
 
-/// Adds the places of a leaf's entries.
+/// Adds a leaf.
 fn push_leaf(
     pages: &[[u8; PAGE_SIZE]],
     shape: Shape,
     page: u32,
-    spots: &mut Vec<Spot>,
+    leaves: &mut Vec<Leaf>,
 ) -> Result<(), WalkFault>
     requires page { page < length pages.now }
     requires leaf { IsLeaf shape (slice_index_or pages.now page []) }
-    ensures { OnOk result (entries_at shape pages.now spots.new.items
-        ≡ entries_at shape pages.now spots.old.items
+    ensures { OnOk result (entries_at shape pages.now (spots_in leaves.new.items)
+        ≡ entries_at shape pages.now (spots_in leaves.old.items)
         ++ leaf_entries shape (slice_index_or pages.now page [])) }
 {
     let bytes = &pages[page as usize];
-    let count = LeafView { page: bytes, shape }.count();
-    for i in 0..count {
-        let place = i as u16;
-        spots
-            .push(Spot { page, place })
-            .map_err(|_| WalkFault::Memory)?;
-    }
-    Ok(())
+    let count = LeafView { page: bytes, shape }.count() as u16;
+    push(leaves, Leaf { page, count })
 }
 
-/// Walks what is below a page, with so many levels: marks its pages, and adds the places of its entries.
+/// Walks what is below a page, with so many levels: marks its pages, and adds its leaves.
 fn walk_below(
     pages: &[[u8; PAGE_SIZE]],
     shape: Shape,
@@ -111,12 +105,12 @@ fn walk_below(
     levels: u8,
     limits: Limits,
     reached: &mut [bool],
-    spots: &mut Vec<Spot>,
+    leaves: &mut Vec<Leaf>,
 ) -> Result<(), WalkFault>
     ensures { OnOk result (Walked shape (pages_in pages.now) levels page limits.entry.least
         (option_copied limits.entry.low) (option_copied limits.entry.high)
-        (reach_of shape pages.now reached.old spots.old.items)
-        (reach_of shape pages.now reached.new spots.new.items)) }
+        (reach_of shape pages.now reached.old (spots_in leaves.old.items))
+        (reach_of shape pages.now reached.new (spots_in leaves.new.items))) }
 {
     if page as usize >= pages.len() {
         return Err(WalkFault::Node);
@@ -125,7 +119,7 @@ fn walk_below(
     let bytes = &pages[page as usize];
     if levels == 0 {
         check_leaf(bytes, shape, limits)?;
-        return push_leaf(pages, shape, page, spots);
+        return push_leaf(pages, shape, page, leaves);
     }
     check_inner(bytes, shape, limits)?;
     let node = InnerView { page: bytes, shape };
@@ -143,7 +137,7 @@ fn walk_below(
             levels - 1,
             child,
             reached,
-            spots,
+            leaves,
         )?;
         low = high;
         i += 1;
@@ -160,11 +154,11 @@ fn walk_below(
         levels - 1,
         last,
         reached,
-        spots,
+        leaves,
     )
 }
 
-/// Walks a tree over the pages of a file, as they were read. Answers where its entries stand, in order, and marks its pages as reached.
+/// Walks a tree over the pages of a file, as they were read. Answers its leaves, in order, and marks its pages as reached.
 ///
 /// Memory; Shared where a page of the tree was reached before; Node, Order or Count where the pages are no such tree. At a fault some of its pages may be
 /// marked.
@@ -173,11 +167,11 @@ pub fn walk_tree(
     pages: &[[u8; PAGE_SIZE]],
     tree: &Tree,
     reached: &mut [bool],
-) -> Result<Vec<Spot>, WalkFault>
-    ensures { IfOk result (λ spots. TreeWalked tree.now pages.now
-        (marked_in reached.old) (marked_in reached.new) spots.items) }
+) -> Result<Vec<Leaf>, WalkFault>
+    ensures { IfOk result (λ leaves. TreeWalked tree.now pages.now
+        (marked_in reached.old) (marked_in reached.new) (spots_in leaves.items)) }
 {
-    let mut spots = Vec::new(alloc);
+    let mut leaves = Vec::new(alloc);
     let limits = Limits {
         least: least_in_root(tree.levels),
         low: None,
@@ -190,10 +184,10 @@ pub fn walk_tree(
         tree.levels,
         limits,
         reached,
-        &mut spots,
+        &mut leaves,
     )?;
-    if spots.len() as u64 != tree.count {
+    if !have_entries(&leaves, tree.count) {
         return Err(WalkFault::Count);
     }
-    Ok(spots)
+    Ok(leaves)
 }

@@ -1,4 +1,5 @@
 pub mod EntryLemmas
+pub mod SpotLemmas
 pub mod StampLemmas
 pub mod SlotLemmas
 pub mod ByteLemmas

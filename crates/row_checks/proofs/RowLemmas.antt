@@ -1,6 +1,6 @@
 -- The rows that the prime index leads to.
-use Rattle.std.proofs.Common.{◌≡◌, ℕ, suc, ◌+◌, ◌&&◌, ◌≤◌, nat_lt, nat_le, Bool, true, List, [], ◌∷◌, length, drop, take, map, Some, refl, ap, sym, subst, ◌∙◌, arith, length-drop, length-take-le}
-use Rattle.std.specs.Prelude.{All, IsSome, IsTrue, find}
+use Rattle.std.proofs.Common.{◌≡◌, ℕ, ◌+◌, ◌&&◌, ◌≤◌, nat_lt, nat_le, Bool, true, List, [], ◌∷◌, length, drop, take, map, Some, refl, ap, sym, subst, ◌∙◌, arith, length-drop, length-take-le}
+use Rattle.std.specs.Prelude.{IsSome, IsTrue, find}
 use Rattle.std.specs.Ordering.{is_lt}
 use Rattle.std.proofs.lemmas.Bool.{and_from, eq-eqb, le-leb, lt-ltb}
 use Rattle.page_bytes.specs.Each.{Each}
@@ -27,10 +27,6 @@ use Rattle.row_checks.specs.Rows.{prime_at, place_at, row_at, places_in, rows_in
 use Rattle.row_checks.specs.Leading.{LeadsToRow}
 use Rattle.row_checks.proofs.StampLemmas.{Fit}
 use Rattle.row_checks.proofs.ByteLemmas.{AreBytes, each_take, each_drop, number_small, prime_again, stored_again, stamps_many_as_parts}
-
-pub each_from_all : {X : Type 0} (P : X → Type 0) (xs : List X) → All P xs → Each P xs
-each_from_all P [] all = tt
-each_from_all P (x ∷ xs) all = (all 0 x (omega arith), each_from_all P xs (λ k d within. all (suc k) d (omega (arith, within))))
 
 -- stamps and a record of a length that the file has are a row where its stamps are
 pub row_fits : (schema : Schema) (next : ℕ) (bytes : List ℕ) → 1 ≤ length schema.keys → stamps_length (drop 1 schema.keys) + schema.least ≤ length bytes

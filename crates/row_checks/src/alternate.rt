@@ -1,8 +1,9 @@
 //! The entries of an alternate key, and the rows.
 
 ghost use Rattle.std.specs.Prelude.{◌≡◌, OnOk, IsTrue, All, length};
+ghost use Rattle.page_bytes.specs.Each.{Each};
 ghost use Rattle.tree_node.specs.Order.{Ascends};
-ghost use Rattle.page_walks.specs.Spots.{entries_at};
+ghost use Rattle.page_walks.specs.Spots.{entries_at, spots_below, spots_in};
 ghost use Rattle.key_index.specs.Standing.{alt_key};
 ghost use Rattle.key_index.specs.Stored.{alt_entry_in};
 ghost use Rattle.open_file.specs.InOrder.{alt_entry as entry_of};
@@ -19,7 +20,7 @@ use byteorder::{BigEndian, ByteOrder};
 use key_index::AltIndex;
 use open_file::OpenFile;
 use page_bytes::PAGE_SIZE;
-use page_walks::Spot;
+use page_walks::{Leaf, Spot};
 
 /// The bytes of a stamp.
 const STAMP: usize = 8;
@@ -54,13 +55,13 @@ fn is_of_row(
 fn has_row(
     pages: &[[u8; PAGE_SIZE]],
     file: &OpenFile,
-    primes: &[Spot],
+    primes: &[Leaf],
     index: AltIndex,
     spot: Spot,
 ) -> bool
     requires shaped { IsShaped file.now }
     requires index { IsIndexFor file.now.schema index }
-    ensures { IsTrue result → HasRow file.now pages.now primes.now index spot }
+    ensures { IsTrue result → HasRow file.now pages.now (spots_in primes.now) index spot }
 {
     let Some(entry) = entry(pages, index.tree.shape, spot) else {
         return false;
@@ -71,41 +72,66 @@ fn has_row(
     }
 }
 
-/// Each of these entries is what the index has of a row that the prime index leads to.
-fn all_have_rows(
+/// Each entry of the leaf is what the index has of a row that the prime index leads to.
+fn leaf_has_rows(
     pages: &[[u8; PAGE_SIZE]],
     file: &OpenFile,
-    primes: &[Spot],
+    primes: &[Leaf],
     index: AltIndex,
-    spots: &[Spot],
+    leaf: Leaf,
 ) -> bool
     requires shaped { IsShaped file.now }
     requires index { IsIndexFor file.now.schema index }
-    ensures { IsTrue result → All (HasRow file.now pages.now primes.now index) spots.now }
+    ensures { IsTrue result → Each (HasRow file.now pages.now (spots_in primes.now) index) (spots_below leaf.page leaf.count) }
 {
-    spots
-        .iter()
-        .all(|spot| has_row(pages, file, primes, index, *spot))
+    for place in 0..leaf.count {
+        let spot = Spot {
+            page: leaf.page,
+            place,
+        };
+        if !has_row(pages, file, primes, index, spot) {
+            return false;
+        }
+    }
+    true
 }
 
-/// Compares the index of an alternate key with the rows of a file. `primes` and `spots` are the places of the entries of the prime index and of this one,
-/// each in their order, in the pages of the file as they were read.
+/// Each entry of these leaves is what the index has of a row that the prime index leads to.
+fn all_have_rows(
+    pages: &[[u8; PAGE_SIZE]],
+    file: &OpenFile,
+    primes: &[Leaf],
+    index: AltIndex,
+    leaves: &[Leaf],
+) -> bool
+    requires shaped { IsShaped file.now }
+    requires index { IsIndexFor file.now.schema index }
+    ensures { IsTrue result
+        → All (λ leaf. Each (HasRow file.now pages.now (spots_in primes.now) index) (spots_below leaf.page leaf.count)) leaves.now }
+{
+    leaves
+        .iter()
+        .all(|leaf| leaf_has_rows(pages, file, primes, index, *leaf))
+}
+
+/// Compares the index of an alternate key with the rows of a file. `primes` and `leaves` are the leaves of the prime index and of this one, each in
+/// their order, in the pages of the file as they were read.
 ///
 /// Index where an entry is that of no row.
 pub fn check_alternate(
     pages: &[[u8; PAGE_SIZE]],
     file: &OpenFile,
-    primes: &[Spot],
+    primes: &[Leaf],
     index: AltIndex,
-    spots: &[Spot],
+    leaves: &[Leaf],
 ) -> Result<(), RowFault>
     requires shaped { IsShaped file.now }
     requires index { IsIndexFor file.now.schema index }
-    requires many { length spots.now ≡ length primes.now }
-    requires rises { Ascends index.tree.shape.width (entries_at index.tree.shape pages.now spots.now) }
-    ensures { OnOk result (AlternateStands file.now pages.now primes.now index spots.now) }
+    requires many { length (spots_in leaves.now) ≡ length (spots_in primes.now) }
+    requires rises { Ascends index.tree.shape.width (entries_at index.tree.shape pages.now (spots_in leaves.now)) }
+    ensures { OnOk result (AlternateStands file.now pages.now (spots_in primes.now) index (spots_in leaves.now)) }
 {
-    if !all_have_rows(pages, file, primes, index, spots) {
+    if !all_have_rows(pages, file, primes, index, leaves) {
         return Err(RowFault::Index);
     }
     Ok(())

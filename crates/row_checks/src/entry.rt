@@ -2,16 +2,16 @@
 
 ghost use Rattle.std.specs.Prelude.{◌≡◌, ◌+◌, ◌<◌, ◌≤◌, IfSome, length};
 ghost use Rattle.page_bytes.specs.Each.{Each};
-ghost use Rattle.page_walks.specs.Spots.{entry_at};
+ghost use Rattle.page_walks.specs.Spots.{entry_at, spots_in};
 ghost use Rattle.record_heap.specs.Chain.{IsOneOf};
 ghost use Rattle.key_index.specs.Stored.{prime_entry_in};
 
 use byteorder::{BigEndian, ByteOrder};
 use open_file::OpenFile;
 use page_bytes::PAGE_SIZE;
-use page_walks::Spot;
+use page_walks::{Leaf, Spot};
 use record_heap::Place;
-use tree_node::Shape;
+use tree_node::{LeafView, Shape, is_leaf};
 
 /// Bytes are below 256. It does nothing.
 pub fn bytes_fit(bytes: &[u8])
@@ -40,26 +40,49 @@ pub fn place_in(entry: &[u8], width: usize) -> Place
     }
 }
 
-/// The value of an entry of the prime index is below this one.
-fn is_before(pages: &[[u8; PAGE_SIZE]], file: &OpenFile, spot: Spot, value: &[u8]) -> bool {
-    match entry(pages, file.prime.tree.shape, spot) {
+/// The last entry of a leaf of the prime index has a value below this one.
+fn ends_before(pages: &[[u8; PAGE_SIZE]], file: &OpenFile, leaf: Leaf, value: &[u8]) -> bool {
+    let last = Spot {
+        page: leaf.page,
+        place: leaf.count.saturating_sub(1),
+    };
+    match entry(pages, file.prime.tree.shape, last) {
         Some(entry) => entry[..file.prime.width as usize].cmp(value).is_lt(),
         None => false,
     }
+}
+
+/// An entry of a leaf; where they are in order, the first whose tree key is not below this one.
+fn entry_in(pages: &[[u8; PAGE_SIZE]], shape: Shape, leaf: Leaf, key: &[u8]) -> Option<Spot>
+    ensures page { IfSome result (λ spot. spot.page ≡ leaf.page) }
+    ensures place { IfSome result (λ spot. spot.place < leaf.count) }
+{
+    let page = pages.get(leaf.page as usize)?;
+    if !is_leaf(page, shape) {
+        return None;
+    }
+    let place = LeafView { page, shape }.rank(key);
+    if place >= leaf.count as usize {
+        return None;
+    }
+    Some(Spot {
+        page: leaf.page,
+        place: place as u16,
+    })
 }
 
 /// An entry of the prime index; where they are in order, the first whose value is not below this one.
 pub fn entry_near(
     pages: &[[u8; PAGE_SIZE]],
     file: &OpenFile,
-    primes: &[Spot],
+    primes: &[Leaf],
     value: &[u8],
 ) -> Option<Spot>
-    ensures { IfSome result (λ spot. IsOneOf primes.now spot) }
+    ensures { IfSome result (λ spot. IsOneOf (spots_in primes.now) spot) }
 {
-    let i = primes.partition_point(|spot| is_before(pages, file, *spot, value));
+    let i = primes.partition_point(|leaf| ends_before(pages, file, *leaf, value));
     if i == primes.len() {
         return None;
     }
-    Some(primes[i])
+    entry_in(pages, file.prime.tree.shape, primes[i], value)
 }

@@ -5,6 +5,7 @@ ghost use Rattle.record_heap.specs.declared.shape.Place.{Place};
 ghost use Rattle.record_heap.specs.Slot.{room};
 ghost use Rattle.record_heap.specs.Walk.{slots_of};
 ghost use Rattle.page_marks.specs.PageList.{pages_in};
+ghost use Rattle.page_walks.specs.Spots.{spots_in};
 ghost use Rattle.open_file.specs.Stands.{IsShaped, is_same};
 ghost use Rattle.row_checks.specs.Rows.{place_at, places_in};
 ghost use Rattle.row_checks.specs.Leading.{HasEntry};
@@ -14,13 +15,13 @@ use crate::record::stored_at;
 use crate::row::value;
 use open_file::OpenFile;
 use page_bytes::PAGE_SIZE;
-use page_walks::Spot;
+use page_walks::{Leaf, Spot};
 use record_heap::Place;
 
 /// The slot is not in use, or an entry of the prime index leads to it.
-fn has_entry(pages: &[[u8; PAGE_SIZE]], file: &OpenFile, primes: &[Spot], place: Place) -> bool
+fn has_entry(pages: &[[u8; PAGE_SIZE]], file: &OpenFile, primes: &[Leaf], place: Place) -> bool
     requires { IsShaped file.now }
-    ensures { IsTrue result → HasEntry file.now pages.now primes.now place }
+    ensures { IsTrue result → HasEntry file.now pages.now (spots_in primes.now) place }
 {
     let Some(stored) = stored_at(pages, file, place) else {
         return true;
@@ -42,9 +43,9 @@ fn leads_to(pages: &[[u8; PAGE_SIZE]], file: &OpenFile, spot: Spot, place: Place
 }
 
 /// Each slot of page n that is in use has its entry in the prime index.
-fn page_has_entries(pages: &[[u8; PAGE_SIZE]], file: &OpenFile, primes: &[Spot], n: u32) -> bool
+fn page_has_entries(pages: &[[u8; PAGE_SIZE]], file: &OpenFile, primes: &[Leaf], n: u32) -> bool
     requires { IsShaped file.now }
-    ensures { IsTrue result → (p : Place) → p.page ≡ n → p.slot < room file.now.heap.shape → HasEntry file.now pages.now primes.now p }
+    ensures { IsTrue result → (p : Place) → p.page ≡ n → p.slot < room file.now.heap.shape → HasEntry file.now pages.now (spots_in primes.now) p }
 {
     for i in 0..file.heap.shape.room() {
         let place = Place {
@@ -62,12 +63,12 @@ fn page_has_entries(pages: &[[u8; PAGE_SIZE]], file: &OpenFile, primes: &[Spot],
 pub fn slots_have_entries(
     pages: &[[u8; PAGE_SIZE]],
     file: &OpenFile,
-    primes: &[Spot],
+    primes: &[Leaf],
     own: &[u32],
 ) -> bool
     requires { IsShaped file.now }
     ensures { IsTrue result → (p : Place) → IsSome (slots_of file.now.heap.shape (pages_in pages.now) own.now p)
-        → IsSome (find (is_same p) (places_in file.now pages.now primes.now)) }
+        → IsSome (find (is_same p) (places_in file.now pages.now (spots_in primes.now))) }
 {
     for &n in own {
         if !page_has_entries(pages, file, primes, n) {

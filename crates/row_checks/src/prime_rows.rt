@@ -1,9 +1,10 @@
 //! The rows that the prime index leads to.
 
 ghost use Rattle.std.specs.Prelude.{◌≡◌, ℕ, true, false, All, IfOk, OnOk, IsTrue};
+ghost use Rattle.page_bytes.specs.Each.{Each};
 ghost use Rattle.tree_node.specs.Order.{Ascends};
 ghost use Rattle.page_marks.specs.Marks.{marked_in};
-ghost use Rattle.page_walks.specs.Spots.{entries_at};
+ghost use Rattle.page_walks.specs.Spots.{entries_at, spots_below, spots_in};
 ghost use Rattle.record_heap.specs.Walk.{is_one_of};
 ghost use Rattle.open_file.specs.Stands.{IsShaped};
 ghost use Rattle.row_checks.specs.Rows.{RowsStand};
@@ -17,7 +18,7 @@ use crate::row_fault::RowFault;
 use open_file::OpenFile;
 use page_bytes::PAGE_SIZE;
 use page_marks::mark;
-use page_walks::Spot;
+use page_walks::{Leaf, Spot};
 use std::alloc::Global;
 
 /// No marks, for so many pages.
@@ -64,14 +65,32 @@ fn leads_to_row(pages: &[[u8; PAGE_SIZE]], file: &OpenFile, marks: &[bool], spot
         && &entry[..width] == value(file, stored, 0)
 }
 
-/// Each of these entries of the prime index leads to a row that has its value, in one of the marked pages.
-fn all_lead(pages: &[[u8; PAGE_SIZE]], file: &OpenFile, marks: &[bool], primes: &[Spot]) -> bool
+/// Each entry of the leaf of the prime index leads to a row that has its value, in one of the marked pages.
+fn leaf_leads(pages: &[[u8; PAGE_SIZE]], file: &OpenFile, marks: &[bool], leaf: Leaf) -> bool
     requires { IsShaped file.now }
-    ensures { IsTrue result → All (LeadsToRow file.now pages.now marks.now) primes.now }
+    ensures { IsTrue result → Each (LeadsToRow file.now pages.now marks.now) (spots_below leaf.page leaf.count) }
+{
+    for place in 0..leaf.count {
+        let spot = Spot {
+            page: leaf.page,
+            place,
+        };
+        if !leads_to_row(pages, file, marks, spot) {
+            return false;
+        }
+    }
+    true
+}
+
+/// Each entry of these leaves of the prime index leads to a row that has its value, in one of the marked pages.
+fn all_lead(pages: &[[u8; PAGE_SIZE]], file: &OpenFile, marks: &[bool], primes: &[Leaf]) -> bool
+    requires { IsShaped file.now }
+    ensures { IsTrue result
+        → All (λ leaf. Each (LeadsToRow file.now pages.now marks.now) (spots_below leaf.page leaf.count)) primes.now }
 {
     primes
         .iter()
-        .all(|spot| leads_to_row(pages, file, marks, *spot))
+        .all(|leaf| leaf_leads(pages, file, marks, *leaf))
 }
 
 /// Compares the prime index with the records, by marks on the heap's own pages.
@@ -79,13 +98,13 @@ fn compare(
     pages: &[[u8; PAGE_SIZE]],
     file: &OpenFile,
     own: &[u32],
-    primes: &[Spot],
+    primes: &[Leaf],
     marks: &mut [bool],
 ) -> Result<(), RowFault>
     requires shaped { IsShaped file.now }
-    requires rises { Ascends file.now.prime.width (entries_at file.now.prime.tree.shape pages.now primes.now) }
+    requires rises { Ascends file.now.prime.width (entries_at file.now.prime.tree.shape pages.now (spots_in primes.now)) }
     requires none { (n : ℕ) → marked_in marks.old n ≡ false }
-    ensures { OnOk result (RowsStand file.now pages.now own.now primes.now) }
+    ensures { OnOk result (RowsStand file.now pages.now own.now (spots_in primes.now)) }
 {
     mark_all(marks, own)?;
     if !all_lead(pages, file, marks, primes) || !slots_have_entries(pages, file, primes, own) {
@@ -94,8 +113,8 @@ fn compare(
     Ok(())
 }
 
-/// Compares the prime index of a file with its records. `own` are the heap's own pages, and `primes` the places of the index's entries, in their order, in
-/// the pages of the file as they were read.
+/// Compares the prime index of a file with its records. `own` are the heap's own pages, and `primes` the leaves of the index, in their order, in the pages
+/// of the file as they were read.
 ///
 /// Memory; Index where an entry does not lead to a row that has its value, or a slot in use has no entry.
 pub fn check_rows(
@@ -103,11 +122,11 @@ pub fn check_rows(
     pages: &[[u8; PAGE_SIZE]],
     file: &OpenFile,
     own: &[u32],
-    primes: &[Spot],
+    primes: &[Leaf],
 ) -> Result<(), RowFault>
     requires shaped { IsShaped file.now }
-    requires rises { Ascends file.now.prime.width (entries_at file.now.prime.tree.shape pages.now primes.now) }
-    ensures { OnOk result (RowsStand file.now pages.now own.now primes.now) }
+    requires rises { Ascends file.now.prime.width (entries_at file.now.prime.tree.shape pages.now (spots_in primes.now)) }
+    ensures { OnOk result (RowsStand file.now pages.now own.now (spots_in primes.now)) }
 {
     let mut marks = no_marks(alloc, pages.len())?;
     compare(pages, file, own, primes, &mut marks)

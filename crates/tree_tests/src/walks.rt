@@ -4,7 +4,7 @@ use crate::checks::assert_equal;
 use crate::memory_pages::{new_pages, put_byte};
 use bplus_tree::Tree;
 use page_marks::{WalkFault, all_marked, mark};
-use page_walks::{Spot, trees_stay, walk_free, walk_tree, walks_part_the_file};
+use page_walks::{Leaf, Spot, trees_stay, walk_free, walk_tree, walks_part_the_file};
 use std::alloc::Global;
 use std::process::Abort;
 use std::test::Fail;
@@ -74,13 +74,24 @@ fn the_entries_of_a_tree_are_found_in_order(rt: HostRuntime) -> Result<(), Fail>
     trees_stay();
     let pages = two_leaves(&rt, rt.alloc())?;
     let mut reached = [false; 4];
-    let spots = walk_tree(rt.alloc(), &pages, &tree(&rt, 1, 1, 8), &mut reached)?;
+    let leaves = walk_tree(rt.alloc(), &pages, &tree(&rt, 1, 1, 8), &mut reached)?;
     assert_equal(&rt, reached, [false, true, true, true]);
+    assert_equal(
+        &rt,
+        leaves.as_slice(),
+        [Leaf { page: 2, count: 4 }, Leaf { page: 3, count: 4 }].as_slice(),
+    );
     let mut keys = Vec::new(rt.alloc());
-    for spot in spots.iter() {
-        let entry = spot.entry(&pages, LONGEST).expect(&rt, "an entry");
-        assert!(rt; entry.len() == 508);
-        keys.push(entry[0])?;
+    for leaf in leaves.iter() {
+        for place in 0..leaf.count {
+            let spot = Spot {
+                page: leaf.page,
+                place,
+            };
+            let entry = spot.entry(&pages, LONGEST).expect(&rt, "an entry");
+            assert!(rt; entry.len() == 508);
+            keys.push(entry[0])?;
+        }
     }
     assert_equal(
         &rt,
@@ -130,11 +141,11 @@ fn a_tree_of_three_levels_is_walked(rt: HostRuntime) -> Result<(), Fail> {
     put_inner(&rt, &mut pages, 3, 12, &right);
     let mut reached = [false; 20];
     mark(&mut reached, 0)?;
-    let spots = walk_tree(rt.alloc(), &pages, &tree(&rt, 1, 2, 64), &mut reached)?;
+    let leaves = walk_tree(rt.alloc(), &pages, &tree(&rt, 1, 2, 64), &mut reached)?;
     assert_equal(
         &rt,
-        spots.get(33).copied(),
-        Some(Spot { page: 12, place: 1 }),
+        leaves.get(8).copied(),
+        Some(Leaf { page: 12, count: 4 }),
     );
     assert!(rt; all_marked(&reached));
     let six = put_byte(&rt, &mut pages, 2, 3, 6);

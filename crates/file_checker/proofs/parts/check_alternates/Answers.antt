@@ -2,8 +2,8 @@ use Rattle.std.proofs.Common.{◌≡◌, List, ◌<◌, ◌∙◌, length, slice
 use Rattle.tree_node.specs.Order.{Ascends}
 use Rattle.page_marks.specs.Marks.{marked_in}
 use Rattle.page_marks.specs.PageList.{pages_in}
-use Rattle.page_walks.specs.declared.spot.Spot.{Spot}
-use Rattle.page_walks.specs.Spots.{entries_at}
+use Rattle.page_walks.specs.declared.leaf.Leaf.{Leaf}
+use Rattle.page_walks.specs.Spots.{entries_at, spots_in}
 use Rattle.key_index.specs.declared.alt_index.AltIndex.{AltIndex}
 use Rattle.row_checks.specs.Alternate.{AlternateStands}
 use Rattle.file_checker.proofs.AlternateLemmas.{entries_rise, alternates_more}
@@ -12,8 +12,8 @@ use Rattle.file_checker.proofs.parts.check_alternates.Goals as goal
 pub check_alternate-requires-clause-rises : goal.check_alternate-requires-clause-rises
 check_alternate-requires-clause-rises c =
     let index = c.index-item.result in
-    subst (λ (spots : List Spot). Ascends index.tree.shape.width (entries_at index.tree.shape c.args.pages.now spots)) (sym c.deref.ensures.value)
-    (entries_rise index.tree (pages_in c.args.pages.now) (entries_at index.tree.shape c.args.pages.now c.in_ok-spots.spots.items) _ c.in_ok-spots.ensures.stands)
+    subst (λ (leaves : List Leaf). Ascends index.tree.shape.width (entries_at index.tree.shape c.args.pages.now (spots_in leaves))) (sym c.deref.ensures.value)
+    (entries_rise index.tree (pages_in c.args.pages.now) (entries_at index.tree.shape c.args.pages.now (spots_in c.in_ok-leaves.leaves.items)) _ c.in_ok-leaves.ensures.stands)
 
 pub loop-index-preserved : goal.loop-index-preserved
 loop-index-preserved c =
@@ -21,12 +21,12 @@ loop-index-preserved c =
     let same = c.as_slice-index-items.ensures.value in
     let within : c.loop-index.index-index < length c.args.file.now.alternates.items = (let test = c.loop-index-test.true in let long = ap length same in omega arith) in
     let is : index ≡ slice_index_or c.args.file.now.alternates.items c.loop-index.index-index index = c.index-item.is ∙ ap (λ (l : List AltIndex). slice_index_or l c.loop-index.index-index index) same in
-    let walked = c.in_ok-spots.ensures in
-    alternates_more c.args.file.now c.args.pages.now c.args.primes.now index c.loop-index.index-index walked.own (marked_in c.args.reached.now) (marked_in c.loop-index.reached) (marked_in c.walk_tree.new.reached)
+    let walked = c.in_ok-leaves.ensures in
+    alternates_more c.args.file.now c.args.pages.now (spots_in c.args.primes.now) index c.loop-index.index-index walked.own (marked_in c.args.reached.now) (marked_in c.loop-index.reached) (marked_in c.walk_tree.new.reached)
     within is c.loop-index.invariant
     (record {
-      spots = c.in_ok-spots.spots.items;
+      spots = spots_in c.in_ok-leaves.leaves.items;
       tree = walked.stands;
-      rows = subst (AlternateStands c.args.file.now c.args.pages.now c.args.primes.now index) c.deref.ensures.value c.in_ok-check_alternate.ensures;
+      rows = subst (λ (leaves : List Leaf). AlternateStands c.args.file.now c.args.pages.now (spots_in c.args.primes.now) index (spots_in leaves)) c.deref.ensures.value c.in_ok-check_alternate.ensures;
     })
     walked.marks

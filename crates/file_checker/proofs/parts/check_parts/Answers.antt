@@ -2,8 +2,8 @@ use Rattle.std.proofs.Common.{◌≡◌, ℕ, ◌<◌, true, List, length, sym, 
 use Rattle.tree_node.specs.Order.{Ascends}
 use Rattle.page_marks.specs.Marks.{marked_in}
 use Rattle.page_marks.specs.PageList.{pages_in}
-use Rattle.page_walks.specs.declared.spot.Spot.{Spot}
-use Rattle.page_walks.specs.Spots.{entries_at}
+use Rattle.page_walks.specs.declared.leaf.Leaf.{Leaf}
+use Rattle.page_walks.specs.Spots.{entries_at, spots_in}
 use Rattle.row_checks.proofs.LawLemmas.{make_a_file}
 use Rattle.row_checks.specs.Rows.{RowsStand}
 use Rattle.file_checker.specs.Parts.{AlternatesFound}
@@ -14,29 +14,29 @@ use Rattle.file_checker.proofs.parts.check_parts.Goals as goal
 pub check_rows-requires-clause-rises : goal.check_rows-requires-clause-rises
 check_rows-requires-clause-rises c =
     let index = c.from_header-file.result.prime in
-    let rises : Ascends index.tree.shape.width (entries_at index.tree.shape c.args.pages.now c.in_ok-primes.primes.items) =
-    entries_rise index.tree (pages_in c.args.pages.now) (entries_at index.tree.shape c.args.pages.now c.in_ok-primes.primes.items) _ c.in_ok-primes.ensures.stands in
-    subst (λ (spots : List Spot). Ascends index.width (entries_at index.tree.shape c.args.pages.now spots)) (sym c.deref-2.ensures.value)
-    (subst (λ (width : ℕ). Ascends width (entries_at index.tree.shape c.args.pages.now c.in_ok-primes.primes.items)) index.keys rises)
+    let rises : Ascends index.tree.shape.width (entries_at index.tree.shape c.args.pages.now (spots_in c.in_ok-primes.primes.items)) =
+    entries_rise index.tree (pages_in c.args.pages.now) (entries_at index.tree.shape c.args.pages.now (spots_in c.in_ok-primes.primes.items)) _ c.in_ok-primes.ensures.stands in
+    subst (λ (leaves : List Leaf). Ascends index.width (entries_at index.tree.shape c.args.pages.now (spots_in leaves))) (sym c.deref-2.ensures.value)
+    (subst (λ (width : ℕ). Ascends width (entries_at index.tree.shape c.args.pages.now (spots_in c.in_ok-primes.primes.items))) index.keys rises)
 
 pub check_alternates-requires-clause-many : goal.check_alternates-requires-clause-many
 check_alternates-requires-clause-many c j index within is =
     let opened = c.from_header-file.ensures in
     let tree = c.from_header-file.result.prime.tree in
     opened.counts j index within is ∙ sym opened.header_is.records
-    ∙ sym (ap length c.deref-3.ensures.value ∙ spots_many tree c.args.pages.now (marked_in c.walk_heap.new.reached) (marked_in c.walk_tree.new.reached) c.in_ok-primes.primes.items c.in_ok-primes.ensures)
+    ∙ sym (ap (λ (primes : List Leaf). length (spots_in primes)) c.deref-3.ensures.value ∙ spots_many tree c.args.pages.now (marked_in c.walk_heap.new.reached) (marked_in c.walk_tree.new.reached) (spots_in c.in_ok-primes.primes.items) c.in_ok-primes.ensures)
 
 pub returns-clause-stand : goal.returns-clause-stand
 returns-clause-stand c =
     let file = c.from_header-file.result in
     let list = c.args.pages.now in
-    let rows : RowsStand file list c.in_ok-own.own.items c.in_ok-primes.primes.items =
-    subst (λ (own : List ℕ). RowsStand file list own c.in_ok-primes.primes.items) c.deref.ensures.value
-    (subst (RowsStand file list c.deref.result.now) c.deref-2.ensures.value c.in_ok-check_rows.ensures) in
-    let alternates : AlternatesFound file list c.in_ok-primes.primes.items (length file.alternates.items) (marked_in c.walk_tree.new.reached) (marked_in c.check_alternates.new.reached) =
-    subst (λ (primes : List Spot). AlternatesFound file list primes (length file.alternates.items) (marked_in c.walk_tree.new.reached) (marked_in c.check_alternates.new.reached)) c.deref-3.ensures.value
+    let rows : RowsStand file list c.in_ok-own.own.items (spots_in c.in_ok-primes.primes.items) =
+    subst (λ (own : List ℕ). RowsStand file list own (spots_in c.in_ok-primes.primes.items)) c.deref.ensures.value
+    (subst (λ (primes : List Leaf). RowsStand file list c.deref.result.now (spots_in primes)) c.deref-2.ensures.value c.in_ok-check_rows.ensures) in
+    let alternates : AlternatesFound file list (spots_in c.in_ok-primes.primes.items) (length file.alternates.items) (marked_in c.walk_tree.new.reached) (marked_in c.check_alternates.new.reached) =
+    subst (λ (primes : List Leaf). AlternatesFound file list (spots_in primes) (length file.alternates.items) (marked_in c.walk_tree.new.reached) (marked_in c.check_alternates.new.reached)) c.deref-3.ensures.value
     c.in_ok-check_alternates.ensures.found in
-    let found : Found c.args.header.now list file c.in_ok-own.own.items c.in_ok-primes.primes.items (marked_in c.args.reached.now) (marked_in c.mark.new.reached) (marked_in c.walk_free.new.reached)
+    let found : Found c.args.header.now list file c.in_ok-own.own.items (spots_in c.in_ok-primes.primes.items) (marked_in c.args.reached.now) (marked_in c.mark.new.reached) (marked_in c.walk_free.new.reached)
     (marked_in c.walk_heap.new.reached) (marked_in c.walk_tree.new.reached) (marked_in c.check_alternates.new.reached) =
     record {
       clear = c.requires.clear;
@@ -51,20 +51,20 @@ returns-clause-stand c =
     let all : (n : ℕ) → n < length list → marked_in c.check_alternates.new.reached n ≡ true = λ n within.
     c.is_page_lost.ensures.none c.if-is_page_lost.false n (let a = c.mark.auto.reached in let b = c.walk_free.auto.reached in let d = c.walk_heap.auto.reached in let e = c.walk_tree.auto.reached in
     let f = c.check_alternates.auto.reached in let many = c.requires.many in omega arith) in
-    pages_stand c.args.header.now list file c.in_ok-own.own.items c.in_ok-primes.primes.items (marked_in c.args.reached.now) (marked_in c.mark.new.reached) (marked_in c.walk_free.new.reached)
+    pages_stand c.args.header.now list file c.in_ok-own.own.items (spots_in c.in_ok-primes.primes.items) (marked_in c.args.reached.now) (marked_in c.mark.new.reached) (marked_in c.walk_free.new.reached)
     (marked_in c.walk_heap.new.reached) (marked_in c.walk_tree.new.reached) (marked_in c.check_alternates.new.reached) c.requires.header c.from_header-file.ensures found all make_a_file
 
 pub returns-then-is_page_lost-clause-stop : goal.returns-then-is_page_lost-clause-stop
 returns-then-is_page_lost-clause-stop c =
     let file = c.from_header-file.result in
     let list = c.args.pages.now in
-    let rows : RowsStand file list c.in_ok-own.own.items c.in_ok-primes.primes.items =
-    subst (λ (own : List ℕ). RowsStand file list own c.in_ok-primes.primes.items) c.deref.ensures.value
-    (subst (RowsStand file list c.deref.result.now) c.deref-2.ensures.value c.in_ok-check_rows.ensures) in
-    let alternates : AlternatesFound file list c.in_ok-primes.primes.items (length file.alternates.items) (marked_in c.walk_tree.new.reached) (marked_in c.check_alternates.new.reached) =
-    subst (λ (primes : List Spot). AlternatesFound file list primes (length file.alternates.items) (marked_in c.walk_tree.new.reached) (marked_in c.check_alternates.new.reached)) c.deref-3.ensures.value
+    let rows : RowsStand file list c.in_ok-own.own.items (spots_in c.in_ok-primes.primes.items) =
+    subst (λ (own : List ℕ). RowsStand file list own (spots_in c.in_ok-primes.primes.items)) c.deref.ensures.value
+    (subst (λ (primes : List Leaf). RowsStand file list c.deref.result.now (spots_in primes)) c.deref-2.ensures.value c.in_ok-check_rows.ensures) in
+    let alternates : AlternatesFound file list (spots_in c.in_ok-primes.primes.items) (length file.alternates.items) (marked_in c.walk_tree.new.reached) (marked_in c.check_alternates.new.reached) =
+    subst (λ (primes : List Leaf). AlternatesFound file list (spots_in primes) (length file.alternates.items) (marked_in c.walk_tree.new.reached) (marked_in c.check_alternates.new.reached)) c.deref-3.ensures.value
     c.in_ok-check_alternates.ensures.found in
-    let found : Found c.args.header.now list file c.in_ok-own.own.items c.in_ok-primes.primes.items (marked_in c.args.reached.now) (marked_in c.mark.new.reached) (marked_in c.walk_free.new.reached)
+    let found : Found c.args.header.now list file c.in_ok-own.own.items (spots_in c.in_ok-primes.primes.items) (marked_in c.args.reached.now) (marked_in c.mark.new.reached) (marked_in c.walk_free.new.reached)
     (marked_in c.walk_heap.new.reached) (marked_in c.walk_tree.new.reached) (marked_in c.check_alternates.new.reached) =
     record {
       clear = c.requires.clear;
@@ -80,6 +80,6 @@ returns-then-is_page_lost-clause-stop c =
     let within : lost.0 < length list = (let some = lost.1 in let a = c.mark.auto.reached in let b = c.walk_free.auto.reached in let d = c.walk_heap.auto.reached in let e = c.walk_tree.auto.reached in
     let f = c.check_alternates.auto.reached in let many = c.requires.many in omega arith) in (
       lost.0,
-      leaves_out c.args.header.now list file c.in_ok-own.own.items c.in_ok-primes.primes.items (marked_in c.args.reached.now) (marked_in c.mark.new.reached) (marked_in c.walk_free.new.reached)
+      leaves_out c.args.header.now list file c.in_ok-own.own.items (spots_in c.in_ok-primes.primes.items) (marked_in c.args.reached.now) (marked_in c.mark.new.reached) (marked_in c.walk_free.new.reached)
           (marked_in c.walk_heap.new.reached) (marked_in c.walk_tree.new.reached) (marked_in c.check_alternates.new.reached) c.requires.header c.from_header-file.ensures found lost.0 within lost.2,
     )

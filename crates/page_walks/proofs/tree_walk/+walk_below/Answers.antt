@@ -4,6 +4,7 @@ use Rattle.tree_node.specs.Inner.{separators, children}
 use Rattle.tree_node.proofs.InnerLemmas.{length_children, length_separators}
 use Rattle.node_balance.specs.Fill.{least}
 use Rattle.page_marks.specs.PageList.{pages_in}
+use Rattle.page_walks.specs.Spots.{spots_in}
 use Rattle.page_walks.specs.TreeWalk.{bound_at, reach_of}
 use Rattle.page_walks.proofs.WalkLemmas.{on_ok, bound_next, walked_as, leaf_walked, front_none, front_next, node_walked}
 use Rattle.page_walks.proofs.tree_walk.+walk_below.Goals as goal
@@ -13,7 +14,7 @@ returns-then-levels-eq0 t c =
     let list = c.args.pages.now in
     on_ok c.push_leaf.result
     (leaf_walked c.args.shape list c.args.levels c.args.page c.args.limits.least (option_copied c.args.limits.low) (option_copied c.args.limits.high)
-    (reach_of c.args.shape list c.args.reached.now c.args.spots.now.items) (reach_of c.args.shape list c.mark.new.reached c.push_leaf.new.spots.items)
+    (reach_of c.args.shape list c.args.reached.now (spots_in c.args.leaves.now.items)) (reach_of c.args.shape list c.mark.new.reached (spots_in c.push_leaf.new.leaves.items))
     c.if-levels-eq0.true (omega arith) c.in_ok-mark.ensures.marked c.in_ok-check_leaf.ensures)
     c.push_leaf.ensures
 
@@ -40,9 +41,9 @@ children-preserved t c =
     let many : c.count-count.result ≡ length ss = c.count-count.ensures.value in
     let more : length below ≡ length ss + 1 = length_children shape bytes ∙ ap (λ (n : ℕ). n + 1) (sym (length_separators shape bytes)) in
     let few : i < length ss = omega arith in
-    let start = reach_of shape list c.mark.new.reached c.args.spots.now.items in
-    let before = reach_of shape list c.children.reached c.children.spots.items in
-    let after = reach_of shape list c.walk_below.new.reached c.walk_below.new.spots.items in
+    let start = reach_of shape list c.mark.new.reached (spots_in c.args.leaves.now.items) in
+    let before = reach_of shape list c.children.reached (spots_in c.children.leaves.items) in
+    let after = reach_of shape list c.walk_below.new.reached (spots_in c.walk_below.new.leaves.items) in
     let child = walked_as shape (pages_in list) k c.child.result (get_or below i 0) c.least_in-least.result (least shape k)
     (option_copied c.children.low) (bound_at low ss i) (Some c.separator.result.now) (Some (get_or ss i [])) before after
     c.child.ensures c.least_in-least.ensures c.children.invariant.low (ap Some c.separator.ensures.value) c.in_ok-walk_below.ensures in
@@ -66,10 +67,10 @@ returns t c =
     let more : length below ≡ length ss + 1 = length_children shape bytes ∙ ap (λ (n : ℕ). n + 1) (sym (length_separators shape bytes)) in
     let end : c.children.i ≡ length ss = omega arith in
     let one : c.args.levels ≡ suc k = omega arith in
-    let start = reach_of shape list c.args.reached.now c.args.spots.now.items in
-    let before = reach_of shape list c.mark.new.reached c.args.spots.now.items in
-    let between = reach_of shape list c.children.reached c.children.spots.items in
-    let after = reach_of shape list c.walk_below-2.new.reached c.walk_below-2.new.spots.items in
+    let start = reach_of shape list c.args.reached.now (spots_in c.args.leaves.now.items) in
+    let before = reach_of shape list c.mark.new.reached (spots_in c.args.leaves.now.items) in
+    let between = reach_of shape list c.children.reached (spots_in c.children.leaves.items) in
+    let after = reach_of shape list c.walk_below-2.new.reached (spots_in c.walk_below-2.new.leaves.items) in
     on_ok c.walk_below-2.result
     (λ w. node_walked shape list c.args.levels k c.args.page c.args.limits.least low high start before between after one (omega arith) c.in_ok-check_inner.ensures (omega arith)
     c.in_ok-mark.ensures.marked refl (rw end at c.children.invariant.front)

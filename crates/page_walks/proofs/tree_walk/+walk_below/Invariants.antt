@@ -2,6 +2,7 @@ use Rattle.std.proofs.Common.{◌≡◌, ◌≤◌, ◌-◌}
 use Rattle.std.specs.Option.{option_copied}
 use Rattle.tree_node.specs.Inner.{separators, children}
 use Rattle.page_marks.specs.PageList.{pages_in}
+use Rattle.page_walks.specs.Spots.{spots_in}
 use Rattle.page_walks.specs.TreeWalk.{WalkedFront, bound_at, reach_of}
 use Rattle.page_walks.proofs.tree_walk.+walk_below.Given as goal
 
@@ -10,7 +11,7 @@ invariant-children l = record {
   within : l.i ≤ l.count;
   low : option_copied l.low ≡ bound_at (option_copied l.fn.limits.low) (separators l.shape l.node.page.now) l.i;
   front : WalkedFront l.shape (pages_in l.pages) (l.levels - 1) (option_copied l.fn.limits.low) (separators l.shape l.node.page.now) (children l.shape l.node.page.now) l.i
-      (reach_of l.shape l.pages l.initial.reached l.initial.spots.items) (reach_of l.shape l.pages l.reached l.spots.items);
+      (reach_of l.shape l.pages l.initial.reached (spots_in l.initial.leaves.items)) (reach_of l.shape l.pages l.reached (spots_in l.leaves.items));
 }
 
 abbrev pub decreases-children : goal.decreases-children

@@ -1,6 +1,7 @@
 use Rattle.std.proofs.Common.{refl}
+use Rattle.page_walks.specs.Spots.{spots_in}
 use Rattle.row_checks.specs.Leading.{HasRow}
-use Rattle.row_checks.proofs.RowLemmas.{each_from_all}
+use Rattle.row_checks.proofs.SpotLemmas.{each_in}
 use Rattle.row_checks.proofs.AlternateLemmas.{alternate_stands}
 use Rattle.row_checks.proofs.alternate.check_alternate.Goals as goal
 
@@ -8,6 +9,6 @@ pub returns : goal.returns
 returns c =
     let file = c.args.file.now in
     let list = c.args.pages.now in
-    let primes = c.args.primes.now in
-    let spots = c.args.spots.now in
-    alternate_stands file list primes c.args.index spots (each_from_all (HasRow file list primes c.args.index) spots (c.if-not-all_have_rows.ensures refl)) c.requires.many c.requires.rises
+    let primes = spots_in c.args.primes.now in
+    let spots = spots_in c.args.leaves.now in
+    alternate_stands file list primes c.args.index spots (each_in (HasRow file list primes c.args.index) c.args.leaves.now (c.if-not-all_have_rows.ensures refl)) c.requires.many c.requires.rises

@@ -5,6 +5,7 @@ use Rattle.page_marks.specs.PageList.{pages_in}
 use Rattle.record_heap.specs.declared.shape.Place.{Place}
 use Rattle.record_heap.specs.Slot.{room}
 use Rattle.record_heap.specs.Walk.{is_one_of}
+use Rattle.page_walks.specs.Spots.{spots_in}
 use Rattle.row_checks.specs.Leading.{HasEntry}
 use Rattle.row_checks.proofs.SlotLemmas.{pages_more, own_slot}
 use Rattle.row_checks.proofs.heap_slots.slots_have_entries.Goals as goal
@@ -17,7 +18,7 @@ loop-n-preserved c =
     let own = c.args.own.now in
     let k = c.loop-n.n-index in
     let shape = c.args.file.now.heap.shape in
-    let Has = HasEntry c.args.file.now c.args.pages.now c.args.primes.now in
+    let Has = HasEntry c.args.file.now c.args.pages.now (spots_in c.args.primes.now) in
     let up : k + 1 ≡ suc k = omega arith in
     subst (λ (m : ℕ). (p : Place) → is_one_of (take m own) p.page ≡ true → p.slot < room shape → Has p) (sym up)
     (subst (λ (ms : List ℕ). (p : Place) → is_one_of ms p.page ≡ true → p.slot < room shape → Has p) (sym (take-suc own k 0 c.loop-n-test.true))

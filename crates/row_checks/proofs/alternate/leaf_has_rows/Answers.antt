@@ -1,0 +1,9 @@
+use Rattle.std.proofs.Common.{refl}
+use Rattle.page_walks.specs.Spots.{spots_in}
+use Rattle.row_checks.specs.Leading.{HasRow}
+use Rattle.row_checks.proofs.SpotLemmas.{each_below}
+use Rattle.row_checks.proofs.alternate.leaf_has_rows.Goals as goal
+
+pub loop-place-preserved : goal.loop-place-preserved
+loop-place-preserved c =
+    each_below (HasRow c.args.file.now c.args.pages.now (spots_in c.args.primes.now) c.args.index) c.args.leaf.page c.loop-place.place c.loop-place.invariant (c.if-not-has_row.ensures refl)

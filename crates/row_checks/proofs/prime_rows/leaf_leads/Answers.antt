@@ -1,0 +1,8 @@
+use Rattle.std.proofs.Common.{refl}
+use Rattle.row_checks.specs.Leading.{LeadsToRow}
+use Rattle.row_checks.proofs.SpotLemmas.{each_below}
+use Rattle.row_checks.proofs.prime_rows.leaf_leads.Goals as goal
+
+pub loop-place-preserved : goal.loop-place-preserved
+loop-place-preserved c =
+    each_below (LeadsToRow c.args.file.now c.args.pages.now c.args.marks.now) c.args.leaf.page c.loop-place.place c.loop-place.invariant (c.if-not-leads_to_row.ensures refl)
