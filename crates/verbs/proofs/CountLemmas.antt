@@ -1,102 +1,128 @@
--- A call of a library behind a restart of the count of pages.
-use Rattle.std.proofs.Common.{◌≡◌, ◌≤◌, ℕ, Bool, List, sym, ap, ◌∙◌, subst, arith, IsTrue}
-use Rattle.std.specs.Prelude.{Result, Ok, Err, IfErr}
-use Rattle.io_state.specs.declared.fault.Fault.{Fault}
-use Rattle.io_state.specs.declared.fault.Fault.TheVariants.{Device, Memory, Full, Damage, Broken as BrokenUnit}
-use Rattle.indexed_file.specs.World.{World, OnlyAt, name_at, holding_at, schema_at, is_broken}
+-- A statement behind the beginning of its count of pages.
+use Rattle.std.proofs.Common.{◌≡◌, ◌≤◌, ℕ, ◌+◌, Bool, true, false, List, refl, sym, ◌∙◌, subst, arith, IsTrue}
+use Rattle.io_state.specs.declared.statement.FileStatement.{FileStatement}
+use Rattle.indexed_file.specs.World.{World, OnlyAt, name_at}
 use Rattle.indexed_file.specs.Moments.{Test}
-use Rattle.indexed_file.specs.Room.{most_to_change}
+use Rattle.indexed_file.specs.Room.{Room}
 use Rattle.indexed_file.specs.Shown.{Shown}
-use Rattle.indexed_file.specs.Images.{Trace, ImagesGo, CallGoes, untouched, trace_of_change}
+use Rattle.indexed_file.specs.Images.{ImagesGo}
 use Rattle.indexed_file.proofs.ImageLemmas.{goes_then}
-use Rattle.indexed_file.specs.Calls.{Keeps, OnlyReads, HasRisen, MayFail, MayAnswer, LeavesBroken, SamePages, AsksAtMost}
-use Rattle.indexed_file.specs.UnitCalls.{RestartsCount, ReadsUnit, ChangesUnit}
-use Rattle.verbs.specs.Counted.{CountsAtMost}
+use Rattle.indexed_file.specs.UnitCalls.{RestartsCount}
+use Rattle.verbs.specs.declared.answer.Answer.{Answer}
+use Rattle.verbs.specs.Counted.{begins_count, BeginsCount}
+use Rattle.verbs.specs.Fits.{IsStanding, asks, key_of}
+use Rattle.verbs.specs.Full.{TellsRoom, lacks_room}
+use Rattle.verbs.specs.Held.{Held, Performs, Decides, state_of}
+use Rattle.verbs.specs.Performed.{IsPerformed, IsPerformedCounted, StatusHasCause, in_memory, is_known_late, state_in}
+use Rattle.verbs.specs.Pages.{most_asked}
+use Rattle.verbs.specs.Traces.{trace_of}
+use Rattle.verbs.specs.Verbs.{perform}
+
+-- what comes to a count that has begun
+from_none : (first asked most : ℕ) → first ≡ 0 → asked ≤ first + most → asked ≤ most
+from_none first asked most none few = omega arith
 
 module _
     {S : Type 0} (shown : Shown S)
     (joins : (test : Test) (first then last : S) (name : List ℕ) → shown.Throughout test first then name → shown.Throughout test then last name → shown.Throughout test first last name)
     (ends : (test : Test) (old new : S) (name : List ℕ) → shown.Throughout test old new name → shown.Throughout test new new name)
-    (u : ℕ) (old mid new : S) (restarts : RestartsCount shown u old mid) where
-  -- what was shown truly is
-  pub truly_then : shown.IsShownTruly old (name_at (shown.world old) u) → shown.IsShownTruly mid (name_at (shown.world mid) u)
-  truly_then truly = subst (λ (w : World). shown.IsShownTruly mid (name_at w u)) (sym restarts.world) (restarts.truth _ truly)
-
-  keeps_then : Keeps shown mid new → Keeps shown old new
-  keeps_then keeps = record {
-    honest = λ honest. subst (λ (b : Bool). IsTrue b) restarts.honest (keeps.honest honest);
-    truth = λ honest name truly. keeps.truth honest name (restarts.truth name truly);
-    count = subst (λ (n : ℕ). n ≤ shown.fault_count new) restarts.count keeps.count;
-    limit = keeps.limit ∙ restarts.limit;
-    frames = keeps.frames ∙ restarts.frames;
+    (u : ℕ) (statement : FileStatement) (n : ℕ) (held left : Held) (old mid new : S) (area next : List ℕ) (answer : Answer) where
+  -- the count was begun
+  begun_then :
+      RestartsCount shown u old mid → begins_count shown u statement old ≡ true
+      → IsPerformedCounted shown u statement n (in_memory held mid area) answer (in_memory left new next)
+      → IsPerformed shown u statement n (in_memory held old area) answer (in_memory left new next)
+  begun_then restarts begins done = record {
+    fits = done.fits;
+    schema = done.schema;
+    only = subst (λ (w : World). OnlyAt u w (shown.world new)) restarts.world done.only;
+    keeps = record {
+      honest = λ honest. subst (λ (b : Bool). IsTrue b) restarts.honest (done.keeps.honest honest);
+      truth = λ honest name truly. done.keeps.truth honest name (restarts.truth name truly);
+      count = subst (λ (m : ℕ). m ≤ shown.fault_count new) restarts.count done.keeps.count;
+      limit = done.keeps.limit ∙ restarts.limit;
+      frames = done.keeps.frames ∙ restarts.frames;
+    };
+    early = λ none.
+        let both = done.early (subst (λ (w : World). asks statement n (state_of held w u area) ≡ false) (sym restarts.world) none) in
+        (stays both.0, subst (λ (w : World). Decides statement n (state_of held w u area) answer (state_in shown u (in_memory left new next))) restarts.world both.1);
+    refusal = λ refused. subst (λ (w : World). asks statement n (state_of held w u area) ≡ false) restarts.world (done.refusal refused);
+    known = λ late.
+        let both = done.known (subst (λ (w : World). is_known_late statement n held (state_of held w u area) ≡ true) (sym restarts.world) late) in
+        (stays both.0, both.1);
+    failed_close = done.failed_close;
+    cause = subst (λ (m : ℕ). StatusHasCause statement held.connector.session answer.status m (shown.fault_count new)) restarts.count done.cause;
+    step = λ honest truly standing.
+        subst (λ (w : World). Performs statement n (state_of held w u area) answer (state_in shown u (in_memory left new next))) restarts.world
+        (done.step honest (truly_then truly) (stands standing));
+    standing = λ honest truly standing. done.standing honest (truly_then truly) (stands standing);
+    room = λ honest truly standing.
+        subst (λ (w : World). TellsRoom (perform statement n (state_of held w u area)) (lacks_room statement n (shown.room old u) (state_of held w u area)) answer.status) restarts.world
+        (rw (restarts.room u) at (done.room honest (truly_then truly) (stands standing)));
+    asked = λ honest truly standing counts answered.
+        let few = done.asked honest (truly_then truly) (stands standing) (rw restarts.world counts) answered in
+        from_none _ _ _ restarts.asked
+        (subst (λ (room : Room). shown.pages_asked new u ≤ shown.pages_asked mid u + most_asked statement (key_of held.connector.session) room) (restarts.room u) few);
+    images = λ honest truly standing.
+        goes_then shown.Throughout joins ends old mid new (name_at (shown.world old) u) _
+        (record { may = restarts.images _; only = tt; others = λ other apart. restarts.images other })
+        (subst (λ (w : World). ImagesGo shown.Throughout (name_at w u) (trace_of statement (state_of held w u area) answer.status) mid new) restarts.world
+        (done.images honest (truly_then truly) (stands standing)));
   }
+    where
+      truly_then : shown.IsShownTruly old (name_at (shown.world old) u) → shown.IsShownTruly mid (name_at (shown.world mid) u)
+      truly_then truly = subst (λ (w : World). shown.IsShownTruly mid (name_at w u)) (sym restarts.world) (restarts.truth _ truly)
 
-  pages_then : SamePages shown u mid new → SamePages shown u old new
-  pages_then pages = record { room = pages.room ∙ restarts.room u; counts = pages.counts ∙ restarts.counts u }
+      stands : IsStanding held (shown.world old) u → IsStanding held (shown.world mid) u
+      stands standing = subst (λ (w : World). IsStanding held w u) (sym restarts.world) standing
 
-  untouched_then : ImagesGo shown.Throughout (name_at (shown.world old) u) untouched old mid
-  untouched_then = record { may = restarts.images _; only = tt; others = λ other apart. restarts.images other }
+      stays : new ≡ mid → BeginsCount shown u statement old new
+      stays same = record {
+        begun = λ yes. subst (λ (s : S). RestartsCount shown u old s) (sym same) restarts;
+        left = λ no. absurd (cc);
+      }
 
-  images_then : (trace : Trace) → CallGoes shown u trace mid new → CallGoes shown u trace old new
-  images_then trace goes honest truly =
-      let then = subst (λ (w : World). ImagesGo shown.Throughout (name_at w u) trace mid new) restarts.world (goes honest (truly_then truly)) in
-      goes_then shown.Throughout joins ends old mid new (name_at (shown.world old) u) trace untouched_then then
+  -- the count was left
+  left_then :
+      mid ≡ old → begins_count shown u statement old ≡ false
+      → IsPerformedCounted shown u statement n (in_memory held mid area) answer (in_memory left new next)
+      → IsPerformed shown u statement n (in_memory held old area) answer (in_memory left new next)
+  left_then same begins done_there =
+      let done = subst (λ (s : S). IsPerformedCounted shown u statement n (in_memory held s area) answer (in_memory left new next)) same done_there in
+      record {
+        fits = done.fits;
+        schema = done.schema;
+        only = done.only;
+        keeps = done.keeps;
+        early = λ none. let both = done.early none in (stays both.0, both.1);
+        refusal = done.refusal;
+        known = λ late. let both = done.known late in (stays both.0, both.1);
+        failed_close = done.failed_close;
+        cause = done.cause;
+        step = done.step;
+        standing = done.standing;
+        room = done.room;
+        asked = λ honest truly standing counts. absurd (cc);
+        images = done.images;
+      }
+    where
+      stays : new ≡ old → BeginsCount shown u statement old new
+      stays is = record { begun = λ yes. absurd (cc); left = λ no. is }
 
-  only_then : OnlyAt u (shown.world mid) (shown.world new) → OnlyAt u (shown.world old) (shown.world new)
-  only_then only = subst (λ (w : World). OnlyAt u w (shown.world new)) restarts.world only
+  -- OPEN and CLOSE leave the count
+  pub uncounted_then :
+      mid ≡ old → IsPerformed shown u statement n (in_memory held mid area) answer (in_memory left new next)
+      → IsPerformed shown u statement n (in_memory held old area) answer (in_memory left new next)
+  uncounted_then same done = subst (λ (s : S). IsPerformed shown u statement n (in_memory held s area) answer (in_memory left new next)) same done
 
-  may_then : (broken honest : Bool) (truly_mid truly_old : Type 0) (before between after : ℕ) (fault : Fault) → (truly_old → truly_mid) → between ≡ before
-      → MayFail broken honest truly_mid between after fault → MayFail broken honest truly_old before after fault
-  may_then broken honest truly_mid truly_old before between after Device t e m = subst (λ (n : ℕ). HasRisen n after) e m
-  may_then broken honest truly_mid truly_old before between after Memory t e m = m
-  may_then broken honest truly_mid truly_old before between after Full t e m = m
-  may_then broken honest truly_mid truly_old before between after Damage t e m = (m.0, (λ h truly. m.1 h (t truly)))
-  may_then broken honest truly_mid truly_old before between after BrokenUnit t e m = m
-
-  answers_then : (fault : Fault) → MayAnswer shown u mid new fault → MayAnswer shown u old new fault
-  answers_then fault may =
-      may_then (is_broken (holding_at (shown.world old) u)) (shown.is_honest new) _ _ (shown.fault_count old) (shown.fault_count mid) (shown.fault_count new) fault truly_then restarts.count
-      (subst (λ (w : World). MayFail (is_broken (holding_at w u)) (shown.is_honest new) (shown.IsShownTruly mid (name_at (shown.world mid) u)) (shown.fault_count mid) (shown.fault_count new) fault) restarts.world may)
-
-  if_err : {X : Type 0} (result : Result X Fault) (P Q : Fault → Type 0) → ((fault : Fault) → P fault → Q fault) → IfErr result P → IfErr result Q
-  if_err (Ok answer) P Q f p = p
-  if_err (Err fault) P Q f p = f fault p
-
-  asks_then : {X : Type 0} (most : ℕ) (result : Result X Fault) → AsksAtMost shown u most mid new result → AsksAtMost shown u most old new result
-  asks_then most result asks = λ answered.
-      let few = asks answered in
-      let none = restarts.asked in
-      omega arith
-
-  -- the count is that of the call alone
-  pub counts_then : {X : Type 0} (most : ℕ) (result : Result X Fault) → AsksAtMost shown u most mid new result → CountsAtMost shown u most new result
-  counts_then most result asks = λ answered.
-      let few = asks answered in
-      let none = restarts.asked in
-      omega arith
-
-  pub reads_then : {X : Type 0} (most : ℕ) (result : Result X Fault) → ReadsUnit shown u most mid new result → ReadsUnit shown u most old new result
-  reads_then most result reads = record {
-    asked = λ honest truly. asks_then most result (reads.asked honest (truly_then truly));
-    world = subst (λ (w : World). OnlyReads u (shown.is_honest new) w (shown.world new)) restarts.world reads.world;
-    pages = pages_then reads.pages;
-    broken = subst (λ (w : World). IsTrue (is_broken (holding_at w u)) → result ≡ Err BrokenUnit) restarts.world reads.broken;
-    fault = if_err result _ _ answers_then reads.fault;
-    images = images_then untouched reads.images;
-    keeps = keeps_then reads.keeps;
-  }
-
-  pub changes_then : {X : Type 0} (is_made : X → Bool) (result : Result X Fault) → ChangesUnit shown u is_made mid new result → ChangesUnit shown u is_made old new result
-  changes_then is_made result changes = record {
-    asked = λ honest truly. asks_then _ result (subst (λ room. AsksAtMost shown u (most_to_change room) mid new result) (restarts.room u) (changes.asked honest (truly_then truly)));
-    broken = subst (λ (w : World). IsTrue (is_broken (holding_at w u)) → result ≡ Err BrokenUnit) restarts.world changes.broken;
-    fault = if_err result _ _ (λ fault may other. let both = may other in
-        (subst (λ (w : World). LeavesBroken u (shown.is_honest new) w (shown.world new)) restarts.world both.0, answers_then fault both.1)) changes.fault;
-    unbroken = changes.unbroken;
-    only = only_then changes.only;
-    opened = changes.opened;
-    schema = changes.schema ∙ ap (λ (w : World). schema_at w u) restarts.world;
-    unmade = λ none. pages_then (changes.unmade none);
-    images = images_then (trace_of_change is_made result) changes.images;
-    keeps = keeps_then changes.keeps;
-  }
+  pub counted_then :
+      BeginsCount shown u statement old mid
+      → IsPerformedCounted shown u statement n (in_memory held mid area) answer (in_memory left new next)
+      → IsPerformed shown u statement n (in_memory held old area) answer (in_memory left new next)
+  counted_then begins = by_count (begins_count shown u statement old) refl
+    where
+      by_count : (b : Bool) → begins_count shown u statement old ≡ b
+          → IsPerformedCounted shown u statement n (in_memory held mid area) answer (in_memory left new next)
+          → IsPerformed shown u statement n (in_memory held old area) answer (in_memory left new next)
+      by_count true is = begun_then (begins.begun is) is
+      by_count false is = left_then (begins.left is) is

@@ -1,22 +1,16 @@
--- Calls of a library that begin the count of the pages that their unit asks for. All of this is ours.
-use Rattle.std.specs.Prelude.{ℕ, ◌≤◌, Bool, IsTrue, Result}
-use Rattle.io_state.specs.declared.fault.Fault.{Fault}
-use Rattle.indexed_file.specs.Room.{most_to_change}
+-- How a statement begins the count of the pages that its unit is asked for. All of this is ours.
+use Rattle.std.specs.Prelude.{◌≡◌, ℕ, Bool, false, ◌&&◌, IsTrue}
+use Rattle.io_state.specs.declared.statement.FileStatement.{FileStatement}
+use Rattle.indexed_file.specs.World.{holding_at, is_open}
 use Rattle.indexed_file.specs.Shown.{Shown}
-use Rattle.indexed_file.specs.Believed.{Believed}
-use Rattle.indexed_file.specs.Calls.{is_answered}
-use Rattle.indexed_file.specs.UnitCalls.{ReadsUnit, ChangesUnit}
+use Rattle.indexed_file.specs.UnitCalls.{RestartsCount}
+use Rattle.verbs.specs.Pages.{counts_pages}
 
--- a call that was answered has asked for so many of unit u's pages at most, since the count was restarted
-abbrev pub CountsAtMost : {S X : Type 0} → Shown S → ℕ → ℕ → S → Result X Fault → Type 0
-CountsAtMost shown u most new result = IsTrue (is_answered result) → shown.pages_asked new u ≤ most
+-- a statement on unit u begins the count of its pages: the unit is open, and the statement is neither OPEN nor CLOSE
+abbrev pub begins_count : {S : Type 0} → Shown S → ℕ → FileStatement → S → Bool
+begins_count shown u statement library = counts_pages statement && is_open (holding_at (shown.world library) u)
 
--- a call that begins the count of unit u's pages, only reads the open unit, and asks for so many of its pages at most
-pub record CountsReading {S X : Type 0} (shown : Shown S) (u most : ℕ) (old new : S) (result : Result X Fault) : Type 0 where
-  pub unit : ReadsUnit shown u most old new result
-  pub asked : Believed shown u old new (CountsAtMost shown u most new result)
-
--- a call that begins the count of unit u's pages, and changes the open unit
-pub record CountsChange {S X : Type 0} (shown : Shown S) (u : ℕ) (is_made : X → Bool) (old new : S) (result : Result X Fault) : Type 0 where
-  pub unit : ChangesUnit shown u is_made old new result
-  pub asked : Believed shown u old new (CountsAtMost shown u (most_to_change (shown.room old u)) new result)
+-- the count is begun where the statement begins it, and nothing else changes
+pub record BeginsCount {S : Type 0} (shown : Shown S) (u : ℕ) (statement : FileStatement) (old new : S) : Type 0 where
+  pub begun : IsTrue (begins_count shown u statement old) → RestartsCount shown u old new
+  pub left : begins_count shown u statement old ≡ false → new ≡ old

@@ -7,7 +7,7 @@ use Rattle.indexed_file.specs.Room.{Room, levels_of, most_to_read, most_to_seek,
 use Rattle.indexed_file.specs.Shown.{Shown}
 use Rattle.verbs.specs.Faults.{is_fault}
 
--- a statement that answers no fault has asked for so many of unit u's pages at most, since the count was restarted
+-- a statement that answers no fault leaves the count of unit u's pages at this at most
 abbrev pub AnswersWithin : {S : Type 0} → Shown S → ℕ → ℕ → S → Status → Type 0
 AnswersWithin shown u most new status = is_fault status ≡ false → shown.pages_asked new u ≤ most
 
@@ -15,7 +15,7 @@ AnswersWithin shown u most new status = is_fault status ≡ false → shown.page
 abbrev pub most_to_write : Room → ℕ
 most_to_write room = most_to_seek room 0 + most_to_change room
 
--- the statements that restart the count of their unit where they ask the library: all but OPEN and CLOSE
+-- the statements that begin the count of their unit's pages, where the unit is open: all but OPEN and CLOSE
 abbrev pub counts_pages : FileStatement → Bool
 counts_pages (Open mode) = false
 counts_pages (Close lock) = false

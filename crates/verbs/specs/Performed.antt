@@ -1,5 +1,5 @@
 -- What a statement promises that is performed on one file of a run.
-use Rattle.std.specs.Prelude.{◌≡◌, ◌⊎◌, ℕ, Bool, true, false, not, ◌&&◌, List, take, Option, IsTrue}
+use Rattle.std.specs.Prelude.{◌≡◌, ◌⊎◌, ℕ, ◌+◌, Bool, true, false, ◌&&◌, List, take, Option, IsTrue}
 use Rattle.std.specs.Option.{option_flatten}
 use Rattle.io_state.specs.declared.status.Status.{Status}
 use Rattle.io_state.specs.declared.status.Status.TheVariants.{BoundaryViolation, PermanentError, ConnectorFailed, OutOfSequence}
@@ -15,7 +15,8 @@ use Rattle.verbs.specs.Connector.{Session, FileState}
 use Rattle.verbs.specs.Fits.{Fits, IsStanding, asks, closes_failed, has_failed, key_of}
 use Rattle.verbs.specs.Full.{TellsRoom, lacks_room}
 use Rattle.verbs.specs.Held.{Held, Performs, Decides, state_of, silent}
-use Rattle.verbs.specs.Pages.{AnswersWithin, counts_pages, most_asked}
+use Rattle.verbs.specs.Pages.{AnswersWithin, most_asked}
+use Rattle.verbs.specs.Counted.{begins_count, BeginsCount}
 use Rattle.verbs.specs.Refusals.{is_refusal}
 use Rattle.verbs.specs.Traces.{trace_of}
 use Rattle.verbs.specs.Verbs.{perform, reaches}
@@ -73,13 +74,10 @@ is_known_late Write n held s = reaches Write n s && is_late s.connector (option_
 is_known_late Rewrite n held s = false
 is_known_late Delete n held s = false
 
--- the statement asks the library
-abbrev pub asks_library : FileStatement → ℕ → Held → FileState → Bool
-asks_library statement n held s = asks statement n s && not (is_known_late statement n held s)
-
--- a statement, of a record of n bytes, was performed on unit u
-pub record IsPerformed
-    {S : Type 0} (shown : Shown S) (u : ℕ) (statement : FileStatement) (n : ℕ)
+-- a statement, of a record of n bytes, was carried out on unit u: where it asks for nothing the library is left so, and the count of the
+-- unit's pages is at most this
+pub record IsCarriedOut
+    {S : Type 0} (shown : Shown S) (u : ℕ) (Leaves : S → S → Type 0) (most : ℕ) (statement : FileStatement) (n : ℕ)
     (before : FileInMemory S) (answer : Answer) (after : FileInMemory S) : Type 0 where
   -- the connector goes with its unit, and keeps its schema
   pub fits : Fits after.held (shown.world after.library) u
@@ -87,12 +85,12 @@ pub record IsPerformed
   -- nothing is changed but the unit and its name; honesty may only fall, and what is shown stays true
   pub only : OnlyAt u (shown.world before.library) (shown.world after.library)
   pub keeps : Keeps shown before.library after.library
-  -- what the checks decide is exact, and leaves the library as it was; so does a key that is known to be out of sequence
+  -- what the checks decide is exact, and asks the library for nothing; nor does a key that is known to be out of sequence
   pub early : asks statement n (state_in shown u before) ≡ false
-      → (after.library ≡ before.library) × Decides statement n (state_in shown u before) answer (state_in shown u after)
+      → Leaves before.library after.library × Decides statement n (state_in shown u before) answer (state_in shown u after)
   pub refusal : IsTrue (is_refusal statement answer.status) → asks statement n (state_in shown u before) ≡ false
   pub known : is_known_late statement n before.held (state_in shown u before) ≡ true
-      → (after.library ≡ before.library) × (answer ≡ silent OutOfSequence)
+      → Leaves before.library after.library × (answer ≡ silent OutOfSequence)
   -- CLOSE of a connector that has failed answers 30, whatever the library says; and 30, 92 and 24 have their causes
   pub failed_close : closes_failed statement before.held.connector.session ≡ true → answer ≡ silent PermanentError
   pub cause : StatusHasCause statement before.held.connector.session answer.status
@@ -105,15 +103,28 @@ pub record IsPerformed
   pub room : Trusted shown u before after
       (TellsRoom (perform statement n (state_in shown u before))
       (lacks_room statement n (shown.room before.library u) (state_in shown u before)) answer.status)
-  -- so many pages are asked for at most
+  -- so many pages are asked for at most, on an open unit
   pub asked : Trusted shown u before after
-      (IsTrue (counts_pages statement) → asks_library statement n before.held (state_in shown u before) ≡ true
-      → AnswersWithin shown u (most_asked statement (key_of before.held.connector.session) (shown.room before.library u))
-      after.library answer.status)
+      (IsTrue (begins_count shown u statement before.library) → AnswersWithin shown u most after.library answer.status)
   -- what a crash may leave
   pub images : Trusted shown u before after
       (ImagesGo shown.Throughout (name_at (shown.world before.library) u)
       (trace_of statement (state_in shown u before) answer.status) before.library after.library)
+
+-- the most pages that the statement may ask for
+abbrev pub most_by : {S : Type 0} → Shown S → ℕ → FileStatement → FileInMemory S → ℕ
+most_by shown u statement before = most_asked statement (key_of before.held.connector.session) (shown.room before.library u)
+
+-- it was performed: it has begun the count of the unit's pages, where the unit is open, whatever its checks say
+abbrev pub IsPerformed : {S : Type 0} → Shown S → ℕ → FileStatement → ℕ → FileInMemory S → Answer → FileInMemory S → Type 0
+IsPerformed shown u statement n before answer after =
+    IsCarriedOut shown u (BeginsCount shown u statement) (most_by shown u statement before) statement n before answer after
+
+-- it was performed behind the beginning of the count
+abbrev pub IsPerformedCounted : {S : Type 0} → Shown S → ℕ → FileStatement → ℕ → FileInMemory S → Answer → FileInMemory S → Type 0
+IsPerformedCounted shown u statement n before answer after =
+    IsCarriedOut shown u (λ old new. new ≡ old) (shown.pages_asked before.library u + most_by shown u statement before) statement n
+    before answer after
 
 -- a statement without a record was performed: whatever stands in the area stays there
 abbrev pub IsPerformedWithoutRecord

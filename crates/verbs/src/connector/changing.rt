@@ -1,11 +1,11 @@
 //! REWRITE and DELETE.
-ghost use Rattle.std.specs.Prelude.{◌≡◌, ◌<◌, ℕ, length as count_of, true, false, option_map, []};
+ghost use Rattle.std.specs.Prelude.{◌≡◌, ◌<◌, ◌+◌, ℕ, length as count_of, true, false, option_map, []};
 ghost use Rattle.indexed_file.specs.Room.{most_to_change};
 ghost use Rattle.indexed_file.specs.Believed.{Believed};
 ghost use Rattle.io_state.specs.declared.statement.FileStatement.TheVariants.{Rewrite, Delete};
 ghost use Rattle.verbs.specs.Refusals.{is_refusal};
 ghost use Rattle.verbs.specs.Faults.{is_boundary_violation};
-ghost use Rattle.verbs.specs.Performed.{IsPerformed, in_memory, StaysStanding};
+ghost use Rattle.verbs.specs.Performed.{IsPerformedCounted, in_memory, StaysStanding};
 ghost use Rattle.verbs.specs.Parts.{IsPart, IsChangeMade, rewriting, deleting};
 ghost use Rattle.verbs.specs.Held.{silent, bytes_of, prime_by};
 ghost use Rattle.verbs.specs.Fits.{Fits, updates, IsAboutToChange, IsRecordOf};
@@ -16,16 +16,21 @@ use super::Connector;
 use crate::checks::{
     changes_prime, is_for_updating, is_length, is_sequential, is_unread, status_by,
 };
-use crate::counted;
 use indexed_file::{Library, Replaced};
 use io_state::{Fault, Key, Status};
 
 impl Connector {
     /// REWRITE by the record in the first `length` bytes of the area.
-    pub fn rewrite<L: Library>(&mut self, lib: &mut L, u: usize, area: &[u8], length: u16) -> Status
+    pub(crate) fn rewrite<L: Library>(
+        &mut self,
+        lib: &mut L,
+        u: usize,
+        area: &[u8],
+        length: u16,
+    ) -> Status
         requires fits { Fits self.old (L.shown.world lib.old) u }
         requires area { count_of area.now ≡ self.old.connector.schema.greatest }
-        ensures { IsPerformed L.shown u Rewrite length (in_memory self.old lib.old area.now)
+        ensures { IsPerformedCounted L.shown u Rewrite length (in_memory self.old lib.old area.now)
             (silent result) (in_memory self.new lib.new area.now) }
     {
         let Some(mode) = self.mode else {
@@ -69,9 +74,10 @@ impl Connector {
         ensures late { is_refusal Rewrite result ≡ false }
         ensures standing { StaysStanding L.shown u (in_memory self.old lib.old []) (in_memory self.new lib.new []) }
         ensures asked { Believed L.shown u lib.old lib.new
-            (AnswersWithin L.shown u (most_to_change (L.shown.room lib.old u)) lib.new result) }
+            (AnswersWithin L.shown u
+            (L.shown.pages_asked lib.old u + most_to_change (L.shown.room lib.old u)) lib.new result) }
     {
-        match counted::replace(lib, u, bytes) {
+        match lib.replace(u, bytes) {
             Ok(Replaced::Done { repeated }) => {
                 self.forget_highest();
                 status_by(repeated)
@@ -84,9 +90,9 @@ impl Connector {
     }
 
     /// DELETE: in sequential access of the record read last, else of the record of the prime value that stands in the area.
-    pub fn delete<L: Library>(&mut self, lib: &mut L, u: usize, area: &[u8]) -> Status
+    pub(crate) fn delete<L: Library>(&mut self, lib: &mut L, u: usize, area: &[u8]) -> Status
         requires fits { Fits self.old (L.shown.world lib.old) u }
-        ensures { (n : ℕ) → IsPerformed L.shown u Delete n (in_memory self.old lib.old area.now)
+        ensures { (n : ℕ) → IsPerformedCounted L.shown u Delete n (in_memory self.old lib.old area.now)
             (silent result) (in_memory self.new lib.new area.now) }
     {
         let Some(mode) = self.mode else {
@@ -135,9 +141,10 @@ impl Connector {
         ensures not_full { is_boundary_violation result ≡ false }
         ensures standing { StaysStanding L.shown u (in_memory self.old lib.old []) (in_memory self.new lib.new []) }
         ensures asked { Believed L.shown u lib.old lib.new
-            (AnswersWithin L.shown u (most_to_change (L.shown.room lib.old u)) lib.new result) }
+            (AnswersWithin L.shown u
+            (L.shown.pages_asked lib.old u + most_to_change (L.shown.room lib.old u)) lib.new result) }
     {
-        match counted::remove(lib, u, prime) {
+        match lib.remove(u, prime) {
             Ok(true) => {
                 self.forget_highest();
                 Status::Successful

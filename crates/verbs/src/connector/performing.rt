@@ -1,16 +1,19 @@
 //! Any statement.
 ghost use Rattle.std.specs.Prelude.{◌≡◌, length as count_of};
+ghost use Rattle.verbs.specs.Counted.{BeginsCount};
 ghost use Rattle.verbs.specs.Fits.{Fits, HasOperands};
 ghost use Rattle.verbs.specs.Performed.{IsPerformed, in_memory};
 
 use super::Connector;
 use crate::answer::Answer;
+use crate::checks::counts_pages;
 use indexed_file::Library;
 use io_state::FileStatement;
 
 impl Connector {
-    /// Performs a statement; `length` is that of the record that a WRITE or REWRITE stores. What its checks decide is exact, and
-    /// leaves the library as it was; but CLOSE of a connector that has failed asks it, and answers 30 whatever it says.
+    /// Performs a statement; `length` is that of the record that a WRITE or REWRITE stores. On an open file each statement but OPEN
+    /// and CLOSE begins the count of pages. What its checks decide is exact, and leaves all else of the library as it was; but CLOSE
+    /// of a connector that has failed asks it, and answers 30 whatever it says.
     ///
     /// 30: the device failed in this statement, or it is CLOSE of a connector that has failed. 90: memory was wanted. 24: the file
     /// has no room for the record. 92: the connector has failed. 91: OPEN of a file whose first page is refused, or the library is
@@ -29,6 +32,7 @@ impl Connector {
         ensures { IsPerformed L.shown u statement.now length (in_memory self.old lib.old area.old)
             result (in_memory self.new lib.new area.new) }
     {
+        self.begin_count(lib, u, statement);
         match *statement {
             FileStatement::Open(mode) => Answer::silent(self.open(lib, u, mode)),
             FileStatement::Close { lock } => Answer::silent(self.close(lib, u, lock)),
@@ -42,6 +46,18 @@ impl Connector {
             FileStatement::Write => Answer::silent(self.write(lib, u, area, length)),
             FileStatement::Rewrite => Answer::silent(self.rewrite(lib, u, area, length)),
             FileStatement::Delete => Answer::silent(self.delete(lib, u, area)),
+        }
+    }
+
+    /// Begins the count of pages, where the file is open and the statement is neither OPEN nor CLOSE.
+    fn begin_count<L: Library>(&self, lib: &mut L, u: usize, statement: &FileStatement)
+        requires { Fits self.now (L.shown.world lib.old) u }
+        ensures { BeginsCount L.shown u statement.now lib.old lib.new }
+    {
+        let counted = counts_pages(statement);
+        let has_file = self.mode.is_some() && !self.missing;
+        if counted && has_file {
+            lib.restart_count(u);
         }
     }
 }

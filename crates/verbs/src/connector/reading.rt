@@ -3,21 +3,20 @@ ghost use Rattle.std.specs.Prelude.{◌≡◌, ◌<◌, ℕ, length, length as c
 ghost use Rattle.io_state.specs.declared.statement.FileStatement.TheVariants.{ReadNext, Read, Start};
 ghost use Rattle.verbs.specs.Held.{silent};
 ghost use Rattle.verbs.specs.Fits.{Fits};
-ghost use Rattle.verbs.specs.Performed.{IsPerformed, in_memory};
+ghost use Rattle.verbs.specs.Performed.{IsPerformedCounted, in_memory};
 
 use super::Connector;
 use crate::answer::Answer;
 use crate::checks::{is_for_reading, is_invalid, status_of};
-use crate::counted;
 use indexed_file::Library;
 use io_state::{Relation, Status};
 
 impl Connector {
     /// READ, sequential: the next record by the key of reference.
-    pub fn read_next<L: Library>(&mut self, lib: &mut L, u: usize, area: &mut [u8]) -> Answer
+    pub(crate) fn read_next<L: Library>(&mut self, lib: &mut L, u: usize, area: &mut [u8]) -> Answer
         requires fits { Fits self.old (L.shown.world lib.old) u }
         requires area { length area.old ≡ self.old.connector.schema.greatest }
-        ensures { (n : ℕ) → IsPerformed L.shown u ReadNext n (in_memory self.old lib.old area.old)
+        ensures { (n : ℕ) → IsPerformedCounted L.shown u ReadNext n (in_memory self.old lib.old area.old)
             result (in_memory self.new lib.new area.new) }
     {
         let Some(mode) = self.mode else {
@@ -39,7 +38,7 @@ impl Connector {
             return Answer::silent(self.lose(Status::AtEnd));
         }
         let key = self.key;
-        match counted::next(lib, u, key, &self.position, area) {
+        match lib.next(u, key, &self.position, area) {
             Ok(Some(found)) => self.deliver(key, found, area),
             Ok(None) => Answer::silent(self.lose(Status::AtEnd)),
             Err(fault) => Answer::silent(self.lose(status_of(fault))),
@@ -47,11 +46,17 @@ impl Connector {
     }
 
     /// READ by a key: the first record whose key has the value that stands in the area.
-    pub fn read<L: Library>(&mut self, lib: &mut L, u: usize, k: u8, area: &mut [u8]) -> Answer
+    pub(crate) fn read<L: Library>(
+        &mut self,
+        lib: &mut L,
+        u: usize,
+        k: u8,
+        area: &mut [u8],
+    ) -> Answer
         requires fits { Fits self.old (L.shown.world lib.old) u }
         requires key { k < length self.old.connector.schema.keys }
         requires area { length area.old ≡ self.old.connector.schema.greatest }
-        ensures { (n : ℕ) → IsPerformed L.shown u (Read k) n (in_memory self.old lib.old area.old)
+        ensures { (n : ℕ) → IsPerformedCounted L.shown u (Read k) n (in_memory self.old lib.old area.old)
             result (in_memory self.new lib.new area.new) }
     {
         let Some(mode) = self.mode else {
@@ -69,7 +74,7 @@ impl Connector {
             return Answer::silent(self.lose(Status::RecordNotFound));
         }
         let wanted = self.value(area, k);
-        match counted::by_key(lib, u, k, &wanted, area) {
+        match lib.by_key(u, k, &wanted, area) {
             Ok(Some(found)) => self.deliver(k, found, area),
             Ok(None) => Answer::silent(self.lose(Status::RecordNotFound)),
             Err(fault) => Answer::silent(self.lose(status_of(fault))),
@@ -77,7 +82,7 @@ impl Connector {
     }
 
     /// START: the first record the first bytes of whose key are so related to those that stand in the area.
-    pub fn start<L: Library>(
+    pub(crate) fn start<L: Library>(
         &mut self,
         lib: &mut L,
         u: usize,
@@ -88,7 +93,7 @@ impl Connector {
     ) -> Status
         requires fits { Fits self.old (L.shown.world lib.old) u }
         requires key { k < count_of self.old.connector.schema.keys }
-        ensures { (n : ℕ) → IsPerformed L.shown u (Start k length relation) n (in_memory self.old lib.old area.now)
+        ensures { (n : ℕ) → IsPerformedCounted L.shown u (Start k length relation) n (in_memory self.old lib.old area.now)
             (silent result) (in_memory self.new lib.new area.now) }
     {
         let Some(mode) = self.mode else {
@@ -107,7 +112,7 @@ impl Connector {
         }
         let value = self.value(area, k);
         let operand = &value.as_slice()[..usize::from(length).min(value.len())];
-        match counted::seek(lib, u, k, operand, relation) {
+        match lib.seek(u, k, operand, relation) {
             Ok(Some(found)) => {
                 self.stand_at(k, found);
                 Status::Successful

@@ -12,22 +12,27 @@ ghost use Rattle.verbs.specs.Held.{silent, held_after_store};
 ghost use Rattle.verbs.specs.Fits.{Fits, is_late_in, knows_late, writes, IsAboutToChange, IsRecordOf, LearnsHighest, LacksHighest};
 ghost use Rattle.verbs.specs.Traces.{trace_of_change_by};
 ghost use Rattle.verbs.specs.Pages.{AnswersWithin, most_to_write};
-ghost use Rattle.verbs.specs.Counted.{CountsReading};
-ghost use Rattle.verbs.specs.Performed.{IsPerformed, in_memory, Trusted, StaysStanding};
+ghost use Rattle.indexed_file.specs.UnitCalls.{ReadsUnit};
+ghost use Rattle.verbs.specs.Performed.{IsPerformedCounted, in_memory, Trusted, StaysStanding};
 ghost use Rattle.verbs.specs.Parts.{IsPart, IsChangeMade, writing, storing};
 
 use super::Connector;
 use crate::checks::{is_length, is_not_above, is_sequential, status_by};
-use crate::counted;
 use indexed_file::{Added, Library};
 use io_state::{Fault, Status, Verb, permits};
 
 impl Connector {
     /// WRITE of the record in the first `length` bytes of the area.
-    pub fn write<L: Library>(&mut self, lib: &mut L, u: usize, area: &[u8], length: u16) -> Status
+    pub(crate) fn write<L: Library>(
+        &mut self,
+        lib: &mut L,
+        u: usize,
+        area: &[u8],
+        length: u16,
+    ) -> Status
         requires fits { Fits self.old (L.shown.world lib.old) u }
         requires area { count_of area.now ≡ self.old.connector.schema.greatest }
-        ensures { IsPerformed L.shown u Write length (in_memory self.old lib.old area.now)
+        ensures { IsPerformedCounted L.shown u Write length (in_memory self.old lib.old area.now)
             (silent result) (in_memory self.new lib.new area.now) }
     {
         let Some(mode) = self.mode else {
@@ -60,8 +65,8 @@ impl Connector {
             (in_memory self.old lib.old []) result (in_memory self.new lib.new [])) }
         ensures standing { StaysStanding L.shown u (in_memory self.old lib.old []) (in_memory self.new lib.new []) }
         ensures known { knows_late self.old bytes.now ≡ true → (lib.new ≡ lib.old) × (result ≡ OutOfSequence) }
-        ensures asked { Believed L.shown u lib.old lib.new (knows_late self.old bytes.now ≡ false
-            → AnswersWithin L.shown u (most_to_write (L.shown.room lib.old u)) lib.new result) }
+        ensures asked { Believed L.shown u lib.old lib.new (AnswersWithin L.shown u
+            (L.shown.pages_asked lib.old u + most_to_write (L.shown.room lib.old u)) lib.new result) }
     {
         let known = self.is_late(bytes);
         if known {
@@ -77,7 +82,7 @@ impl Connector {
         self.store(lib, u, bytes)
     }
 
-    /// Begins the count of pages, and in sequential access asks for the greatest prime value of the file, unless it is known.
+    /// In sequential access asks for the greatest prime value of the file, unless it is known.
     fn learn_highest<L: Library>(&mut self, lib: &mut L, u: usize) -> Result<(), Fault>
         requires ready { IsAboutToChange self.old (L.shown.world lib.old) u }
         ensures kept { Fits self.new (L.shown.world lib.new) u × (self.new.connector ≡ self.old.connector) }
@@ -85,14 +90,13 @@ impl Connector {
             (LearnsHighest self.old (file_at (L.shown.world lib.old) u) self.new.highest result) }
         ensures others { is_sequential self.old.connector.access ≡ false → self.new ≡ self.old }
         ensures err { OnErr result ((self.new ≡ self.old) × LacksHighest self.old) }
-        ensures reads { CountsReading L.shown u (most_to_seek (L.shown.room lib.old u) 0) lib.old lib.new result }
+        ensures reads { ReadsUnit L.shown u (most_to_seek (L.shown.room lib.old u) 0) lib.old lib.new result }
     {
         let sequential = is_sequential(self.access);
         if !sequential || self.highest.is_some() {
-            lib.restart_count(u);
             return Ok(());
         }
-        match counted::highest(lib, u) {
+        match lib.highest(u) {
             Ok(highest) => {
                 self.highest = Some(highest);
                 Ok(())
