@@ -87,7 +87,7 @@ fn reads_no_more(
     Ok(shelf)
 }
 
-/// OPEN INPUT and one READ by the prime key make few reads, by the height of its tree.
+/// OPEN INPUT and one READ by the prime key make few reads, by the height of its tree. A WRITE is refused then, and asks for no page.
 fn reads_one(
     rt: &impl Abort,
     alloc: Global,
@@ -104,6 +104,10 @@ fn reads_one(
     let read = FileStatement::Read { key: 0 };
     let (found, _) = performs(rt, &mut connector, &mut library, &read, 0, &mut area);
     assert_eq!(rt; found, Status::Successful);
+    let write = FileStatement::Write;
+    let (refused, asked) = performs(rt, &mut connector, &mut library, &write, 0, &mut area);
+    assert_eq!(rt; refused, Status::NotOpenForWriting);
+    assert_eq!(rt; asked, 0);
     let height = u64::from(library.height(0, 0));
     assert_eq!(rt; height, 3);
     let reads = library

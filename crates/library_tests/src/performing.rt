@@ -84,8 +84,8 @@ fn most_asked<S: Shelf + Drop>(
     }
 }
 
-/// Performs a statement, and answers its status with the pages that it asked for, which are so many at most. The statement begins the count, and not this test; OPEN and CLOSE do
-/// not, and none are counted of them.
+/// Performs a statement, and answers its status with the pages that it asked for, which are so many at most, also where it is refused. The statement begins
+/// the count, and not this test; OPEN and CLOSE do not, and none are counted of them.
 pub fn performs<S: Shelf + Drop>(
     rt: &impl Abort,
     connector: &mut Connector,

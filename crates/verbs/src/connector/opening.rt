@@ -1,5 +1,5 @@
 //! OPEN.
-ghost use Rattle.std.specs.Prelude.{◌≡◌, ◌<◌, None, IsTrue, true, false, []};
+ghost use Rattle.std.specs.Prelude.{◌≡◌, ◌<◌, ◌⊎◌, None, IsTrue, true, false, []};
 ghost use Rattle.io_state.specs.Status.{is_successful};
 ghost use Rattle.indexed_file.specs.declared.answer.Seen.TheVariants.{Sound};
 ghost use Rattle.indexed_file.specs.World.{Absent, holding_at, named_at, schema_at, is_looked};
@@ -72,7 +72,7 @@ impl Connector {
         self.create(lib, u, mode, Status::OptionalAbsent)
     }
 
-    /// OPEN of a file whose first page was found sound, with this schema.
+    /// OPEN of a file whose first page was found sound, with this schema. Its greatest prime value is not asked for yet.
     fn open_sound<L: Library>(
         &mut self,
         lib: &mut L,
@@ -93,6 +93,7 @@ impl Connector {
         ensures not_full { is_boundary_violation result ≡ false }
         ensures standing { IsTrue (L.shown.is_honest lib.new) → HasSoundFile (L.shown.world lib.old) u schema.now
             → IsStanding self.new (L.shown.world lib.new) u }
+        ensures unasked { (self.new ≡ self.old) ⊎ (self.new.highest ≡ None) }
     {
         let same = schema.same(&self.schema);
         if !same {
