@@ -1,5 +1,5 @@
 -- What a write into a folder leaves, whatever part of it the system took.
-use Rattle.std.proofs.Common.{◌≡◌, Bool, IsTrue, is_some, not, ◌&&◌, ◌||◌, None, get_or, Result, Ok, Err, OnErr, ℕ, ◌+◌, ◌==◌, List, [], ◌∷◌, ◌++◌, Some, true, false, length, take, drop, bytes_eq, refl, ◌∙◌, ap, inl, inr, if◌then◌else◌}
+use Rattle.std.proofs.Common.{◌≡◌, Bool, IsTrue, is_some, not, ◌&&◌, ◌||◌, None, get_or, Result, Ok, Err, OnErr, ℕ, ◌+◌, ◌==◌, List, [], ◌∷◌, ◌++◌, Some, true, false, length, take, drop, bytes_eq, refl, sym, subst, ◌∙◌, ap, inl, inr, if◌then◌else◌}
 use Rattle.std.proofs.lemmas.Bool.{cases_Bool, and_parts, le-leb}
 use Rattle.std.proofs.Common.{eq-eqb}
 use Rattle.std.proofs.lemmas.Slice.Eq.{bytes_eq-Decides}
@@ -7,7 +7,7 @@ use Rattle.page_store.specs.DeviceFile.{DeviceFile, IsWithin, IsThere, overlay, 
 use Rattle.page_store.specs.Calls.{ReadsBytes, Created, CreateFails, Written, WriteFails, Synced, SyncFails}
 use Rattle.page_store.specs.ShelfState.{ShelfState, unit_file, ChangesOnly}
 use Rattle.page_store.proofs.TornLemmas.{part_torn}
-use Rattle.folder_shelf.specs.Events.{Event, named, made, read, held, written, flushed, asked}
+use Rattle.folder_shelf.specs.Events.{Event, folder_path, named, made, read, held, written, flushed, asked}
 use Rattle.folder_shelf.specs.Replay.{Unseen, replay, has, left_of, folder_state}
 use Rattle.folder_shelf.specs.ReplayLaws.{length_left}
 
@@ -19,18 +19,25 @@ all_left : (n : ℕ) (bytes torn : List ℕ) → (n == length bytes) ≡ true �
 all_left n bytes torn all = rw all refl
 
 -- a call on the file of a unit
-module _ (disk : Unseen) (names : List (List ℕ)) (events : List Event) (unit : ℕ) where
+module _ (disks : List ℕ → Unseen) (names : List (List ℕ)) (events : List Event) (unit : ℕ) where
+  abbrev disk : Unseen
+  disk = disks (folder_path events)
+
   abbrev name : List ℕ
   name = get_or names unit []
 
   abbrev old : ShelfState
-  old = folder_state disk names events
+  old = folder_state disks names events
 
   abbrev f : DeviceFile
   f = (replay disk events).file name
 
   abbrev new : Event → ShelfState
-  new call = folder_state disk names (asked call name events)
+  new call = folder_state disks names (asked call name events)
+
+  -- the file after calls that are noted
+  abbrev noted : List Event → DeviceFile
+  noted calls = unit_file (folder_state disks names calls) unit
 
   same : bytes_eq name name ≡ true
   same = (bytes_eq-Decides name name).1 refl
@@ -42,8 +49,8 @@ module _ (disk : Unseen) (names : List (List ℕ)) (events : List Event) (unit :
   made_file : (done : Bool) → unit_file (new (made done)) unit ≡ record { seen = if done || disk.came (named name ∷ events) then Some [] else f.seen; log = f.log ++ created ∷ [] }
   made_file done = rw same refl
 
-  pub made_true : (done : Bool) → done ≡ true → Created f (unit_file (new (made done)) unit)
-  made_true done e = record { is = made_file done ∙ rw e refl }
+  pub made_true : (done : Bool) (calls : List Event) → calls ≡ asked (made done) name events → done ≡ true → Created f (noted calls)
+  made_true done calls is e = subst (λ (c : List Event). Created f (noted c)) (sym is) (record { is = made_file done ∙ rw e refl })
 
   pub made_any : (done : Bool) → CreateFails f (unit_file (new (made done)) unit)
   made_any done = go (done || disk.came (named name ∷ events)) (made_file done)
@@ -72,7 +79,7 @@ module _ (disk : Unseen) (names : List (List ℕ)) (events : List Event) (unit :
 
   -- bytes were to be written into the file, which was held
   abbrev wrote_held : ℕ → ℕ → List ℕ → ShelfState
-  wrote_held at n bytes = folder_state disk names (written at n bytes ∷ asked (held true) name events)
+  wrote_held at n bytes = folder_state disks names (written at n bytes ∷ asked (held true) name events)
 
   abbrev torn : List ℕ
   torn = disk.torn (asked (held true) name events)
@@ -81,16 +88,18 @@ module _ (disk : Unseen) (names : List (List ℕ)) (events : List Event) (unit :
       ≡ record { seen = Some (overlay (content f) at (left_of n bytes torn)); log = f.log ++ wrote at (length bytes) ∷ [] }
   written_file at n bytes = rw same refl
 
-  pub written_all : (at n : ℕ) (bytes : List ℕ) → n ≡ length bytes → Written at bytes f (unit_file (wrote_held at n bytes) unit)
-  written_all at n bytes all = record {
+  pub written_all : (at n : ℕ) (bytes : List ℕ) (calls : List Event) → calls ≡ written at n bytes ∷ asked (held true) name events → n ≡ length bytes
+      → Written at bytes f (noted calls)
+  written_all at n bytes calls is all = subst (λ (c : List Event). Written at bytes f (noted c)) (sym is) (record {
     is = written_file at n bytes
         ∙ ap (λ (l : List ℕ). record { seen = Some (overlay (content f) at l); log = f.log ++ wrote at (length bytes) ∷ [] }) (all_left n bytes torn (eq-eqb n (length bytes) all));
-  }
+  })
 
-  pub written_any : (at n : ℕ) (bytes : List ℕ) → WriteFails at (length bytes) f (unit_file (wrote_held at n bytes) unit)
-  written_any at n bytes =
+  pub written_any : (at n : ℕ) (bytes : List ℕ) (calls : List Event) → calls ≡ written at n bytes ∷ asked (held true) name events → WriteFails at (length bytes) f (noted calls)
+  written_any at n bytes calls is =
       let left = left_of n bytes torn in
-      inr (overlay (content f) at left, part_torn (content f) at bytes left (length_left n bytes torn), written_file at n bytes)
+      subst (λ (c : List Event). WriteFails at (length bytes) f (noted c)) (sym is)
+      (inr (overlay (content f) at left, part_torn (content f) at bytes left (length_left n bytes torn), written_file at n bytes))
 
   pub written_only : (at n : ℕ) (bytes : List ℕ) → (IsTrue old.is_honest → IsWithin at f) → ChangesOnly unit old (wrote_held at n bytes)
   written_only at n bytes within = record { names = refl; others = λ m differs. rw (other m differs) refl; honest = both old.is_honest within }
@@ -100,11 +109,11 @@ module _ (disk : Unseen) (names : List (List ℕ)) (events : List Event) (unit :
       both false there = refl
 
   -- a file was to be synced
-  pub flushed_true : (done : Bool) → done ≡ true → Synced f (unit_file (new (flushed done)) unit)
-  flushed_true done e = record { is = rw (e, same) refl }
+  pub flushed_true : (done : Bool) (calls : List Event) → calls ≡ asked (flushed done) name events → done ≡ true → Synced f (noted calls)
+  flushed_true done calls is e = subst (λ (c : List Event). Synced f (noted c)) (sym is) (record { is = rw (e, same) refl })
 
   pub flushed_any : (done : Bool) → SyncFails f (unit_file (new (flushed done)) unit)
-  flushed_any true = inr (flushed_true true refl)
+  flushed_any true = inr (flushed_true true (asked (flushed true) name events) refl refl)
   flushed_any false = inl refl
 
   pub flushed_only : (done : Bool) → (IsTrue old.is_honest → IsThere f) → ChangesOnly unit old (new (flushed done))

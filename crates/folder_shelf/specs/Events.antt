@@ -1,7 +1,9 @@
 -- What was asked of a folder, and what it answered.
-use Rattle.std.specs.Prelude.{ℕ, zero, suc, ◌+◌, ◌-◌, ◌^◌, min, Bool, false, not, List, [], ◌∷◌, Option, Some, None, is_some, length, slice_index, ◌==◌, if◌then◌else◌}
+use Rattle.std.specs.Prelude.{ℕ, zero, suc, ◌+◌, ◌-◌, ◌^◌, min, Bool, false, not, List, [], ◌∷◌, ◌++◌, codes, Option, Some, None, is_some, length, slice_index, ◌==◌, if◌then◌else◌}
 
 pub data Event : Type 0 where
+  -- the calls that follow are on the files of the folder of this path
+  in_folder : List ℕ → Event
   -- the next call is on the file of this name
   named : List ℕ → Event
   -- it was to be made, and whether it was
@@ -28,7 +30,8 @@ event (suc (suc (suc zero))) at n bytes = read (n == 1) at bytes
 event (suc (suc (suc (suc zero)))) at n bytes = written at n bytes
 event (suc (suc (suc (suc (suc zero))))) at n bytes = flushed (n == 1)
 event (suc (suc (suc (suc (suc (suc zero)))))) at n bytes = looked (if n == 1 then Some (at == 1) else None)
-event (suc (suc (suc (suc (suc (suc (suc more))))))) at n bytes = held (n == 1)
+event (suc (suc (suc (suc (suc (suc (suc zero))))))) at n bytes = held (n == 1)
+event (suc (suc (suc (suc (suc (suc (suc (suc more)))))))) at n bytes = in_folder bytes
 
 abbrev pub event_of : List ℕ → List ℕ → Event
 event_of numbers bytes = event (slice_index numbers 0) (slice_index numbers 1) (slice_index numbers 2) bytes
@@ -37,8 +40,19 @@ event_of numbers bytes = event (slice_index numbers 0) (slice_index numbers 1) (
 abbrev pub asked : Event → List ℕ → List Event → List Event
 asked call name earlier = call ∷ named name ∷ earlier
 
+-- the path of the folder that the calls are on
+abbrev pub folder_path : List Event → List ℕ
+folder_path [] = []
+folder_path (in_folder path ∷ earlier) = path
+folder_path (call ∷ earlier) = folder_path earlier
+
+-- the path of a file of the folder that the calls are on
+abbrev pub file_path : List Event → List ℕ → List ℕ
+file_path calls name = folder_path calls ++ codes "/" ++ name
+
 -- what was asked for was not done, or not told
 abbrev pub is_failed : Event → Bool
+is_failed (in_folder path) = false
 is_failed (named name) = false
 is_failed (made done) = not done
 is_failed (measured size) = not (is_some size)

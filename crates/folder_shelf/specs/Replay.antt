@@ -2,9 +2,9 @@
 use Rattle.std.specs.Prelude.{ℕ, ◌+◌, ◌==◌, nat_le, Bool, true, false, not, ◌&&◌, ◌||◌, if◌then◌else◌, List, [], ◌∷◌, ◌++◌, length, take, drop, bytes_eq, Some, None, is_some}
 use Rattle.page_store.specs.DeviceFile.{DeviceFile, created, wrote, synced, content, overlay}
 use Rattle.page_store.specs.ShelfState.{ShelfState}
-use Rattle.folder_shelf.specs.Events.{Event, named, made, measured, read, held, written, flushed, looked}
+use Rattle.folder_shelf.specs.Events.{Event, folder_path, in_folder, named, made, measured, read, held, written, flushed, looked}
 
--- what no code can read of a disk
+-- what no code can read of a folder on a disk
 pub record Unseen : Type 0 where
   -- the file of each name at first
   pub first : List ℕ → DeviceFile
@@ -50,6 +50,7 @@ left_of n bytes torn = if n == length bytes then bytes else take (length bytes) 
 -- a call after these earlier ones: what it leaves of its file, and whether its answer, if it has one, was that of the file.
 -- Whether a file is held is up to the folder; one that is not may not be written.
 abbrev pub after : Unseen → List Event → Event → Folder → Folder
+after disk earlier (in_folder path) m = m
 after disk earlier (named name) m = record m { current = name; is_held = false }
 after disk earlier (made ok) m = record m {
   file = put m.file m.current (record {
@@ -85,6 +86,10 @@ abbrev pub replay : Unseen → List Event → Folder
 replay disk [] = record { current = []; is_held = false; file = disk.first; is_honest = true }
 replay disk (e ∷ earlier) = after disk earlier e (replay disk earlier)
 
--- what a shelf over a folder shows
-abbrev pub folder_state : Unseen → List (List ℕ) → List Event → ShelfState
-folder_state disk names events = record { names = names; file = (replay disk events).file; is_honest = (replay disk events).is_honest }
+-- what the folder that the calls are on holds after them
+abbrev pub folder_after : (List ℕ → Unseen) → List Event → Folder
+folder_after disk events = replay (disk (folder_path events)) events
+
+-- what a shelf over a folder shows, on a disk that has this in the folder of each path
+abbrev pub folder_state : (List ℕ → Unseen) → List (List ℕ) → List Event → ShelfState
+folder_state disk names events = record { names = names; file = (folder_after disk events).file; is_honest = (folder_after disk events).is_honest }

@@ -8,7 +8,7 @@ use Rattle.page_store.proofs.ImageLemmas.{leaves_written, leaves_synced}
 use Rattle.page_store.proofs.TornLemmas.{part_torn}
 use Rattle.page_store.proofs.FileLemmas.{some_bytes}
 use Rattle.page_store.proofs.MadeLemmas.{made_image}
-use Rattle.folder_shelf.specs.Events.{Event, named, made, measured, read, held, written, flushed, looked}
+use Rattle.folder_shelf.specs.Events.{Event, in_folder, named, made, measured, read, held, written, flushed, looked}
 use Rattle.folder_shelf.specs.Replay.{Unseen, Folder, put, now, has, left_of, after, replay}
 
 abbrev Sound : DeviceFile → Type 0
@@ -31,6 +31,7 @@ written_sound f at n bytes torn fits sound =
 
 module _ (disk : Unseen) (earlier : List Event) (m : Folder) (all : (name : List ℕ) → Sound (m.file name)) where
   one_call : (e : Event) → IsTrue (after disk earlier e m).is_honest → (name : List ℕ) → Sound ((after disk earlier e m).file name)
+  one_call (in_folder path) h = all
   one_call (named name) h = all
   one_call (made ok) h =
       let p = and_parts m.is_honest (not (is_some (now m).seen)) h in
@@ -49,6 +50,7 @@ module _ (disk : Unseen) (earlier : List Event) (m : Folder) (all : (name : List
   one_call (looked (Some there)) h = all
 
 was_honest : (disk : Unseen) (earlier : List Event) (m : Folder) (e : Event) → IsTrue (after disk earlier e m).is_honest → IsTrue m.is_honest
+was_honest disk earlier m (in_folder path) h = h
 was_honest disk earlier m (named name) h = h
 was_honest disk earlier m (made ok) h = (and_parts m.is_honest _ h).0
 was_honest disk earlier m (measured None) h = h

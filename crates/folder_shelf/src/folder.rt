@@ -1,7 +1,8 @@
 //! The files of a folder of the system. Each call that is made on one is noted with its answer.
-ghost use Rattle.std.specs.Prelude.{◌≡◌, ◌∷◌, [], IfOk, OnErr, IsOkUnless};
+ghost use Rattle.std.specs.Prelude.{◌≡◌, ◌∷◌, [], string_bytes, IfOk, OnErr, IsOkUnless};
+ghost use Rattle.std.proofs.Props.{props};
 ghost use Rattle.io_state.specs.declared.fault.Fault.TheVariants.{Memory};
-ghost use Rattle.folder_shelf.specs.Events.{asked, made, measured, read, held, written, flushed, looked};
+ghost use Rattle.folder_shelf.specs.Events.{in_folder, folder_path, file_path, asked, made, measured, read, held, written, flushed, looked};
 
 use crate::record::Record;
 use io_state::{Fault, FileName};
@@ -19,6 +20,7 @@ pub(crate) struct Folder<R: Files + Drop> {
     // The file of each unit, once it was reached.
     open: Vec<Option<KeptFile<R::File>>>,
     pub(crate) calls: Record,
+    ghost noted: { folder_path calls.events ≡ string_bytes folder.path } by { Prim.hlevel props },
 }
 
 impl<R: Files + Drop> Folder<R>
@@ -26,14 +28,16 @@ where
     R::File: FileExt + LockFile,
 {
     pub(crate) fn new(rt: R, alloc: Global, path: String) -> Folder<R>
-        ensures { result.calls.events ≡ [] }
+        ensures { result.calls.events ≡ in_folder (string_bytes path) ∷ [] }
     {
+        let mut calls = Record::new();
+        calls.in_folder(path.as_str());
         Folder {
             rt,
             alloc,
             folder: KeptFolder::new(path),
             open: Vec::new(alloc),
-            calls: Record::new(),
+            calls,
         }
     }
 
@@ -51,11 +55,12 @@ where
     }
 
     fn path_of(&self, name: &FileName) -> Result<String, Fault>
+        ensures path { IfOk result (λ path. string_bytes path ≡ file_path self.now.calls.events name.now.bytes) }
         ensures only_memory { IsOkUnless result Memory }
     {
-        format!(in self.alloc; "{}/{}", self.folder.path(), name.as_str()).map_err(
-            |_| Fault::Memory,
-        )
+        [self.folder.path(), name.as_str()]
+            .join(self.alloc, "/")
+            .map_err(|_| Fault::Memory)
     }
 
     // Opens the unit's file, if it is not open and can be read.

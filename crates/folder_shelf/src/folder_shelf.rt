@@ -1,9 +1,9 @@
 //! A shelf over a folder of the system: a unit is the file of that name in the folder.
-ghost use Rattle.std.specs.Prelude.{◌≡◌, ◌+◌, ◌-◌, ◌^◌, ◌<◌, min, map, length, get_or, [], IsTrue, IsErrOf};
+ghost use Rattle.std.specs.Prelude.{◌≡◌, ◌+◌, ◌-◌, ◌^◌, ◌<◌, min, map, length, get_or, [], ◌∷◌, string_bytes, IsTrue, IsErrOf};
 ghost use Rattle.std.proofs.Props.{props};
 ghost use Rattle.io_state.specs.declared.fault.Fault.TheVariants.{Device};
 ghost use Rattle.page_store.specs.ShelfState.{FaultHasCause};
-ghost use Rattle.folder_shelf.specs.Events.{failed_calls};
+ghost use Rattle.folder_shelf.specs.Events.{in_folder, folder_path, failed_calls};
 ghost use Rattle.folder_shelf.specs.Replay.{folder_state};
 
 use crate::disk::Disk;
@@ -34,7 +34,7 @@ where
     /// A shelf with no unit over a folder of the system.
     pub fn new(rt: R, alloc: Global, folder: String) -> FolderShelf<R, D>
         ensures units { result.units.items ≡ [] }
-        ensures calls { result.folder.calls.events ≡ [] }
+        ensures calls { result.folder.calls.events ≡ in_folder (string_bytes folder) ∷ [] }
         ensures faults { result.faults ≡ 0 }
     {
         FolderShelf {
@@ -57,7 +57,8 @@ where
 
     ghost fault_count = { λ shelf. shelf.faults };
 
-    ghost reads_an_image = { λ shelf name honest. replay_sound D.Disk.unseen D.Disk.sound shelf.folder.calls.events name honest };
+    ghost reads_an_image = { λ shelf name honest. let path = folder_path shelf.folder.calls.events in
+        replay_sound (D.Disk.unseen path) (D.Disk.sound path) shelf.folder.calls.events name honest };
 
     fn faults(&self) -> u64 {
         self.faults

@@ -1,7 +1,7 @@
 //! A list of calls and answers that only clauses read.
 ghost use Rattle.std.specs.Prelude.{◌≡◌, List, [], ◌∷◌};
 ghost use Rattle.std.specs.Borrow.{ftrue};
-ghost use Rattle.folder_shelf.specs.Events.{Event, event_of, event, asked, made, measured, read, held, written, flushed, looked};
+ghost use Rattle.folder_shelf.specs.Events.{Event, event_of, event, asked, in_folder, made, measured, read, held, written, flushed, looked};
 
 use io_state::FileName;
 use std::marker::{Model, PhantomData};
@@ -21,6 +21,8 @@ const FLUSHED: u64 = 5;
 const LOOKED: u64 = 6;
 
 const HELD: u64 = 7;
+
+const IN_FOLDER: u64 = 8;
 
 /// What was asked of the files of a folder and what was answered, the newest first. No memory holds it.
 #[derive(Drop)]
@@ -47,6 +49,13 @@ impl Record {
     pub(crate) fn note(&mut self, _numbers: &[u64], _bytes: &[u8])
         ensures { self.new.events ≡ event_of _numbers.now _bytes.now ∷ self.old.events }
     {}
+
+    /// The calls that follow are on the files of the folder of this path.
+    pub(crate) fn in_folder(&mut self, path: &str)
+        ensures { self.new.events ≡ in_folder path.now ∷ self.old.events }
+    {
+        self.note(&[IN_FOLDER, 0, 0], path.as_bytes());
+    }
 
     // Adds a call on a file.
     fn call(&mut self, name: &FileName, kind: u64, at: u64, count: u64, bytes: &[u8])

@@ -1,5 +1,5 @@
 //! A file that is kept open, and locked.
-ghost use Rattle.std.specs.Prelude.{◌≤◌, length};
+ghost use Rattle.std.specs.Prelude.{◌≡◌, ◌≤◌, length};
 
 use crate::appearance::Appearance;
 use crate::calls::{measure, read, sync, write};
@@ -113,7 +113,9 @@ impl<F: OpenFile + FileExt + LockFile + Drop> KeptFile<F> {
     }
 
     /// Brings the file to the disk, and its name where that is not known to be there. Whether it was done; never again once a sync failed.
-    pub fn sync<R: Files>(&mut self, rt: &R, folder: &mut KeptFolder) -> bool {
+    pub fn sync<R: Files>(&mut self, rt: &R, folder: &mut KeptFolder) -> bool
+        ensures { folder.new.path ≡ folder.old.path }
+    {
         if self.is_lost || !self.is_locked() {
             return false;
         }

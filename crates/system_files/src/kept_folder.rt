@@ -1,4 +1,5 @@
 //! A folder whose names are brought to the disk.
+ghost use Rattle.std.specs.Prelude.{◌≡◌, string_bytes};
 
 use crate::calls::sync_folder;
 use std::rt::Files;
@@ -12,19 +13,25 @@ pub struct KeptFolder {
 }
 
 impl KeptFolder {
-    pub fn new(path: String) -> KeptFolder {
+    pub fn new(path: String) -> KeptFolder
+        ensures { result.path ≡ path }
+    {
         KeptFolder {
             path,
             is_lost: false,
         }
     }
 
-    pub fn path(&self) -> &str {
+    pub fn path(&self) -> &str
+        ensures { result.now ≡ string_bytes self.now.path }
+    {
         self.path.as_str()
     }
 
     /// Brings the names of its files to the disk. Whether it was done; never again once it failed.
-    pub(crate) fn sync<R: Files>(&mut self, rt: &R) -> bool {
+    pub(crate) fn sync<R: Files>(&mut self, rt: &R) -> bool
+        ensures { self.new.path ≡ self.old.path }
+    {
         if !self.is_lost {
             self.is_lost = !sync_folder(rt, self.path.as_str());
         }

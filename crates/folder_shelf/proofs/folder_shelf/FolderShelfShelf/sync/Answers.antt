@@ -6,7 +6,7 @@ pub returns-then-branch-clause-synced : goal.returns-then-branch-clause-synced
 returns-then-branch-clause-synced g c =
     let name = rw c.deref.ensures.value at c.name_of-name.ensures in
     let noted = rw name at c.in_ok-flush.ensures.noted in
-    rw noted (flushed_true g.D.Disk.unseen (map (λ name. name.bytes) c.args.self.now.units.items) c.args.self.now.folder.calls.events c.args.unit c.in_ok-flush.field-0 c.if-branch.true)
+    flushed_true g.D.Disk.unseen (map (λ name. name.bytes) c.args.self.now.units.items) c.args.self.now.folder.calls.events c.args.unit c.in_ok-flush.field-0 _ noted c.if-branch.true
 
 pub returns-then-branch-clause-only : goal.returns-then-branch-clause-only
 returns-then-branch-clause-only g c =

@@ -7,7 +7,7 @@ returns-then-taken-bytes-clause-written g c =
     let name = rw c.deref.ensures.value at c.name_of-name.ensures in
     let held = rw (name, c.if-not-held.false) at c.in_ok-held.ensures.noted in
     let noted = rw held at c.write-taken.ensures in
-    rw noted (written_all g.D.Disk.unseen (map (λ name. name.bytes) c.args.self.now.units.items) c.args.self.now.folder.calls.events c.args.unit c.args.at c.write-taken.result c.args.bytes.now c.if-taken-bytes.true)
+    written_all g.D.Disk.unseen (map (λ name. name.bytes) c.args.self.now.units.items) c.args.self.now.folder.calls.events c.args.unit c.args.at c.write-taken.result c.args.bytes.now _ noted c.if-taken-bytes.true
 
 pub returns-then-taken-bytes-clause-only : goal.returns-then-taken-bytes-clause-only
 returns-then-taken-bytes-clause-only g c =
@@ -21,7 +21,8 @@ returns-else-taken-bytes-clause-failed g c =
     let name = rw c.deref.ensures.value at c.name_of-name.ensures in
     let held = rw (name, c.if-not-held.false) at c.in_ok-held.ensures.noted in
     let noted = rw held at c.write-taken.ensures in
-    rw noted (on_err c.fail-else-taken-bytes.result _ (written_any g.D.Disk.unseen (map (λ name. name.bytes) c.args.self.now.units.items) c.args.self.now.folder.calls.events c.args.unit c.args.at c.write-taken.result c.args.bytes.now))
+    on_err c.fail-else-taken-bytes.result _
+    (written_any g.D.Disk.unseen (map (λ name. name.bytes) c.args.self.now.units.items) c.args.self.now.folder.calls.events c.args.unit c.args.at c.write-taken.result c.args.bytes.now _ noted)
 
 pub returns-else-taken-bytes-clause-only : goal.returns-else-taken-bytes-clause-only
 returns-else-taken-bytes-clause-only g c =
