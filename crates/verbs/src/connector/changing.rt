@@ -21,7 +21,7 @@ use io_state::{Fault, Key, Status};
 
 impl Connector {
     /// REWRITE by the record in the first `length` bytes of the area.
-    pub(crate) fn rewrite<L: Library>(
+    pub(super) fn answer_rewrite<L: Library>(
         &mut self,
         lib: &mut L,
         u: usize,
@@ -90,7 +90,7 @@ impl Connector {
     }
 
     /// DELETE: in sequential access of the record read last, else of the record of the prime value that stands in the area.
-    pub(crate) fn delete<L: Library>(&mut self, lib: &mut L, u: usize, area: &[u8]) -> Status
+    pub(super) fn answer_delete<L: Library>(&mut self, lib: &mut L, u: usize, area: &[u8]) -> Status
         requires fits { Fits self.old (L.shown.world lib.old) u }
         ensures { (n : ℕ) → IsPerformedCounted L.shown u Delete n (in_memory self.old lib.old area.now)
             (silent result) (in_memory self.new lib.new area.now) }

@@ -1,12 +1,10 @@
 //! Any statement.
 ghost use Rattle.std.specs.Prelude.{◌≡◌, length as count_of};
-ghost use Rattle.verbs.specs.Counted.{BeginsCount};
 ghost use Rattle.verbs.specs.Fits.{Fits, HasOperands};
 ghost use Rattle.verbs.specs.Performed.{IsPerformed, in_memory};
 
 use super::Connector;
 use crate::answer::Answer;
-use crate::checks::counts_pages;
 use indexed_file::Library;
 use io_state::FileStatement;
 
@@ -32,7 +30,6 @@ impl Connector {
         ensures { IsPerformed L.shown u statement.now length (in_memory self.old lib.old area.old)
             result (in_memory self.new lib.new area.new) }
     {
-        self.begin_count(lib, u, statement);
         match *statement {
             FileStatement::Open(mode) => Answer::silent(self.open(lib, u, mode)),
             FileStatement::Close { lock } => Answer::silent(self.close(lib, u, lock)),
@@ -46,18 +43,6 @@ impl Connector {
             FileStatement::Write => Answer::silent(self.write(lib, u, area, length)),
             FileStatement::Rewrite => Answer::silent(self.rewrite(lib, u, area, length)),
             FileStatement::Delete => Answer::silent(self.delete(lib, u, area)),
-        }
-    }
-
-    /// Begins the count of pages, where the file is open and the statement is neither OPEN nor CLOSE.
-    fn begin_count<L: Library>(&self, lib: &mut L, u: usize, statement: &FileStatement)
-        requires { Fits self.now (L.shown.world lib.old) u }
-        ensures { BeginsCount L.shown u statement.now lib.old lib.new }
-    {
-        let counted = counts_pages(statement);
-        let has_file = self.mode.is_some() && !self.missing;
-        if counted && has_file {
-            lib.restart_count(u);
         }
     }
 }

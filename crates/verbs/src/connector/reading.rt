@@ -13,7 +13,12 @@ use io_state::{Relation, Status};
 
 impl Connector {
     /// READ, sequential: the next record by the key of reference.
-    pub(crate) fn read_next<L: Library>(&mut self, lib: &mut L, u: usize, area: &mut [u8]) -> Answer
+    pub(super) fn answer_read_next<L: Library>(
+        &mut self,
+        lib: &mut L,
+        u: usize,
+        area: &mut [u8],
+    ) -> Answer
         requires fits { Fits self.old (L.shown.world lib.old) u }
         requires area { length area.old ≡ self.old.connector.schema.greatest }
         ensures { (n : ℕ) → IsPerformedCounted L.shown u ReadNext n (in_memory self.old lib.old area.old)
@@ -46,7 +51,7 @@ impl Connector {
     }
 
     /// READ by a key: the first record whose key has the value that stands in the area.
-    pub(crate) fn read<L: Library>(
+    pub(super) fn answer_read<L: Library>(
         &mut self,
         lib: &mut L,
         u: usize,
@@ -82,7 +87,7 @@ impl Connector {
     }
 
     /// START: the first record the first bytes of whose key are so related to those that stand in the area.
-    pub(crate) fn start<L: Library>(
+    pub(super) fn answer_start<L: Library>(
         &mut self,
         lib: &mut L,
         u: usize,

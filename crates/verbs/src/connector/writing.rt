@@ -23,7 +23,7 @@ use io_state::{Fault, Status, Verb, permits};
 
 impl Connector {
     /// WRITE of the record in the first `length` bytes of the area.
-    pub(crate) fn write<L: Library>(
+    pub(super) fn answer_write<L: Library>(
         &mut self,
         lib: &mut L,
         u: usize,

@@ -1,0 +1,35 @@
+use Rattle.std.proofs.Common.{sym, ap, rules, arith}
+use Rattle.std.proofs.lemmas.Grind.{common_steps}
+use Rattle.verbs.proofs.ChangeLemmas.{write_done, write_room, standing_unread}
+use Rattle.std.proofs.lemmas.Bool.{and_parts}
+use Rattle.verbs.specs.Held.{silent}
+use Rattle.verbs.proofs.PageLemmas.{at_most}
+use Rattle.verbs.proofs.connector.Connector.answer_write.Goals as goal
+
+pub returns : goal.returns
+returns g c = record {
+  fits = first_of (search rules, grind (arith, common_steps));
+  schema = first_of (search rules, grind (arith, common_steps));
+  only = first_of (search rules, grind (arith, common_steps));
+  keeps = first_of (search rules, grind (arith, common_steps));
+  early = first_of (search rules, grind (arith, common_steps));
+  refusal = first_of (search rules, grind (arith, common_steps));
+  known = λ late.
+      let held_late = rw (← c.self.view_is) at late in
+      let known = c.put.ensures.known (rw c.from.ensures (and_parts _ _ held_late).1) in
+      (known.0, ap silent known.1);
+  failed_close = first_of (search rules, grind (arith, common_steps));
+  cause = first_of (search rules, grind (arith, common_steps));
+  step = λ honest truly standing. write_done c.self.inside c.args.self.now c.put.new.self c.in-Some.mode (g.L.Library.shown.world c.args.lib.now) (g.L.Library.shown.world c.put.new.lib) c.args.u c.args.length c.args.area.now c.put.result
+      c.self.view_is c.in-Some.is c.if-self.false (sym c.if-not-permitted.ensures) (sym c.if-not-fit.ensures)
+      (λ session is. rw (← c.from.ensures) ((c.put.ensures.change honest truly
+      (standing_unread c.self.inside c.args.self.now c.in-Some.mode (g.L.Library.shown.world c.args.lib.now) c.args.u c.self.view_is c.in-Some.is standing)).step session is c.args.area.now));
+  standing = first_of (search rules, grind (arith, common_steps));
+  room = λ honest truly standing. write_room c.self.inside c.args.self.now c.put.new.self c.in-Some.mode (g.L.Library.shown.world c.args.lib.now) (g.L.Library.shown.world c.put.new.lib) c.args.u c.args.length c.args.area.now c.put.result
+      c.self.view_is c.in-Some.is c.if-self.false _ (sym c.if-not-permitted.ensures) (sym c.if-not-fit.ensures)
+      (λ session. rw (← c.from.ensures) ((c.put.ensures.change honest truly
+      (standing_unread c.self.inside c.args.self.now c.in-Some.mode (g.L.Library.shown.world c.args.lib.now) c.args.u c.self.view_is c.in-Some.is standing)).room c.args.area.now session));
+  asked = λ honest truly standing counts answered.
+      at_most (g.L.Library.shown.room c.args.lib.now c.args.u) (g.L.Library.shown.pages_asked c.args.lib.now c.args.u) (g.L.Library.shown.pages_asked c.put.new.lib c.args.u) (c.put.ensures.asked honest truly answered);
+  images = first_of (search rules, grind (arith, common_steps));
+}
