@@ -1,0 +1,103 @@
+//! Files are described, and given up.
+ghost use Rattle.std.specs.Prelude.{◌≡◌, OnOk, IfOk, IfSome, IfErr, OnErr, replicate};
+ghost use Rattle.request_frames.specs.Request.{described_of};
+ghost use Rattle.file_session.specs.Files.{is_free, is_named};
+ghost use Rattle.file_session.specs.Steps.{Describes, RefusesDescription, Releases, refusal_in, refusal_of_release, schema_described, IsDescribedOver};
+
+use crate::numbered_file::DescribedFile;
+use crate::session::Session;
+use indexed_file::Library;
+use io_state::FileName;
+use record_layout::Schema;
+use request_frames::{Description, Refusal, file_name_of};
+use std::alloc::{AllocError, Global};
+use verbs::Connector;
+
+/// A record area of spaces.
+fn blank_area(alloc: Global, length: u16) -> Result<Vec<u8>, AllocError>
+    ensures { IfOk result (λ area. area.items ≡ replicate «length» 32) }
+{
+    let mut area = Vec::new(alloc);
+    area.resize(usize::from(length), b' ')?;
+    Ok(area)
+}
+
+/// The file of a description, over a library.
+fn described_file<L: Library + Drop>(
+    alloc: Global,
+    description: &Description<'_>,
+    name: FileName,
+    schema: Schema,
+    mut library: L,
+) -> Option<DescribedFile<L>>
+    requires name { name.bytes ≡ (described_of description.now).name }
+    requires schema { schema ≡ schema_described (described_of description.now) }
+    ensures { IfSome result (λ file. IsDescribedOver L.shown (described_of description.now) library file) }
+{
+    let area = blank_area(alloc, schema.greatest()).ok()?;
+    library.attach(&[name]).ok()?;
+    let key_count = schema.key_count();
+    let connector = Connector::new(description.access, description.optional, schema);
+    Some(DescribedFile::new(name, connector, key_count, library, area))
+}
+
+impl<L: Library + Drop> Session<L> {
+    /// Whether the number is one of a session, and of no file.
+    fn is_free(&self, number: u8) -> bool
+        ensures { result ≡ is_free self.now number }
+    {
+        matches!(self.files.get(usize::from(number)), Some(None))
+    }
+
+    /// Whether a file has the name.
+    fn is_named(&self, name: &[u8]) -> bool
+        ensures { result ≡ is_named self.now name.now }
+    {
+        self.files.iter().any(|file| match file {
+            Some(file) => file.has_name(name),
+            None => false,
+        })
+    }
+
+    /// Gives a number to the file of a description, over a library that has no other unit. It is closed, and its record area all spaces.
+    pub fn describe(&mut self, description: &Description<'_>, library: L) -> Result<(), Refusal>
+        ensures described { OnOk result (Describes L.shown (described_of description.now) library self.old self.new) }
+        ensures refused { IfErr result (RefusesDescription self.old (described_of description.now)) }
+        ensures err { OnErr result (self.new ≡ self.old) }
+    {
+        if !self.is_free(description.file) {
+            return Err(Refusal::Number);
+        }
+        let schema = Schema::from_parts(description.least, description.greatest, &description.keys);
+        let (Some(schema), Some(name)) = (schema, file_name_of(description.name)) else {
+            return Err(Refusal::Description);
+        };
+        if self.is_named(description.name) {
+            return Err(Refusal::Name);
+        }
+        let Some(file) = described_file(self.alloc, description, name, schema, library) else {
+            return Err(Refusal::Memory);
+        };
+        self.files[usize::from(description.file)] = Some(file);
+        Ok(())
+    }
+
+    /// Gives up the file of a number, which is free again, and gives its library back.
+    pub fn release(&mut self, number: u8) -> Result<L, Refusal>
+        ensures released { IfOk result (λ library. Releases number self.old library self.new) }
+        ensures refused { refusal_in result ≡ refusal_of_release self.old number }
+        ensures err { OnErr result (self.new ≡ self.old) }
+    {
+        let Some(place) = self.files.get_mut(usize::from(number)) else {
+            return Err(Refusal::Number);
+        };
+        match place.take() {
+            None => Err(Refusal::Number),
+            Some(file) if file.is_open() => {
+                *place = Some(file);
+                Err(Refusal::Open)
+            }
+            Some(file) => Ok(file.into_library()),
+        }
+    }
+}

@@ -1,0 +1,68 @@
+//! The files of a session.
+ghost use Rattle.std.specs.Prelude.{◌≡◌, ◌≤◌, length, length as count_of, IfOk};
+ghost use Rattle.file_session.specs.Files.{AreFiles, no_files, file_at};
+ghost use Rattle.file_session.specs.Steps.{record_by};
+
+use crate::numbered_file::DescribedFile;
+use crate::opening_order::OpeningOrder;
+use indexed_file::Library;
+use std::alloc::{AllocError, Global};
+use std::marker::Model;
+
+/// The numbers of files are less.
+const NUMBER_LIMIT: usize = 64;
+
+/// The files of a session, each by its number, and the order in which the open ones were opened.
+#[derive(Drop)]
+pub struct Session<L: Library + Drop> {
+    pub(crate) alloc: Global,
+    pub(crate) files: Vec<Option<DescribedFile<L>>>,
+    pub(crate) order: OpeningOrder,
+}
+
+impl<L: Library + Drop> Model for Session<L> {
+    ghost use Rattle.file_session.specs.Files.{Files, AreFiles};
+
+    ghost Value = { Files L };
+
+    ghost view = { λ session. record { places = session.files.items; opened = session.order } };
+
+    ghost invariant = { λ session. AreFiles (record { places = session.files.items; opened = session.order }) };
+}
+
+impl<L: Library + Drop> Session<L> {
+    /// A session in which no file is described.
+    pub fn new(alloc: Global) -> Result<Session<L>, AllocError>
+        ensures { IfOk result (λ session. session ≡ no_files) }
+    {
+        let mut files = Vec::new(alloc);
+        for _ in 0..NUMBER_LIMIT {
+            files.push(None)?;
+        }
+        Ok(Session {
+            alloc,
+            files,
+            order: OpeningOrder::new(),
+        })
+    }
+
+    /// How many files are open.
+    pub fn open_count(&self) -> usize
+        ensures count { result ≡ length self.now.opened }
+        ensures limit { result ≤ 64 }
+        ensures files { AreFiles self.now }
+    {
+        self.order.count()
+    }
+
+    /// The record that an answer has delivered into the area of a file, of no bytes where it delivered none.
+    pub fn record(&self, number: u8, length: Option<u16>) -> &[u8]
+        ensures record { result.now ≡ record_by (file_at self.now number) «length» }
+        ensures short { count_of result.now ≤ 4000 }
+    {
+        match self.files.get(usize::from(number)) {
+            Some(Some(file)) => file.record(length),
+            _ => &[],
+        }
+    }
+}
