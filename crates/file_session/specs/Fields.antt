@@ -2,7 +2,7 @@
 use Rattle.std.specs.Prelude.{◌≡◌, ◌≤◌, length}
 use Rattle.indexed_file.specs.Shown.{Shown}
 use Rattle.verbs.specs.Performed.{in_memory}
-use Rattle.file_session.specs.declared.numbered_file.DescribedFile.TheInside.{Inside}
+use Rattle.file_session.specs.declared.described_file.DescribedFile.TheInside.{Inside}
 use Rattle.file_session.specs.Files.{NumberedFile, IsNumberedFile}
 
 abbrev pub numbered_file : {S : Type 0} → Inside S → NumberedFile S

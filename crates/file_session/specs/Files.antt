@@ -1,6 +1,6 @@
 -- The files of a session, by their numbers. All of this is ours.
-use Rattle.std.specs.Prelude.{◌≡◌, ◌≤◌, ℕ, ◌&&◌, Bool, true, false, List, [], ◌∷◌, ◌++◌, length, replicate, slice_index_or, slice_set, nat_lt, eqb, bytes_eq, Option, Some, None, is_none, is_some, if◌then◌else◌}
-use Rattle.std.specs.List.{list_any, IsDistinct}
+use Rattle.std.specs.Prelude.{◌≡◌, ◌<◌, ◌≤◌, ℕ, ◌&&◌, Bool, true, false, not, All, List, [], ◌∷◌, ◌++◌, length, replicate, slice_index_or, slice_set, nat_lt, eqb, bytes_eq, Option, Some, None, is_none, is_some, if◌then◌else◌}
+use Rattle.std.specs.List.{list_any, filter, IsDistinct}
 use Rattle.indexed_file.specs.Shown.{Shown}
 use Rattle.record_layout.specs.Schema.{Schema}
 use Rattle.verbs.specs.Fits.{Fits}
@@ -57,13 +57,17 @@ is_named files name = list_any (has_name name) files.places
 
 -- the numbers without this one
 abbrev pub without : ℕ → List ℕ → List ℕ
-without number [] = []
-without number (first ∷ rest) = if eqb number first then rest else first ∷ without number rest
+without number opened = filter (λ other. not (eqb number other)) opened
 
 -- a file that is open keeps its place, or takes one at the end; one that is not open has none
 abbrev pub order_after : ℕ → Bool → List ℕ → List ℕ
 order_after number false opened = without number opened
 order_after number true opened = if list_any (eqb number) opened then opened else opened ++ number ∷ []
+
+-- each number once, and numbers of files alone
+pub record IsOrder (opened : List ℕ) : Type 0 where
+  pub distinct : IsDistinct eqb opened
+  pub below : All (λ number. number < number_limit) opened
 
 -- ---- what a session keeps
 
@@ -78,4 +82,4 @@ pub record AreFiles {S : Type 0} (files : Files S) : Type 0 where
   pub places : length files.places ≡ number_limit
   pub names : (m n : ℕ) → (a b : NumberedFile S) → file_at files m ≡ Some a → file_at files n ≡ Some b → a.name ≡ b.name → m ≡ n
   pub opened : (number : ℕ) → list_any (eqb number) files.opened ≡ is_open_in (file_at files number)
-  pub distinct : IsDistinct eqb files.opened
+  pub order : IsOrder files.opened

@@ -109,6 +109,15 @@ refusal_of_verb files p = refusal_by (file_at files p.file) p
 abbrev pub with_bytes : {S : Type 0} → List ℕ → FileInMemory S → FileInMemory S
 with_bytes bytes file = record file { area = bytes ++ drop (length bytes) file.area }
 
+-- the file of a place has performed the statement, with the bytes put into its area
+pub record PerformsAt {S : Type 0} (shown : Shown S) (p : Performed) (old : Option (NumberedFile S)) (answer : Answer) (new : Option (NumberedFile S)) : Type 0 where
+  pub before : NumberedFile S
+  pub after : NumberedFile S
+  pub was : old ≡ Some before
+  pub is : new ≡ Some after
+  pub name : after.name ≡ before.name
+  pub performed : IsPerformed shown 0 p.statement p.length (with_bytes p.bytes before.memory) answer after.memory
+
 -- the file of the number has performed the statement, with the bytes put into its area. Every other number has the file that it had
 pub record Performs {S : Type 0} (shown : Shown S) (p : Performed) (old : Files S) (answer : Answer) (new : Files S) : Type 0 where
   pub before : NumberedFile S
@@ -133,6 +142,14 @@ refusal_of_file (Some file) = if is_open file then Some IsOpen else None
 abbrev pub refusal_of_release : {S : Type 0} → Files S → ℕ → Option Refusal
 refusal_of_release files number = refusal_of_file (file_at files number)
 
+-- the place is empty, and its library given back
+pub record ReleasesAt {S : Type 0} (old : Option (NumberedFile S)) (library : S) (new : Option (NumberedFile S)) : Type 0 where
+  pub file : NumberedFile S
+  pub was : old ≡ Some file
+  pub closed : is_open file ≡ false
+  pub given : library ≡ file.memory.library
+  pub is : new ≡ None
+
 -- the number is free, and its library given back
 pub record Releases {S : Type 0} (number : ℕ) (old : Files S) (library : S) (new : Files S) : Type 0 where
   pub file : NumberedFile S
@@ -144,6 +161,16 @@ pub record Releases {S : Type 0} (number : ℕ) (old : Files S) (library : S) (n
 
 abbrev pub close_of : ℕ → Performed
 close_of number = record { file = number; statement = Close false; length = 0; bytes = [] }
+
+-- the file of a place has performed CLOSE
+pub record ClosesAt {S : Type 0} (shown : Shown S) (old : Option (NumberedFile S)) (status : Status) (new : Option (NumberedFile S)) : Type 0 where
+  pub before : NumberedFile S
+  pub after : NumberedFile S
+  pub was : old ≡ Some before
+  pub is : new ≡ Some after
+  pub name : after.name ≡ before.name
+  pub closed : is_open after ≡ false
+  pub performed : IsPerformed shown 0 (Close false) 0 (with_bytes [] before.memory) (silent status) after.memory
 
 -- it has performed CLOSE, and the open files are the others, in their order
 pub record ClosesFirst {S : Type 0} (shown : Shown S) (old : Files S) (status : Status) (new : Files S) : Type 0 where

@@ -2,6 +2,7 @@
 ghost use Rattle.std.specs.Prelude.{◌≡◌, [], None, IfSome};
 ghost use Rattle.file_session.specs.Steps.{ClosesFirst};
 
+use crate::place;
 use crate::session::Session;
 use indexed_file::Library;
 use io_state::Status;
@@ -13,13 +14,8 @@ impl<L: Library + Drop> Session<L> {
         ensures none { result ≡ None → (self.old.opened ≡ []) × (self.new ≡ self.old) }
     {
         let number = self.order.first()?;
-        match self.files.get_mut(usize::from(number)) {
-            Some(Some(file)) => {
-                let status = file.close();
-                self.order.note(number, false);
-                Some(status)
-            }
-            _ => None,
-        }
+        let status = place::close(&mut self.files[usize::from(number)])?;
+        self.order.note(number, false);
+        Some(status)
     }
 }

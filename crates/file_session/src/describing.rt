@@ -4,8 +4,9 @@ ghost use Rattle.request_frames.specs.Request.{described_of};
 ghost use Rattle.file_session.specs.Files.{is_free, is_named};
 ghost use Rattle.file_session.specs.Steps.{Describes, RefusesDescription, Releases, refusal_in, refusal_of_release, schema_described, IsDescribedOver};
 
-use crate::numbered_file::DescribedFile;
-use crate::session::Session;
+use crate::described_file::DescribedFile;
+use crate::place;
+use crate::session::{Session, is_number};
 use indexed_file::Library;
 use io_state::FileName;
 use record_layout::Schema;
@@ -46,17 +47,14 @@ impl<L: Library + Drop> Session<L> {
     fn is_free(&self, number: u8) -> bool
         ensures { result ≡ is_free self.now number }
     {
-        matches!(self.files.get(usize::from(number)), Some(None))
+        is_number(number) && self.files[usize::from(number)].is_none()
     }
 
     /// Whether a file has the name.
     fn is_named(&self, name: &[u8]) -> bool
         ensures { result ≡ is_named self.now name.now }
     {
-        self.files.iter().any(|file| match file {
-            Some(file) => file.has_name(name),
-            None => false,
-        })
+        self.files.iter().any(|place| place::has_name(place, name))
     }
 
     /// Gives a number to the file of a description, over a library that has no other unit. It is closed, and its record area all spaces.
@@ -88,16 +86,9 @@ impl<L: Library + Drop> Session<L> {
         ensures refused { refusal_in result ≡ refusal_of_release self.old number }
         ensures err { OnErr result (self.new ≡ self.old) }
     {
-        let Some(place) = self.files.get_mut(usize::from(number)) else {
+        if !is_number(number) {
             return Err(Refusal::Number);
-        };
-        match place.take() {
-            None => Err(Refusal::Number),
-            Some(file) if file.is_open() => {
-                *place = Some(file);
-                Err(Refusal::Open)
-            }
-            Some(file) => Ok(file.into_library()),
         }
+        place::release(&mut self.files[usize::from(number)])
     }
 }

@@ -8,10 +8,11 @@
 #![tactic(auto)]
 
 mod closing;
+mod described_file;
 mod describing;
-mod numbered_file;
 mod opening_order;
 mod performing;
+mod place;
 mod session;
 
 pub use session::Session;

@@ -1,6 +1,7 @@
 //! The order in which the open files were opened.
-ghost use Rattle.std.specs.Prelude.{◌≡◌, ◌<◌, ◌≤◌, [], length, slice_get};
-ghost use Rattle.file_session.specs.Files.{order_after};
+ghost use Rattle.std.specs.Prelude.{◌≡◌, ◌<◌, ◌≤◌, [], length, slice_get, eqb};
+ghost use Rattle.std.specs.List.{list_any};
+ghost use Rattle.file_session.specs.Files.{order_after, without};
 
 use arrayvec::ArrayVec;
 use std::marker::Model;
@@ -15,14 +16,14 @@ pub struct OpeningOrder {
 }
 
 impl Model for OpeningOrder {
-    ghost use Rattle.std.specs.Prelude.{ℕ, List, All, ◌<◌, eqb};
-    ghost use Rattle.std.specs.List.{IsDistinct};
+    ghost use Rattle.std.specs.Prelude.{ℕ, List};
+    ghost use Rattle.file_session.specs.Files.{IsOrder};
 
     ghost Value = { List ℕ };
 
     ghost view = { λ order. order.numbers.items };
 
-    ghost invariant = { λ order. IsDistinct eqb order.numbers.items × All (λ number. number < 64) order.numbers.items };
+    ghost invariant = { λ order. IsOrder order.numbers.items };
 }
 
 impl OpeningOrder {
@@ -50,18 +51,27 @@ impl OpeningOrder {
         self.numbers.first().copied()
     }
 
+    fn contains(&self, number: u8) -> bool
+        ensures { result ≡ list_any (eqb number) self.now }
+    {
+        self.numbers.iter().any(|other| number == *other)
+    }
+
+    fn remove(&mut self, number: u8)
+        ensures { self.new ≡ without number self.old }
+    {
+        self.numbers.retain(|other| number != *other);
+    }
+
     /// Takes note of whether a file is open after a statement on it.
     pub fn note(&mut self, number: u8, is_open: bool)
         requires { number < 64 }
         ensures { self.new ≡ order_after number is_open self.old }
     {
-        let place = self.numbers.iter().position(|other| *other == number);
-        match place {
-            Some(place) if !is_open => {
-                self.numbers.remove(place);
-            }
-            None if is_open => self.numbers.push(number),
-            _ => {}
+        if !is_open {
+            self.remove(number);
+        } else if !self.contains(number) {
+            self.numbers.push(number);
         }
     }
 }

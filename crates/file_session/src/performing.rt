@@ -3,7 +3,8 @@ ghost use Rattle.std.specs.Prelude.{◌≡◌, IfOk, OnErr};
 ghost use Rattle.request_frames.specs.Request.{performed_of};
 ghost use Rattle.file_session.specs.Steps.{Performs, refusal_in, refusal_of_verb};
 
-use crate::session::Session;
+use crate::place;
+use crate::session::{Session, is_number};
 use indexed_file::Library;
 use request_frames::{Performance, Refusal};
 use verbs::Answer;
@@ -15,22 +16,12 @@ impl<L: Library + Drop> Session<L> {
         ensures refused { refusal_in result ≡ refusal_of_verb self.old (performed_of performance.now) }
         ensures err { OnErr result (self.new ≡ self.old) }
     {
-        let Some(Some(file)) = self.files.get_mut(usize::from(performance.file)) else {
+        if !is_number(performance.file) {
             return Err(Refusal::Number);
-        };
-        if !file.has_key(&performance.statement) {
-            return Err(Refusal::Key);
         }
-        if !file.has_room(performance.bytes) {
-            return Err(Refusal::NoRequest);
-        }
-        let answer = file.perform(
-            &performance.statement,
-            performance.length,
-            performance.bytes,
-        );
-        let open = file.is_open();
-        self.order.note(performance.file, open);
+        let place = &mut self.files[usize::from(performance.file)];
+        let answer = place::perform(place, performance)?;
+        self.order.note(performance.file, place::is_open(place));
         Ok(answer)
     }
 }

@@ -1,10 +1,11 @@
 //! The files of a session.
-ghost use Rattle.std.specs.Prelude.{◌≡◌, ◌≤◌, length, length as count_of, IfOk};
+ghost use Rattle.std.specs.Prelude.{◌≡◌, ◌≤◌, nat_lt, length, length as count_of, IfOk};
 ghost use Rattle.file_session.specs.Files.{AreFiles, no_files, file_at};
 ghost use Rattle.file_session.specs.Steps.{record_by};
 
-use crate::numbered_file::DescribedFile;
+use crate::described_file::DescribedFile;
 use crate::opening_order::OpeningOrder;
+use crate::place;
 use indexed_file::Library;
 use std::alloc::{AllocError, Global};
 use std::marker::Model;
@@ -18,6 +19,13 @@ pub struct Session<L: Library + Drop> {
     pub(crate) alloc: Global,
     pub(crate) files: Vec<Option<DescribedFile<L>>>,
     pub(crate) order: OpeningOrder,
+}
+
+/// Whether a file can have the number.
+pub(crate) fn is_number(number: u8) -> bool
+    ensures { result ≡ nat_lt number 64 }
+{
+    usize::from(number) < NUMBER_LIMIT
 }
 
 impl<L: Library + Drop> Model for Session<L> {
@@ -60,9 +68,9 @@ impl<L: Library + Drop> Session<L> {
         ensures record { result.now ≡ record_by (file_at self.now number) «length» }
         ensures short { count_of result.now ≤ 4000 }
     {
-        match self.files.get(usize::from(number)) {
-            Some(Some(file)) => file.record(length),
-            _ => &[],
+        if !is_number(number) {
+            return &[];
         }
+        place::record(&self.files[usize::from(number)], length)
     }
 }

@@ -1,5 +1,5 @@
 //! A described file.
-ghost use Rattle.std.specs.Prelude.{◌≡◌, ◌≤◌, length as count_of, true, false, not, nat_lt, bytes_eq, unwrap_or, [], None};
+ghost use Rattle.std.specs.Prelude.{◌≡◌, ◌≤◌, ◌++◌, drop, length as count_of, true, false, not, nat_lt, bytes_eq, unwrap_or, [], None};
 ghost use Rattle.io_state.specs.declared.statement.FileStatement.TheVariants.{Close};
 ghost use Rattle.verbs.specs.Held.{record_in, silent};
 ghost use Rattle.verbs.specs.Fits.{Fits, HasOperands};
@@ -20,6 +20,15 @@ pub struct DescribedFile<L: Library + Drop> {
     key_count: usize,
     library: L,
     area: Vec<u8>,
+}
+
+/// Puts the bytes into the beginning of a record area.
+fn put_first(area: &mut [u8], bytes: &[u8])
+    requires room { count_of bytes.now ≤ count_of area.old }
+    ensures put { area.new ≡ bytes.now ++ drop (count_of bytes.now) area.old }
+    ensures length { count_of area.new ≡ count_of area.old }
+{
+    area[..bytes.len()].copy_from_slice(bytes);
 }
 
 impl<L: Library + Drop> Model for DescribedFile<L> {
@@ -98,7 +107,7 @@ impl<L: Library + Drop> DescribedFile<L> {
             result self.new.memory }
         ensures name { self.new.name ≡ self.old.name }
     {
-        self.area[..bytes.len()].copy_from_slice(bytes);
+        put_first(&mut self.area, bytes);
         self.connector
             .perform(&mut self.library, 0, statement, length, &mut self.area)
     }
