@@ -1,16 +1,18 @@
 -- What a session keeps, where one of its files is changed.
-use Rattle.std.proofs.Common.{◌≡◌, ℕ, ◌<◌, ◌≤◌, ◌≢◌, Bool, true, false, not, ◌&&◌, ◌||◌, List, [], ◌∷◌, ◌++◌, length, slice_set, slice_index_or, eqb, Option, Some, None, All, suc, sym, ap, ◌∙◌, refl, arith, eqb-true, true≢false, subst, not-suc-le-zero, length-append, ◌⊎◌, inl, inr}
+use Rattle.std.proofs.Common.{◌≡◌, ℕ, ◌<◌, ◌≤◌, ◌≢◌, Bool, true, false, not, ◌&&◌, ◌||◌, List, [], ◌∷◌, ◌++◌, length, replicate, slice_set, slice_get, slice_index_or, eqb, Option, Some, None, All, suc, sym, ap, ◌∙◌, refl, arith, eqb-true, true≢false, subst, cond, if◌then◌else◌, is_some, not-suc-le-zero, length-append, ◌⊎◌, inl, inr, zero, nat_lt}
 use Rattle.std.proofs.lemmas.Bool.{cases_eq, ne_eqb}
 use Rattle.std.proofs.lemmas.List.{get_or-set_same, get_or-set_other, length-set, get_or-replicate}
 use Rattle.std.proofs.Math.ListN.{get_or-eq_default}
-use Rattle.std.specs.List.{list_any, filter}
+use Rattle.std.specs.List.{list_any, filter, IsDistinct, AllByRecursion}
 use Rattle.std.proofs.lemmas.List.Folds.{list_any-append}
+use Rattle.std.proofs.lemmas.Cmp.{nat_eq_equiv}
+use Rattle.std.proofs.lemmas.Map.Keys.{IsDistinct-head}
 use Rattle.std.proofs.lemmas.Map.Views.{any-filter_same}
-use Rattle.file_session.specs.Files.{NumberedFile, Files, AreFiles, IsOrder, file_at, is_open, is_open_in, without, order_after, number_limit}
-use Rattle.file_session.proofs.OrderLemmas.{order_without, order_with, below_from_any}
+use Rattle.file_session.specs.Files.{NumberedFile, Files, AreFiles, IsOrder, file_at, no_files, is_open, is_open_in, without, order_after, number_limit}
+use Rattle.file_session.proofs.OrderLemmas.{empty_order, order_without, order_with}
 
 eqb_same : (n : ℕ) → eqb n n ≡ true
-eqb_same n = search
+eqb_same n = nat_eq_equiv.refl n
 
 -- ---- the file of a number, after one was put in
 
@@ -22,18 +24,18 @@ at_other : {S : Type 0} (places : List (Option (NumberedFile S))) (number other 
     → slice_index_or (slice_set places number file) other None ≡ slice_index_or places other None
 at_other places number other file apart = get_or-set_other places number other file None apart
 
-name_or : {S : Type 0} → List ℕ → Option (NumberedFile S) → List ℕ
+abbrev name_or : {S : Type 0} → List ℕ → Option (NumberedFile S) → List ℕ
 name_or name None = name
 name_or name (Some file) = file.name
 
 some_name : {S : Type 0} (a b : NumberedFile S) → Some a ≡ Some b → a.name ≡ b.name
 some_name a b same = ap (name_or []) same
 
-is_there : {S : Type 0} → Option (NumberedFile S) → Bool
+abbrev is_there : {S : Type 0} → Option (NumberedFile S) → Bool
 is_there None = false
 is_there (Some file) = true
 
-none_some : {S : Type 0} {file : NumberedFile S} → None ≡ Some file → ⊥
+pub none_some : {S : Type 0} {file : NumberedFile S} → None ≡ Some file → ⊥
 none_some same = true≢false (sym (ap is_there same))
 
 -- ---- a change of one number
@@ -88,7 +90,7 @@ any_without : (number other : ℕ) (opened : List ℕ) → list_any (eqb other) 
 any_without number other opened =
     any-filter_same (eqb other) (λ k. not (eqb number k)) (not (eqb number other)) (λ k same. ap (λ n. not (eqb number n)) (sym (eqb-true other k same))) opened
 
-any_pushed : (number other : ℕ) (opened : List ℕ) → list_any (eqb other) (opened ++ number ∷ []) ≡ (list_any (eqb other) opened || eqb other number || false)
+any_pushed : (number other : ℕ) (opened : List ℕ) → list_any (eqb other) (opened ++ number ∷ []) ≡ (list_any (eqb other) opened || (eqb other number || false))
 any_pushed number other opened = list_any-append (eqb other) opened (number ∷ [])
 
 or_true : (b : Bool) → (b || true) ≡ true
@@ -108,24 +110,24 @@ here_pushed : (number : ℕ) (is_in : Bool) (opened : List ℕ) → list_any (eq
     → list_any (eqb number) (if is_in then opened else opened ++ number ∷ []) ≡ true
 here_pushed number true opened is = is
 here_pushed number false opened is =
-    any_pushed number number opened ∙ ap (λ b. list_any (eqb number) opened || b || false) (eqb_same number) ∙ or_true (list_any (eqb number) opened)
+    any_pushed number number opened ∙ ap (λ b. list_any (eqb number) opened || (b || false)) (eqb_same number) ∙ or_true (list_any (eqb number) opened)
 
 there_pushed : (number other : ℕ) (is_in : Bool) (opened : List ℕ) → other ≢ number
     → list_any (eqb other) (if is_in then opened else opened ++ number ∷ []) ≡ list_any (eqb other) opened
 there_pushed number other true opened apart = refl
 there_pushed number other false opened apart =
-    any_pushed number other opened ∙ ap (λ b. list_any (eqb other) opened || b || false) (ne_eqb other number apart) ∙ or_false (list_any (eqb other) opened)
+    any_pushed number other opened ∙ ap (λ b. list_any (eqb other) opened || (b || false)) (ne_eqb other number apart) ∙ or_false (list_any (eqb other) opened)
 
-order_noted : (number : ℕ) (open : Bool) (opened : List ℕ) → number < 64 → IsOrder opened → IsOrder (order_after number open opened)
+order_noted : (number : ℕ) (now_open : Bool) (opened : List ℕ) → number < 64 → IsOrder opened → IsOrder (order_after number now_open opened)
 order_noted number true opened below order = order_pushed number (list_any (eqb number) opened) opened refl below order
 order_noted number false opened below order = order_without number opened order
 
-here_noted : (number : ℕ) (open : Bool) (opened : List ℕ) → list_any (eqb number) (order_after number open opened) ≡ open
+here_noted : (number : ℕ) (now_open : Bool) (opened : List ℕ) → list_any (eqb number) (order_after number now_open opened) ≡ now_open
 here_noted number true opened = here_pushed number (list_any (eqb number) opened) opened refl
 here_noted number false opened = any_without number number opened ∙ ap (λ b. not b && list_any (eqb number) opened) (eqb_same number)
 
-there_noted : (number other : ℕ) (open : Bool) (opened : List ℕ) → other ≢ number
-    → list_any (eqb other) (order_after number open opened) ≡ list_any (eqb other) opened
+there_noted : (number other : ℕ) (now_open : Bool) (opened : List ℕ) → other ≢ number
+    → list_any (eqb other) (order_after number now_open opened) ≡ list_any (eqb other) opened
 there_noted number other true opened apart = there_pushed number other (list_any (eqb number) opened) opened apart
 there_noted number other false opened apart =
     any_without number other opened ∙ ap (λ b. not b && list_any (eqb other) opened) (ne_eqb number other (λ same. apart (sym same)))
@@ -166,3 +168,67 @@ files_without files number file are below was closed = changed files number None
   there = λ other apart. refl;
   name = λ other a b apart at is same. absurd (none_some is);
 })
+
+-- ---- the calls of a session
+
+-- no file has a number past the places
+pub file_past : {S : Type 0} (files : Files S) (number : ℕ) → AreFiles files → 64 ≤ number → file_at files number ≡ None
+file_past files number are past = get_or-eq_default files.places None (omega (arith, are.places, past))
+
+abbrev none_of : (S : Type 0) → Option (NumberedFile S)
+none_of S = None
+
+at_none : {S : Type 0} (n number : ℕ) → slice_index_or (replicate n (none_of S)) number (none_of S) ≡ none_of S
+at_none {S} zero number = get_or-eq_default [] (none_of S) (omega arith)
+at_none (suc n) zero = refl
+at_none {S} (suc n) (suc number) = at_none {S} n number
+
+pub no_files_are : {S : Type 0} → AreFiles {S = S} no_files
+no_files_are {S} = record {
+  places = refl;
+  names = λ m n a b x y same. absurd (none_some (sym (at_none {S} 64 m) ∙ x));
+  opened = λ number. sym (ap is_open_in (at_none {S} 64 number));
+  order = empty_order;
+}
+
+-- a statement was performed on the file of a place
+pub place_after : {S : Type 0} (files : Files S) (number : ℕ) (before after : NumberedFile S) (place : Option (NumberedFile S)) (opened : List ℕ)
+    → AreFiles files → number < 64 → file_at files number ≡ Some before → place ≡ Some after → after.name ≡ before.name
+    → opened ≡ order_after number (is_open after) files.opened
+    → AreFiles (record { places = slice_set files.places number place; opened = opened })
+place_after files number before after place opened are below was is name order =
+    subst (λ (p : Option (NumberedFile _)). AreFiles (record { places = slice_set files.places number p; opened = opened })) (sym is)
+    (subst (λ (o : List ℕ). AreFiles (record { places = slice_set files.places number (Some after); opened = o })) (sym order)
+    (files_after files number before after are below was name))
+
+-- ---- the file that was opened first
+
+abbrev number_or : Option ℕ → ℕ
+number_or None = 0
+number_or (Some n) = n
+
+some_number : (a b : ℕ) → Some a ≡ Some b → a ≡ b
+some_number a b same = ap (λ (x : Option ℕ). number_or x) same
+
+pub first_known : (opened : List ℕ) (first : ℕ) → slice_get opened 0 ≡ Some first → (rest : List ℕ) × (opened ≡ first ∷ rest)
+first_known [] first is = absurd (true≢false (sym (ap is_some is)))
+first_known (other ∷ rest) first is = (rest, ap (λ k. k ∷ rest) (some_number other first is))
+
+filter_rest : (number : ℕ) (rest : List ℕ) → AllByRecursion (λ other. eqb number other ≡ false) rest → filter (λ other. not (eqb number other)) rest ≡ rest
+filter_rest number [] apart = refl
+filter_rest number (other ∷ rest) (here, there) =
+    ap (λ b. cond (not b) (other ∷ filter (λ k. not (eqb number k)) rest) (filter (λ k. not (eqb number k)) rest)) here
+    ∙ ap (λ later. other ∷ later) (filter_rest number rest there)
+
+pub without_first : (first : ℕ) (rest : List ℕ) → IsOrder (first ∷ rest) → without first (first ∷ rest) ≡ rest
+without_first first rest order =
+    ap (λ b. cond (not b) (first ∷ filter (λ k. not (eqb first k)) rest) (filter (λ k. not (eqb first k)) rest)) (eqb_same first)
+    ∙ filter_rest first rest (IsDistinct-head eqb first rest order.distinct)
+
+pub first_below : (opened : List ℕ) (first : ℕ) (rest : List ℕ) → IsOrder opened → opened ≡ first ∷ rest → first < 64
+first_below opened first rest order is = (subst IsOrder is order).below 0 0 (omega arith)
+
+pub first_open : {S : Type 0} (files : Files S) (first : ℕ) (rest : List ℕ) → AreFiles files → files.opened ≡ first ∷ rest
+    → is_open_in (file_at files first) ≡ true
+first_open files first rest are is =
+    sym (are.opened first) ∙ ap (list_any (eqb first)) is ∙ ap (λ b. b || list_any (eqb first) rest) (eqb_same first)

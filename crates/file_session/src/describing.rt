@@ -1,12 +1,12 @@
 //! Files are described, and given up.
-ghost use Rattle.std.specs.Prelude.{◌≡◌, OnOk, IfOk, IfSome, IfErr, OnErr, replicate};
+ghost use Rattle.std.specs.Prelude.{◌≡◌, OnOk, IfOk, IfSome, IfErr, OnErr, replicate, length as count_of};
 ghost use Rattle.request_frames.specs.Request.{described_of};
 ghost use Rattle.file_session.specs.Files.{is_free, is_named};
 ghost use Rattle.file_session.specs.Steps.{Describes, RefusesDescription, Releases, refusal_in, refusal_of_release, schema_described, IsDescribedOver};
 
 use crate::described_file::DescribedFile;
 use crate::place;
-use crate::session::{Session, is_number};
+use crate::session::Session;
 use indexed_file::Library;
 use io_state::FileName;
 use record_layout::Schema;
@@ -16,7 +16,8 @@ use verbs::Connector;
 
 /// A record area of spaces.
 fn blank_area(alloc: Global, length: u16) -> Result<Vec<u8>, AllocError>
-    ensures { IfOk result (λ area. area.items ≡ replicate «length» 32) }
+    ensures blank { IfOk result (λ area. area.items ≡ replicate «length» 32) }
+    ensures length { IfOk result (λ area. count_of area.items ≡ «length») }
 {
     let mut area = Vec::new(alloc);
     area.resize(usize::from(length), b' ')?;
@@ -47,7 +48,7 @@ impl<L: Library + Drop> Session<L> {
     fn is_free(&self, number: u8) -> bool
         ensures { result ≡ is_free self.now number }
     {
-        is_number(number) && self.files[usize::from(number)].is_none()
+        self.has_place(number) && self.files[usize::from(number)].is_none()
     }
 
     /// Whether a file has the name.
@@ -76,7 +77,7 @@ impl<L: Library + Drop> Session<L> {
         let Some(file) = described_file(self.alloc, description, name, schema, library) else {
             return Err(Refusal::Memory);
         };
-        self.files[usize::from(description.file)] = Some(file);
+        place::put(&mut self.files[usize::from(description.file)], file);
         Ok(())
     }
 
@@ -86,7 +87,7 @@ impl<L: Library + Drop> Session<L> {
         ensures refused { refusal_in result ≡ refusal_of_release self.old number }
         ensures err { OnErr result (self.new ≡ self.old) }
     {
-        if !is_number(number) {
+        if !self.has_place(number) {
             return Err(Refusal::Number);
         }
         place::release(&mut self.files[usize::from(number)])

@@ -4,7 +4,7 @@ ghost use Rattle.request_frames.specs.Request.{performed_of};
 ghost use Rattle.file_session.specs.Steps.{Performs, refusal_in, refusal_of_verb};
 
 use crate::place;
-use crate::session::{Session, is_number};
+use crate::session::Session;
 use indexed_file::Library;
 use request_frames::{Performance, Refusal};
 use verbs::Answer;
@@ -16,7 +16,7 @@ impl<L: Library + Drop> Session<L> {
         ensures refused { refusal_in result ≡ refusal_of_verb self.old (performed_of performance.now) }
         ensures err { OnErr result (self.new ≡ self.old) }
     {
-        if !is_number(performance.file) {
+        if !self.has_place(performance.file) {
             return Err(Refusal::Number);
         }
         let place = &mut self.files[usize::from(performance.file)];

@@ -41,6 +41,13 @@ pub fn record<L: Library + Drop>(place: &Option<DescribedFile<L>>, length: Optio
     }
 }
 
+/// Puts a file there.
+pub fn put<L: Library + Drop>(place: &mut Option<DescribedFile<L>>, file: DescribedFile<L>)
+    ensures { place.new ≡ Some file }
+{
+    *place = Some(file);
+}
+
 /// Performs the statement on the file.
 pub fn perform<L: Library + Drop>(
     place: &mut Option<DescribedFile<L>>,

@@ -1,5 +1,5 @@
 //! The files of a session.
-ghost use Rattle.std.specs.Prelude.{◌≡◌, ◌≤◌, nat_lt, length, length as count_of, IfOk};
+ghost use Rattle.std.specs.Prelude.{◌≡◌, ◌≤◌, nat_lt, false, None, length, length as count_of, IfOk};
 ghost use Rattle.file_session.specs.Files.{AreFiles, no_files, file_at};
 ghost use Rattle.file_session.specs.Steps.{record_by};
 
@@ -19,13 +19,6 @@ pub struct Session<L: Library + Drop> {
     pub(crate) alloc: Global,
     pub(crate) files: Vec<Option<DescribedFile<L>>>,
     pub(crate) order: OpeningOrder,
-}
-
-/// Whether a file can have the number.
-pub(crate) fn is_number(number: u8) -> bool
-    ensures { result ≡ nat_lt number 64 }
-{
-    usize::from(number) < NUMBER_LIMIT
 }
 
 impl<L: Library + Drop> Model for Session<L> {
@@ -54,6 +47,14 @@ impl<L: Library + Drop> Session<L> {
         })
     }
 
+    /// Whether a file can have the number.
+    pub(crate) fn has_place(&self, number: u8) -> bool
+        ensures within { result ≡ nat_lt number 64 }
+        ensures none { result ≡ false → file_at self.now number ≡ None }
+    {
+        usize::from(number) < self.files.len()
+    }
+
     /// How many files are open.
     pub fn open_count(&self) -> usize
         ensures count { result ≡ length self.now.opened }
@@ -68,7 +69,7 @@ impl<L: Library + Drop> Session<L> {
         ensures record { result.now ≡ record_by (file_at self.now number) «length» }
         ensures short { count_of result.now ≤ 4000 }
     {
-        if !is_number(number) {
+        if !self.has_place(number) {
             return &[];
         }
         place::record(&self.files[usize::from(number)], length)

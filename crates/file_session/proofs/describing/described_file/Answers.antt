@@ -1,0 +1,12 @@
+use Rattle.std.proofs.Common.{rules, arith, ℕ, List, [], ◌∷◌}
+use Rattle.std.proofs.lemmas.Grind.{common_steps}
+use Rattle.std.specs.List.{IsDistinct}
+use Rattle.std.specs.Str.{bytes_eq}
+use Rattle.file_session.proofs.describing.described_file.Goals as goal
+
+one_name : (name : List ℕ) → IsDistinct bytes_eq (name ∷ [])
+unfolding IsDistinct
+one_name name = (tt, tt)
+
+pub attach-requires : goal.attach-requires
+attach-requires g c = record { distinct = one_name c.args.name.bytes }
