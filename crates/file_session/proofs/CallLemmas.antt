@@ -1,14 +1,20 @@
 -- The calls of a session, from those on a place.
-use Rattle.std.proofs.Common.{◌≡◌, ℕ, ◌<◌, ◌≤◌, Bool, true, false, List, [], ◌∷◌, ◌++◌, length, slice_set, slice_get, slice_index_or, replicate, Option, Some, None, suc, zero, sym, ap, ◌∙◌, refl, arith, true≢false, subst}
-use Rattle.std.proofs.lemmas.List.{get_or_default}
+use Rattle.std.proofs.Common.{◌≡◌, ℕ, ◌<◌, ◌≤◌, Bool, true, false, not, ◌&&◌, ◌||◌, List, [], ◌∷◌, ◌++◌, length, slice_set, slice_get, slice_index_or, replicate, Option, Some, None, is_none, nat_lt, Result, Ok, Err, IfOk, OnErr, suc, zero, sym, ap, ◌∙◌, refl, arith, true≢false, subst}
+use Rattle.std.proofs.lemmas.Bool.{ltb-true}
+use Rattle.std.proofs.lemmas.List.{get_or_default, set-get_or}
+use Rattle.std.proofs.Math.ListN.{get_or-eq_default}
+use Rattle.std.proofs.lemmas.Cmp.{nat_list_eq_equiv}
+use Rattle.std.specs.List.{list_any}
+use Rattle.std.specs.Str.{bytes_eq}
+use Rattle.request_frames.specs.declared.refusal.Refusal.{Refusal}
 use Rattle.io_state.specs.declared.status.Status.{Status}
 use Rattle.indexed_file.specs.Shown.{Shown}
 use Rattle.verbs.specs.declared.answer.Answer.{Answer}
 use Rattle.verbs.specs.Held.{silent}
-use Rattle.request_frames.specs.Request.{Performed}
-use Rattle.file_session.specs.Files.{NumberedFile, Files, AreFiles, IsOrder, file_at, with_file, is_open, is_open_in, without, order_after}
-use Rattle.file_session.specs.Steps.{PerformsAt, Performs, ClosesAt, ClosesFirst, ReleasesAt, Releases, close_of}
-use Rattle.file_session.proofs.FilesLemmas.{place_after, files_without, first_known, first_below, first_open, without_first, none_some}
+use Rattle.request_frames.specs.Request.{Described, Performed}
+use Rattle.file_session.specs.Files.{NumberedFile, Files, AreFiles, IsOrder, file_at, with_file, is_open, is_open_in, is_free, is_named, has_name, without, order_after}
+use Rattle.file_session.specs.Steps.{PerformsAt, Performs, ClosesAt, ClosesFirst, ReleasesAt, Releases, Describes, IsDescribedOver, CanBeDescribed, close_of}
+use Rattle.file_session.proofs.FilesLemmas.{place_after, files_with, files_without, or_true, first_known, first_below, first_open, without_first, none_some}
 
 -- the file of a number is that of its place
 pub place_is : {S : Type 0} (files : Files S) (i number : ℕ) (place : Option (NumberedFile S)) → AreFiles files → i ≡ number → number < 64
@@ -84,3 +90,77 @@ close_closes shown files i number now new status opened are is first at does ord
           (closing number does) (order_of_close shown files number now new status opened does order);
       opened = order ∙ ap (without number) known.1 ∙ without_first number known.0 (subst IsOrder known.1 are.order);
     }
+
+-- ---- a file is given up
+
+same_places : {S : Type 0} (files : Files S) (i : ℕ) (now new : Option (NumberedFile S)) → now ≡ slice_index_or files.places i now → new ≡ now
+    → slice_set files.places i new ≡ files.places
+same_places files i now new at same = ap (slice_set files.places i) (same ∙ at) ∙ set-get_or files.places i now
+
+pub release_keeps : {S : Type 0} (result : Result S Refusal) (files : Files S) (i number : ℕ) (now new : Option (NumberedFile S))
+    → AreFiles files → i ≡ number → number < 64 → now ≡ slice_index_or files.places i now
+    → IfOk result (λ library. ReleasesAt now library new) → OnErr result (new ≡ now) → AreFiles (changed_to files i new files.opened)
+release_keeps (Ok library) files i number now new are is below at does kept =
+    subst (λ (k : ℕ). AreFiles (changed_to files k new files.opened)) (sym is)
+    (subst (λ (p : Option (NumberedFile _)). AreFiles (changed_to files number p files.opened)) (sym does.is)
+    (files_without files number does.file are below (place_is files i number now are is below at ∙ does.was) does.closed))
+release_keeps (Err why) files i number now new are is below at does kept =
+    subst (λ (places : List (Option (NumberedFile _))). AreFiles (record { places = places; opened = files.opened })) (sym (same_places files i now new at kept)) are
+
+pub release_releases : {S : Type 0} (result : Result S Refusal) (files : Files S) (i number : ℕ) (now new : Option (NumberedFile S))
+    → AreFiles files → i ≡ number → number < 64 → now ≡ slice_index_or files.places i now
+    → IfOk result (λ library. ReleasesAt now library new) → IfOk result (λ library. Releases number files library (changed_to files i new files.opened))
+release_releases (Ok library) files i number now new are is below at does = record {
+  file = does.file;
+  was = place_is files i number now are is below at ∙ does.was;
+  given = does.given;
+  files = ap (λ k. changed_to files k new files.opened) is ∙ ap (λ place. changed_to files number place files.opened) does.is;
+}
+release_releases (Err why) files i number now new are is below at does = tt
+
+-- ---- a file is described
+
+named_from : {S : Type 0} (name : List ℕ) (places : List (Option (NumberedFile S))) (number : ℕ) (file : NumberedFile S)
+    → slice_index_or places number None ≡ Some file → bytes_eq name file.name ≡ true → list_any (has_name name) places ≡ true
+named_from name [] number file at same = absurd (none_some (sym (get_or-eq_default [] None {n = number} (omega arith)) ∙ at))
+named_from name (place ∷ places) zero file at same =
+    ap (λ (p : Option (NumberedFile _)). has_name name p || list_any (has_name name) places) at ∙ ap (λ b. b || list_any (has_name name) places) same
+named_from name (place ∷ places) (suc number) file at same =
+    ap (λ b. has_name name place || b) (named_from name places number file at same) ∙ or_true (has_name name place)
+
+and_left : (a b : Bool) → (a && b) ≡ true → a ≡ true
+and_left true b both = refl
+and_left false b both = both
+
+and_right : (a b : Bool) → (a && b) ≡ true → b ≡ true
+and_right true b both = both
+and_right false b both = absurd (true≢false (sym both))
+
+none_from : {S : Type 0} (place : Option (NumberedFile S)) → is_none place ≡ true → place ≡ None
+none_from None is = refl
+none_from (Some file) is = absurd (true≢false (sym is))
+
+pub free_below : {S : Type 0} (files : Files S) (number : ℕ) → is_free files number ≡ true → number < 64
+free_below files number free = ltb-true number 64 (and_left (nat_lt number 64) (is_none (file_at files number)) free)
+
+pub describe_keeps : {S : Type 0} (shown : Shown S) (d : Described) (given : S) (files : Files S) (i : ℕ) (file : NumberedFile S) (new : Option (NumberedFile S))
+    → AreFiles files → i ≡ d.file → is_free files d.file ≡ true → is_named files d.name ≡ false → IsDescribedOver shown d given file → new ≡ Some file
+    → AreFiles (changed_to files i new files.opened)
+describe_keeps shown d given files i file new are is free named over put =
+    subst (λ (k : ℕ). AreFiles (changed_to files k new files.opened)) (sym is)
+    (subst (λ (p : Option (NumberedFile _)). AreFiles (changed_to files d.file p files.opened)) (sym put)
+    (files_with files d.file file are (free_below files d.file free)
+    (none_from (file_at files d.file) (and_right (nat_lt d.file 64) (is_none (file_at files d.file)) free))
+    (ap (λ (f : NumberedFile _). is_open f) over.is)
+    (λ other a at same. true≢false (sym (named_from d.name files.places other a at
+    (ap (bytes_eq d.name) (same ∙ ap (λ (f : NumberedFile _). f.name) over.is) ∙ nat_list_eq_equiv.refl d.name)) ∙ named))))
+
+pub describe_describes : {S : Type 0} (shown : Shown S) (d : Described) (given : S) (files : Files S) (i : ℕ) (file : NumberedFile S) (new : Option (NumberedFile S))
+    → i ≡ d.file → CanBeDescribed files d → IsDescribedOver shown d given file → new ≡ Some file
+    → Describes shown d given files (changed_to files i new files.opened)
+describe_describes shown d given files i file new is allowed over put = record {
+  allowed = allowed;
+  file = file;
+  over = over;
+  files = ap (λ k. changed_to files k new files.opened) is ∙ ap (λ place. changed_to files d.file place files.opened) put;
+}

@@ -1,7 +1,7 @@
 -- What a session keeps, where one of its files is changed.
-use Rattle.std.proofs.Common.{◌≡◌, ℕ, ◌<◌, ◌≤◌, ◌≢◌, Bool, true, false, not, ◌&&◌, ◌||◌, List, [], ◌∷◌, ◌++◌, length, replicate, slice_set, slice_get, slice_index_or, eqb, Option, Some, None, All, suc, sym, ap, ◌∙◌, refl, arith, eqb-true, true≢false, subst, cond, if◌then◌else◌, is_some, not-suc-le-zero, length-append, ◌⊎◌, inl, inr, zero, nat_lt}
+use Rattle.std.proofs.Common.{◌≡◌, ℕ, ◌+◌, ◌<◌, ◌≤◌, ◌≢◌, Bool, true, false, not, ◌&&◌, ◌||◌, List, [], ◌∷◌, ◌++◌, length, replicate, slice_set, slice_get, slice_index_or, eqb, Option, Some, None, All, suc, sym, ap, ◌∙◌, refl, arith, eqb-true, true≢false, subst, cond, if◌then◌else◌, is_some, not-suc-le-zero, length-append, ◌⊎◌, inl, inr, zero, nat_lt}
 use Rattle.std.proofs.lemmas.Bool.{cases_eq, ne_eqb}
-use Rattle.std.proofs.lemmas.List.{get_or-set_same, get_or-set_other, length-set, get_or-replicate}
+use Rattle.std.proofs.lemmas.List.{get_or-set_same, get_or-set_other, length-set, replicate-append-replicate}
 use Rattle.std.proofs.Math.ListN.{get_or-eq_default}
 use Rattle.std.specs.List.{list_any, filter, IsDistinct, AllByRecursion}
 use Rattle.std.proofs.lemmas.List.Folds.{list_any-append}
@@ -93,7 +93,7 @@ any_without number other opened =
 any_pushed : (number other : ℕ) (opened : List ℕ) → list_any (eqb other) (opened ++ number ∷ []) ≡ (list_any (eqb other) opened || (eqb other number || false))
 any_pushed number other opened = list_any-append (eqb other) opened (number ∷ [])
 
-or_true : (b : Bool) → (b || true) ≡ true
+pub or_true : (b : Bool) → (b || true) ≡ true
 or_true true = refl
 or_true false = refl
 
@@ -175,19 +175,19 @@ files_without files number file are below was closed = changed files number None
 pub file_past : {S : Type 0} (files : Files S) (number : ℕ) → AreFiles files → 64 ≤ number → file_at files number ≡ None
 file_past files number are past = get_or-eq_default files.places None (omega (arith, are.places, past))
 
-abbrev none_of : (S : Type 0) → Option (NumberedFile S)
+abbrev pub none_of : (S : Type 0) → Option (NumberedFile S)
 none_of S = None
 
 at_none : {S : Type 0} (n number : ℕ) → slice_index_or (replicate n (none_of S)) number (none_of S) ≡ none_of S
-at_none {S} zero number = get_or-eq_default [] (none_of S) (omega arith)
+at_none {S} zero number = get_or-eq_default [] (none_of S) {n = number} (omega arith)
 at_none (suc n) zero = refl
-at_none {S} (suc n) (suc number) = at_none {S} n number
+at_none {S} (suc n) (suc number) = at_none {S = S} n number
 
 pub no_files_are : {S : Type 0} → AreFiles {S = S} no_files
 no_files_are {S} = record {
   places = refl;
-  names = λ m n a b x y same. absurd (none_some (sym (at_none {S} 64 m) ∙ x));
-  opened = λ number. sym (ap is_open_in (at_none {S} 64 number));
+  names = λ m n a b x y same. absurd (none_some (sym (at_none {S = S} 64 m) ∙ x));
+  opened = λ number. sym (ap is_open_in (at_none {S = S} 64 number));
   order = empty_order;
 }
 
@@ -232,3 +232,8 @@ pub first_open : {S : Type 0} (files : Files S) (first : ℕ) (rest : List ℕ) 
     → is_open_in (file_at files first) ≡ true
 first_open files first rest are is =
     sym (are.opened first) ∙ ap (list_any (eqb first)) is ∙ ap (λ b. b || list_any (eqb first) rest) (eqb_same first)
+
+-- one more number is free
+pub one_more : {S : Type 0} (places : List (Option (NumberedFile S))) (n : ℕ) → places ≡ replicate n (none_of S)
+    → places ++ none_of S ∷ [] ≡ replicate (n + 1) (none_of S)
+one_more {S} places n is = ap (λ (p : List (Option (NumberedFile _))). p ++ none_of S ∷ []) is ∙ replicate-append-replicate n 1 (none_of S)
