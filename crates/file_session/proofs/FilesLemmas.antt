@@ -1,15 +1,14 @@
 -- What a session keeps, where one of its files is changed.
-use Rattle.std.proofs.Common.{◌≡◌, ℕ, ◌+◌, ◌<◌, ◌≤◌, ◌≢◌, Bool, true, false, not, ◌&&◌, ◌||◌, List, [], ◌∷◌, ◌++◌, length, replicate, slice_set, slice_get, slice_index_or, eqb, Option, Some, None, All, suc, sym, ap, ◌∙◌, refl, arith, eqb-true, true≢false, subst, cond, if◌then◌else◌, is_some, not-suc-le-zero, length-append, ◌⊎◌, inl, inr, zero, nat_lt}
+use Rattle.std.proofs.Common.{◌≡◌, ℕ, ◌<◌, ◌≤◌, ◌≢◌, Bool, true, false, not, ◌&&◌, ◌||◌, List, [], ◌∷◌, ◌++◌, length, slice_set, slice_get, slice_index_or, eqb, Option, Some, None, All, suc, sym, ap, ◌∙◌, refl, arith, eqb-true, true≢false, subst, cond, if◌then◌else◌, is_some, not-suc-le-zero, length-append, ◌⊎◌, inl, inr, zero, nat_lt}
 use Rattle.std.proofs.lemmas.Bool.{cases_eq, ne_eqb}
-use Rattle.std.proofs.lemmas.List.{get_or-set_same, get_or-set_other, length-set, replicate-append-replicate}
-use Rattle.std.proofs.Math.ListN.{get_or-eq_default}
+use Rattle.std.proofs.lemmas.List.{get_or-set_same, get_or-set_other, length-set}
 use Rattle.std.specs.List.{list_any, filter, IsDistinct, AllByRecursion}
 use Rattle.std.proofs.lemmas.List.Folds.{list_any-append}
 use Rattle.std.proofs.lemmas.Cmp.{nat_eq_equiv}
 use Rattle.std.proofs.lemmas.Map.Keys.{IsDistinct-head}
 use Rattle.std.proofs.lemmas.Map.Views.{any-filter_same}
 use Rattle.file_session.specs.Files.{NumberedFile, Files, AreFiles, IsOrder, file_at, no_files, is_open, is_open_in, without, order_after, number_limit}
-use Rattle.file_session.proofs.OrderLemmas.{empty_order, order_without, order_with}
+use Rattle.file_session.proofs.OrderLemmas.{order_without, order_with}
 
 eqb_same : (n : ℕ) → eqb n n ≡ true
 eqb_same n = nat_eq_equiv.refl n
@@ -171,26 +170,6 @@ files_without files number file are below was closed = changed files number None
 
 -- ---- the calls of a session
 
--- no file has a number past the places
-pub file_past : {S : Type 0} (files : Files S) (number : ℕ) → AreFiles files → 64 ≤ number → file_at files number ≡ None
-file_past files number are past = get_or-eq_default files.places None (omega (arith, are.places, past))
-
-abbrev pub none_of : (S : Type 0) → Option (NumberedFile S)
-none_of S = None
-
-at_none : {S : Type 0} (n number : ℕ) → slice_index_or (replicate n (none_of S)) number (none_of S) ≡ none_of S
-at_none {S} zero number = get_or-eq_default [] (none_of S) {n = number} (omega arith)
-at_none (suc n) zero = refl
-at_none {S} (suc n) (suc number) = at_none {S = S} n number
-
-pub no_files_are : {S : Type 0} → AreFiles {S = S} no_files
-no_files_are {S} = record {
-  places = refl;
-  names = λ m n a b x y same. absurd (none_some (sym (at_none {S = S} 64 m) ∙ x));
-  opened = λ number. sym (ap is_open_in (at_none {S = S} 64 number));
-  order = empty_order;
-}
-
 -- a statement was performed on the file of a place
 pub place_after : {S : Type 0} (files : Files S) (number : ℕ) (before after : NumberedFile S) (place : Option (NumberedFile S)) (opened : List ℕ)
     → AreFiles files → number < 64 → file_at files number ≡ Some before → place ≡ Some after → after.name ≡ before.name
@@ -232,8 +211,3 @@ pub first_open : {S : Type 0} (files : Files S) (first : ℕ) (rest : List ℕ) 
     → is_open_in (file_at files first) ≡ true
 first_open files first rest are is =
     sym (are.opened first) ∙ ap (list_any (eqb first)) is ∙ ap (λ b. b || list_any (eqb first) rest) (eqb_same first)
-
--- one more number is free
-pub one_more : {S : Type 0} (places : List (Option (NumberedFile S))) (n : ℕ) → places ≡ replicate n (none_of S)
-    → places ++ none_of S ∷ [] ≡ replicate (n + 1) (none_of S)
-one_more {S} places n is = ap (λ (p : List (Option (NumberedFile _))). p ++ none_of S ∷ []) is ∙ replicate-append-replicate n 1 (none_of S)

@@ -3,4 +3,4 @@ use Rattle.file_session.proofs.session.Session.new.Given as goal
 
 -- so many numbers are free
 abbrev pub invariant-loop : goal.invariant-loop
-invariant-loop l = l.files.items ≡ replicate l.counter None
+invariant-loop g l = l.files.items ≡ replicate l.counter None
