@@ -1,5 +1,5 @@
 -- The calls of a session, from those on a place.
-use Rattle.std.proofs.Common.{◌≡◌, ℕ, ◌<◌, ◌≤◌, Bool, true, false, not, ◌&&◌, ◌||◌, List, [], ◌∷◌, ◌++◌, length, slice_set, slice_get, slice_index_or, replicate, Option, Some, None, is_none, nat_lt, Result, Ok, Err, IfOk, OnErr, suc, zero, sym, ap, ◌∙◌, refl, arith, true≢false, subst}
+use Rattle.std.proofs.Common.{◌≡◌, ℕ, ◌<◌, Bool, true, false, ◌&&◌, ◌||◌, List, [], ◌∷◌, slice_set, slice_get, slice_index_or, Option, Some, None, is_none, nat_lt, Result, Ok, Err, IfOk, OnErr, suc, zero, sym, ap, ◌∙◌, refl, arith, true≢false, subst}
 use Rattle.std.proofs.lemmas.Bool.{ltb-true}
 use Rattle.std.proofs.lemmas.List.{get_or_default, set-get_or}
 use Rattle.std.proofs.Math.ListN.{get_or-eq_default}
@@ -12,7 +12,7 @@ use Rattle.indexed_file.specs.Shown.{Shown}
 use Rattle.verbs.specs.declared.answer.Answer.{Answer}
 use Rattle.verbs.specs.Held.{silent}
 use Rattle.request_frames.specs.Request.{Described, Performed}
-use Rattle.file_session.specs.Files.{NumberedFile, Files, AreFiles, IsOrder, file_at, with_file, is_open, is_open_in, is_free, is_named, has_name, without, order_after}
+use Rattle.file_session.specs.Files.{NumberedFile, Files, AreFiles, IsOrder, file_at, is_open, is_open_in, is_free, is_named, has_name, without, order_after}
 use Rattle.file_session.specs.Steps.{PerformsAt, Performs, ClosesAt, ClosesFirst, ReleasesAt, Releases, Describes, IsDescribedOver, CanBeDescribed, close_of}
 use Rattle.file_session.proofs.FilesLemmas.{place_after, files_with, files_without, or_true, first_known, first_below, first_open, without_first, none_some}
 

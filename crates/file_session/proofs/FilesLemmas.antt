@@ -1,13 +1,13 @@
 -- What a session keeps, where one of its files is changed.
-use Rattle.std.proofs.Common.{◌≡◌, ℕ, ◌<◌, ◌≤◌, ◌≢◌, Bool, true, false, not, ◌&&◌, ◌||◌, List, [], ◌∷◌, ◌++◌, length, slice_set, slice_get, slice_index_or, eqb, Option, Some, None, All, suc, sym, ap, ◌∙◌, refl, arith, eqb-true, true≢false, subst, cond, if◌then◌else◌, is_some, not-suc-le-zero, length-append, ◌⊎◌, inl, inr, zero, nat_lt}
+use Rattle.std.proofs.Common.{◌≡◌, ℕ, ◌<◌, ◌≢◌, Bool, true, false, not, ◌&&◌, ◌||◌, List, [], ◌∷◌, ◌++◌, length, slice_set, slice_get, slice_index_or, eqb, Option, Some, None, sym, ap, ◌∙◌, refl, arith, eqb-true, true≢false, subst, cond, if◌then◌else◌, is_some, ◌⊎◌, inl, inr}
 use Rattle.std.proofs.lemmas.Bool.{cases_eq, ne_eqb}
 use Rattle.std.proofs.lemmas.List.{get_or-set_same, get_or-set_other, length-set}
-use Rattle.std.specs.List.{list_any, filter, IsDistinct, AllByRecursion}
+use Rattle.std.specs.List.{list_any, filter, AllByRecursion}
 use Rattle.std.proofs.lemmas.List.Folds.{list_any-append}
 use Rattle.std.proofs.lemmas.Cmp.{nat_eq_equiv}
 use Rattle.std.proofs.lemmas.Map.Keys.{IsDistinct-head}
 use Rattle.std.proofs.lemmas.Map.Views.{any-filter_same}
-use Rattle.file_session.specs.Files.{NumberedFile, Files, AreFiles, IsOrder, file_at, no_files, is_open, is_open_in, without, order_after, number_limit}
+use Rattle.file_session.specs.Files.{NumberedFile, Files, AreFiles, IsOrder, file_at, is_open, is_open_in, without, order_after}
 use Rattle.file_session.proofs.OrderLemmas.{order_without, order_with}
 
 eqb_same : (n : ℕ) → eqb n n ≡ true

@@ -1,19 +1,14 @@
 -- The order of opening.
-use Rattle.std.proofs.Common.{◌≡◌, ℕ, ◌<◌, ◌≤◌, ◌≢◌, Bool, true, false, not, ◌&&◌, ◌||◌, List, [], ◌∷◌, ◌++◌, length, eqb, slice_get, Some, All, suc, sym, ap, ◌∙◌, refl, arith, eqb-true, true≢false, subst, not-suc-le-zero, length-append}
-use Rattle.std.proofs.lemmas.Grind.{common_steps}
-use Rattle.std.proofs.lemmas.Bool.Decides.{nat_tests}
-use Rattle.std.specs.Bool.{Decides}
-use Rattle.std.specs.List.{list_any, filter, IsDistinct}
+use Rattle.std.proofs.Common.{◌≡◌, ℕ, ◌<◌, ◌≤◌, ◌≢◌, Bool, true, false, not, ◌||◌, List, [], ◌∷◌, ◌++◌, length, eqb, All, suc, sym, ap, ◌∙◌, refl, arith, eqb-true, true≢false, subst, not-suc-le-zero, length-append}
+use Rattle.std.specs.List.{list_any, IsDistinct}
 use Rattle.std.proofs.lemmas.Cmp.{nat_eq_equiv}
 use Rattle.std.proofs.lemmas.Bool.Decides.{Decides-eqb}
 use Rattle.std.proofs.lemmas.List.Elements.{All-filter, All-push}
-use Rattle.std.proofs.lemmas.List.Folds.{list_any-append, Any-from_list_any}
 use Rattle.std.proofs.lemmas.List.Kept.{AllPairs-filter}
 use Rattle.std.proofs.lemmas.Map.Keys.{IsDistinct-push}
 use Rattle.std.proofs.lemmas.Map.Made.{AllPairs-from_IsDistinct, IsDistinct-from_AllPairs}
 use Rattle.std.proofs.lemmas.Map.Steps.{length-le_from_distinct_below}
-use Rattle.std.proofs.lemmas.Map.Views.{any-filter_same}
-use Rattle.file_session.specs.Files.{IsOrder, without, order_after, number_limit}
+use Rattle.file_session.specs.Files.{IsOrder, without}
 
 pub empty_order : IsOrder []
 unfolding IsDistinct

@@ -1,5 +1,5 @@
 -- What the fields of a described file mean.
-use Rattle.std.specs.Prelude.{◌≡◌, ◌≤◌, length}
+use Rattle.std.specs.Prelude.{◌≡◌, length}
 use Rattle.indexed_file.specs.Shown.{Shown}
 use Rattle.verbs.specs.Performed.{in_memory}
 use Rattle.file_session.specs.declared.described_file.DescribedFile.TheInside.{Inside}

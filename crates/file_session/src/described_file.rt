@@ -114,7 +114,8 @@ impl<L: Library + Drop> DescribedFile<L> {
 
     /// Performs CLOSE.
     pub fn close(&mut self) -> Status
-        ensures performed { IsPerformed L.shown 0 (Close false) 0 (with_bytes [] self.old.memory) (silent result) self.new.memory }
+        ensures performed { IsPerformed L.shown 0 (Close false) 0 (with_bytes [] self.old.memory)
+            (silent result) self.new.memory }
         ensures name { self.new.name ≡ self.old.name }
         ensures closed { is_open self.new ≡ false }
     {

@@ -53,7 +53,8 @@ pub fn perform<L: Library + Drop>(
     place: &mut Option<DescribedFile<L>>,
     performance: &Performance<'_>,
 ) -> Result<Answer, Refusal>
-    ensures performed { IfOk result (λ answer. PerformsAt L.shown (performed_of performance.now) place.old answer place.new) }
+    ensures performed { IfOk result (λ answer.
+        PerformsAt L.shown (performed_of performance.now) place.old answer place.new) }
     ensures refused { refusal_in result ≡ refusal_by place.old (performed_of performance.now) }
     ensures err { OnErr result (place.new ≡ place.old) }
 {

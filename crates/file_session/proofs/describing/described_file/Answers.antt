@@ -1,5 +1,4 @@
-use Rattle.std.proofs.Common.{rules, arith, ℕ, List, [], ◌∷◌}
-use Rattle.std.proofs.lemmas.Grind.{common_steps}
+use Rattle.std.proofs.Common.{ℕ, List, [], ◌∷◌}
 use Rattle.std.specs.List.{IsDistinct}
 use Rattle.std.specs.Str.{bytes_eq}
 use Rattle.file_session.proofs.describing.described_file.Goals as goal

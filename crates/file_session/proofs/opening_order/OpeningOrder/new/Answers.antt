@@ -1,4 +1,4 @@
-use Rattle.std.proofs.Common.{rules, ◌∙◌, sym, subst, ap, ◌≡◌}
+use Rattle.std.proofs.Common.{sym, subst}
 use Rattle.file_session.specs.Files.{IsOrder}
 use Rattle.file_session.proofs.OrderLemmas.{empty_order}
 use Rattle.file_session.proofs.opening_order.OpeningOrder.new.Goals as goal

@@ -1,4 +1,4 @@
-use Rattle.std.proofs.Common.{rules, ◌∙◌, sym, subst, ap, ◌≡◌, lit<}
+use Rattle.std.proofs.Common.{rules, sym, subst, lit<}
 use Rattle.file_session.specs.Files.{IsOrder}
 use Rattle.file_session.proofs.OrderLemmas.{order_with, order_has_room}
 use Rattle.file_session.proofs.opening_order.OpeningOrder.note.Goals as goal

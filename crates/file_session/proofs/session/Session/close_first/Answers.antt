@@ -1,5 +1,5 @@
-use Rattle.std.proofs.Common.{rules, arith, sym, ap, ◌∙◌, subst, Some, None, Option}
-use Rattle.file_session.specs.Files.{Files, NumberedFile, file_at}
+use Rattle.std.proofs.Common.{rules, subst}
+use Rattle.file_session.specs.Files.{Files}
 use Rattle.file_session.specs.Steps.{ClosesFirst}
 use Rattle.file_session.proofs.CallLemmas.{first_is_number, first_is_there, close_keeps, close_closes, changed_to}
 use Rattle.file_session.proofs.session.Session.close_first.Goals as goal

@@ -1,7 +1,7 @@
-use Rattle.std.proofs.Common.{rules, arith, sym, ap, ◌∙◌, subst, Some, None, Option}
+use Rattle.std.proofs.Common.{rules, arith, subst}
 use Rattle.std.proofs.lemmas.Grind.{common_steps}
 use Rattle.request_frames.specs.Request.{described_of}
-use Rattle.file_session.specs.Files.{Files, NumberedFile}
+use Rattle.file_session.specs.Files.{Files}
 use Rattle.file_session.specs.Steps.{Describes}
 use Rattle.file_session.proofs.CallLemmas.{describe_keeps, describe_describes, changed_to}
 use Rattle.file_session.proofs.session.Session.describe.Goals as goal

@@ -1,7 +1,6 @@
-use Rattle.std.proofs.Common.{rules, arith, sym, ap, ◌∙◌, subst, Some, None, Option}
-use Rattle.std.proofs.lemmas.Grind.{common_steps}
+use Rattle.std.proofs.Common.{rules, arith, sym, ap, ◌∙◌, subst, Option}
 use Rattle.request_frames.specs.Request.{performed_of}
-use Rattle.file_session.specs.Files.{Files, NumberedFile, file_at}
+use Rattle.file_session.specs.Files.{Files, NumberedFile}
 use Rattle.file_session.specs.Steps.{Performs, refusal_by, refusal_of_verb}
 use Rattle.file_session.proofs.CallLemmas.{place_is, performed_keeps, performed_performs, changed_to}
 use Rattle.file_session.proofs.session.Session.perform.Goals as goal

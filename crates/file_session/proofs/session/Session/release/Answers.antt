@@ -1,5 +1,5 @@
-use Rattle.std.proofs.Common.{rules, arith, sym, ap, ◌∙◌, subst, Some, None, Option, IfOk}
-use Rattle.file_session.specs.Files.{Files, NumberedFile}
+use Rattle.std.proofs.Common.{rules, arith, subst, IfOk}
+use Rattle.file_session.specs.Files.{Files}
 use Rattle.file_session.specs.Steps.{Releases}
 use Rattle.file_session.proofs.CallLemmas.{release_keeps, release_releases, changed_to}
 use Rattle.file_session.proofs.session.Session.release.Goals as goal
