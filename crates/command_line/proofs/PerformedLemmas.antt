@@ -13,7 +13,7 @@ use Rattle.command_line.specs.Performed.{Begun, Written, CameToEnd, begun, outco
 use Rattle.command_line.specs.declared.fault.Fault.{Fault}
 use Rattle.command_line.specs.declared.fault.Fault.TheVariants.{Deck, Output}
 
-module _ (limit frames : ℕ) (disk : Unseen) (names : List ArrayString) (calls : List Event) (faults : ℕ) (bytes : List ℕ) (before behind : Option (List ℕ)) where
+module _ (folder : List ℕ) (limit frames : ℕ) (disk : List ℕ → Unseen) (names : List ArrayString) (calls : List Event) (faults : ℕ) (bytes : List ℕ) (before behind : Option (List ℕ)) where
   abbrev run : Begun
   run = begun disk bytes names calls faults
 
@@ -21,18 +21,18 @@ module _ (limit frames : ℕ) (disk : Unseen) (names : List ArrayString) (calls 
   out = record { before = before; behind = behind }
 
   pub came_to : (end : Result RunEnd Fault)
-      → IfOk end (λ e. e.clean ≡ true → OverFolder disk names calls (λ first last. IsExactRun bytes first last before behind e))
-      → IfOk end (λ e. OverFolder disk names calls (λ first last. OnShelf bytes first last (λ deck. Told before behind e (Runs limit frames first last 0 faults deck))))
-      → IfErr end (λ fault. fault ≡ Output → OverFolder disk names calls (λ first last. OnShelf bytes first last (λ deck. ToldInPart before behind (BreaksOff limit frames first last 0 faults deck))))
-      → IfErr end (λ fault. fault ≢ Output → (behind ≡ before) × OverFolder disk names calls LeavesFiles)
+      → IfOk end (λ e. e.clean ≡ true → OverFolder disk folder names calls (λ first last. IsExactRun bytes first last before behind e))
+      → IfOk end (λ e. OverFolder disk folder names calls (λ first last. OnShelf bytes first last (λ deck. Told before behind e (Runs limit frames first last 0 faults deck))))
+      → IfErr end (λ fault. fault ≡ Output → OverFolder disk folder names calls (λ first last. OnShelf bytes first last (λ deck. ToldInPart before behind (BreaksOff limit frames first last 0 faults deck))))
+      → IfErr end (λ fault. fault ≢ Output → (behind ≡ before) × OverFolder disk folder names calls LeavesFiles)
       → IfErr end (λ fault. (told : DeckFault) → fault ≡ Deck told → IsNoDeck bytes told)
-      → OverFolder disk names calls StaysSound
-      → CameToEnd limit frames (Some run) out (outcome_of end)
+      → OverFolder disk folder names calls StaysSound
+      → CameToEnd folder limit frames (Some run) out (outcome_of end)
   came_to (Ok e) exact whole part nothing refused sound = (
     record {
-      exact = λ end is clean. let same : e ≡ end = cc in subst (λ (x : RunEnd). x.clean ≡ true → OverFolder disk names calls (λ first last. IsExactRun bytes first last before behind x)) same exact clean;
+      exact = λ end is clean. let same : e ≡ end = cc in subst (λ (x : RunEnd). x.clean ≡ true → OverFolder disk folder names calls (λ first last. IsExactRun bytes first last before behind x)) same exact clean;
       whole = λ end is. let same : e ≡ end = cc in
-          subst (λ (x : RunEnd). OverFolder disk names calls (λ first last. OnShelf bytes first last (λ deck. Told before behind x (Runs limit frames first last 0 faults deck)))) same whole;
+          subst (λ (x : RunEnd). OverFolder disk folder names calls (λ first last. OnShelf bytes first last (λ deck. Told before behind x (Runs limit frames first last 0 faults deck)))) same whole;
       part = λ is. absurd (cc);
       nothing = λ fault is other. absurd (cc);
       refused = λ told is. absurd (cc);

@@ -21,13 +21,13 @@ use Rattle.command_line.specs.declared.outcome.Outcome.TheVariants.{Helped, Chec
 -- a run that was begun: the bytes of its deck, and what the folder was asked and answered
 pub record Begun : Type 0 where
   pub bytes : List ℕ
-  pub disk : Unseen
+  pub disk : List ℕ → Unseen
   pub names : List ArrayString
   pub calls : List Event
   pub faults : ℕ
 
 -- the same, by its parts
-abbrev pub begun : Unseen → List ℕ → List ArrayString → List Event → ℕ → Begun
+abbrev pub begun : (List ℕ → Unseen) → List ℕ → List ArrayString → List Event → ℕ → Begun
 begun disk bytes names calls faults = record { bytes = bytes; disk = disk; names = names; calls = calls; faults = faults }
 
 -- how a run ended, as what was done
@@ -46,35 +46,35 @@ pub record Written : Type 0 where
   pub before : Option (List ℕ)
   pub behind : Option (List ℕ)
 
--- the run of these bytes, with this limit of pages and this number of frames, came to this
-pub record CameTo (limit frames : ℕ) (run : Begun) (out : Written) (outcome : Result Outcome Fault) : Type 0 where
+-- the run of these bytes over the folder of this path, with this limit of pages and this number of frames, came to this
+pub record CameTo (folder : List ℕ) (limit frames : ℕ) (run : Begun) (out : Written) (outcome : Result Outcome Fault) : Type 0 where
   pub exact : (end : RunEnd) → outcome ≡ Ok (Ended end) → end.clean ≡ true
-      → OverFolder run.disk run.names run.calls (λ first last. IsExactRun run.bytes first last out.before out.behind end)
+      → OverFolder run.disk folder run.names run.calls (λ first last. IsExactRun run.bytes first last out.before out.behind end)
   pub whole : (end : RunEnd) → outcome ≡ Ok (Ended end)
-      → OverFolder run.disk run.names run.calls (λ first last. OnShelf run.bytes first last (λ deck.
+      → OverFolder run.disk folder run.names run.calls (λ first last. OnShelf run.bytes first last (λ deck.
       Told out.before out.behind end (Runs limit frames first last 0 run.faults deck)))
   pub part : outcome ≡ Err Output
-      → OverFolder run.disk run.names run.calls (λ first last. OnShelf run.bytes first last (λ deck.
+      → OverFolder run.disk folder run.names run.calls (λ first last. OnShelf run.bytes first last (λ deck.
       ToldInPart out.before out.behind (BreaksOff limit frames first last 0 run.faults deck)))
   pub nothing : (fault : Fault) → outcome ≡ Err fault → fault ≢ Output
-      → (out.behind ≡ out.before) × OverFolder run.disk run.names run.calls LeavesFiles
+      → (out.behind ≡ out.before) × OverFolder run.disk folder run.names run.calls LeavesFiles
   pub refused : (fault : DeckFault) → outcome ≡ Err (Deck fault) → IsNoDeck run.bytes fault
-  pub sound : OverFolder run.disk run.names run.calls StaysSound
+  pub sound : OverFolder run.disk folder run.names run.calls StaysSound
 
 -- a run came to its end or to a fault, or was not begun since a file, a folder or memory was wanting
-abbrev pub CameToEnd : (limit frames : ℕ) → Option Begun → Written → Result Outcome Fault → Type 0
-CameToEnd limit frames (Some run) out outcome = CameTo limit frames run out outcome × IfOk outcome IsEnd
-CameToEnd limit frames None out (Ok outcome) = ⊥
-CameToEnd limit frames None out (Err fault) = status_of fault ≡ 4
+abbrev pub CameToEnd : (folder : List ℕ) (limit frames : ℕ) → Option Begun → Written → Result Outcome Fault → Type 0
+CameToEnd folder limit frames (Some run) out outcome = CameTo folder limit frames run out outcome × IfOk outcome IsEnd
+CameToEnd folder limit frames None out (Ok outcome) = ⊥
+CameToEnd folder limit frames None out (Err fault) = status_of fault ≡ 4
 
--- the words ask for a run, and this run, with their limit of pages and number of frames, came to this
+-- the words ask for a run, and this run, over the folder that they name, with their limit of pages and number of frames, came to this
 pub record RanAsAsked (words : List Text) (run : Begun) (out : Written) (outcome : Result Outcome Fault) : Type 0 where
   pub deck : Text
   pub folder : Text
   pub pages : ℕ
   pub frames : ℕ
   pub asked : AskRun words deck folder pages frames
-  pub came : CameTo pages frames run out outcome
+  pub came : CameTo folder pages frames run out outcome
 
 -- what was done for the words: help was written for those that ask for it, a file checked for those that ask for that, and a run came to its end or to a
 -- fault for those that ask for one; a fault that is told of the words is theirs. The input, the output or memory may fail for any words.

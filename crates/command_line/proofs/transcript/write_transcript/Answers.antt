@@ -1,4 +1,4 @@
-use Rattle.std.proofs.Common.{◌≡◌, ℕ, true, subst, sym, ap, ◌∙◌}
+use Rattle.std.proofs.Common.{◌≡◌, ℕ, true, string_bytes, subst, sym, ap, ◌∙◌}
 use Rattle.std.proofs.lemmas.Result.{IfOk-at_ok, IfErr-at_err}
 use Rattle.std.specs.NonZero.{non_zero_usize_get}
 use Rattle.deck_runner.specs.RunEnd.{Told, ToldInPart}
@@ -15,31 +15,31 @@ returns-in-Ok-clause-exact g c =
     let shelf = c.run_on_shelf-shelf.result.0 in
     let last = folder_after g.D.Disk.unseen shelf.units.items shelf.folder.calls.events in
     subst (λ (first : ShelfState). c.in-Ok.end.clean ≡ true → IsExactRun c.args.bytes.now first last (g.W.Write.contents c.args.out.now) (g.W.Write.contents c.run_on_shelf-shelf.new.out) c.in-Ok.end)
-    (untouched g.D.Disk.unseen c.new-shelf.result.units.items c.new-shelf.result.folder.calls.events c.new-shelf.ensures.units c.new-shelf.ensures.calls)
+    (untouched g.D.Disk.unseen (string_bytes c.args.folder) c.new-shelf.result.units.items c.new-shelf.result.folder.calls.events c.new-shelf.ensures.units c.new-shelf.ensures.calls)
     (IfOk-at_ok _ c.in-Ok.is c.run_on_shelf-shelf.ensures.exact)
 
 pub returns-in-Ok-clause-run : goal.returns-in-Ok-clause-run
 returns-in-Ok-clause-run g c =
     let shelf = c.run_on_shelf-shelf.result.0 in
-    let at_first = folder_at_first g.D.Disk.unseen in
+    let at_first = folder_at_first g.D.Disk.unseen (string_bytes c.args.folder) in
     let last = folder_after g.D.Disk.unseen shelf.units.items shelf.folder.calls.events in
     let written = g.W.Write.contents c.args.out.now in
     let written_after = g.W.Write.contents c.run_on_shelf-shelf.new.out in
     let runs = IfOk-at_ok _ c.in-Ok.is c.run_on_shelf-shelf.ensures.run in
     subst (λ (faults : ℕ). OnShelf c.args.bytes.now at_first last (λ deck. Told written written_after c.in-Ok.end (Runs c.args.limits.pages (non_zero_usize_get c.args.limits.frames) at_first last faults shelf.faults deck))) c.new-shelf.ensures.faults
     (subst (λ (first : ShelfState). OnShelf c.args.bytes.now first last (λ deck. Told written written_after c.in-Ok.end (Runs c.args.limits.pages (non_zero_usize_get c.args.limits.frames) first last c.new-shelf.result.faults shelf.faults deck)))
-    (untouched g.D.Disk.unseen c.new-shelf.result.units.items c.new-shelf.result.folder.calls.events c.new-shelf.ensures.units c.new-shelf.ensures.calls) runs)
+    (untouched g.D.Disk.unseen (string_bytes c.args.folder) c.new-shelf.result.units.items c.new-shelf.result.folder.calls.events c.new-shelf.ensures.units c.new-shelf.ensures.calls) runs)
 
 pub returns-in-Ok-clause-sound : goal.returns-in-Ok-clause-sound
 returns-in-Ok-clause-sound g c =
     let shelf = c.run_on_shelf-shelf.result.0 in
-    sound_from_first g.D.Disk.unseen c.new-shelf.result.units.items c.new-shelf.result.folder.calls.events c.new-shelf.ensures.units c.new-shelf.ensures.calls
+    sound_from_first g.D.Disk.unseen (string_bytes c.args.folder) c.new-shelf.result.units.items c.new-shelf.result.folder.calls.events c.new-shelf.ensures.units c.new-shelf.ensures.calls
     (folder_after g.D.Disk.unseen shelf.units.items shelf.folder.calls.events) c.run_on_shelf-shelf.ensures.sound
 
 pub returns-in-Err-clause-output : goal.returns-in-Err-clause-output
 returns-in-Err-clause-output g c =
     let shelf = c.run_on_shelf-shelf.result.0 in
-    let at_first = folder_at_first g.D.Disk.unseen in
+    let at_first = folder_at_first g.D.Disk.unseen (string_bytes c.args.folder) in
     let last = folder_after g.D.Disk.unseen shelf.units.items shelf.folder.calls.events in
     let written = g.W.Write.contents c.args.out.now in
     let written_after = g.W.Write.contents c.run_on_shelf-shelf.new.out in
@@ -47,7 +47,7 @@ returns-in-Err-clause-output g c =
     let runs = IfErr-at_err _ c.in-Err.is c.run_on_shelf-shelf.ensures.output (line_refused c.in-Err.fault (sym c.told.ensures ∙ is)) in
     subst (λ (faults : ℕ). OnShelf c.args.bytes.now at_first last (λ deck. ToldInPart written written_after (BreaksOff c.args.limits.pages (non_zero_usize_get c.args.limits.frames) at_first last faults shelf.faults deck))) c.new-shelf.ensures.faults
     (subst (λ (first : ShelfState). OnShelf c.args.bytes.now first last (λ deck. ToldInPart written written_after (BreaksOff c.args.limits.pages (non_zero_usize_get c.args.limits.frames) first last c.new-shelf.result.faults shelf.faults deck)))
-    (untouched g.D.Disk.unseen c.new-shelf.result.units.items c.new-shelf.result.folder.calls.events c.new-shelf.ensures.units c.new-shelf.ensures.calls) runs)
+    (untouched g.D.Disk.unseen (string_bytes c.args.folder) c.new-shelf.result.units.items c.new-shelf.result.folder.calls.events c.new-shelf.ensures.units c.new-shelf.ensures.calls) runs)
 
 pub returns-in-Err-clause-nothing : goal.returns-in-Err-clause-nothing
 returns-in-Err-clause-nothing g c =
@@ -55,7 +55,7 @@ returns-in-Err-clause-nothing g c =
     λ other.
     let nothing = IfErr-at_err _ c.in-Err.is c.run_on_shelf-shelf.ensures.nothing (λ is. other (c.told.ensures ∙ ap told_as is)) in (
       nothing.0,
-      left_from_first g.D.Disk.unseen c.new-shelf.result.units.items c.new-shelf.result.folder.calls.events c.new-shelf.ensures.units c.new-shelf.ensures.calls
+      left_from_first g.D.Disk.unseen (string_bytes c.args.folder) c.new-shelf.result.units.items c.new-shelf.result.folder.calls.events c.new-shelf.ensures.units c.new-shelf.ensures.calls
           (folder_after g.D.Disk.unseen shelf.units.items shelf.folder.calls.events) nothing.1,
     )
 
@@ -66,5 +66,5 @@ returns-in-Err-clause-refused g c =
 pub returns-in-Err-clause-sound : goal.returns-in-Err-clause-sound
 returns-in-Err-clause-sound g c =
     let shelf = c.run_on_shelf-shelf.result.0 in
-    sound_from_first g.D.Disk.unseen c.new-shelf.result.units.items c.new-shelf.result.folder.calls.events c.new-shelf.ensures.units c.new-shelf.ensures.calls
+    sound_from_first g.D.Disk.unseen (string_bytes c.args.folder) c.new-shelf.result.units.items c.new-shelf.result.folder.calls.events c.new-shelf.ensures.units c.new-shelf.ensures.calls
     (folder_after g.D.Disk.unseen shelf.units.items shelf.folder.calls.events) c.run_on_shelf-shelf.ensures.sound
