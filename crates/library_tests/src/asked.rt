@@ -2,8 +2,7 @@
 
 ghost use Rattle.indexed_file.specs.Clients.{IsOpenWith, IsNotOpen};
 
-use crate::bounds::{HasTrees, asked_at_most, most_to_change, most_to_read, most_to_seek};
-use crate::keys::key_of;
+use crate::bounds::asked_at_most;
 use indexed_file::{Added, Library, Replaced};
 use io_state::{Fault, Key, Position, Relation};
 use page_store::{FuseShelf, Kind, MemShelf};
@@ -12,19 +11,15 @@ use std::alloc::Global;
 use std::process::Abort;
 use std::test::Fail;
 use unit_calls::{
-    Record, Told, adds, creates, finds, goes_on, library_over, opens, part, record_of, removes,
-    replaces, restarts, schema, seeks, shuts, tops,
+    HasTrees, Record, Told, adds_numbers, creates, finds, goes_on, key_of, library_over,
+    most_to_change, most_to_read, most_to_seek, opens, record_of, removes, replaces, restarts,
+    seeks, shuts, tops, two_long_keys,
 };
 
 /// One more than the greatest number of a record.
 const END: u64 = 2001;
 
-/// Records of 240 bytes: a number, and one of seven values, each a key of 120 bytes.
-fn numbers() -> Result<Schema, Fault> {
-    schema(240, 240, &[part(0, 120, false), part(120, 120, true)])
-}
-
-/// The record of a number.
+/// The record of a number, with one of seven values.
 fn record(schema: &Schema, n: u64) -> Record {
     record_of(schema, &[n, n % 7], 240)
 }
@@ -41,7 +36,7 @@ fn adds_all<L: Library + HasTrees>(
     let mut pages = 0u64;
     for n in 1..END {
         let most = most_to_change(library);
-        let added = adds(library, 0, schema, record(schema, n).as_slice())?;
+        let added = adds_numbers(library, 0, schema, &[n, n % 7])?;
         assert_eq!(rt; added, Added::Done { repeated: n > 7 });
         pages = pages.saturating_add(asked_at_most(rt, library, schema, most));
     }
@@ -61,7 +56,7 @@ fn removes_even<L: Library + HasTrees>(
     for n in 1..END {
         if n % 2 == 0 {
             let most = most_to_change(library);
-            let number = key_of(rt, schema, 0, n);
+            let number = key_of(schema, 0, n)?;
             assert!(rt; removes(library, 0, schema, number.as_slice())?);
             pages = pages.saturating_add(asked_at_most(rt, library, schema, most));
         }
@@ -156,7 +151,7 @@ fn ends_by<L: Library + HasTrees>(
     requires { IsOpenWith (L.shown.world library.old) 0 schema.now }
     ensures { IsOpenWith (L.shown.world library.new) 0 schema.now }
 {
-    let value = key_of(rt, schema, k, last);
+    let value = key_of(schema, k, last)?;
     let most = most_to_read(library, k);
     let read = goes_on(library, 0, schema, k, &Position::After(value, u64::MAX))?;
     assert!(rt; read.found.is_none());
@@ -175,7 +170,7 @@ fn finds_number<L: Library + HasTrees>(
     requires { IsOpenWith (L.shown.world library.old) 0 schema.now }
     ensures { IsOpenWith (L.shown.world library.new) 0 schema.now }
 {
-    let value = key_of(rt, schema, k, n);
+    let value = key_of(schema, k, n)?;
     let most = most_to_read(library, k);
     let read = finds(library, 0, schema, k, value.as_slice())?;
     assert_eq!(rt; read.found.is_some(), is_there, "key {k}, value {n}");
@@ -224,7 +219,7 @@ fn has_highest<L: Library + HasTrees>(
     requires { IsOpenWith (L.shown.world library.old) 0 schema.now }
     ensures { IsOpenWith (L.shown.world library.new) 0 schema.now }
 {
-    let value = key_of(rt, schema, 0, n);
+    let value = key_of(schema, 0, n)?;
     let most = most_to_seek(library, 0);
     let highest = tops(library, 0, schema)?;
     assert!(rt; highest.as_ref().map(|key| key.as_slice()) == Some(value.as_slice()));
@@ -282,7 +277,7 @@ fn reads_one<L: Library + HasTrees>(
     requires { IsNotOpen (L.shown.world library.old) 0 }
 {
     assert_eq!(rt; opens(library, 0, schema)?, Told::Sound);
-    let number = key_of(rt, schema, 0, n);
+    let number = key_of(schema, 0, n)?;
     let read = finds(library, 0, schema, 0, number.as_slice())?;
     assert!(rt; read.has(record(schema, n).as_slice()));
     Ok(library.tree_height(0))
@@ -290,7 +285,7 @@ fn reads_one<L: Library + HasTrees>(
 
 /// The calls of a file that has so many frames, and the pages that are read off its shelf.
 fn reads_no_more(rt: &impl Abort, alloc: Global, frames: usize) -> Result<(), Fault> {
-    let schema = numbers()?;
+    let schema = two_long_keys()?;
     let fuse = FuseShelf::new(MemShelf::new(alloc), Kind::Reads, 0, false, false);
     let mut library = library_over(alloc, fuse, 4000, frames)?;
     let pages = runs(rt, &mut library, &schema)?;

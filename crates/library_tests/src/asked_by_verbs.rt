@@ -3,7 +3,6 @@
 ghost use Rattle.library_tests.specs.Ready.{IsReadyConnector};
 
 use crate::performing::{begins, performs};
-use crate::program::{Step, changed, in_sequence, read_by_key, written};
 use indexed_file::Library;
 use io_state::{Access, Fault, FileStatement, OpenMode, Status};
 use page_store::{FuseShelf, Kind, MemShelf, Shelf};
@@ -11,6 +10,7 @@ use shelf_library::ShelfLibrary;
 use std::alloc::Global;
 use std::process::Abort;
 use std::test::Fail;
+use unit_calls::programs::{Step, changed, in_sequence, read_by_key, written};
 use verbs::Connector;
 
 /// Performs a step, and answers the pages that its statements asked for.
@@ -71,14 +71,14 @@ fn reads_no_more(
     frames: usize,
 ) -> Result<FuseShelf<MemShelf>, Fault> {
     let fuse = FuseShelf::new(MemShelf::new(alloc), Kind::Reads, 0, false, false);
-    let (mut connector, mut library) = begins(rt, alloc, fuse, frames, Access::Dynamic)?;
+    let (mut connector, mut library) = begins(alloc, fuse, frames, Access::Dynamic)?;
     let mut pages = runs(rt, &mut connector, &mut library, written().as_slice());
     let more = runs(rt, &mut connector, &mut library, read_by_key().as_slice());
     pages = pages.saturating_add(more);
     let more = runs(rt, &mut connector, &mut library, changed().as_slice());
     pages = pages.saturating_add(more);
     let shelf = library.into_shelf();
-    let (mut connector, mut library) = begins(rt, alloc, shelf, frames, Access::Sequential)?;
+    let (mut connector, mut library) = begins(alloc, shelf, frames, Access::Sequential)?;
     let more = runs(rt, &mut connector, &mut library, in_sequence().as_slice());
     pages = pages.saturating_add(more);
     let shelf = library.into_shelf();
@@ -95,7 +95,7 @@ fn reads_one(
     frames: usize,
 ) -> Result<(), Fault> {
     let before = shelf.calls(Kind::Reads);
-    let (mut connector, mut library) = begins(rt, alloc, shelf, frames, Access::Random)?;
+    let (mut connector, mut library) = begins(alloc, shelf, frames, Access::Random)?;
     let mut area = [0; 240];
     area[116..120].copy_from_slice(&10_199u32.to_be_bytes());
     let open = FileStatement::Open(OpenMode::Input);

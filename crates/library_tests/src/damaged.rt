@@ -3,19 +3,18 @@
 
 ghost use Rattle.indexed_file.specs.Clients.{IsOpenWith};
 
-use crate::bounds::{HasTrees, asked_at_most, most_to_change, most_to_read, most_to_seek};
-use crate::keys::key_of;
-use crate::looks::puts;
+use crate::bounds::asked_at_most;
 use indexed_file::Library;
 use io_state::{Fault, Key, Position, Relation};
-use page_store::{FuseShelf, Kind, MemShelf, Shelf};
+use page_store::{FuseShelf, Kind, MemShelf};
 use record_layout::Schema;
 use std::alloc::Global;
 use std::process::Abort;
 use std::test::Fail;
 use unit_calls::{
-    Told, adds, creates, finds, goes_on, library_over, opens, part, record_of, removes, replaces,
-    restarts, schema, seeks, shuts, tops, two_names,
+    HasTrees, Told, adds_numbers, bytes_of, creates, finds, goes_on, key_of, library_over,
+    most_to_change, most_to_read, most_to_seek, opens, put, puts, record_of, removes, replaces,
+    restarts, seeks, shuts, tops, two_long_keys,
 };
 
 /// Bytes that are put into a file, and where.
@@ -64,49 +63,17 @@ const DAMAGES: [(&str, &[Edit]); 8] = [
 /// How many kinds of calls `makes` knows.
 const CALLS: u8 = 10;
 
-/// Records of 240 bytes: a number, and a value that several may have, each a key of 120 bytes.
-fn numbers() -> Result<Schema, Fault> {
-    schema(240, 240, &[part(0, 120, false), part(120, 120, true)])
-}
-
 /// A file of three records, one of which was removed.
 fn fills<L: Library>(rt: &impl Abort, library: &mut L, schema: &Schema) -> Result<(), Fault>
     requires { IsOpenWith (L.shown.world library.old) 0 schema.now }
     ensures { IsOpenWith (L.shown.world library.new) 0 schema.now }
 {
-    adds(
-        library,
-        0,
-        schema,
-        record_of(schema, &[1, 1], 240).as_slice(),
-    )?;
-    adds(
-        library,
-        0,
-        schema,
-        record_of(schema, &[2, 1], 240).as_slice(),
-    )?;
-    adds(
-        library,
-        0,
-        schema,
-        record_of(schema, &[3, 2], 240).as_slice(),
-    )?;
-    let number = key_of(rt, schema, 0, 2);
+    adds_numbers(library, 0, schema, &[1, 1])?;
+    adds_numbers(library, 0, schema, &[2, 1])?;
+    adds_numbers(library, 0, schema, &[3, 2])?;
+    let number = key_of(schema, 0, 2)?;
     assert!(rt; removes(library, 0, schema, number.as_slice())?);
     Ok(())
-}
-
-/// The bytes of the first file of a shelf.
-fn bytes_of<S: Shelf>(alloc: Global, shelf: &mut S) -> Result<Vec<u8>, Fail> {
-    shelf.attach(&two_names())?;
-    if !shelf.exists(0)? {
-        return Ok(Vec::new(alloc));
-    }
-    let size = shelf.size(0)?;
-    let mut bytes = vec![in alloc; 0; size as usize]?;
-    shelf.read_at(0, 0, &mut bytes)?;
-    Ok(bytes)
 }
 
 /// The bytes of such a file, and a page of zeros.
@@ -122,23 +89,14 @@ fn made(rt: &impl Abort, alloc: Global, schema: &Schema) -> Result<Vec<u8>, Fail
     Ok(bytes)
 }
 
-/// Writes bytes over others.
-fn overwrites(bytes: &mut [u8], at: usize, new: &[u8]) {
-    for (i, byte) in new.iter().enumerate() {
-        if let Some(place) = bytes.get_mut(at.saturating_add(i)) {
-            *place = *byte;
-        }
-    }
-}
-
 /// Makes a call of one kind, and answers the most pages that it may ask for. What it says of the file is not looked at.
-fn makes<L: Library + HasTrees>(rt: &impl Abort, library: &mut L, schema: &Schema, call: u8) -> u64
+fn makes<L: Library + HasTrees>(library: &mut L, schema: &Schema, call: u8) -> Result<u64, Fault>
     requires { IsOpenWith (L.shown.world library.old) 0 schema.now }
     ensures { IsOpenWith (L.shown.world library.new) 0 schema.now }
 {
     let k = call % 2;
-    let value = key_of(rt, schema, k, 1);
-    match call / 2 {
+    let value = key_of(schema, k, 1)?;
+    Ok(match call / 2 {
         0 => {
             let most = most_to_read(library, k);
             let _ = finds(library, 0, schema, k, value.as_slice());
@@ -154,30 +112,28 @@ fn makes<L: Library + HasTrees>(rt: &impl Abort, library: &mut L, schema: &Schem
             let _ = seeks(library, 0, schema, k, value.as_slice(), Relation::Equal);
             most
         }
-        3 => adds_or_removes(rt, library, schema, k),
+        3 => adds_or_removes(library, schema, k)?,
         _ => replaces_or_tops(library, schema, k),
-    }
+    })
 }
 
 /// Adds a record, or removes one.
 fn adds_or_removes<L: Library + HasTrees>(
-    rt: &impl Abort,
     library: &mut L,
     schema: &Schema,
     k: u8,
-) -> u64
+) -> Result<u64, Fault>
     requires { IsOpenWith (L.shown.world library.old) 0 schema.now }
     ensures { IsOpenWith (L.shown.world library.new) 0 schema.now }
 {
     let most = most_to_change(library);
     if k == 0 {
-        let record = record_of(schema, &[5, 1], 240);
-        let _ = adds(library, 0, schema, record.as_slice());
+        let _ = adds_numbers(library, 0, schema, &[5, 1]);
     } else {
-        let number = key_of(rt, schema, 0, 1);
+        let number = key_of(schema, 0, 1)?;
         let _ = removes(library, 0, schema, number.as_slice());
     }
-    most
+    Ok(most)
 }
 
 /// Replaces a record, or looks for the greatest number.
@@ -213,7 +169,7 @@ fn is_bounded(
     let mut library = library_over(alloc, fuse, 100, 1)?;
     assert_eq!(rt; opens(&mut library, 0, schema)?, Told::Sound, "{what}");
     restarts(&mut library, 0, schema);
-    let most = makes(rt, &mut library, schema, call);
+    let most = makes(&mut library, schema, call)?;
     let pages = asked_at_most(rt, &mut library, schema, most);
     let shelf = library.into_shelf();
     let reads = shelf.calls(Kind::Reads);
@@ -234,11 +190,11 @@ fn is_bounded(
 #[test]
 fn damage_takes_no_more_calls_of_the_shelf(rt: HostRuntime) -> Result<(), Fail> {
     let alloc = rt.alloc();
-    let schema = numbers()?;
+    let schema = two_long_keys()?;
     for (what, edits) in DAMAGES {
         let mut bytes = made(&rt, alloc, &schema)?;
         for (at, new) in edits {
-            overwrites(&mut bytes, *at, new);
+            put(&mut bytes, *at, new);
         }
         for call in 0..CALLS {
             is_bounded(&rt, alloc, &schema, &bytes, call, what)?;

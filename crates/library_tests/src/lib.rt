@@ -4,7 +4,7 @@
 //! lists: drawn ones, and those at the least and the greatest lengths. And files of some two thousand records with keys of 120 bytes are filled, read and
 //! changed, where the pages that are asked for are compared with bounds that are written down for themselves; a few files are damaged, and held to the same bounds.
 //!
-//! Read `alike` for the calls on both libraries, then `drawn_alike` and `lengths`; for the pages `bounds`, then `asked` and `reads`, `program` and `asked_by_verbs`, and `damaged`.
+//! Read `alike` for the calls on both libraries, then `drawn_alike` and `lengths`; for the pages `asked` and `reads`, `asked_by_verbs`, and `damaged`.
 #![tactic(auto)]
 
 #[cfg(test)]
@@ -20,14 +20,10 @@ mod damaged;
 #[cfg(test)]
 mod drawn_alike;
 #[cfg(test)]
-mod keys;
-#[cfg(test)]
 mod lengths;
 #[cfg(test)]
 mod looks;
 #[cfg(test)]
 mod performing;
-#[cfg(test)]
-mod program;
 #[cfg(test)]
 mod reads;

@@ -5,29 +5,17 @@ ghost use Rattle.indexed_file.specs.Clients.{IsOpenWith, IsNotOpen};
 
 use indexed_file::Library;
 use io_state::Fault;
-use page_store::{MemShelf, Shelf};
+use page_store::MemShelf;
 use record_layout::Schema;
 use std::alloc::Global;
 use std::test::Fail;
 use unit_calls::{
-    Told, adds, attaches, creates, library_over, looks, opens, part, record_of, schema, shuts,
-    two_names,
+    Told, adds_numbers, attaches, creates, library_over, looks, opens, part, puts, schema, shuts,
 };
 
 /// Records of 9 bytes, with a prime key and an alternate one.
 fn numbers() -> Result<Schema, Fault> {
     schema(9, 9, &[part(0, 4, false), part(4, 5, true)])
-}
-
-/// Puts a file of these bytes onto a shelf without files.
-pub fn puts<S: Shelf>(shelf: &mut S, bytes: &[u8]) -> Result<(), Fault> {
-    shelf.attach(&two_names())?;
-    if !shelf.exists(0)? {
-        shelf.create(0)?;
-        shelf.write_at(0, 0, bytes)?;
-        shelf.sync(0)?;
-    }
-    Ok(())
 }
 
 /// Whether a file of these bytes is unsound.
@@ -55,7 +43,7 @@ fn makes<L: Library>(library: &mut L, schema: &Schema) -> Result<(), Fault>
     ensures { OnOk result (IsOpenWith (L.shown.world library.new) 0 schema.now) }
 {
     creates(library, 0, schema)?;
-    adds(library, 0, schema, record_of(schema, &[1, 1], 9).as_slice())?;
+    adds_numbers(library, 0, schema, &[1, 1])?;
     Ok(())
 }
 

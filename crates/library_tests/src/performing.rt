@@ -8,33 +8,18 @@ ghost use Rattle.library_tests.specs.Ready.{IsReadyConnector};
 use indexed_file::Library;
 use io_state::{Access, Fault, FileName, FileStatement, Status};
 use page_store::Shelf;
-use record_layout::{KeyPart, Schema};
 use shelf_library::ShelfLibrary;
 use std::alloc::Global;
 use std::num::NonZeroUsize;
 use std::process::Abort;
+use unit_calls::two_long_keys;
 use verbs::Connector;
 
-/// The bytes of a record, which has two keys of 120 bytes.
+/// The bytes of a record.
 const LENGTH: u16 = 240;
-
-/// A value that is one record's alone, and one that several have.
-const KEYS: [KeyPart; 2] = [
-    KeyPart {
-        offset: 0,
-        length: 120,
-        duplicates: false,
-    },
-    KeyPart {
-        offset: 120,
-        length: 120,
-        duplicates: true,
-    },
-];
 
 /// A connector that is closed, and a library over a shelf, whose units are forgotten, with the name of its file.
 pub fn begins<S: Shelf + Drop>(
-    rt: &impl Abort,
     alloc: Global,
     shelf: S,
     frames: usize,
@@ -49,10 +34,7 @@ pub fn begins<S: Shelf + Drop>(
     let mut name = FileName::new();
     name.push_str("FILE");
     library.attach(&[name])?;
-    let schema = Schema::from_parts(LENGTH, LENGTH, &KEYS);
-    assert!(rt; schema.is_some());
-    let schema = schema.ok_or(Fault::Memory)?;
-    Ok((Connector::new(access, false, schema), library))
+    Ok((Connector::new(access, false, two_long_keys()?), library))
 }
 
 /// The key of a READ or START is one of two.

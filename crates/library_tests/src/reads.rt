@@ -2,14 +2,15 @@
 
 ghost use Rattle.indexed_file.specs.Clients.{IsOpenWith};
 
-use crate::keys::key_of;
 use indexed_file::{Added, Library};
 use io_state::Fault;
 use page_store::MemShelf;
 use record_layout::Schema;
 use std::process::Abort;
 use std::test::Fail;
-use unit_calls::{adds, asked, creates, finds, library_over, part, record_of, restarts, schema};
+use unit_calls::{
+    adds_numbers, asked, creates, finds, key_of, library_over, part, restarts, schema,
+};
 
 const RECORDS: u64 = 1500;
 
@@ -39,8 +40,7 @@ fn adds_all<L: Library>(rt: &impl Abort, library: &mut L, schema: &Schema) -> Re
 {
     for i in 0..RECORDS {
         let n = i.wrapping_mul(1237) % RECORDS;
-        let record = record_of(schema, &values(n), 360);
-        let added = adds(library, 0, schema, record.as_slice())?;
+        let added = adds_numbers(library, 0, schema, &values(n))?;
         assert!(rt; matches!(added, Added::Done { .. }), "record {n}");
     }
     Ok(())
@@ -48,7 +48,6 @@ fn adds_all<L: Library>(rt: &impl Abort, library: &mut L, schema: &Schema) -> Re
 
 /// The pages that a READ asks for, and whether a later record has the value too; none where no record has it.
 fn reads<L: Library>(
-    rt: &impl Abort,
     library: &mut L,
     schema: &Schema,
     k: u8,
@@ -57,7 +56,7 @@ fn reads<L: Library>(
     requires { IsOpenWith (L.shown.world library.old) 0 schema.now }
     ensures { IsOpenWith (L.shown.world library.new) 0 schema.now }
 {
-    let value = key_of(rt, schema, k, value);
+    let value = key_of(schema, k, value)?;
     restarts(library, 0, schema);
     let read = finds(library, 0, schema, k, value.as_slice())?;
     let repeated = read.found.as_ref().map(|found| found.repeated);
@@ -79,13 +78,13 @@ fn reads_unique<L: Library>(
     let unique = u64::from(heights[1]);
     for n in 0..RECORDS {
         let [number, other, _] = values(n);
-        let by_number = reads(rt, library, schema, 0, number)?;
+        let by_number = reads(library, schema, 0, number)?;
         assert_eq!(rt; by_number, (prime + 1, Some(false)), "{n}");
-        let by_other = reads(rt, library, schema, 1, other)?;
+        let by_other = reads(library, schema, 1, other)?;
         assert_eq!(rt; by_other, (unique + prime + 1, Some(false)), "{n}");
     }
-    assert_eq!(rt; reads(rt, library, schema, 0, RECORDS)?, (prime, None));
-    assert_eq!(rt; reads(rt, library, schema, 1, 0)?, (unique, None));
+    assert_eq!(rt; reads(library, schema, 0, RECORDS)?, (prime, None));
+    assert_eq!(rt; reads(library, schema, 1, 0)?, (unique, None));
     Ok(())
 }
 
@@ -105,7 +104,7 @@ fn reads_shared<L: Library>(
     let mut more = 0u64;
     for n in 0..RECORDS {
         let [_, _, value] = values(n);
-        let (pages, repeated) = reads(rt, library, schema, 2, value)?;
+        let (pages, repeated) = reads(library, schema, 2, value)?;
         assert_eq!(rt; repeated, Some(n < PAIRED), "{n}");
         assert!(rt;
             pages >= shared + prime + 1 && pages <= 2 * shared + prime + 1,
@@ -118,7 +117,7 @@ fn reads_shared<L: Library>(
     assert!(rt; more <= (RECORDS - PAIRED) / 8 + 1, "{more}");
     for value in PAIRED / 2..PAIRED {
         assert_eq!(rt;
-            reads(rt, library, schema, 2, value)?,
+            reads(library, schema, 2, value)?,
             (shared, None),
             "{value}"
         );

@@ -1,4 +1,4 @@
-//! Libraries over a shelf, with the names of two files.
+//! Libraries over a shelf, with the names of two files, and the bytes of the first.
 
 ghost use Rattle.std.specs.Prelude.{◌≡◌, ◌≤◌, length, OnOk, IfOk, map, bytes_eq};
 ghost use Rattle.std.specs.List.{IsDistinct};
@@ -46,4 +46,27 @@ pub fn library_over<S: Shelf + Drop>(
     let mut library = ShelfLibrary::new(alloc, shelf, limit, frames);
     attaches(&mut library)?;
     Ok(library)
+}
+
+/// Puts a file of these bytes onto a shelf without files, as the first of the two.
+pub fn puts<S: Shelf>(shelf: &mut S, bytes: &[u8]) -> Result<(), Fault> {
+    shelf.attach(&two_names())?;
+    if !shelf.exists(0)? {
+        shelf.create(0)?;
+        shelf.write_at(0, 0, bytes)?;
+        shelf.sync(0)?;
+    }
+    Ok(())
+}
+
+/// The bytes of the first of the two files of a shelf; none where it is not there.
+pub fn bytes_of<S: Shelf>(alloc: Global, shelf: &mut S) -> Result<Vec<u8>, Fault> {
+    shelf.attach(&two_names())?;
+    if !shelf.exists(0)? {
+        return Ok(Vec::new(alloc));
+    }
+    let size = shelf.size(0)?;
+    let mut bytes = vec![in alloc; 0; size as usize].map_err(|_| Fault::Memory)?;
+    shelf.read_at(0, 0, &mut bytes)?;
+    Ok(bytes)
 }

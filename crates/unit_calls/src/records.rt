@@ -1,7 +1,7 @@
 //! Records whose values of the keys are numbers.
 
 use arrayvec::ArrayVec;
-use io_state::Key;
+use io_state::{Fault, Key};
 use record_layout::{KeyPart, Schema};
 
 /// A record that outlives the call that made it.
@@ -21,6 +21,14 @@ pub fn value_of(part: KeyPart, number: u64) -> ArrayVec<u8, 250> {
     value
 }
 
+/// The value of key k that ends with a number. A key that the schema does not have is `Damage`.
+pub fn key_of(schema: &Schema, k: u8, number: u64) -> Result<Key, Fault> {
+    if usize::from(k) >= schema.key_count() {
+        return Err(Fault::Damage);
+    }
+    Ok(value_of(schema.part(k), number))
+}
+
 /// A record of so many bytes with this number for each key.
 pub fn record_of(schema: &Schema, numbers: &[u64], length: usize) -> Record {
     let mut record = ArrayVec::new();
@@ -38,8 +46,8 @@ pub fn record_of(schema: &Schema, numbers: &[u64], length: usize) -> Record {
     record
 }
 
-/// Writes these bytes into a record, as many as it has room for.
-fn put(record: &mut [u8], offset: usize, bytes: &[u8]) {
+/// Writes these bytes over others, as many as there is room for.
+pub fn put(record: &mut [u8], offset: usize, bytes: &[u8]) {
     for (i, byte) in bytes.iter().enumerate() {
         if let Some(place) = record.get_mut(offset.saturating_add(i)) {
             *place = *byte;

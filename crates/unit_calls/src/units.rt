@@ -4,7 +4,7 @@ ghost use Rattle.std.specs.Prelude.{◌≡◌, ◌≤◌, true, length, OnOk, On
 ghost use Rattle.indexed_file.specs.Clients.{IsOpenWith, IsNotOpen};
 ghost use Rattle.unit_calls.specs.declared.units.Told.TheVariants.{Sound};
 
-use crate::records::{Record, key};
+use crate::records::{Record, key, record_of};
 use indexed_file::{Added, Found, Library, Replaced, Seen};
 use io_state::{Fault, Key, Position, Relation};
 use record_layout::Schema;
@@ -90,6 +90,20 @@ pub fn adds<L: Library>(
         return Err(Fault::Damage);
     }
     library.add(u, record)
+}
+
+/// Adds the record of these numbers, of the greatest length.
+pub fn adds_numbers<L: Library>(
+    library: &mut L,
+    u: usize,
+    schema: &Schema,
+    numbers: &[u64],
+) -> Result<Added, Fault>
+    requires { IsOpenWith (L.shown.world library.old) u schema.now }
+    ensures { IsOpenWith (L.shown.world library.new) u schema.now }
+{
+    let record = record_of(schema, numbers, usize::from(schema.greatest()));
+    adds(library, u, schema, record.as_slice())
 }
 
 /// Replaces a record. One of a length that the schema does not have is `Damage`.
