@@ -25,8 +25,6 @@ mod lines;
 #[cfg(test)]
 mod memory;
 #[cfg(test)]
-mod narrow_shelf;
-#[cfg(test)]
 mod refusals;
 #[cfg(test)]
 mod running;

@@ -1,12 +1,12 @@
 //! What the end of a run says of its lines.
 
 use crate::ends::tells;
-use crate::narrow_shelf::NarrowShelf;
 use crate::running::{run_to_end, run_within, shelf_before};
 use deck_runner::{RunEnd, RunFault};
 use page_store::{FuseShelf, Image, Kind, MemShelf};
 use std::alloc::Global;
 use std::test::Fail;
+use unit_calls::NarrowShelf;
 use worked_decks::{
     A_CLASH, CUSTOMERS, FILLED_UP, READ_THAT_FAILS, REFUSED, Step, WIDE, WRITE_THAT_FAILS,
     WRITTEN_AND_READ_BACK, deck_of, transcript_of,

@@ -4,7 +4,6 @@ use crate::answers::Fault;
 use crate::ends::tells;
 use crate::judged::judge;
 use crate::left::{Crash, is_allowed, reads_as};
-use crate::narrow_shelf::NarrowShelf;
 use crate::running::{run_over, run_over_lists, run_to_end, shelf_before};
 use deck_runner::{RunEnd, RunFault};
 use list_library::ListLibrary;
@@ -12,6 +11,7 @@ use page_store::{Image, MemShelf};
 use std::alloc::Global;
 use std::process::Abort;
 use std::test::Fail;
+use unit_calls::NarrowShelf;
 use worked_decks::{
     A_CLASH, A_DUPLICATE_REWRITTEN, A_NEW_TWIN, PAYROLL, WRITTEN_AND_READ_BACK, Worked, deck_of,
     transcript_of,
