@@ -87,7 +87,8 @@ fn reads_no_more(
     Ok(shelf)
 }
 
-/// OPEN INPUT and one READ by the prime key make few reads, by the height of its tree. A WRITE is refused then, and asks for no page.
+/// OPEN INPUT and one READ by the prime key make few reads, by the height of its tree: the READ asks for a page of each level, and for the record's. A WRITE is refused
+/// then, and asks for no page.
 fn reads_one(
     rt: &impl Abort,
     alloc: Global,
@@ -102,7 +103,7 @@ fn reads_one(
     let (opened, _) = performs(rt, &mut connector, &mut library, &open, 0, &mut area);
     assert_eq!(rt; opened, Status::Successful);
     let read = FileStatement::Read { key: 0 };
-    let (found, _) = performs(rt, &mut connector, &mut library, &read, 0, &mut area);
+    let (found, to_read) = performs(rt, &mut connector, &mut library, &read, 0, &mut area);
     assert_eq!(rt; found, Status::Successful);
     let write = FileStatement::Write;
     let (refused, asked) = performs(rt, &mut connector, &mut library, &write, 0, &mut area);
@@ -110,6 +111,7 @@ fn reads_one(
     assert_eq!(rt; asked, 0);
     let height = u64::from(library.height(0, 0));
     assert_eq!(rt; height, 3);
+    assert_eq!(rt; to_read, height + 1);
     let reads = library
         .into_shelf()
         .calls(Kind::Reads)
