@@ -1,0 +1,5 @@
+pub mod InputLemmas
+pub mod OutputLemmas
+pub mod ServingLemmas
+pub mod EndLemmas
+pub mod ClosingLemmas

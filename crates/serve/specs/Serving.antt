@@ -1,0 +1,132 @@
+-- The answering of the requests of an input. All of this is ours.
+use Rattle.std.specs.Prelude.{◌≡◌, ◌⊎◌, ℕ, ◌<◌, List, [], ◌∷◌, ◌++◌, flat_map, Option, Some, None, Result, Ok, Err}
+use Rattle.std.specs.Io.KnownBytes.{Consumes, Appends, IsAtEnd}
+use Rattle.byteorder.specs.Endian.{big_bytes}
+use Rattle.io_state.specs.declared.status.Status.{Status}
+use Rattle.indexed_file.specs.Shown.{Shown}
+use Rattle.request_frames.specs.Answer.{Told, Refuses, framed}
+use Rattle.request_frames.specs.Reading.{request_in}
+use Rattle.request_frames.specs.declared.refusal.Refusal.TheVariants as refusal
+use Rattle.file_session.specs.Files.{Files, no_files}
+use Rattle.file_session.specs.Steps.{ClosesFirst}
+use Rattle.serve.specs.Input.{IsCut}
+use Rattle.serve.specs.Answers.{Answers, answer_frame}
+use Rattle.serve.specs.declared.fault.ServeFault.{ServeFault}
+use Rattle.serve.specs.declared.fault.ServeFault.TheVariants.{Input, Output, Memory}
+
+-- the body of a request's frame, and what was told
+pub record Exchange : Type 0 where
+  pub body : List ℕ
+  pub told : Told
+
+-- the frames of the requests, and those of their answers
+abbrev pub requests : List Exchange → List ℕ
+requests exchanges = flat_map (λ e. framed e.body) exchanges
+
+abbrev pub answers : List Exchange → List ℕ
+answers exchanges = flat_map (λ e. answer_frame e.told) exchanges
+
+-- requests were answered one after another, each in what those before it left
+abbrev pub Serving : {S : Type 0} → Shown S → (IsNew : S → Type 0) → Files S → List Exchange → Files S → Type 0
+Serving shown IsNew old [] new = new ≡ old
+Serving {S} shown IsNew old (e ∷ rest) new =
+    (between : Files S) × Answers shown IsNew (request_in e.body) old e.told between × Serving shown IsNew between rest new
+
+-- the open files were closed, the one that was opened first at first, until none was open
+abbrev pub Closes : {S : Type 0} → Shown S → Files S → List Status → Files S → Type 0
+Closes shown old [] new = (old.opened ≡ []) × (new ≡ old)
+Closes {S} shown old (status ∷ rest) new = (between : Files S) × ClosesFirst shown old status between × Closes shown between rest new
+
+-- the input ended, in a frame or before one
+pub record EndsInput (input_after : Option (List ℕ)) (exchanges : List Exchange) (read written : List ℕ) : Type 0 where
+  pub cut : List ℕ
+  pub is_cut : IsCut cut
+  pub read_is : read ≡ requests exchanges ++ cut
+  pub at_end : IsAtEnd input_after
+  pub written_is : written ≡ answers exchanges
+
+-- the answer to a length past the limit
+abbrev pub too_long : List ℕ
+too_long = answer_frame (Refuses refusal.TooLong)
+
+-- a length past the limit was read and refused, and nothing behind it was read
+pub record EndsTooLong (exchanges : List Exchange) (read written : List ℕ) : Type 0 where
+  pub size : ℕ
+  pub past : 8192 < size
+  pub read_is : read ≡ requests exchanges ++ big_bytes 2 size
+  pub written_is : written ≡ answers exchanges ++ too_long
+
+-- a read failed, in a frame or before one
+pub record FailsToRead (exchanges : List Exchange) (read written : List ℕ) : Type 0 where
+  pub cut : List ℕ
+  pub is_cut : IsCut cut
+  pub read_is : read ≡ requests exchanges ++ cut
+  pub written_is : written ≡ answers exchanges
+
+-- the writer refused the last answer, of which it has a front, or all where it did not hand it on
+pub record FailsToAnswer (exchanges : List Exchange) (read written : List ℕ) : Type 0 where
+  pub before : List Exchange
+  pub last : Exchange
+  pub are : exchanges ≡ before ++ last ∷ []
+  pub front : List ℕ
+  pub rest : List ℕ
+  pub frame : answer_frame last.told ≡ front ++ rest
+  pub read_is : read ≡ requests exchanges
+  pub written_is : written ≡ answers before ++ front
+
+-- so with the refusal of a length past the limit
+pub record FailsToRefuse (exchanges : List Exchange) (read written : List ℕ) : Type 0 where
+  pub size : ℕ
+  pub past : 8192 < size
+  pub front : List ℕ
+  pub rest : List ℕ
+  pub frame : too_long ≡ front ++ rest
+  pub read_is : read ≡ requests exchanges ++ big_bytes 2 size
+  pub written_is : written ≡ answers exchanges ++ front
+
+-- how the requests ended
+abbrev pub Ends : Option (List ℕ) → List Exchange → (read written : List ℕ) → Result Unit ServeFault → Type 0
+Ends input_after exchanges read written (Ok _) = EndsInput input_after exchanges read written ⊎ EndsTooLong exchanges read written
+Ends input_after exchanges read written (Err Input) = FailsToRead exchanges read written
+Ends input_after exchanges read written (Err Output) = FailsToAnswer exchanges read written ⊎ FailsToRefuse exchanges read written
+Ends input_after exchanges read written (Err Memory) = ⊥
+
+-- what an input has left and what an output has, before and after
+pub record Streams : Type 0 where
+  pub input : Option (List ℕ)
+  pub input_after : Option (List ℕ)
+  pub output : Option (List ℕ)
+  pub output_after : Option (List ℕ)
+
+abbrev pub streams : (input input_after output output_after : Option (List ℕ)) → Streams
+streams input input_after output output_after = record { input = input; input_after = input_after; output = output; output_after = output_after }
+
+-- the requests of the input were answered to its end, or to a fault
+pub record Serves {S : Type 0} (shown : Shown S) (IsNew : S → Type 0) (s : Streams) (old new : Files S) (result : Result Unit ServeFault) : Type 0 where
+  pub exchanges : List Exchange
+  pub serving : Serving shown IsNew old exchanges new
+  pub read : List ℕ
+  pub written : List ℕ
+  pub consumes : Consumes s.input s.input_after read
+  pub appends : Appends s.output s.output_after written
+  pub ends : Ends s.input_after exchanges read written result
+
+-- one request was answered
+pub record ServesOne {S : Type 0} (shown : Shown S) (IsNew : S → Type 0) (s : Streams) (old new : Files S) : Type 0 where
+  pub exchange : Exchange
+  pub answer : Answers shown IsNew (request_in exchange.body) old exchange.told new
+  pub consumes : Consumes s.input s.input_after (framed exchange.body)
+  pub appends : Appends s.output s.output_after (answer_frame exchange.told)
+
+-- one request was answered, or that was the end
+abbrev pub ServesNext : {S : Type 0} → Shown S → (S → Type 0) → Streams → (old new : Files S) → Option (Result Unit ServeFault) → Type 0
+ServesNext shown IsNew s old new None = ServesOne shown IsNew s old new
+ServesNext shown IsNew s old new (Some result) = Serves shown IsNew s old new result
+
+-- a whole session: its requests were answered, from the first one, when no file was described; and then the files that were still open were closed
+pub record Served {S : Type 0} (shown : Shown S) (IsNew : S → Type 0) (s : Streams) (result : Result Unit ServeFault) : Type 0 where
+  pub last : Files S
+  pub served : Serves shown IsNew s no_files last result
+  pub closes : List Status
+  pub end : Files S
+  pub closed : Closes shown last closes end

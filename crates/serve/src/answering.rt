@@ -1,0 +1,88 @@
+//! The answer to a request.
+ghost use Rattle.std.specs.Prelude.{◌≡◌};
+ghost use Rattle.request_frames.specs.Request.{described_of, performed_of};
+ghost use Rattle.request_frames.specs.Reading.{request_in};
+ghost use Rattle.request_frames.specs.Answer.{Refuses};
+ghost use Rattle.serve.specs.Answers.{IsFrameOf, answer_frame, AnswersDescription, AnswersVerb, AnswersRelease, Answers};
+
+use crate::libraries::Libraries;
+use file_session::Session;
+use indexed_file::Library;
+use request_frames::{
+    Answer, AnswerFrame, Description, Performance, Refusal, Request, put_answer, read_request,
+};
+
+/// The frame of a refusal.
+fn refuse(frame: &mut AnswerFrame, refusal: Refusal)
+    ensures { frame.new.items ≡ answer_frame (Refuses refusal) }
+{
+    put_answer(frame, &Answer::Refused(refusal));
+}
+
+/// Describes a file, over a library of its own.
+fn describe<M: Libraries>(
+    libraries: &M,
+    session: &mut Session<M::Library>,
+    description: &Description<'_>,
+    frame: &mut AnswerFrame,
+)
+    ensures { IsFrameOf frame.new.items (λ told. AnswersDescription M.Library.shown (M.is_new libraries.now)
+        (described_of description.now) session.old told session.new) }
+{
+    let Some(library) = libraries.make() else {
+        return refuse(frame, Refusal::Memory);
+    };
+    match session.describe(description, library) {
+        Ok(()) => put_answer(frame, &Answer::Done),
+        Err(refusal) => refuse(frame, refusal),
+    }
+}
+
+/// Performs a verb.
+fn perform<L: Library + Drop>(
+    session: &mut Session<L>,
+    performance: &Performance<'_>,
+    frame: &mut AnswerFrame,
+)
+    ensures { IsFrameOf frame.new.items (λ told. AnswersVerb L.shown (performed_of performance.now) session.old told session.new) }
+{
+    match session.perform(performance) {
+        Ok(answer) => {
+            let performed = Answer::Performed {
+                status: answer.status,
+                bytes: session.record(performance.file, answer.length),
+            };
+            put_answer(frame, &performed);
+        }
+        Err(refusal) => refuse(frame, refusal),
+    }
+}
+
+/// Gives up a file.
+fn release<L: Library + Drop>(session: &mut Session<L>, number: u8, frame: &mut AnswerFrame)
+    ensures { IsFrameOf frame.new.items (λ told. AnswersRelease number session.old told session.new) }
+{
+    match session.release(number) {
+        Ok(library) => drop(library),
+        Err(refusal) => return refuse(frame, refusal),
+    }
+    put_answer(frame, &Answer::Done);
+}
+
+/// Does what the body of a frame asks for, and makes the frame of the answer.
+pub fn answer_request<M: Libraries>(
+    libraries: &M,
+    session: &mut Session<M::Library>,
+    body: &[u8],
+    frame: &mut AnswerFrame,
+)
+    ensures { IsFrameOf frame.new.items (λ told. Answers M.Library.shown (M.is_new libraries.now)
+        (request_in body.now) session.old told session.new) }
+{
+    match read_request(body) {
+        Some(Request::Describe(description)) => describe(libraries, session, &description, frame),
+        Some(Request::Perform(performance)) => perform(session, &performance, frame),
+        Some(Request::Release(number)) => release(session, number, frame),
+        None => refuse(frame, Refusal::NoRequest),
+    }
+}

@@ -1,0 +1,101 @@
+//! The next frame of the input.
+ghost use Rattle.std.specs.Prelude.{◌≡◌, ◌≤◌, ◌<◌, true, false, IfOk, OnErr, length, take};
+ghost use Rattle.std.specs.Io.KnownBytes.{Consumes, IsAtEnd, Keeps};
+ghost use Rattle.byteorder.specs.Endian.{big_bytes};
+ghost use Rattle.serve.specs.Input.{GivesLess, Came};
+
+use byteorder::{BigEndian, ByteOrder};
+use request_frames::LENGTH_LIMIT;
+use std::io::{ErrorKind, Read};
+
+/// So many interrupted reads in a row are a fault of the input.
+const MOST_INTERRUPTED: u32 = 1000;
+
+/// A read failed.
+#[derive(Clone, Copy, Debug, PartialEq, Eq)]
+pub struct InputFailed;
+
+/// What comes next in the input.
+#[derive(Clone, Copy, Debug, PartialEq, Eq)]
+pub enum Next {
+    /// A frame, whose body is so many of the first bytes of the buffer.
+    Frame(usize),
+    /// A length past the limit. Nothing behind it was read.
+    TooLong,
+    /// No whole frame: the input ended.
+    End,
+}
+
+/// Reads a part, and answers how many bytes came: none at the end.
+fn read_part<R: Read>(reader: &mut R, part: &mut [u8]) -> Result<usize, InputFailed>
+    ensures within { IfOk result (λ n. n ≤ length part.new) }
+    ensures length { length part.new ≡ length part.old }
+    ensures bytes { IfOk result (λ n. Consumes (R.remaining reader.old) (R.remaining reader.new) (take n part.new)) }
+    ensures end { IfOk result (λ n. n ≡ 0 → 0 < length part.old → IsAtEnd (R.remaining reader.new)) }
+    ensures failed { OnErr result (Keeps (R.remaining reader.old) (R.remaining reader.new)) }
+{
+    for _ in 0..MOST_INTERRUPTED {
+        match reader.read(part) {
+            Ok(n) => return Ok(n),
+            Err(error) => {
+                if error.kind() != ErrorKind::Interrupted {
+                    return Err(InputFailed);
+                }
+            }
+        }
+    }
+    Err(InputFailed)
+}
+
+/// Reads as many bytes as there is room for, and answers whether there were so many.
+fn read_whole<R: Read>(reader: &mut R, room: &mut [u8]) -> Result<bool, InputFailed>
+    ensures length { length room.new ≡ length room.old }
+    ensures whole { IfOk result (λ whole. whole ≡ true
+        → Consumes (R.remaining reader.old) (R.remaining reader.new) room.new) }
+    ensures short { IfOk result (λ whole. whole ≡ false
+        → GivesLess (length room.old) (R.remaining reader.old) (R.remaining reader.new)) }
+    ensures end { IfOk result (λ whole. whole ≡ false → IsAtEnd (R.remaining reader.new)) }
+    ensures failed { OnErr result (GivesLess (length room.old) (R.remaining reader.old) (R.remaining reader.new)) }
+{
+    let mut at = 0;
+    'more: while at < room.len() {
+        let n = read_part(reader, &mut room[at..])?;
+        if n == 0 {
+            return Ok(false);
+        }
+        at += n;
+    }
+    Ok(true)
+}
+
+/// The length that a frame begins with.
+fn length_of(head: &[u8]) -> u16
+    requires { length head.now ≡ 2 }
+    ensures { big_bytes 2 result ≡ head.now }
+{
+    BigEndian::read_u16(head)
+}
+
+/// Reads the next frame, and no byte behind it.
+pub fn read_frame<R: Read>(
+    reader: &mut R,
+    buffer: &mut [u8; LENGTH_LIMIT],
+) -> Result<Next, InputFailed>
+    ensures { Came (R.remaining reader.old) (R.remaining reader.new) buffer.new result }
+{
+    let mut head = [0; 2];
+    match read_whole(reader, &mut head) {
+        Ok(true) => {}
+        Ok(false) => return Ok(Next::End),
+        Err(failed) => return Err(failed),
+    }
+    let size = usize::from(length_of(&head));
+    if size > LENGTH_LIMIT {
+        return Ok(Next::TooLong);
+    }
+    match read_whole(reader, &mut buffer[..size]) {
+        Ok(true) => Ok(Next::Frame(size)),
+        Ok(false) => Ok(Next::End),
+        Err(failed) => Err(failed),
+    }
+}
