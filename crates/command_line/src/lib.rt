@@ -11,6 +11,7 @@ mod deck_file;
 mod fault;
 mod outcome;
 mod performing;
+mod session;
 mod streams;
 mod transcript;
 mod verdict;

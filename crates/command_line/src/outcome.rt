@@ -18,6 +18,8 @@ pub enum Outcome {
     Checked(Verdict),
     /// A run ended.
     Ended(RunEnd),
+    /// Requests were answered to the end of the input.
+    Served,
 }
 
 /// A run that was begun: the bytes of its deck, and the shelf, with what the folder was asked and answered.
@@ -42,7 +44,7 @@ impl Outcome {
         ensures { result ≡ status_for self }
     {
         match self {
-            Outcome::Helped | Outcome::Ended(_) => 0,
+            Outcome::Helped | Outcome::Ended(_) | Outcome::Served => 0,
             Outcome::Checked(verdict) => status_by_verdict(verdict),
         }
     }

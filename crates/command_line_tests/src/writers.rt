@@ -4,7 +4,7 @@ use command_line::{Fault, program};
 use folder_shelf::EmptyDisk;
 use standard_output::StandardOutput;
 use std::fs;
-use std::io::{self, ErrorKind, Write};
+use std::io::{self, Empty, ErrorKind, Write};
 use std::os::fd::AsRawFd;
 use std::os::unix::fs::FileExt;
 use std::process::Abort;
@@ -100,10 +100,11 @@ where
         at_once: usize::MAX,
         room: err,
     };
-    let (status, _ran) = program::<R, EmptyDisk, Narrow, Narrow>(
+    let (status, _ran) = program::<R, EmptyDisk, Empty, Narrow, Narrow>(
         rt,
         alloc,
         given.as_slice(),
+        io::empty(),
         &mut out,
         &mut err,
     );

@@ -6,14 +6,14 @@ use Rattle.clap.specs.declared.error.Error.{Error}
 use Rattle.clap.specs.declared.error.ErrorKind.TheVariants.{DisplayHelp, DisplayVersion}
 use Rattle.command_words.specs.CommandLine.{program_app}
 use Rattle.command_words.specs.declared.request.Request.{Request}
-use Rattle.command_words.specs.declared.request.Request.TheVariants.{Run, Check, Help}
+use Rattle.command_words.specs.declared.request.Request.TheVariants.{Run, Check, Serve, Help}
 
 -- the text is this number
 abbrev pub IsNumber : ℕ → Text → ℕ → Type 0
 IsNumber bits text n =
     IsNumeral 10 (without_leading_plus text) × (digits_value 10 (without_leading_plus text) < 2 ^ bits) × (n ≡ digits_value 10 (without_leading_plus text))
 
--- the numbers of pages and frames that a run may have
+-- the numbers of pages and frames that a run may have, and a session
 pub record AreLimits (rows : List Row) (pages frames : ℕ) : Type 0 where
   pub pages_text : Text
   pub frames_text : Text
@@ -39,16 +39,25 @@ pub record IsCheck (met : Option (Text × List Row)) (file : Text) : Type 0 wher
   pub is : met ≡ Some (codes "check", rows)
   pub file_given : first_of (codes "file") rows ≡ Some file
 
+-- the subcommand that was met is to serve the files of this folder, with these limits
+pub record IsServe (met : Option (Text × List Row)) (folder : Text) (pages frames : ℕ) : Type 0 where
+  pub rows : List Row
+  pub is : met ≡ Some (codes "serve", rows)
+  pub folder_given : first_of (codes "folder") rows ≡ Some folder
+  pub limits : AreLimits rows pages frames
+
 -- the subcommand that was met, with its values, is what is asked for
 abbrev pub IsMet : Option (Text × List Row) → Request → Type 0
 IsMet met (Run deck folder limits) = IsRun met deck.now folder.now limits.pages limits.frames.value
 IsMet met (Check file) = IsCheck met file.now
+IsMet met (Serve folder limits) = IsServe met folder.now limits.pages limits.frames.value
 IsMet met (Help text) = ⊥
 
--- the subcommand that was met is neither, or its values are none that a run can have
-pub record IsNeither (met : Option (Text × List Row)) : Type 0 where
+-- the subcommand that was met is none of these, or its values are none that it can have
+pub record IsNone (met : Option (Text × List Row)) : Type 0 where
   pub no_run : (deck folder : Text) (pages frames : ℕ) → ¬ (IsRun met deck folder pages frames)
   pub no_check : (file : Text) → ¬ (IsCheck met file)
+  pub no_serve : (folder : Text) (pages frames : ℕ) → ¬ (IsServe met folder pages frames)
 
 -- the words have no fault
 abbrev pub AreFaultless : List Text → Type 0
@@ -70,6 +79,10 @@ AskRun words deck folder pages frames = AreFaultless words × IsRun (subcommand_
 abbrev pub AskCheck : List Text → (file : Text) → Type 0
 AskCheck words file = AreFaultless words × IsCheck (subcommand_of program_app words) file
 
+-- to serve the files of this folder, with these limits
+abbrev pub AskServe : List Text → (folder : Text) (pages frames : ℕ) → Type 0
+AskServe words folder pages frames = AreFaultless words × IsServe (subcommand_of program_app words) folder pages frames
+
 -- for help or the version, as the text shows it
 abbrev pub AskHelp : List Text → Error → Type 0
 AskHelp words text = HaveFault words text × IsShown text
@@ -78,8 +91,9 @@ AskHelp words text = HaveFault words text × IsShown text
 abbrev pub Ask : List Text → Request → Type 0
 Ask words (Run deck folder limits) = AskRun words deck.now folder.now limits.pages limits.frames.value
 Ask words (Check file) = AskCheck words file.now
+Ask words (Serve folder limits) = AskServe words folder.now limits.pages limits.frames.value
 Ask words (Help text) = AskHelp words text
 
 -- for nothing, and the text tells why
 abbrev pub AskNothing : List Text → Error → Type 0
-AskNothing words text = (HaveFault words text × (IsShown text → ⊥)) ⊎ (AreFaultless words × IsNeither (subcommand_of program_app words))
+AskNothing words text = (HaveFault words text × (IsShown text → ⊥)) ⊎ (AreFaultless words × IsNone (subcommand_of program_app words))

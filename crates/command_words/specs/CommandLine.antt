@@ -33,14 +33,25 @@ run_shape = record (new_shape (codes "run")) {
 abbrev pub check_shape : Shape
 check_shape = record (new_shape (codes "check")) { rules = word_rule (codes "file") ∷ [] }
 
--- one of the two, or help or the version
+-- `serve --folder DIR [--pages N] [--frames N]`
+abbrev pub serve_shape : Shape
+serve_shape = record (new_shape (codes "serve")) {
+  rules = option_rule (codes "folder")
+      ∷ number_rule (codes "pages") 16 4294967295 (codes "1048576")
+      ∷ number_rule (codes "frames") 1 4096 (codes "64") ∷ [];
+}
+
+-- the program, before its subcommands
+abbrev pub program_shape : Shape
+program_shape = record (new_shape (codes "cobix")) {
+  has_version = true;
+  subcommand_required = true;
+  disable_help_subcommand = true;
+}
+
+-- one of the three, or help or the version
 abbrev pub program_app : App
 program_app = record {
-  top = record (new_shape (codes "cobix")) {
-    is_leaf = false;
-    has_version = true;
-    subcommand_required = true;
-    disable_help_subcommand = true;
-  };
-  subs = run_shape ∷ check_shape ∷ [];
+  top = record program_shape { is_leaf = false };
+  subs = run_shape ∷ check_shape ∷ serve_shape ∷ [];
 }

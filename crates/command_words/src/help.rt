@@ -60,3 +60,12 @@ pub const REASONS: &str = "Exit status:
       Take the last copy of the file; or, where its records are elsewhere too, make it anew with OPEN OUTPUT
   3   the command line is not understood
   4   the file could not be read ('cobix: input'), or memory ran out ('cobix: memory')";
+
+/// How frames are answered.
+pub const SERVING: &str =
+    "Each frame on standard input is a request, and each is answered by a frame on standard output (docs/FRAMES.md). At the end of the input each file that is still open is closed.
+
+Exit status:
+  0   the input ended
+  3   the command line is not understood
+  4   DIR is no folder or a request could not be read ('cobix: input'), an answer could not be written ('cobix: output'), or memory ran out before the first request ('cobix: memory')";

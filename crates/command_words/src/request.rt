@@ -4,11 +4,11 @@ ghost use Rattle.std.specs.Option.{IfSome};
 ghost use Rattle.clap.specs.Words.{app_of, found_of, rows_of, rule_of, subcommand_rows_of, with_rule};
 ghost use Rattle.clap.specs.declared.builder.command.Command.TheViews.{out-Command};
 ghost use Rattle.clap.specs.Values.{kind_of};
-ghost use Rattle.command_words.specs.CommandLine.{word_rule, option_rule, number_rule, run_shape, check_shape, program_app};
-ghost use Rattle.command_words.specs.Asks.{AreLimits, IsRun, IsCheck, IsMet, IsNeither, Ask, AskNothing, HaveFault, IsShown};
+ghost use Rattle.command_words.specs.CommandLine.{word_rule, option_rule, number_rule, run_shape, check_shape, serve_shape, program_shape, program_app};
+ghost use Rattle.command_words.specs.Asks.{AreLimits, IsRun, IsCheck, IsServe, IsMet, IsNone, Ask, AskNothing, HaveFault, IsShown};
 
 use crate::fault::WordsFault;
-use crate::help::{ANSWERS, REASONS, VERSION};
+use crate::help::{ANSWERS, REASONS, SERVING, VERSION};
 use crate::limits::Limits;
 use clap::builder::ValueParser;
 use clap::error::ErrorKind;
@@ -27,6 +27,11 @@ pub enum Request<'a> {
     /// The check of the file of this path.
     Check {
         file: &'a str,
+    },
+    /// To perform verbs that are asked for on standard input, on the files of a folder.
+    Serve {
+        folder: &'a str,
+        limits: Limits,
     },
     /// This text: help, or the version.
     Help(Error),
@@ -63,6 +68,14 @@ fn word<'a>(alloc: Global, name: &'a str, value: &'a str, help: &'a str) -> Arg<
         .help(help)
 }
 
+/// The option of a folder.
+fn folder<'a>(alloc: Global, help: &'a str) -> Arg<'a>
+    ensures rule { rule_of result ≡ option_rule (codes "folder") }
+    ensures local { result.global ≡ false }
+{
+    word(alloc, "folder", "DIR", help).long("folder")
+}
+
 /// `run` with its deck and its folder.
 fn with_files<'a>(alloc: Global, run: Command<'a>) -> Result<Command<'a>, AllocError>
     requires { (out-Command run).has_globals ≡ false }
@@ -75,20 +88,14 @@ fn with_files<'a>(alloc: Global, run: Command<'a>) -> Result<Command<'a>, AllocE
         "DECK",
         "The file of the deck, of at most 1,048,576 bytes",
     );
-    let folder = word(
-        alloc,
-        "folder",
-        "DIR",
-        "The folder in which the deck's files stay",
-    )
-    .long("folder");
-    run.arg(deck)?.arg(folder)
+    run.arg(deck)?
+        .arg(folder(alloc, "The folder in which the deck's files stay"))
 }
 
-/// `run` with its limits.
-fn with_limits<'a>(alloc: Global, run: Command<'a>) -> Result<Command<'a>, AllocError>
-    requires { (out-Command run).has_globals ≡ false }
-    ensures shape { IfOk result (λ command. app_of command ≡ with_rule (with_rule (app_of run.entry) (number_rule (codes "pages") 16 4294967295 (codes "1048576"))) (number_rule (codes "frames") 1 4096 (codes "64"))) }
+/// `run` or `serve` with its limits.
+fn with_limits<'a>(alloc: Global, files: Command<'a>) -> Result<Command<'a>, AllocError>
+    requires { (out-Command files).has_globals ≡ false }
+    ensures shape { IfOk result (λ command. app_of command ≡ with_rule (with_rule (app_of files.entry) (number_rule (codes "pages") 16 4294967295 (codes "1048576"))) (number_rule (codes "frames") 1 4096 (codes "64"))) }
     ensures local { IfOk result (λ command. (out-Command command).has_globals ≡ false) }
 {
     let pages = number(
@@ -107,7 +114,7 @@ fn with_limits<'a>(alloc: Global, run: Command<'a>) -> Result<Command<'a>, Alloc
         "64",
         "How many pages of an open file are held in memory at most, from 1 to 4,096",
     );
-    run.arg(pages)?.arg(frames)
+    files.arg(pages)?.arg(frames)
 }
 
 /// `run`, with its words and options.
@@ -138,26 +145,46 @@ fn check_command<'a>(alloc: Global) -> Result<Command<'a>, AllocError>
     check.arg(file)
 }
 
-fn command<'a>(alloc: Global) -> Result<Command<'a>, AllocError>
-    ensures { IfOk result (λ command. app_of command ≡ program_app) }
+/// `serve`.
+fn serve_command<'a>(alloc: Global) -> Result<Command<'a>, AllocError>
+    ensures shape { IfOk result (λ command. app_of command ≡ record { top = serve_shape; subs = [] }) }
+    ensures local { IfOk result (λ command. (out-Command command).has_globals ≡ false) }
 {
-    let cobix = Command::new(alloc, "cobix")
+    let serve = Command::new(alloc, "serve")
+        .about("Performs the verbs that frames on standard input ask for")
+        .after_help(SERVING);
+    let with_folder = serve.arg(folder(alloc, "The folder in which the files stay"))?;
+    with_limits(alloc, with_folder)
+}
+
+/// The program, before its subcommands.
+fn program<'a>(alloc: Global) -> Command<'a>
+    ensures shape { app_of result ≡ record { top = program_shape; subs = [] } }
+    ensures local { (out-Command result).has_globals ≡ false }
+{
+    Command::new(alloc, "cobix")
         .about("Indexed files of COBOL")
         .version(VERSION)
         .subcommand_required(true)
-        .disable_help_subcommand(true);
-    cobix
-        .subcommand(run_command(alloc)?)?
-        .subcommand(check_command(alloc)?)
+        .disable_help_subcommand(true)
 }
 
-/// The limits of a run.
-fn limits_of(run: &ArgMatches<'_>) -> Option<Limits>
-    ensures some { IfSome result (λ limits. AreLimits (rows_of (found_of run.now)) limits.pages limits.frames.value) }
-    ensures none { result ≡ None → (pages frames : ℕ) → AreLimits (rows_of (found_of run.now)) pages frames → ⊥ }
+fn command<'a>(alloc: Global) -> Result<Command<'a>, AllocError>
+    ensures { IfOk result (λ command. app_of command ≡ program_app) }
 {
-    let pages = run.get_one("pages")?;
-    let frames = run.get_one("frames")?;
+    program(alloc)
+        .subcommand(run_command(alloc)?)?
+        .subcommand(check_command(alloc)?)?
+        .subcommand(serve_command(alloc)?)
+}
+
+/// The limits of a run, or of a session.
+fn limits_of(files: &ArgMatches<'_>) -> Option<Limits>
+    ensures some { IfSome result (λ limits. AreLimits (rows_of (found_of files.now)) limits.pages limits.frames.value) }
+    ensures none { result ≡ None → (pages frames : ℕ) → AreLimits (rows_of (found_of files.now)) pages frames → ⊥ }
+{
+    let pages = files.get_one("pages")?;
+    let frames = files.get_one("frames")?;
     Limits::of(pages, frames)
 }
 
@@ -187,15 +214,29 @@ fn check_of<'a>(matches: &ArgMatches<'a>) -> Option<Request<'a>>
     Some(Request::Check { file })
 }
 
+/// The session that the matches ask for, if they ask for one.
+fn serve_of<'a>(matches: &ArgMatches<'a>) -> Option<Request<'a>>
+    ensures some { IfSome result (IsMet (subcommand_rows_of matches.now)) }
+    ensures none { result ≡ None → (folder : List ℕ) (pages frames : ℕ) → IsServe (subcommand_rows_of matches.now) folder pages frames → ⊥ }
+{
+    let serve = matches.subcommand_matches("serve")?;
+    let folder = serve.get_str("folder")?;
+    let limits = limits_of(serve)?;
+    Some(Request::Serve { folder, limits })
+}
+
 /// What the matches ask for.
 fn request_of<'a>(matches: &ArgMatches<'a>) -> Option<Request<'a>>
     ensures some { IfSome result (IsMet (subcommand_rows_of matches.now)) }
-    ensures none { result ≡ None → IsNeither (subcommand_rows_of matches.now) }
+    ensures none { result ≡ None → IsNone (subcommand_rows_of matches.now) }
 {
-    match run_of(matches) {
-        Some(run) => Some(run),
-        None => check_of(matches),
+    if let Some(run) = run_of(matches) {
+        return Some(run);
     }
+    if let Some(check) = check_of(matches) {
+        return Some(check);
+    }
+    serve_of(matches)
 }
 
 /// What an error of the parse means: it shows help, or tells a mistake.

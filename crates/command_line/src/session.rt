@@ -1,0 +1,83 @@
+//! The answering of requests over the files of a folder.
+ghost use Rattle.std.specs.Prelude.{◌≡◌, Err, IfErr};
+ghost use Rattle.command_line.specs.Status.{status_of};
+ghost use Rattle.command_line.specs.Session.{session_told_as};
+
+use crate::fault::Fault;
+use command_words::Limits;
+use folder_shelf::{Disk, FolderShelf};
+use serve::{Libraries, ServeFault, serve};
+use shelf_library::ShelfLibrary;
+use std::alloc::Global;
+use std::io::{BufReader, Read, Write};
+use std::marker::PhantomData;
+use std::os::unix::fs::FileExt;
+use std::rt::Files;
+use system_files::LockFile;
+
+/// Makes libraries over a folder.
+#[derive(Drop)]
+struct FolderLibraries<'a, R: Files, D: Disk> {
+    rt: &'a R,
+    alloc: Global,
+    folder: &'a str,
+    limits: Limits,
+    disk: PhantomData<D>,
+}
+
+impl<'a, R: Files, D: Disk> Libraries for FolderLibraries<'a, R, D>
+where
+    R::File: FileExt + LockFile,
+{
+    ghost use Rattle.std.specs.NonZero.{non_zero_usize_get};
+    ghost use Rattle.command_line.specs.Session.{over_folder, IsNewOver};
+
+    type Library = ShelfLibrary<FolderShelf<&'a R, D>>;
+
+    ghost is_new = { λ libraries library. IsNewOver libraries.limits.pages (non_zero_usize_get libraries.limits.frames) D.Disk.unseen libraries.folder.now
+        (over_folder library.limit (non_zero_usize_get library.frames) D.Disk.unseen library.shelf.units.items library.shelf.folder.calls.events
+        library.units.items library.shelf.faults) };
+
+    fn make(&self) -> Option<ShelfLibrary<FolderShelf<&'a R, D>>> {
+        let folder = self.folder.to_string(self.alloc).ok()?;
+        let shelf: FolderShelf<&'a R, D> = FolderShelf::new(self.rt, self.alloc, folder);
+        Some(ShelfLibrary::new(self.alloc, shelf, self.limits.pages, self.limits.frames))
+    }
+}
+
+/// Why a session ended, as the program tells it.
+fn told(fault: ServeFault) -> Fault
+    ensures { result ≡ session_told_as fault }
+{
+    match fault {
+        ServeFault::Input => Fault::Input,
+        ServeFault::Output => Fault::Output,
+        ServeFault::Memory => Fault::Memory,
+    }
+}
+
+/// Answers the requests of an input over the files of a folder: as the definitions say of them, over libraries that are new at first. `Memory`: nothing was
+/// written.
+pub fn serve_folder<R: Files, D: Disk, I: Read + Drop, W: Write>(
+    rt: &R,
+    alloc: Global,
+    folder: &str,
+    limits: Limits,
+    input: I,
+    out: &mut W,
+) -> Result<(), Fault>
+where
+    R::File: FileExt + LockFile,
+    ensures memory { result ≡ Err Fault.Memory → out.new ≡ out.old }
+    ensures fault { IfErr result (λ fault. status_of fault ≡ 4) }
+{
+    let mut input = BufReader::new(alloc, input).map_err(|_| Fault::Memory)?;
+    let libraries: FolderLibraries<'_, R, D> = FolderLibraries {
+        rt,
+        alloc,
+        folder,
+        limits,
+        disk: PhantomData,
+    };
+    serve(alloc, &libraries, &mut input, out).map_err(told)
+}
