@@ -1,5 +1,5 @@
 -- The libraries of the files that are described in a session over a folder. All of this is ours.
-use Rattle.std.specs.Prelude.{◌≡◌, ℕ, List, []}
+use Rattle.std.specs.Prelude.{◌≡◌, ℕ, List, [], Result, Ok, Err}
 use Rattle.arrayvec.specs.ArrayString.{ArrayString}
 use Rattle.folder_shelf.specs.Events.{Event}
 use Rattle.folder_shelf.specs.Replay.{Unseen}
@@ -25,3 +25,7 @@ abbrev pub session_told_as : ServeFault → Fault
 session_told_as NotRead = Input
 session_told_as NotWritten = Output
 session_told_as NoMemory = Memory
+
+abbrev pub session_end_as : Result Unit ServeFault → Result Unit Fault
+session_end_as (Ok _) = Ok tt
+session_end_as (Err fault) = Err (session_told_as fault)

@@ -1,10 +1,12 @@
-//! What the program does with the words of its command line: it runs a deck over the files of a folder, or checks a file, and answers the exit status.
+//! What the program does with the words of its command line: it runs a deck over the files of a folder, answers requests over them, or checks a file, and
+//! answers the exit status.
 //!
-//! `program` does what the words ask for, writes the transcript, the verdict or the help to standard output, and tells a fault on another writer. Its clauses
-//! say which words lead to what, what standard output took, and that the exit status is that of what happened. `write_transcript` carries the theorem of a run.
+//! `program` does what the words ask for, writes the transcript, the answers, the verdict or the help to standard output, and tells a fault on another writer. Its
+//! clauses say which words lead to what, what standard output took, and that the exit status is that of what happened. `write_transcript` carries the theorem of
+//! a run, and `serve_folder` that of a session.
 //! The texts of help, verdicts and faults are shown by tests, and that the system opens the file and the folder that a path names is trusted.
 //!
-//! Read `performing` first, and then `transcript`, which runs the bytes of a deck.
+//! Read `performing` first, then `transcript`, which runs the bytes of a deck, and `session`.
 #![tactic(auto)]
 
 mod deck_file;
@@ -20,4 +22,5 @@ pub use deck_file::read_bytes;
 pub use fault::Fault;
 pub use outcome::{Outcome, Ran};
 pub use performing::program;
+pub use session::serve_folder;
 pub use transcript::write_transcript;

@@ -1,11 +1,15 @@
 //! The answering of requests over the files of a folder.
-ghost use Rattle.std.specs.Prelude.{◌≡◌, Err, IfErr};
+ghost use Rattle.std.specs.Prelude.{◌≡◌, ◌≢◌, Option, List, ℕ, Result, Err, IfErr};
+ghost use Rattle.std.specs.NonZero.{non_zero_usize_get};
+ghost use Rattle.serve.specs.Serving.{streams, Served};
+ghost use Rattle.serve.specs.declared.fault.ServeFault.{ServeFault as ToldFault};
 ghost use Rattle.command_line.specs.Status.{status_of};
-ghost use Rattle.command_line.specs.Session.{session_told_as};
+ghost use Rattle.command_line.specs.Session.{over_folder, IsNewOver, session_told_as, session_end_as};
 
 use crate::fault::Fault;
 use command_words::Limits;
 use folder_shelf::{Disk, FolderShelf};
+use indexed_file::Library;
 use serve::{Libraries, ServeFault, serve};
 use shelf_library::ShelfLibrary;
 use std::alloc::Global;
@@ -56,22 +60,41 @@ fn told(fault: ServeFault) -> Fault
     }
 }
 
+/// How a session ended, as the program tells it.
+fn ended(end: Result<(), ServeFault>) -> Result<(), Fault>
+    ensures { result ≡ session_end_as end }
+{
+    match end {
+        Ok(()) => Ok(()),
+        Err(fault) => Err(told(fault)),
+    }
+}
+
 /// Answers the requests of an input over the files of a folder: as the definitions say of them, over libraries that are new at first. `Memory`: nothing was
 /// written.
-pub fn serve_folder<R: Files, D: Disk, I: Read + Drop, W: Write>(
-    rt: &R,
+pub fn serve_folder<'a, R: Files, D: Disk, I: Read + Drop, W: Write>(
+    rt: &'a R,
     alloc: Global,
-    folder: &str,
+    folder: &'a str,
     limits: Limits,
     input: I,
     out: &mut W,
 ) -> Result<(), Fault>
 where
     R::File: FileExt + LockFile,
+    ensures served { result ≢ Err Fault.Memory → (left : Option (List ℕ)) × (end : Result Unit ToldFault) × (result ≡ session_end_as end)
+        × Served ⟦<ShelfLibrary<FolderShelf<&'a R, D>> as Library>⟧.shown
+        (λ library. IsNewOver limits.pages (non_zero_usize_get limits.frames) D.Disk.unseen folder.now
+        (over_folder library.limit (non_zero_usize_get library.frames) D.Disk.unseen library.shelf.units.items library.shelf.folder.calls.events
+        library.units.items library.shelf.faults))
+        (streams (I.remaining input) left (W.contents out.old) (W.contents out.new)) end }
     ensures memory { result ≡ Err Fault.Memory → out.new ≡ out.old }
     ensures fault { IfErr result (λ fault. status_of fault ≡ 4) }
 {
-    let mut input = BufReader::new(alloc, input).map_err(|_| Fault::Memory)?;
+    let Ok(reader) = BufReader::new(alloc, input) else {
+        return Err(Fault::Memory);
+    };
+    let mut reader = reader;
     let libraries: FolderLibraries<'_, R, D> = FolderLibraries {
         rt,
         alloc,
@@ -79,5 +102,6 @@ where
         limits,
         disk: PhantomData,
     };
-    serve(alloc, &libraries, &mut input, out).map_err(told)
+    let end = serve(alloc, &libraries, &mut reader, out);
+    ended(end)
 }
