@@ -473,7 +473,7 @@ def trials():
     yield "the check of a folder with a file in use", folder_with_a_file_in_use
 
 
-def faults(program):
+def faults(program, trials=trials):
     for name, perform in trials():
         with tempfile.TemporaryDirectory() as place:
             try:

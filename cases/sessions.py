@@ -1,0 +1,184 @@
+"""Sessions of `cobix serve`: requests as frames, and the answers to them, byte for byte (docs/FRAMES.md).
+
+`trials()` gives each by its name, as those of edges.py.
+"""
+import subprocess
+
+from edges import SECONDS, wants
+
+DYNAMIC = 2
+OPEN, CLOSE, READ_NEXT, READ, START, WRITE, REWRITE, DELETE = range(8)
+INPUT, OUTPUT, I_O = 0, 1, 2
+PRIME, BY_NAME = (0, 4, False), (4, 6, True)
+
+
+# ---- frames
+
+
+def frame(*parts):
+    body = b"".join(bytes([it]) if isinstance(it, int) else it for it in parts)
+    return len(body).to_bytes(2, "big") + body
+
+
+def two(number):
+    return number.to_bytes(2, "big")
+
+
+def describes(number, name, least=16, greatest=16, keys=(PRIME, BY_NAME)):
+    rows = b"".join(two(offset) + two(length) + bytes([duplicates]) for offset, length, duplicates in keys)
+    return frame(1, number, DYNAMIC, 0, two(least), two(greatest), len(keys), rows, name.encode())
+
+
+def performs(number, verb, operand=0, key=0, part=0, length=0, area=""):
+    return frame(2, number, verb, operand, key, two(part), two(length), area.encode())
+
+
+def writes(number, area):
+    return performs(number, WRITE, length=len(area), area=area)
+
+
+def releases(number):
+    return frame(3, number)
+
+
+DONE = frame(1)
+
+
+def refused(why):
+    return frame(0, why)
+
+
+def told(status, record=""):
+    return frame(2, status.encode(), record.encode())
+
+
+# ---- sessions
+
+ADAMS, SMITH, SVEN = "0001ADAMS OSLO  ", "0002SMITH BERGEN", "0003SMITH TROMSO"
+
+
+def serves(room, exchanges, rest=b"", status=0, errors=b""):
+    """Requests with their answers, in a session whose input ends in `rest`."""
+    asked = b"".join(request for request, _ in exchanges) + rest
+    words = [room.program, "serve", "--folder", room.files]
+    ended = subprocess.run(words, input=asked, capture_output=True, timeout=SECONDS)
+    wants(ended.stdout, b"".join(answer for _, answer in exchanges), "the answers")
+    wants((ended.returncode, ended.stderr), (status, errors), "exit status and standard error")
+
+
+BEGUN = [(describes(0, "cust.dat"), DONE), (performs(0, OPEN, OUTPUT), told("00"))]
+LISTED = [(describes(0, "cust.dat"), DONE), (performs(0, OPEN, INPUT), told("00"))]
+
+
+def written_and_read(room):
+    serves(room, [
+        *BEGUN,
+        (writes(0, ADAMS), told("00")),
+        (writes(0, SMITH), told("00")),
+        (writes(0, SVEN), told("02")),
+        (writes(0, SMITH), told("22")),
+        (performs(0, CLOSE), told("00")),
+        (performs(0, OPEN, I_O), told("00")),
+        (performs(0, READ_NEXT), told("00", ADAMS)),
+        (performs(0, READ, key=1, area="0000SMITH "), told("02", SMITH)),
+        (performs(0, READ_NEXT), told("00", SVEN)),
+        (performs(0, READ_NEXT), told("10")),
+        (performs(0, START, operand=1, key=0, part=4, area="0001"), told("00")),
+        (performs(0, READ_NEXT), told("00", SMITH)),
+        (performs(0, REWRITE, length=16, area="0002ROTH  BERGEN"), told("00")),
+        (performs(0, DELETE, area="0001"), told("00")),
+        (performs(0, READ, area="0001"), told("23")),
+        (performs(0, CLOSE, 1), told("00")),
+        (performs(0, OPEN, INPUT), told("38")),
+        (releases(0), DONE),
+    ])
+    room.wants_sound(2)
+
+
+def closed_at_the_end(room):
+    serves(room, [*BEGUN, (writes(0, ADAMS), told("00"))])
+    room.wants_sound(1)
+    serves(room, [*LISTED, (performs(0, READ_NEXT), told("00", ADAMS))])
+
+
+def cut_frame(room):
+    for rest in (b"\0", b"\0\5", b"\0\5\2\0\5\0"):
+        serves(room, [*BEGUN, (writes(0, ADAMS), told("00"))], rest)
+        room.wants_sound(1)
+
+
+def length_past_the_limit(room):
+    serves(room, [*BEGUN, (writes(0, ADAMS), told("00")), (two(8193), refused(2))], writes(0, SMITH))
+    room.wants_sound(1)
+
+
+def no_requests(room):
+    long = performs(0, READ_NEXT, area=ADAMS + " ")
+    none = [frame(), frame(9), frame(2, 0), frame(3, 0, 0), performs(0, READ_NEXT, 1), performs(0, 8), long]
+    serves(room, [*BEGUN, *((it, refused(1)) for it in none), (writes(0, ADAMS), told("00"))])
+    room.wants_sound(1)
+
+
+def refusals(room):
+    serves(room, [
+        (performs(0, READ_NEXT), refused(3)),
+        (releases(7), refused(3)),
+        (describes(64, "cust.dat"), refused(3)),
+        (describes(0, "../cust.dat"), refused(4)),
+        (describes(0, "cust.dat", least=17), refused(4)),
+        (describes(0, "cust.dat", keys=[(0, 17, False)]), refused(4)),
+        *BEGUN,
+        (describes(0, "twin.dat"), refused(3)),
+        (describes(1, "cust.dat"), refused(5)),
+        (releases(0), refused(6)),
+        (performs(0, READ, key=2), refused(8)),
+        (performs(0, CLOSE), told("00")),
+        (releases(0), DONE),
+        (describes(63, "cust.dat"), DONE),
+    ])
+    room.wants_sound(0)
+
+
+def varying_records(room):
+    described = describes(0, "cust.dat", least=10)
+    serves(room, [(described, DONE), BEGUN[1], (writes(0, ADAMS[:12]), told("00")), (writes(0, SMITH[:9]), told("44"))])
+    serves(room, [(described, DONE), LISTED[1], (performs(0, READ_NEXT), told("00", ADAMS[:12]))])
+    serves(room, [(LISTED[0][0], DONE), (performs(0, OPEN, INPUT), told("39"))])
+
+
+def two_files(room):
+    serves(room, [
+        *BEGUN,
+        (describes(1, "twin.dat"), DONE),
+        (performs(1, OPEN, OUTPUT), told("00")),
+        (writes(0, ADAMS), told("00")),
+        (writes(1, ADAMS), told("00")),
+        (writes(1, SMITH), told("00")),
+        (performs(0, CLOSE), told("00")),
+        (performs(0, OPEN, INPUT), told("00")),
+        (performs(0, READ_NEXT), told("00", ADAMS)),
+        (writes(1, SVEN), told("02")),
+        (performs(0, READ_NEXT), told("10")),
+    ])
+    room.wants_sound(1)
+    wants(room.check(room.files / "twin.dat").stdout[:16], b"sound records 3 ", "cobix check")
+
+
+def answers_on_a_full_device(room):
+    words = [room.program, "serve", "--folder", room.files]
+    with open("/dev/full", "wb") as full:
+        ended = subprocess.run(words, input=BEGUN[0][0] + BEGUN[1][0], stdout=full, stderr=subprocess.PIPE, timeout=SECONDS)
+    wants((ended.returncode, ended.stderr), (4, b"cobix: output\n"), "exit status and standard error")
+    wants(list(room.files.iterdir()), [], "the files")
+
+
+def trials():
+    yield "requests that write a file and read it", written_and_read
+    yield "a file that is open at the end of the input", closed_at_the_end
+    yield "an input that ends in a frame", cut_frame
+    yield "a length past the limit", length_past_the_limit
+    yield "frames that are no requests", no_requests
+    yield "requests that are refused", refusals
+    yield "requests on records of varying length", varying_records
+    yield "requests on two files", two_files
+    yield "answers on a full device", answers_on_a_full_device
