@@ -16,7 +16,7 @@ use Rattle.record_layout.specs.declared.fault.LayoutFault.TheVariants.{BadLevel,
 use Rattle.record_layout.specs.LayoutFault.{is_behind_empty, is_level_fit, is_in_place, is_unfinished, Lengthens, HasPictureFault, IsFaultOf, IsFirstFault}
 use Rattle.record_layout.specs.Placing.{PlacedEntry, place_of, IsOwnPlace, ArePlaced, HavePlaces, members_length, with_length, with_group_lengths}
 use Rattle.record_layout.specs.NamesInOrder.{HasNamesOf}
-use Rattle.std.specs.BTreeMap.{BTreeMap}
+use Rattle.std.specs.BTreeSet.{BTreeSet}
 use denote.Ref.{Bor}
 use Rattle.record_layout.proofs.LevelLemmas.{reverse_more}
 use Rattle.record_layout.proofs.StructureLemmas.{behind}
@@ -111,7 +111,7 @@ refused_at items i item total places fault so h is found =
     so.refused fault (subst (λ rest. IsFirstFault (reverse (map entry_of (take i items))) total rest fault) (sym here) (inl found))
 
 -- the names up to an item, with its own
-pub names_next : (names : BTreeMap (Bor (List ℕ)) (Unit {0})) (items : List Item) (i : ℕ) (item : Item) → i < length items → item ≡ get_or items i item → HasNamesOf names (entry_of item ∷ reverse (map entry_of (take i items))) → HasNamesOf names (reverse (map entry_of (take (i + 1) items)))
+pub names_next : (names : BTreeSet (Bor (List ℕ))) (items : List Item) (i : ℕ) (item : Item) → i < length items → item ≡ get_or items i item → HasNamesOf names (entry_of item ∷ reverse (map entry_of (take i items))) → HasNamesOf names (reverse (map entry_of (take (i + 1) items)))
 names_next names items i item h is known =
     subst (HasNamesOf names) (sym (reverse_more items i item h ∙ ap (λ (read : Item). entry_of read ∷ reverse (map entry_of (take i items))) (sym is))) known
 

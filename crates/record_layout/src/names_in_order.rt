@@ -8,16 +8,16 @@ use crate::fault::LayoutFault;
 use crate::item::Item;
 use io_state::Name;
 use std::alloc::Global;
-use std::collections::BTreeMap;
+use std::collections::BTreeSet;
 
 /// Names, in their order.
-pub type NamesInOrder<'a> = BTreeMap<&'a str, ()>;
+pub type NamesInOrder<'a> = BTreeSet<&'a str>;
 
 /// The names of no items.
 pub fn no_names<'a>(alloc: Global) -> NamesInOrder<'a>
     ensures { HasNamesOf result [] }
 {
-    BTreeMap::new(alloc)
+    BTreeSet::new(alloc)
 }
 
 /// Adds the name of an item, if it has one.
@@ -26,7 +26,7 @@ pub fn add_name<'a>(names: &mut NamesInOrder<'a>, item: &'a Item) -> Result<(), 
     ensures fault { IfErr result (λ fault. fault ≡ LayoutFault.Memory) }
 {
     match &item.name {
-        Some(name) => match names.insert(name.as_str(), ()) {
+        Some(name) => match names.insert(name.as_str()) {
             Ok(_) => Ok(()),
             Err(_) => Err(LayoutFault::Memory),
         },
@@ -40,7 +40,7 @@ pub fn is_taken(names: &NamesInOrder<'_>, name: &Option<Name>) -> bool
         result ≡ is_name_of entries (option_map (λ name. name.bytes) name.now) }
 {
     match name {
-        Some(name) => names.contains_key(name.as_str()),
+        Some(name) => names.contains(name.as_str()),
         None => false,
     }
 }
