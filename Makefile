@@ -2,7 +2,8 @@
 # `make run` proves and builds the program, and runs a deck; `make test` proves and tests everything,
 # runs the examples, the cases and some of them out of memory, and checks the documents;
 # `make gnucobol` runs COBOL programs over it, where cobc is there;
-# `make install` puts the program that one of the last two built into PREFIX/bin.
+# `make install` puts the program that one of the last two built into PREFIX/bin, and its manual page,
+# its completion for bash and its line for file(1) into PREFIX/share.
 .PHONY: try run test install gnucobol
 
 SHELL = /bin/bash -o pipefail
@@ -24,6 +25,7 @@ $(DIR):
 test:
 	edits/run
 	docs/believed
+	share/write --check
 	rt ci
 	cases/run $(PROGRAM)
 	cases/run-out-of-memory $(PROGRAM)
@@ -35,6 +37,9 @@ gnucobol: $(PROGRAM)
 
 install: $(PROGRAM)
 	install -D $(PROGRAM) $(PREFIX)/bin/cobix
+	install -D -m 644 share/man/man1/cobix.1 $(PREFIX)/share/man/man1/cobix.1
+	install -D -m 644 share/bash-completion/completions/cobix $(PREFIX)/share/bash-completion/completions/cobix
+	install -D -m 644 share/file/cobix $(PREFIX)/share/file/cobix
 
 $(PROGRAM):
 	@echo "make run or make test builds the program, with its proof"; false
