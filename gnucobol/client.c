@@ -6,6 +6,7 @@
 #include <spawn.h>
 #include <stdio.h>
 #include <stdlib.h>
+#include <string.h>
 #include <sys/socket.h>
 #include <sys/stat.h>
 #include <sys/wait.h>
@@ -97,30 +98,44 @@ static bool put(int socket, const uint8_t *bytes, size_t length)
     return true;
 }
 
-/* Takes one frame. Its length, or 0. */
-static size_t get(int socket, uint8_t *frame)
+/* Takes so many frames. How many came whole: where it is fewer, or more bytes came, the process is asked no more. */
+static unsigned get(struct server *server, unsigned wanted, uint8_t *frames)
 {
-    size_t had = 0, wanted = 3;
-    while (had < wanted) {
-        ssize_t got = recv(socket, frame + had, FRAME - had, 0);
+    unsigned came = 0;
+    size_t had = 0, whole = 0, length = FRAME;
+    while (came < wanted) {
+        ssize_t got = recv(server->socket, frames + had, ANSWERS - had, 0);
         if (got < 0 && errno == EINTR)
             continue;
         had += got > 0 ? (size_t)got : 0;
-        wanted = had < 2 ? 3 : 2 + ((size_t)frame[0] << 8 | frame[1]);
-        if (got <= 0 || wanted < 3 || wanted > FRAME)
-            return 0;
+        for (; came < wanted && had >= whole + 2; whole += length, came++)
+            if ((length = 2 + (size_t)two(frames + whole)) < 3 || length > had - whole)
+                break;
+        if (got <= 0 || length < 3 || length > FRAME)
+            break;
     }
-    return had == wanted ? had : 0;
+    if (came < wanted || whole < had)
+        hang_up(server);
+    return came;
 }
 
-size_t exchange(struct server *server, uint8_t *request, size_t length, uint8_t *answer)
+size_t exchange(struct server *server, uint8_t *request, size_t length, unsigned most, struct answers *from, const uint8_t **answer)
 {
-    if (server->socket < 0 || owner != getpid())
+    if (owner != getpid())
         return 0;
-    request[0] = (uint8_t)((length - 2) >> 8);
-    request[1] = (uint8_t)(length - 2);
-    size_t got = put(server->socket, request, length) ? get(server->socket, answer) : 0;
-    if (got == 0)
-        hang_up(server);
-    return got;
+    if (from->left == 0) {
+        from->asked = 2 * from->asked >= most ? most : from->asked ? 2 * from->asked : 1;
+        put_two(request, (unsigned)length - 2);
+        for (unsigned i = 1; i < from->asked; i++)
+            memcpy(request + i * length, request, length);
+        if (!put(server->socket, request, from->asked * length))
+            hang_up(server);
+        from->left = get(server, from->asked, from->bytes);
+        from->next = from->bytes;
+    }
+    if (from->left == 0)
+        return 0;
+    from->left--, *answer = from->next;
+    from->next += 2 + two(*answer);
+    return 2 + (size_t)two(*answer);
 }

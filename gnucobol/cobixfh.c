@@ -40,14 +40,17 @@ struct connector {
     cob_file *file;      /* NULL where interpose.c does not tell it */
     struct server *server;
     char path[PATH];
-    bool described, locked;
+    bool described, locked, input;
     uint8_t number, key_count, place[KEYS]; /* the place in the description of each key of the FCD */
     unsigned greatest;
+    struct answers ahead; /* to READ NEXT, while it is open INPUT */
 };
 
 static struct connector *connectors;
 static cob_file *opening;
-static uint8_t request[FRAME], answer[FRAME];
+static uint8_t request[FRAME];
+static struct answers one;
+static const uint8_t *answer;
 
 static const char *refuse(const struct connector *connector, const struct verb *verb, const char *status, const char *why)
 {
@@ -57,11 +60,7 @@ static const char *refuse(const struct connector *connector, const struct verb *
 
 static const char *name_in(const char *path) { return strrchr(path, '/') ? strrchr(path, '/') + 1 : path; }
 
-static unsigned two(const unsigned char *from) { return (unsigned)from[0] << 8 | from[1]; }
-
 static unsigned four(const void *from) { return two(from) << 16 | two((const unsigned char *)from + 2); }
-
-static uint8_t *put_two(uint8_t *at, unsigned value) { at[0] = (uint8_t)(value >> 8); at[1] = (uint8_t)value; return at + 2; }
 
 /* ---- connectors */
 
@@ -157,7 +156,7 @@ static const char *describe(struct connector *connector, const struct verb *verb
     uint8_t access = fcd->accessFlags & ACCESS_DYNAMIC ? 2 : fcd->accessFlags & ACCESS_RANDOM ? 1 : 0;
     memcpy(request + 2, (uint8_t[]){DESCRIBE, connector->number, access, (fcd->otherFlags & OTH_OPTIONAL) != 0}, 4);
     end = (uint8_t *)stpcpy((char *)end, name);
-    size_t got = exchange(connector->server, request, (size_t)(end - request), answer);
+    size_t got = exchange(connector->server, request, (size_t)(end - request), 1, &one, &answer);
     connector->described = connector->server->taken[connector->number] = got == 3 && answer[2] == DESCRIBE;
     if (connector->described)
         return NULL;
@@ -175,8 +174,7 @@ static const char *describe(struct connector *connector, const struct verb *verb
 static void release(struct connector *connector)
 {
     memcpy(request + 2, (uint8_t[]){RELEASE, connector->number}, 2);
-    size_t got = exchange(connector->server, request, 4, answer);
-    connector->described = got > 3 && answer[2] == 0 && answer[3] == FILE_IS_OPEN;
+    connector->described = exchange(connector->server, request, 4, 1, &one, &answer) > 3 && answer[2] == 0 && answer[3] == FILE_IS_OPEN;
     connector->server->taken[connector->number] = connector->described;
 }
 
@@ -220,10 +218,15 @@ static void deliver(struct connector *connector, FCD3 *fcd, size_t length)
         cob_set_int(connector->file->variable_record, (int)length);
 }
 
+/* On a file that is open INPUT several records are read ahead. Nothing changes it, and no other verb looks at its position: READ and
+   START set it or lose it, CLOSE ends it, and the rest leave it as it is. */
 static const char *perform(struct connector *connector, const struct verb *verb, FCD3 *fcd)
 {
     static char status[3];
-    size_t got = exchange(connector->server, request, put_verb(connector, verb, fcd), answer);
+    struct answers *from = connector->input && verb->verb == READ_NEXT ? &connector->ahead : &one;
+    if (verb->verb == READ || verb->verb == START || verb->verb == CLOSE)
+        connector->ahead.left = connector->ahead.asked = 0;
+    size_t got = exchange(connector->server, request, put_verb(connector, verb, fcd), from == &one ? 1 : MOST, from, &answer);
     if (got < 5 || answer[2] != PERFORM || answer[3] < '0' || answer[3] > '9')
         return refuse(connector, verb, "30", got ? "cobix did not understand the request" : "cobix has ended");
     memcpy(status, answer + 3, 2);
@@ -238,6 +241,8 @@ static const char *open_file(struct connector *connector, const struct verb *ver
     const char *status = described ? NULL : describe(connector, verb, fcd);
     if (!status)
         status = perform(connector, verb, fcd);
+    if (*status == '0')
+        connector->input = verb->operand == 0;
     if (!described && connector->described && *status != '0')
         release(connector);
     return status;

@@ -32,6 +32,9 @@ function start(   of, relation) {
     put(of relation, "START F KEY " (relation == "N" ? "NOT <" : relation) " " \
         (of == 1 ? "F-KEY" : of == 2 ? "F-KEY-1" : of == 3 ? "F-GROUP" : relation == "=" ? "F-UNIQUE" : "F-UNIQUE-1"))
 }
+function read(of) {
+    put(substr("RKRGRU", 1 + 2 * of, 2), "READ F" (of == 0 ? "" : " KEY IS " (of == 1 ? "F-GROUP" : "F-UNIQUE")))
+}
 function open_or_close(   n) {
     n = draw(10)
     if (n) put("CL", "CLOSE F")
@@ -47,12 +50,29 @@ function verb(   n) {
     else if (n < 11) put("RW", "REWRITE F-RECORD")
     else if (n < 12) put("DE", "DELETE F")
     else if (access == "SEQUENTIAL") { if (n < 14) start(); else put("RN", "READ F") }
-    else if (n < 13) put("RK", "READ F")
-    else if (n < 14) put("RG", "READ F KEY IS F-GROUP")
-    else if (n < 15) put("RU", "READ F KEY IS F-UNIQUE")
+    else if (n < 15) read(n - 12)
     else if (access == "RANDOM") put("RK", "READ F")
     else if (n < 17) start()
     else put("RN", "READ F NEXT")
+}
+function read_next(n) { while (n-- > 0) put("RN", access == "SEQUENTIAL" ? "READ F" : "READ F NEXT") }
+function reopen(code, mode) { put("CL", "CLOSE F"); put(code, "OPEN " mode " F") }
+# Each verb in turn on a file that is open INPUT, some READ NEXTs before it and behind it.
+function among_read_next(   i) {
+    reopen("OI", "INPUT")
+    for (i = 0; i < 24; i++) {
+        read_next(1 + draw(i % 3 ? 12 : 3))
+        if (i % 8 == 0) start()
+        else if (i % 8 == 1) put("WR", "WRITE F-RECORD")
+        else if (i % 8 == 2) put("RW", "REWRITE F-RECORD")
+        else if (i % 8 == 3) put("DE", "DELETE F")
+        else if (i % 8 == 4) put("OB", "OPEN I-O F")
+        else if (i % 8 == 5) { put("CL", "CLOSE F"); read_next(2); put("OI", "OPEN INPUT F") }
+        else if (i % 8 == 6) { reopen("OB", "I-O"); read_next(3); put("RW", "REWRITE F-RECORD"); read_next(2); put("DE", "DELETE F"); reopen("OI", "INPUT") }
+        else if (access == "DYNAMIC") read(draw(3))
+        else start()
+    }
+    read_next(50)
 }
 BEGIN {
     srand(seed)
@@ -61,8 +81,8 @@ BEGIN {
     put("OO", "OPEN OUTPUT F")
     for (i = 0; i < count; i++)
         verb()
-    put("CL", "CLOSE F")
-    put("OI", "OPEN INPUT F")
+    if (access != "RANDOM") among_read_next()
+    reopen("OI", "INPUT")
     put("CW", "CLOSE F WITH LOCK")
     put("OB", "OPEN I-O F")
     print "STOP RUN." > "deck"

@@ -60,7 +60,16 @@
                READ F NEXT
                PERFORM COUNT-IT
            END-PERFORM.
+           MOVE "NEXT, I-O" TO WHAT. PERFORM STOP-CLOCK.
+           CLOSE F.
+           OPEN INPUT F.
+           PERFORM VARYING I FROM 0 BY 1 UNTIL I >= HOW-MANY
+               READ F NEXT
+               PERFORM COUNT-IT
+           END-PERFORM.
            MOVE "READ NEXT" TO WHAT. PERFORM STOP-CLOCK.
+           CLOSE F.
+           OPEN I-O F.
            PERFORM VARYING I FROM 0 BY 1 UNTIL I >= HOW-MANY
                COMPUTE F-NUMBER = FUNCTION MOD (I * 6271 HOW-MANY)
                COMPUTE F-GROUP = FUNCTION MOD (I * 3 HOW-MANY / 20)

@@ -1,0 +1,108 @@
+      *> Files that are open INPUT: two that are read by turns while a
+      *> third is written, and verbs among READ NEXT. One has long
+      *> records, and one has records of varying length.
+       IDENTIFICATION DIVISION.
+       PROGRAM-ID. AHEAD.
+       ENVIRONMENT DIVISION.
+       INPUT-OUTPUT SECTION.
+       FILE-CONTROL.
+           SELECT LONG ASSIGN TO "long.dat" ORGANIZATION IS INDEXED
+               ACCESS MODE IS SEQUENTIAL RECORD KEY IS LONG-KEY
+               FILE STATUS IS ST.
+           SELECT VARYING-ONE ASSIGN TO "varying.dat"
+               ORGANIZATION IS INDEXED
+               ACCESS MODE IS DYNAMIC RECORD KEY IS VARYING-KEY
+               FILE STATUS IS ST.
+           SELECT PAIRS ASSIGN TO "pairs.dat" ORGANIZATION IS INDEXED
+               ACCESS MODE IS SEQUENTIAL RECORD KEY IS PAIR-KEY
+               FILE STATUS IS ST.
+       DATA DIVISION.
+       FILE SECTION.
+       FD LONG.
+       01 LONG-RECORD.
+           05 LONG-KEY PIC 9(4).
+           05 LONG-TEXT PIC X(3996).
+       FD VARYING-ONE RECORD IS VARYING IN SIZE FROM 4 TO 40 CHARACTERS
+           DEPENDING ON HOW-LONG.
+       01 VARYING-RECORD.
+           05 VARYING-KEY PIC 9(4).
+           05 VARYING-TEXT PIC X(36).
+       FD PAIRS.
+       01 PAIR-RECORD.
+           05 PAIR-KEY PIC 9(4).
+       WORKING-STORAGE SECTION.
+       77 ST PIC XX.
+       77 HOW-LONG PIC 9(4).
+       77 WANTED PIC 9(4).
+       77 N PIC 9(4).
+       77 GOOD-LONG PIC 9(4) VALUE 0.
+       77 GOOD-VARYING PIC 9(4) VALUE 0.
+       77 GOOD-PAIRS PIC 9(4) VALUE 0.
+       77 COPY-OF-IT PIC S9(9) COMP-5.
+       77 ENDED PIC S9(9) COMP-5.
+       PROCEDURE DIVISION.
+       MAIN-LINE.
+           OPEN OUTPUT LONG VARYING-ONE PAIRS.
+           PERFORM VARYING N FROM 1 BY 1 UNTIL N > 300
+               MOVE N TO LONG-KEY VARYING-KEY
+               MOVE ALL "long" TO LONG-TEXT
+               MOVE ALL "varying" TO VARYING-TEXT
+               IF N <= 150 WRITE LONG-RECORD END-IF
+               COMPUTE HOW-LONG = 4 + FUNCTION MOD (N 37)
+               WRITE VARYING-RECORD
+           END-PERFORM.
+           CLOSE LONG VARYING-ONE.
+           OPEN INPUT VARYING-ONE.
+           PERFORM 4 TIMES READ VARYING-ONE NEXT END-PERFORM.
+           PERFORM IN-A-COPY.
+           READ VARYING-ONE NEXT.
+           DISPLAY "AFTER THE COPY " ST " " VARYING-KEY.
+           MOVE 100 TO VARYING-KEY.
+           START VARYING-ONE KEY IS NOT LESS THAN VARYING-KEY.
+           PERFORM SHOW-NEXT 3 TIMES.
+           MOVE 7 TO VARYING-KEY.
+           READ VARYING-ONE.
+           DISPLAY "READ " ST " " VARYING-KEY " " HOW-LONG.
+           PERFORM SHOW-NEXT 5 TIMES.
+           WRITE VARYING-RECORD. DISPLAY "WRITE " ST.
+           DELETE VARYING-ONE. DISPLAY "DELETE " ST.
+           OPEN I-O VARYING-ONE. DISPLAY "OPEN I-O " ST.
+           PERFORM SHOW-NEXT 2 TIMES.
+           MOVE 301 TO VARYING-KEY.
+           READ VARYING-ONE. DISPLAY "READ " ST.
+           PERFORM SHOW-NEXT.
+           MOVE 299 TO VARYING-KEY.
+           START VARYING-ONE KEY IS GREATER THAN VARYING-KEY.
+           PERFORM SHOW-NEXT 5 TIMES.
+           CLOSE VARYING-ONE. DISPLAY "CLOSE " ST.
+           PERFORM SHOW-NEXT.
+           OPEN INPUT LONG VARYING-ONE.
+           PERFORM VARYING WANTED FROM 1 BY 1 UNTIL WANTED > 310
+               PERFORM READ-BOTH
+           END-PERFORM.
+           DISPLAY GOOD-LONG " " GOOD-VARYING " " GOOD-PAIRS.
+           CLOSE LONG PAIRS.
+           STOP RUN.
+       IN-A-COPY.
+           CALL "CBL_GC_FORK" RETURNING COPY-OF-IT.
+           IF COPY-OF-IT = 0
+               READ VARYING-ONE NEXT
+               DISPLAY "COPY " ST
+               STOP RUN
+           END-IF.
+           CALL "CBL_GC_WAITPID" USING COPY-OF-IT RETURNING ENDED.
+       SHOW-NEXT.
+           MOVE SPACES TO VARYING-RECORD. MOVE 0 TO HOW-LONG.
+           READ VARYING-ONE NEXT.
+           DISPLAY "NEXT " ST " " VARYING-KEY " " HOW-LONG
+               " " VARYING-TEXT (1:9).
+       READ-BOTH.
+           READ LONG NEXT.
+           IF ST = "00" AND LONG-KEY = WANTED
+               AND LONG-TEXT (3993:4) = "long" ADD 1 TO GOOD-LONG.
+           READ VARYING-ONE NEXT.
+           IF ST = "00" AND VARYING-KEY = WANTED AND HOW-LONG =
+               4 + FUNCTION MOD (WANTED 37) ADD 1 TO GOOD-VARYING.
+           IF LONG-KEY = VARYING-KEY
+               MOVE LONG-KEY TO PAIR-KEY WRITE PAIR-RECORD
+               IF ST = "00" ADD 1 TO GOOD-PAIRS.
