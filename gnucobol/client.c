@@ -7,7 +7,6 @@
 #include <stdio.h>
 #include <stdlib.h>
 #include <string.h>
-#include <sys/socket.h>
 #include <sys/stat.h>
 #include <sys/wait.h>
 #include <unistd.h>
@@ -15,7 +14,7 @@
 static struct server *servers;
 static pid_t owner; /* the program; a copy that it makes of itself leaves the processes alone */
 
-static void hang_up(struct server *server) { if (server->socket >= 0) close(server->socket); server->socket = -1; }
+static void hang_up(struct server *server) { for (int *end = server->ends; *end >= 0; end++) close(*end), *end = -1; }
 
 /* Ends each process, which then closes the files that are open, and waits for it. */
 static void end_all(void)
@@ -37,31 +36,30 @@ static void end_all(void)
     }
 }
 
-/* The same socket, not under the number of standard input, output or error. */
-static int above_standard(int socket) { int above = fcntl(socket, F_DUPFD_CLOEXEC, 3); close(socket); return above; }
+/* The same end, not under the number of standard input, output or error. */
+static int above_standard(int end) { int above = fcntl(end, F_DUPFD_CLOEXEC, 3); close(end); return above; }
 
 /* The process is in a group of its own, so that a key that interrupts the program leaves it the time to close the files. */
 static bool start(struct server *server, const char *folder)
 {
     const char *program = getenv("COBIX"), *frames = getenv("COBIX_FRAMES");
     const char *words[] = {"cobix", "serve", "--folder", folder, frames ? "--frames" : NULL, frames, NULL};
-    int ends[2];
-    if (socketpair(AF_UNIX, SOCK_STREAM | SOCK_CLOEXEC, 0, ends))
-        return false;
-    int end = above_standard(ends[1]);
-    server->socket = above_standard(ends[0]);
+    int *ends = memset(server->ends, -1, sizeof server->ends);
+    bool fault = pipe2(ends, O_CLOEXEC) || pipe2(ends + 2, O_CLOEXEC);
+    for (int i = 0; i < ENDS; i++)
+        ends[i] = above_standard(ends[i]);
     posix_spawn_file_actions_t actions;
     posix_spawnattr_t attributes;
     posix_spawn_file_actions_init(&actions);
     posix_spawnattr_init(&attributes);
-    bool fault = end < 0 || server->socket < 0 || posix_spawn_file_actions_adddup2(&actions, end, 0) ||
-                 posix_spawn_file_actions_adddup2(&actions, end, 1) ||
-                 posix_spawnattr_setflags(&attributes, POSIX_SPAWN_SETPGROUP) ||
-                 posix_spawnp(&server->process, program && *program ? program : "cobix", &actions, &attributes,
-                              (char *const *)(uintptr_t)words, environ);
+    fault = fault || posix_spawn_file_actions_adddup2(&actions, ends[REQUESTS_OUT], 0) ||
+            posix_spawn_file_actions_adddup2(&actions, ends[ANSWERS_IN], 1) ||
+            posix_spawnattr_setflags(&attributes, POSIX_SPAWN_SETPGROUP) ||
+            posix_spawnp(&server->process, program && *program ? program : "cobix", &actions, &attributes,
+                         (char *const *)(uintptr_t)words, environ);
     posix_spawnattr_destroy(&attributes);
     posix_spawn_file_actions_destroy(&actions);
-    close(end);
+    close(ends[ANSWERS_IN]), ends[ANSWERS_IN] = -1;
     if (fault)
         hang_up(server);
     return !fault;
@@ -73,7 +71,7 @@ struct server *server_of(const char *folder)
     if (stat(folder, &found) || !S_ISDIR(found.st_mode) || (owner && owner != getpid()))
         return NULL;
     for (struct server *server = servers; server; server = server->next)
-        if (server->socket >= 0 && server->device == found.st_dev && server->folder == found.st_ino)
+        if (server->ends[0] >= 0 && server->device == found.st_dev && server->folder == found.st_ino)
             return server;
     if (!owner && atexit(end_all))
         return NULL;
@@ -87,10 +85,10 @@ struct server *server_of(const char *folder)
     return servers = server;
 }
 
-static bool put(int socket, const uint8_t *bytes, size_t length)
+static bool put(int end, const uint8_t *bytes, size_t length)
 {
     for (ssize_t sent; length; bytes += sent, length -= (size_t)sent) {
-        while ((sent = send(socket, bytes, length, MSG_NOSIGNAL)) < 0 && errno == EINTR)
+        while ((sent = write(end, bytes, length)) < 0 && errno == EINTR)
             continue;
         if (sent <= 0)
             return false;
@@ -104,7 +102,7 @@ static unsigned get(struct server *server, unsigned wanted, uint8_t *frames)
     unsigned came = 0;
     size_t had = 0, whole = 0, length = FRAME;
     while (came < wanted) {
-        ssize_t got = recv(server->socket, frames + had, ANSWERS - had, 0);
+        ssize_t got = read(server->ends[ANSWERS_OUT], frames + had, ANSWERS - had);
         if (got < 0 && errno == EINTR)
             continue;
         had += got > 0 ? (size_t)got : 0;
@@ -128,10 +126,9 @@ size_t exchange(struct server *server, uint8_t *request, size_t length, unsigned
         put_two(request, (unsigned)length - 2);
         for (unsigned i = 1; i < from->asked; i++)
             memcpy(request + i * length, request, length);
-        if (!put(server->socket, request, from->asked * length))
+        if (!put(server->ends[REQUESTS_IN], request, from->asked * length))
             hang_up(server);
-        from->left = get(server, from->asked, from->bytes);
-        from->next = from->bytes;
+        from->left = get(server, from->asked, from->bytes), from->next = from->bytes;
     }
     if (from->left == 0)
         return 0;

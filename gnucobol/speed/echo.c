@@ -1,6 +1,6 @@
 /* A program that speaks as `cobix serve` and has no files: each verb is answered 00 at once, a READ with 100 bytes. What a run takes
-   over it is the COBOL program, the handler, and a round trip over the socket pair. As cobix does, it reads what is there, and writes each
-   answer by itself. */
+   over it is the COBOL program, the handler, and a round trip over two pipes. As cobix does, it reads what is there, and writes each answer
+   by itself. */
 #include <string.h>
 #include <unistd.h>
 
