@@ -10,7 +10,7 @@ use Rattle.procedure_division.specs.declared.statement.Statement.{Statement}
 use Rattle.procedure_division.specs.declared.statement.Statement.TheVariants.{Perform}
 use Rattle.indexed_file.specs.Shown.{Shown}
 use Rattle.deck_runner.specs.Steps.{left_by, IsStepOn, close_of, close_at, closes_from}
-use Rattle.deck_runner.specs.Stretches.{Point, IsStretch, AreStretches, ClosesAt, ClosesFiles, ClosesInPart}
+use Rattle.deck_runner.specs.Stretches.{Point, IsStretch, AreStretches, AreStretchesInPart, ClosesAt, ClosesAtInPart, ClosesFiles, ClosesInPart}
 use Rattle.deck_runner.specs.Running.{Running, run_files}
 use Rattle.deck_runner.proofs.StepLemmas.{no_steps, steps_then, one_step}
 
@@ -100,13 +100,25 @@ module _ {S : Type 0} (library : Shown S) where
   all_closed first now u lines at_end closed =
       subst (λ (l : List RunFile). AreStretches library (closes_from 0 l) first lines now) (take_all u first.run.files (omega arith)) closed.steps
 
-  pub closed_in_part : (first now : Point S) (u : ℕ) (lines : List Line) → AreClosed u first lines now → ClosesInPart library first lines now
-  closed_in_part first now u lines closed = (
-    closes_from 0 (take u first.run.files),
-    closes_from (0 + length (take u first.run.files)) (drop u first.run.files),
-    ap (closes_from 0) (sym (take-append-drop u first.run.files)) ∙ closes_append 0 (take u first.run.files) (drop u first.run.files),
-    closed.steps,
-  )
+  -- a part of the close of one more
+  pub closed_in_part : (first now next : Point S) (u : ℕ) (lines others : List Line) → u < length first.run.files → AreClosed u first lines now → ClosesAtInPart library u now others next
+      → ClosesInPart library first (lines ++ others) next
+  closed_in_part first now next u lines others within closed part =
+      let files = first.run.files in
+      let file = get_there files u within in
+      let same : slice_get now.run.files u ≡ slice_get files u = get_of_rest now.run.files u ∙ ap (λ (l : List RunFile). slice_get l 0) closed.rest ∙ sym (get_of_rest files u) in
+      let here : AreStretchesInPart library (close_at u (slice_get files u)) now others next = subst (λ (o : Option RunFile). AreStretchesInPart library (close_at u o) now others next) same part in
+      let before = closes_from 0 (take u files) in
+      let after = closes_from (0 + length (take (u + 1) files)) (drop (u + 1) files) in
+      let all : closes_from 0 files ≡ closes_from 0 (take (u + 1) files) ++ after =
+      ap (closes_from 0) (sym (take-append-drop (u + 1) files)) ∙ closes_append 0 (take (u + 1) files) (drop (u + 1) files) in
+      let front : closes_from 0 (take (u + 1) files) ≡ (before ++ here.0) ++ here.1 =
+      closes_to_next files u file.0 within file.1 ∙ ap (λ (l : List Statement). before ++ l) here.2 ∙ sym (append_assoc before here.0 here.1) in (
+        before ++ here.0,
+        here.1 ++ after,
+        all ∙ ap (λ (l : List Statement). l ++ after) front ∙ append_assoc (before ++ here.0) here.1 after,
+        steps_then (IsStretch library) before here.0 first now next lines others closed.steps here.3,
+      )
 
   -- ---- the close of a file that is open, and of one that is not
 
@@ -119,3 +131,9 @@ module _ {S : Type 0} (library : Shown S) where
   is_closed u run next lines file get is step =
       subst (λ (o : Option RunFile). AreStretches library (close_at u o) run lines next) (sym get)
       (subst (λ (b : Bool). AreStretches library (if b then Perform u (Close false) ∷ [] else []) run lines next) (sym is) (one_step (IsStretch library) (Perform u (Close false)) run next lines step))
+
+  pub is_closed_in_part : (u : ℕ) (run next : Point S) (lines : List Line) (file : RunFile) → slice_get run.run.files u ≡ Some file → is_still_open file ≡ true
+      → AreStretchesInPart library (Perform u (Close false) ∷ []) run lines next → ClosesAtInPart library u run lines next
+  is_closed_in_part u run next lines file get is steps =
+      subst (λ (o : Option RunFile). AreStretchesInPart library (close_at u o) run lines next) (sym get)
+      (subst (λ (b : Bool). AreStretchesInPart library (if b then Perform u (Close false) ∷ [] else []) run lines next) (sym is) steps)

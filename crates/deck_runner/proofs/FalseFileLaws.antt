@@ -1,19 +1,18 @@
 -- In every run of stretches each name stands by its ledger.
-use Rattle.std.proofs.Common.{◌≡◌, ℕ, Bool, true, false, ◌&&◌, List, [], ◌∷◌, ◌++◌, Option, Some, None, bytes_eq, refl, sym, ap, ◌∙◌, subst, IsTrue, if◌then◌else◌}
+use Rattle.std.proofs.Common.{◌≡◌, ℕ, Bool, true, false, ◌&&◌, List, [], ◌∷◌, ◌++◌, Option, Some, None, bytes_eq, refl, sym, ◌∙◌, subst, IsTrue, if◌then◌else◌}
 use Rattle.std.specs.List.{list_all}
 use Rattle.std.proofs.lemmas.List.Folds.{list_all-append}
 use Rattle.std.proofs.lemmas.Slice.Eq.{bytes_eq-Decides}
-use Rattle.indexed_file.specs.World.{World, Named}
-use Rattle.indexed_file.specs.Images.{Trace, untouched, Stays, LibraryMayLeave, LeavesOnly, ImagesGo, is_one_of}
-use Rattle.indexed_file.specs.Moments.{Test, Moments}
+use Rattle.indexed_file.specs.World.{Named}
+use Rattle.indexed_file.specs.Images.{Trace, LibraryMayLeave, LeavesOnly, is_one_of}
+use Rattle.indexed_file.specs.Moments.{Test}
 use Rattle.indexed_file.proofs.NamedLaws.{one_of_more, all_one_of, all_one_of_rest}
 use Rattle.indexed_file.specs.Shown.{Shown}
 use Rattle.indexed_file.proofs.TestLemmas.{either}
 use Rattle.procedure_division.specs.declared.statement.Statement.{Statement}
 use Rattle.deck_runner.specs.Line.{Line}
-use Rattle.deck_runner.specs.Steps.{AreStepsOf}
-use Rattle.deck_runner.specs.Stretches.{Point, IsStretch, AreStretches, name_by, trace_by}
-use Rattle.deck_runner.specs.NoFalseFile.{Ledger, during, behind, behind_by, StandsBy, trace_for, Judged, IsSafeStretch, StandNow, NoFalseFile, images_by, ImagesAreOfLedger}
+use Rattle.deck_runner.specs.Stretches.{Point, IsStretch, name_by, trace_by}
+use Rattle.deck_runner.specs.NoFalseFile.{Ledger, during, behind, behind_by, StandsBy, trace_for, Judged, IsSafeStretch, NoFalseFile, ImagesAreOfLedger}
 
 all_left : (a b : Bool) → (a && b) ≡ true → a ≡ true
 all_left true b e = refl

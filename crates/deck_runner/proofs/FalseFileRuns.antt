@@ -1,5 +1,5 @@
 -- In the run of a deck each name stands by its ledger.
-use Rattle.std.proofs.Common.{◌≡◌, ◌⊎◌, ℕ, true, List, [], ◌∷◌, ◌++◌, refl, sym, ap, ◌∙◌, subst, inl, inr, IsTrue}
+use Rattle.std.proofs.Common.{◌≡◌, ℕ, List, [], ◌∷◌, refl, sym, ap, subst, inl, inr}
 use Rattle.indexed_file.specs.Moments.{Test}
 use Rattle.indexed_file.specs.Shown.{Shown}
 use Rattle.procedure_division.specs.declared.statement.Statement.{Statement}

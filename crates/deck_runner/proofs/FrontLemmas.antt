@@ -1,5 +1,5 @@
 -- The lines before the first unclean one are the definition's.
-use Rattle.std.proofs.Common.{◌≡◌, ℕ, suc, Bool, true, false, not, ◌&&◌, ◌⊎◌, List, [], ◌∷◌, ◌++◌, length, map, flat_map, slice_get, Option, Some, None, refl, sym, ap, ◌∙◌, append_assoc, append-nil, subst, inl, inr, if◌then◌else◌}
+use Rattle.std.proofs.Common.{◌≡◌, ℕ, suc, Bool, true, false, ◌⊎◌, List, [], ◌∷◌, ◌++◌, length, flat_map, slice_get, Option, Some, None, refl, sym, ap, ◌∙◌, append_assoc, append-nil, subst, inl, inr, if◌then◌else◌}
 use Rattle.std.specs.List.{list_all}
 use Rattle.io_state.specs.declared.statement.FileStatement.TheVariants.{Close}
 use Rattle.procedure_division.specs.declared.statement.Statement.{Statement}
@@ -8,8 +8,8 @@ use Rattle.indexed_file.specs.Shown.{Shown}
 use Rattle.deck_runner.specs.Line.{Line, is_clean}
 use Rattle.deck_runner.specs.Run.{RunFile, LengthValue, Run, performed, items_after, line_of, lines_on, after, lines_of, lines_until_stop, run_at_stop, is_stop, is_still_open, closing_lines, lines_of_run}
 use Rattle.deck_runner.specs.Steps.{IsStepOn, IsStep, AreSteps, until_stop, closes_from}
-use Rattle.deck_runner.specs.Stretches.{Point, AreStretches, IsRunOver, IsBrokenOff, CleanFrontsAreExact}
-use Rattle.deck_runner.proofs.RunLaws.{and_left, and_right, clean_first, clean_rest, clean_one, clean_until_stop, get_behind, change_behind, length_behind, close_keeps_items, of, steps_of}
+use Rattle.deck_runner.specs.Stretches.{CleanFrontsAreExact}
+use Rattle.deck_runner.proofs.RunLaws.{clean_first, clean_rest, clean_one, clean_until_stop, get_behind, change_behind, length_behind, close_keeps_items, of, steps_of}
 
 -- ---- the lines of statements one after another
 
@@ -74,7 +74,7 @@ abbrev Begins : List Line → List Line → Type 0
 Begins front lines = (more : List Line) × (lines ≡ front ++ more)
 
 -- where a list stands before another in the same list as two others
-cut : (xs ys zs ws : List Line) → xs ++ ys ≡ zs ++ ws
+pub cut : (xs ys zs ws : List Line) → xs ++ ys ≡ zs ++ ws
     → ((us : List Line) × (zs ≡ xs ++ us) × (ys ≡ us ++ ws)) ⊎ ((us : List Line) × (xs ≡ zs ++ us) × (ws ≡ us ++ ys))
 cut [] ys zs ws e = inl (zs, refl, e)
 cut (x ∷ xs) ys [] ws e = inr (x ∷ xs, refl, sym e)

@@ -2,12 +2,14 @@ pub mod OutputLemmas
 pub mod CleanLemmas
 pub mod RunLaws
 pub mod FrontLemmas
+pub mod ReadsLemmas
 pub mod DigitLemmas
 pub mod FrameLemmas
 pub mod LengthLemmas
 pub mod VerbLemmas
 pub mod StateLemmas
 pub mod MoveLemmas
+pub mod HeldLemmas
 pub mod ToldLemmas
 pub mod StepLemmas
 pub mod CloseLemmas

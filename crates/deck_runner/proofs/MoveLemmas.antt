@@ -11,8 +11,8 @@ use Rattle.verbs.specs.Held.{state_of}
 use Rattle.deck_runner.specs.declared.running_deck.RunningDeck.{RunningDeck}
 use Rattle.deck_runner.specs.Running.{Running, schema_of, run_file, run_files, run_of}
 use Rattle.deck_runner.specs.State.{state, IsSafeIn, GoesOn}
-use Rattle.deck_runner.specs.Stretches.{Point, IsStretch, HasCauses, ShowsRun, name_by, trace_by}
-use Rattle.indexed_file.specs.Images.{untouched, ImagesGo}
+use Rattle.deck_runner.specs.Stretches.{IsStretch, HasCauses, ShowsRun, name_by, trace_by}
+use Rattle.indexed_file.specs.Images.{untouched}
 use Rattle.indexed_file.proofs.ImageLemmas.{goes_none}
 use Rattle.indexed_file.specs.Shown.{Shown}
 use Rattle.procedure_division.specs.declared.statement.Statement.{Statement}

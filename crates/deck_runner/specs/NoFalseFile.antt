@@ -1,10 +1,10 @@
 -- No false file after a crash. At each moment of a run, each image of a file stands for what the last CLOSE of a change that answered 00
 -- left, or for that of a CLOSE in progress or one that failed since, or is refused; before the first such CLOSE it may also be as in an image
 -- at the start. All of this is ours.
-use Rattle.std.specs.Prelude.{◌≡◌, ◌⊎◌, ℕ, Bool, true, false, List, [], ◌∷◌, ◌++◌, Option, Some, None, bytes_eq, if◌then◌else◌, IsTrue}
+use Rattle.std.specs.Prelude.{◌≡◌, ℕ, Bool, true, false, List, [], ◌∷◌, ◌++◌, Option, Some, None, bytes_eq, if◌then◌else◌, IsTrue}
 use Rattle.std.specs.List.{list_all}
 use Rattle.indexed_file.specs.World.{World, Named}
-use Rattle.indexed_file.specs.Images.{Trace, untouched, Stays, is_one_of}
+use Rattle.indexed_file.specs.Images.{Trace, untouched, is_one_of}
 use Rattle.indexed_file.specs.Moments.{Test, Moments}
 use Rattle.indexed_file.specs.Shown.{Shown}
 use Rattle.procedure_division.specs.declared.statement.Statement.{Statement}

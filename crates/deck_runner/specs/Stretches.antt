@@ -106,6 +106,10 @@ IsRunOver library = IsRunOf (IsStretch library) (λ point. closes_from 0 point.r
 abbrev pub AreStretchesInPart : {S : Type 0} → Shown S → List Statement → Point S → List Line → Point S → Type 0
 AreStretchesInPart library = AreStepsInPart (IsStretch library)
 
+-- the close of the file of a place, or nothing
+abbrev pub ClosesAtInPart : {S : Type 0} → Shown S → ℕ → Point S → List Line → Point S → Type 0
+ClosesAtInPart library u run lines next = AreStretchesInPart library (close_at u (slice_get run.run.files u)) run lines next
+
 -- some of the closes
 abbrev pub ClosesInPart : {S : Type 0} → Shown S → Point S → List Line → Point S → Type 0
 ClosesInPart library run lines next = AreStretchesInPart library (closes_from 0 run.run.files) run lines next

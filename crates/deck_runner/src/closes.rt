@@ -1,9 +1,10 @@
 //! The closes at the end of a run.
 ghost use Rattle.std.specs.Prelude.{◌≡◌, ◌≤◌, ◌<◌, IfOk, OnErr, length};
-ghost use Rattle.deck_runner.specs.Stretches.{ClosesAt, ClosesFiles, ClosesInPart};
+ghost use Rattle.deck_runner.specs.Stretches.{ClosesAt, ClosesAtInPart, ClosesFiles, ClosesInPart};
 ghost use Rattle.deck_runner.specs.State.{state, IsSafeIn, GoesOn, Leads};
-ghost use Rattle.deck_runner.specs.RunEnd.{Told, ToldInPart};
+ghost use Rattle.deck_runner.specs.HeldLines.{so_far, Come, ComeInPart};
 
+use crate::held_lines::HeldLines;
 use crate::output::Refused;
 use crate::run_end::RunEnd;
 use crate::running_deck::RunningDeck;
@@ -12,21 +13,22 @@ use io_state::FileStatement;
 use std::io::Write;
 
 impl RunningDeck {
-    /// Closes the file of a place, if it is still open, and writes its line.
+    /// Closes the file of a place, if it is still open, and adds its line to those that are held.
     fn close_file<L: Library, W: Write>(
         &mut self,
         u: usize,
         library: &mut L,
+        held: &mut HeldLines,
         out: &mut W,
     ) -> Result<RunEnd, Refused>
         requires safe { IsSafeIn L.shown (state library.old self.old) }
         requires place { u < length self.old.files.items }
         ensures goes { GoesOn L.shown (state library.old self.old) (state library.new self.new) }
         ensures one { IfOk result (λ end. end.lines ≤ 1) }
-        ensures done { IfOk result (λ end. Told (W.contents out.old) (W.contents out.new) end
+        ensures done { IfOk result (λ end. Come (so_far (W.contents out.old) held.old) (so_far (W.contents out.new) held.new) end
             (Leads L.shown (state library.old self.old) (state library.new self.new) (ClosesAt L.shown u))) }
-        ensures refused { OnErr result (ToldInPart (W.contents out.old) (W.contents out.new)
-            (Leads L.shown (state library.old self.old) (state library.new self.new) (ClosesAt L.shown u))) }
+        ensures refused { OnErr result (ComeInPart (so_far (W.contents out.old) held.old) (W.contents out.new)
+            (Leads L.shown (state library.old self.old) (state library.new self.new) (ClosesAtInPart L.shown u))) }
     {
         let file = &self.files[u];
         let open = file.is_open();
@@ -34,26 +36,27 @@ impl RunningDeck {
             return Ok(RunEnd::none());
         }
         let close = FileStatement::Close { lock: false };
-        self.run_verb(u, &close, library, out)
+        self.run_verb(u, &close, library, held, out)
     }
 
     /// Closes the files that are still open.
     pub fn close_all<L: Library, W: Write>(
         &mut self,
         library: &mut L,
+        held: &mut HeldLines,
         out: &mut W,
     ) -> Result<RunEnd, Refused>
         requires safe { IsSafeIn L.shown (state library.old self.old) }
         ensures goes { GoesOn L.shown (state library.old self.old) (state library.new self.new) }
         ensures few { IfOk result (λ end. end.lines ≤ length self.old.files.items) }
-        ensures done { IfOk result (λ end. Told (W.contents out.old) (W.contents out.new) end
+        ensures done { IfOk result (λ end. Come (so_far (W.contents out.old) held.old) (so_far (W.contents out.new) held.new) end
             (Leads L.shown (state library.old self.old) (state library.new self.new) (ClosesFiles L.shown))) }
-        ensures refused { OnErr result (ToldInPart (W.contents out.old) (W.contents out.new)
+        ensures refused { OnErr result (ComeInPart (so_far (W.contents out.old) held.old) (W.contents out.new)
             (Leads L.shown (state library.old self.old) (state library.new self.new) (ClosesInPart L.shown))) }
     {
         let mut end = RunEnd::none();
         for u in 0..self.files.len() {
-            match self.close_file(u, library, out) {
+            match self.close_file(u, library, held, out) {
                 Ok(more) => end = end.followed_by(more),
                 Err(refused) => return Err(refused),
             }

@@ -10,6 +10,7 @@ ghost use Rattle.deck_runner.specs.DeckRun.{OfDeck, RunsExactly, IsRefusedDeck};
 
 use crate::beginning::begin;
 use crate::fault::RunFault;
+use crate::held_lines::HeldLines;
 use crate::run_end::RunEnd;
 use deck_reader::{Deck, read_deck};
 use indexed_file::Library;
@@ -34,11 +35,15 @@ fn run_read<L: Library, W: Write>(
         × (out.new ≡ out.old) × IsUntouched L.shown library.old library.new) }
     ensures keeps { Keeps L.shown library.old library.new }
 {
+    let Ok(held) = HeldLines::new(alloc) else {
+        return Err(RunFault::Memory);
+    };
     let Ok(begun) = begin(alloc, deck, library) else {
         return Err(RunFault::Memory);
     };
+    let mut held = held;
     let mut begun = begun;
-    match begun.run(deck.statements.as_slice(), library, out) {
+    match begun.run(deck.statements.as_slice(), library, &mut held, out) {
         Ok(end) => Ok(end),
         Err(_) => Err(RunFault::Output),
     }
@@ -50,7 +55,7 @@ fn run_read<L: Library, W: Write>(
 /// A run whose end is clean has written exactly the transcript of the definitions, and each file name of the deck stands for what
 /// they leave. `Deck`: the bytes are no deck, and nothing was written or changed. `Memory`: memory was wanted before the first
 /// statement, and nothing was written or changed. `Output`: the writer refused a line; it holds all lines before it and a proper
-/// front of it, and nothing was performed behind the statement of that line, no close either.
+/// front of it. Nothing was performed behind the statement of that line but READ and START, which change no file: no close either.
 pub fn run_deck<L: Library, W: Write>(
     alloc: Global,
     bytes: &[u8],

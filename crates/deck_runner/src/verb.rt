@@ -1,7 +1,6 @@
 //! An input-output statement on a file of the run.
 ghost use Rattle.std.specs.Prelude.{◌≡◌, length, min, not, option_map};
 ghost use Rattle.verbs.specs.Faults.{is_unclean};
-ghost use Rattle.procedure_division.specs.declared.statement.Statement.TheVariants.{Perform as PerformStatement};
 ghost use Rattle.deck_runner.specs.Run.{items_after_read};
 ghost use Rattle.deck_runner.specs.Running.{IsItemPlace, schema_of, length_for};
 ghost use Rattle.deck_runner.specs.State.{state, IsSafeIn, GoesOn};
@@ -66,7 +65,7 @@ impl RunningDeck {
         requires statement { CanPerform self.old u statement.now }
         ensures goes { GoesOn L.shown (state library.old self.old) (state library.new self.new) }
         ensures line { MakesLine L.shown (state library.old self.old) (state library.new self.new)
-            (PerformStatement u statement.now) result }
+            u statement.now result }
     {
         let file = &mut self.files[u];
         let length = record_length(&self.items, file);

@@ -1,12 +1,14 @@
 //! A whole run.
-ghost use Rattle.std.specs.Prelude.{◌≡◌, All, IfOk, OnErr};
+ghost use Rattle.std.specs.Prelude.{◌≡◌, [], All, IfOk, OnErr};
 ghost use Rattle.deck_runner.specs.Steps.{CleanRunsAreExact};
 ghost use Rattle.deck_runner.specs.Stretches.{IsRunOver, IsBrokenOff, CleanFrontsAreExact};
 ghost use Rattle.deck_runner.specs.NoFalseFile.{NoFalseFile, ImagesAreOfLedger};
 ghost use Rattle.deck_runner.specs.Conditions.{IsStatementIn};
 ghost use Rattle.deck_runner.specs.State.{state, IsSafeIn, GoesOn, Leads};
 ghost use Rattle.deck_runner.specs.RunEnd.{Told, ToldInPart};
+ghost use Rattle.deck_runner.specs.Reads.{ReadsChangeNoFile};
 
+use crate::held_lines::HeldLines;
 use crate::output::Refused;
 use crate::run_end::RunEnd;
 use crate::running_deck::RunningDeck;
@@ -16,15 +18,18 @@ use std::io::Write;
 
 impl RunningDeck {
     /// Runs the statements up to STOP RUN, and then closes the files that are still open. Each statement that is performed has its
-    /// line in `out`; a refusal ends the run behind the statement of that line.
+    /// line in `out`, where no line is held before. A refusal ends the run behind the statement of that line, or behind statements after
+    /// it that only read.
     pub fn run<L: Library, W: Write>(
         &mut self,
         statements: &[Statement],
         library: &mut L,
+        held: &mut HeldLines,
         out: &mut W,
     ) -> Result<RunEnd, Refused>
         requires safe { IsSafeIn L.shown (state library.old self.old) }
         requires statements { All (IsStatementIn self.old) statements.now }
+        requires none_held { held.old ≡ [] }
         ensures goes { GoesOn L.shown (state library.old self.old) (state library.new self.new) }
         ensures done { IfOk result (λ end. Told (W.contents out.old) (W.contents out.new) end
             (Leads L.shown (state library.old self.old) (state library.new self.new)
@@ -33,14 +38,10 @@ impl RunningDeck {
             (Leads L.shown (state library.old self.old) (state library.new self.new)
             (IsBrokenOff L.shown statements.now))) }
     {
-        let stopped = match self.run_to_stop(statements, library, out) {
-            Ok(stopped) => stopped,
-            Err(refused) => return Err(refused),
-        };
-        match self.close_all(library, out) {
-            Ok(closed) => Ok(stopped.followed_by(closed)),
-            Err(refused) => Err(refused),
-        }
+        let stopped = self.run_to_stop(statements, library, held, out)?;
+        let closed = self.close_all(library, held, out)?;
+        held.hand_over(out)?;
+        Ok(stopped.followed_by(closed))
     }
 }
 
@@ -63,4 +64,10 @@ pub fn no_false_file<L: Library>(_library: &L)
 /// in its ledger, and behind the first CLOSE of a change one of its ledger alone.
 pub fn images_are_of_ledger<L: Library>(_library: &L)
     ensures { ImagesAreOfLedger L.shown }
+{}
+
+/// READ and START change no file: where a run was broken off, and all lines behind some are of these, each file is as it was behind the
+/// statements of those.
+pub fn reads_change_no_file<L: Library>(_library: &L)
+    ensures { ReadsChangeNoFile L.shown }
 {}

@@ -136,10 +136,10 @@ module _ (old new : LibraryState) (none : old.shelf.names ≡ []) (empty : old.h
     breaks_off of =
         let deck : Deck = of.0 in
         let told = of.3 in
-        let lines = told.0 ++ told.1 ∷ [] in
+        let lines = told.0 ++ told.1 ∷ told.2 in
         let safe = no_false_file deck (IsSafeBrokenOff shown_in old deck.statements) lines
-        (λ name before after real run begun. over_broken_off old name real deck.statements before lines after run begun) told.7 in
-        (deck, of.1, elsewhere deck of.2, (told.0, told.1, told.2, told.3, told.4, told.5, told.6, by_states (RunsInPart shown_in) limit frames deck lines first last limits told.7 safe))
+        (λ name before after real run begun. over_broken_off old name real deck.statements before lines after run begun) told.9 in
+        (deck, of.1, elsewhere deck of.2, (told.0, told.1, told.2, told.3, told.4, told.5, told.6, told.7, told.8, by_states (RunsInPart shown_in) limit frames deck lines first last limits told.9 safe))
 
 -- ---- over any library whose states these are
 
@@ -165,4 +165,4 @@ module _ {S : Type 0} (state : S → LibraryState) where
       → OfDeck shown_in bytes (state old) (state new) (λ deck. ToldInPart written written_after (RunsInPart shown_in (state old) (state new) deck))
   part_in bytes old new written written_after of =
       let told = of.3 in
-      (of.0, of.1, of.2, (told.0, told.1, told.2, told.3, told.4, told.5, told.6, runs_in_part state old new of.0 (told.0 ++ told.1 ∷ []) told.7))
+      (of.0, of.1, of.2, (told.0, told.1, told.2, told.3, told.4, told.5, told.6, told.7, told.8, runs_in_part state old new of.0 (told.0 ++ told.1 ∷ told.2) told.9))

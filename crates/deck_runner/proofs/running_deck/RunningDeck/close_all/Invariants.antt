@@ -1,6 +1,6 @@
 use Rattle.std.proofs.Common.{◌≤◌}
 use Rattle.deck_runner.specs.State.{state, GoesOn, Leads}
-use Rattle.deck_runner.specs.RunEnd.{Told}
+use Rattle.deck_runner.specs.HeldLines.{so_far, Come}
 use Rattle.deck_runner.proofs.CloseLemmas.{AreClosed}
 use Rattle.deck_runner.proofs.running_deck.RunningDeck.close_all.Given as goal
 
@@ -12,6 +12,6 @@ invariant-loop-u g l =
     record {
       goes : GoesOn g.L.Library.shown first now;
       few : l.end.lines ≤ l.u;
-      told : Told (g.W.Write.contents l.fn.out) (g.W.Write.contents l.out) l.end
+      told : Come (so_far (g.W.Write.contents l.fn.out) l.fn.held) (so_far (g.W.Write.contents l.out) l.held) l.end
           (Leads g.L.Library.shown first now (AreClosed g.L.Library.shown l.u));
     }

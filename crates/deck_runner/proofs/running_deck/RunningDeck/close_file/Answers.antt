@@ -1,18 +1,17 @@
-use Rattle.std.proofs.Common.{false, [], length, refl, sym}
-use Rattle.std.proofs.KnownBytes.{Appends-nil}
+use Rattle.std.proofs.Common.{false, [], ◌∷◌, length, refl, sym}
 use Rattle.std.proofs.lemmas.List.Elements.{All-nil}
 use Rattle.std.proofs.lemmas.Option.{slice_get_read}
 use Rattle.std.proofs.lemmas.Result.{IfOk-weaker, on_err_weaker}
 use Rattle.io_state.specs.declared.statement.FileStatement.TheVariants.{Close}
 use Rattle.procedure_division.specs.declared.statement.Statement.TheVariants.{Perform}
-use Rattle.deck_runner.specs.Stretches.{IsStretch, ClosesAt}
+use Rattle.deck_runner.specs.Stretches.{IsStretch, AreStretchesInPart, ClosesAt, ClosesAtInPart}
 use Rattle.deck_runner.specs.Running.{run_file}
 use Rattle.deck_runner.specs.State.{state, point_in, IsLineOf, Leads}
-use Rattle.deck_runner.specs.RunEnd.{Told}
+use Rattle.deck_runner.specs.HeldLines.{so_far, Come}
 use Rattle.deck_runner.proofs.VerbLemmas.{run_here, of_any}
 use Rattle.deck_runner.proofs.StateLemmas.{leads_as}
-use Rattle.deck_runner.proofs.ToldLemmas.{told_as, part_as}
-use Rattle.deck_runner.proofs.CloseLemmas.{not_open, is_closed}
+use Rattle.deck_runner.proofs.ToldLemmas.{none_come, come_as, come_in_part_as}
+use Rattle.deck_runner.proofs.CloseLemmas.{not_open, is_closed, is_closed_in_part}
 use Rattle.deck_runner.proofs.running_deck.RunningDeck.close_file.Goals as goal
 
 pub returns-then-not-open-clause-done : goal.returns-then-not-open-clause-done
@@ -20,16 +19,13 @@ returns-then-not-open-clause-done g c =
     let world = g.L.Library.shown.world c.args.library.now in
     let files = c.args.self.now.files.items in
     let file = c.index-file.result.now in
-    let get = slice_get_read files (length files) c.args.u file refl c.requires.place c.index-file.ensures in (
-      [],
-      Appends-nil (g.W.Write.contents c.args.out.now),
-      c.none.ensures,
-      record {
-        steps = λ honest trusted.
-            not_open g.L.Library.shown c.args.u (point_in g.L.Library.shown (state c.args.library.now c.args.self.now)) (run_file world c.args.u file) (run_here world files c.args.u file get) (sym c.if-not-open.ensures);
-        lines_are = All-nil (IsLineOf _ _ _);
-      },
-    )
+    let get = slice_get_read files (length files) c.args.u file refl c.requires.place c.index-file.ensures in
+    none_come (so_far (g.W.Write.contents c.args.out.now) c.args.held.now) c.none.result _ c.none.ensures
+    (record {
+      steps = λ honest trusted.
+          not_open g.L.Library.shown c.args.u (point_in g.L.Library.shown (state c.args.library.now c.args.self.now)) (run_file world c.args.u file) (run_here world files c.args.u file get) (sym c.if-not-open.ensures);
+      lines_are = All-nil (IsLineOf _ _ _);
+    })
 
 pub run_verb-requires-clause-statement : goal.run_verb-requires-clause-statement
 run_verb-requires-clause-statement g c =
@@ -49,9 +45,9 @@ returns-clause-done g c =
     let P = Leads g.L.Library.shown first next One in
     let Q = Leads g.L.Library.shown first next (ClosesAt g.L.Library.shown c.args.u) in
     IfOk-weaker c.run_verb.result
-    (λ end. Told (g.W.Write.contents c.args.out.now) (g.W.Write.contents c.run_verb.new.out) end P)
-    (λ end. Told (g.W.Write.contents c.args.out.now) (g.W.Write.contents c.run_verb.new.out) end Q)
-    (λ end told. told_as (g.W.Write.contents c.args.out.now) (g.W.Write.contents c.run_verb.new.out) end P Q told
+    (λ end. Come (so_far (g.W.Write.contents c.args.out.now) c.args.held.now) (so_far (g.W.Write.contents c.run_verb.new.out) c.run_verb.new.held) end P)
+    (λ end. Come (so_far (g.W.Write.contents c.args.out.now) c.args.held.now) (so_far (g.W.Write.contents c.run_verb.new.out) c.run_verb.new.held) end Q)
+    (λ end told. come_as (so_far (g.W.Write.contents c.args.out.now) c.args.held.now) (so_far (g.W.Write.contents c.run_verb.new.out) c.run_verb.new.held) end P Q told
     (leads_as g.L.Library.shown first next One (ClosesAt g.L.Library.shown c.args.u)
     (λ lines p.
     is_closed g.L.Library.shown c.args.u (point_in g.L.Library.shown first) (point_in g.L.Library.shown next) lines (run_file world c.args.u file) (run_here world files c.args.u file get) (sym c.if-not-open.ensures) p)))
@@ -65,12 +61,12 @@ returns-clause-refused g c =
     let get = slice_get_read files (length files) c.args.u file refl c.requires.place c.index-file.ensures in
     let first = state c.args.library.now c.args.self.now in
     let next = state c.run_verb.new.library c.run_verb.new.self in
-    let One = IsStretch g.L.Library.shown (Perform c.args.u (Close false)) in
+    let One = AreStretchesInPart g.L.Library.shown (Perform c.args.u (Close false) ∷ []) in
     let P = Leads g.L.Library.shown first next One in
-    let Q = Leads g.L.Library.shown first next (ClosesAt g.L.Library.shown c.args.u) in
+    let Q = Leads g.L.Library.shown first next (ClosesAtInPart g.L.Library.shown c.args.u) in
     on_err_weaker c.run_verb.result
-    (λ part. part_as (g.W.Write.contents c.args.out.now) (g.W.Write.contents c.run_verb.new.out) P Q part
-    (leads_as g.L.Library.shown first next One (ClosesAt g.L.Library.shown c.args.u)
+    (λ part. come_in_part_as (so_far (g.W.Write.contents c.args.out.now) c.args.held.now) (g.W.Write.contents c.run_verb.new.out) P Q part
+    (leads_as g.L.Library.shown first next One (ClosesAtInPart g.L.Library.shown c.args.u)
     (λ lines p.
-    is_closed g.L.Library.shown c.args.u (point_in g.L.Library.shown first) (point_in g.L.Library.shown next) lines (run_file world c.args.u file) (run_here world files c.args.u file get) (sym c.if-not-open.ensures) p)))
+    is_closed_in_part g.L.Library.shown c.args.u (point_in g.L.Library.shown first) (point_in g.L.Library.shown next) lines (run_file world c.args.u file) (run_here world files c.args.u file get) (sym c.if-not-open.ensures) p)))
     c.run_verb.ensures.refused

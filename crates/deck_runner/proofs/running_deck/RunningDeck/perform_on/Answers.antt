@@ -68,6 +68,7 @@ returns-clause-line g c =
     let noted = written_over c.args.self.now.items.len items c.note_length.new.items c.args.self.now.items.ok.0 many ∙ read in
     record {
       line = line;
+      statement_is = refl;
       text = rw (c.make_line.ensures, c.name.ensures.name, c.delivered-delivered.ensures.record) refl;
       clean_is = c.is_clean.ensures;
       leads = record {

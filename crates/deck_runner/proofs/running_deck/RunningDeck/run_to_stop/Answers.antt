@@ -1,10 +1,13 @@
-use Rattle.std.proofs.Common.{◌+◌, take, sym, arith}
+use Rattle.std.proofs.Common.{◌+◌, [], ◌∷◌, take, refl, sym, arith}
+use Rattle.std.proofs.lemmas.List.Elements.{All-nil}
 use Rattle.deck_runner.specs.Steps.{until_stop}
 use Rattle.deck_runner.specs.Stretches.{IsStretch, AreStretches, AreStretchesInPart}
-use Rattle.deck_runner.specs.State.{state, point_in, Leads}
+use Rattle.deck_runner.specs.State.{state, point_in, IsLineOf, Leads}
 use Rattle.deck_runner.proofs.StateLemmas.{goes_then, leads_then}
-use Rattle.deck_runner.proofs.StepLemmas.{passed_more, step_to_next, breaks_behind}
-use Rattle.deck_runner.proofs.ToldLemmas.{told_then, part_then}
+use Rattle.deck_runner.proofs.StepLemmas.{no_steps, passed_more, step_to_next, breaks_behind}
+use Rattle.deck_runner.specs.HeldLines.{so_far}
+use Rattle.deck_runner.proofs.ToldLemmas.{none_come, come_then, part_then}
+use Rattle.deck_runner.proofs.MoveLemmas.{goes_on_alike}
 use Rattle.deck_runner.proofs.running_deck.RunningDeck.run_to_stop.Goals as goal
 
 pub returns-in-Err-clause-refused : goal.returns-in-Err-clause-refused
@@ -15,9 +18,9 @@ returns-in-Err-clause-refused g c =
     let i = c.loop-statement.statement-index in
     let before = c.loop-statement.invariant in
     let Done = AreStretches g.L.Library.shown (take i c.args.statements.now) in
-    let One = IsStretch g.L.Library.shown c.statement-item.result in
+    let One = AreStretchesInPart g.L.Library.shown (c.statement-item.result ∷ []) in
     let Part = AreStretchesInPart g.L.Library.shown (until_stop c.args.statements.now) in
-    part_then (g.W.Write.contents c.args.out.now) (g.W.Write.contents c.loop-statement.out) (g.W.Write.contents c.run_statement.new.out) c.loop-statement.end
+    part_then (so_far (g.W.Write.contents c.args.out.now) c.args.held.now) (so_far (g.W.Write.contents c.loop-statement.out) c.loop-statement.held) (g.W.Write.contents c.run_statement.new.out) c.loop-statement.end
     (Leads g.L.Library.shown first now Done) (Leads g.L.Library.shown now next One) (Leads g.L.Library.shown first next Part)
     before.told c.in-Err.ensures.refused
     (leads_then g.L.Library.shown first now next Done One Part before.goes c.run_statement.ensures.goes
@@ -40,7 +43,7 @@ loop-statement-preserved g c =
       goes = goes_then g.L.Library.shown first now next before.goes goes;
       passed = passed_more c.args.statements.now i c.statement-item.result c.loop-statement-test.true c.statement-item.is (sym c.if-stop.ensures) before.passed;
       few = let few = before.few in let one = c.in-Ok.ensures.one in rw c.followed_by-end.ensures (omega arith);
-      told = told_then (g.W.Write.contents c.args.out.now) (g.W.Write.contents c.loop-statement.out) (g.W.Write.contents c.run_statement.new.out) c.loop-statement.end c.in-Ok.more c.followed_by-end.result
+      told = come_then (so_far (g.W.Write.contents c.args.out.now) c.args.held.now) (so_far (g.W.Write.contents c.loop-statement.out) c.loop-statement.held) (so_far (g.W.Write.contents c.run_statement.new.out) c.run_statement.new.held) c.loop-statement.end c.in-Ok.more c.followed_by-end.result
           (Leads g.L.Library.shown first now Done) (Leads g.L.Library.shown now next One) (Leads g.L.Library.shown first next Next)
           before.told c.in-Ok.ensures.done c.followed_by-end.ensures
           (leads_then g.L.Library.shown first now next Done One Next before.goes goes
@@ -48,3 +51,12 @@ loop-statement-preserved g c =
           step_to_next (IsStretch g.L.Library.shown) c.args.statements.now i c.statement-item.result c.loop-statement-test.true c.statement-item.is
           (point_in g.L.Library.shown first) (point_in g.L.Library.shown now) (point_in g.L.Library.shown next) xs ys p q));
     }
+
+pub loop-statement-init : goal.loop-statement-init
+loop-statement-init g c = record {
+  goes = goes_on_alike g.L.Library.shown c.args.library.now c.args.self.now c.args.self.now refl refl c.requires.safe;
+  passed = refl;
+  few = rw c.none-end.ensures (omega arith);
+  told = none_come (so_far (g.W.Write.contents c.args.out.now) c.args.held.now) c.none-end.result _ c.none-end.ensures
+      (record { steps = λ honest trusted. no_steps (IsStretch g.L.Library.shown) (point_in g.L.Library.shown (state c.args.library.now c.args.self.now)); lines_are = All-nil (IsLineOf _ _ _) });
+}

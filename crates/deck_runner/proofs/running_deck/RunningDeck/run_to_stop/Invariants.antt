@@ -1,7 +1,7 @@
 use Rattle.std.proofs.Common.{◌≤◌, take}
 use Rattle.deck_runner.specs.Stretches.{AreStretches}
 use Rattle.deck_runner.specs.State.{state, GoesOn, Leads}
-use Rattle.deck_runner.specs.RunEnd.{Told}
+use Rattle.deck_runner.specs.HeldLines.{so_far, Come}
 use Rattle.deck_runner.proofs.StepLemmas.{IsPassed}
 use Rattle.deck_runner.proofs.running_deck.RunningDeck.run_to_stop.Given as goal
 
@@ -14,6 +14,6 @@ invariant-loop-statement g l =
       goes : GoesOn g.L.Library.shown first now;
       passed : IsPassed l.statements l.statement-index;
       few : l.end.lines ≤ l.statement-index;
-      told : Told (g.W.Write.contents l.fn.out) (g.W.Write.contents l.out) l.end
+      told : Come (so_far (g.W.Write.contents l.fn.out) l.fn.held) (so_far (g.W.Write.contents l.out) l.held) l.end
           (Leads g.L.Library.shown first now (AreStretches g.L.Library.shown (take l.statement-index l.statements)));
     }
