@@ -3,16 +3,18 @@
 ghost use Rattle.std.specs.Prelude.{◌≤◌, length};
 
 use crate::left::reads_as;
-use crate::running::run_over_lists;
+use crate::running::{run_over_lists, shelf_before};
 use deck_runner::{RunEnd, RunFault, run_deck};
 use list_library::ListLibrary;
-use page_store::MemShelf;
+use page_store::{MemShelf, Shelf};
 use shelf_run::run_on_shelf;
 use std::alloc::Global;
 use std::io::{self, ErrorKind, Write};
 use std::num::NonZeroUsize;
 use std::test::Fail;
-use worked_decks::{ONE_IS_READ, REFUSED, Step, WRITTEN_AND_READ_BACK, deck_of, transcript_of};
+use worked_decks::{
+    A_CLASH, ONE_IS_READ, REFUSED, Step, WRITTEN_AND_READ_BACK, Worked, deck_of, transcript_of,
+};
 
 /// What a writer does where it has no room left.
 #[derive(Clone, Copy, Debug, PartialEq, Eq)]
@@ -31,6 +33,8 @@ struct Narrow {
     refusal: Refusal,
     /// How many times in a row it was interrupted.
     interrupted: u32,
+    /// How often it was called.
+    calls: u64,
 }
 
 impl Narrow {
@@ -40,6 +44,7 @@ impl Narrow {
             room,
             refusal,
             interrupted: 0,
+            calls: 0,
         }
     }
 
@@ -57,6 +62,7 @@ impl Narrow {
 
 impl Write for Narrow {
     fn write(&mut self, bytes: &[u8]) -> io::Result<usize> {
+        self.calls = self.calls.saturating_add(1);
         if self.room > 0 {
             let n = self.take(bytes, self.room);
             self.room = self.room.saturating_sub(n);
@@ -121,7 +127,7 @@ fn is_broken_off(alloc: Global, room: usize, refusal: Refusal) -> Result<bool, F
 }
 
 #[test]
-fn behind_a_line_that_the_writer_refuses_nothing_is_performed(rt: HostRuntime) -> Result<(), Fail> {
+fn behind_a_line_that_the_writer_refuses_no_file_is_changed(rt: HostRuntime) -> Result<(), Fail> {
     let transcript = transcript_of(rt.alloc(), WRITTEN_AND_READ_BACK.steps)?;
     for refusal in [
         Refusal::TakesNothing,
@@ -159,5 +165,107 @@ fn a_writer_may_be_interrupted_999_times_in_a_row(rt: HostRuntime) -> Result<(),
             assert!(rt; is_whole(rt.alloc(), room, times)?, "{room} {times}");
         }
     }
+    Ok(())
+}
+
+/// Three records are read, and then a fourth is written.
+const READ_AND_WRITTEN: &[Step] = &[
+    ("OPEN I-O CUST.", "OPEN I-O CUST 00"),
+    ("READ CUST NEXT.", "READ NEXT CUST 00 [0001ADAMS OSLO  ]"),
+    ("READ CUST NEXT.", "READ NEXT CUST 00 [0002SMITH BERGEN]"),
+    ("READ CUST NEXT.", "READ NEXT CUST 00 [0003SVEN  TROMSO]"),
+    (
+        "MOVE 3 TO CUST-ID. READ CUST.",
+        "READ CUST 00 [0003SVEN  TROMSO]",
+    ),
+    ("MOVE 4 TO CUST-ID. MOVE \"ROTH\" TO CUST-NAME.", ""),
+    (
+        "MOVE \"MOSS\" TO CUST-CITY. WRITE CUST-REC.",
+        "WRITE CUST 00",
+    ),
+    ("STOP RUN.", "CLOSE CUST 00"),
+];
+
+/// The file as it is where the fourth record was not written.
+const THREE_ARE_READ: &[Step] = &[
+    ("OPEN INPUT CUST.", "OPEN INPUT CUST 00"),
+    ("READ CUST NEXT.", "READ NEXT CUST 00 [0001ADAMS OSLO  ]"),
+    ("READ CUST NEXT.", "READ NEXT CUST 00 [0002SMITH BERGEN]"),
+    ("READ CUST NEXT.", "READ NEXT CUST 00 [0003SVEN  TROMSO]"),
+    ("READ CUST NEXT.", "READ NEXT CUST 10"),
+    ("STOP RUN.", "CLOSE CUST 00"),
+];
+
+/// What the three records read as where only these bytes of that transcript were taken, less than all but the last line. The sixth line is that of WRITE.
+fn left_behind_reads(taken: &[u8]) -> &'static [Step] {
+    let lines = taken.iter().filter(|byte| **byte == b'\n').count();
+    if lines < 5 { THREE_ARE_READ } else { REFUSED }
+}
+
+/// Whether the run with a writer of so much room leaves, over pages and over lists, what it has to.
+fn leaves_what_was_read(alloc: Global, room: usize, refusal: Refusal) -> Result<bool, Fail> {
+    let worked: Worked = A_CLASH;
+    let deck = deck_of(alloc, worked.heading, READ_AND_WRITTEN)?;
+    let transcript = transcript_of(alloc, READ_AND_WRITTEN)?;
+    let whole = transcript.as_bytes();
+    let front = &whole[..room.min(whole.len())];
+    let left = left_behind_reads(front);
+    let mut shelf = shelf_before(alloc, &worked)?;
+    shelf.attach(&[])?;
+    let mut out = Narrow::new(alloc, room, refusal);
+    let (shelf, end) = run_on_shelf(
+        alloc,
+        deck.as_bytes(),
+        shelf,
+        4000,
+        NonZeroUsize::MIN,
+        &mut out,
+    );
+    let over_pages = end == Err(RunFault::Output)
+        && out.taken.as_slice() == front
+        && reads_as(alloc, &shelf, worked.heading, left)?;
+    let mut library = ListLibrary::new(alloc);
+    let before = deck_of(alloc, worked.heading, worked.before)?;
+    run_over_lists(alloc, &mut library, &before)?.1?;
+    let mut out = Narrow::new(alloc, room, refusal);
+    let end = run_deck(alloc, deck.as_bytes(), &mut library, &mut out);
+    let next = deck_of(alloc, worked.heading, left)?;
+    let (read, _) = run_over_lists(alloc, &mut library, &next)?;
+    let over_lists = end == Err(RunFault::Output)
+        && out.taken.as_slice() == front
+        && read == transcript_of(alloc, left)?;
+    Ok(over_pages && over_lists)
+}
+
+// The lines of the READs are held until the WRITE, which is performed only where the writer took all of them: 160 bytes.
+#[test]
+fn a_write_behind_reads_waits_for_their_lines(rt: HostRuntime) -> Result<(), Fail> {
+    for refusal in [Refusal::TakesNothing, Refusal::Fails] {
+        for room in [0, 16, 17, 18, 54, 90, 128, 159, 160, 161, 173] {
+            assert!(rt;
+                leaves_what_was_read(rt.alloc(), room, refusal)?,
+                "{refusal:?} {room}"
+            );
+        }
+    }
+    Ok(())
+}
+
+// 10,000 lines of READs are 180,000 bytes: two parts of at most 65,536 bytes are handed over as the next line has no room, and the rest before the CLOSE.
+#[test]
+fn the_lines_of_reads_are_handed_over_together(rt: HostRuntime) -> Result<(), Fail> {
+    let alloc = rt.alloc();
+    let worked = WRITTEN_AND_READ_BACK;
+    let mut deck = deck_of(alloc, worked.heading, &[("OPEN INPUT CUST.", "")])?;
+    let mut transcript = "OPEN INPUT CUST 35\n".to_string(alloc)?;
+    for _ in 0..10_000 {
+        deck.push_str("    READ CUST.\n")?;
+        transcript.push_str("READ NEXT CUST 47\n")?;
+    }
+    deck.push_str("    STOP RUN.\n")?;
+    let mut out = Narrow::new(alloc, usize::MAX, Refusal::Fails);
+    let (_, end) = run_over_pages(alloc, &deck, &mut out);
+    assert!(rt; end.is_ok() && out.taken.as_slice() == transcript.as_bytes());
+    assert!(rt; out.calls == 3);
     Ok(())
 }
