@@ -1,0 +1,25 @@
+-- The first bytes of a reader.
+use Rattle.std.proofs.Common.{◌≡◌, ℕ, List, [], ◌++◌, take, Option, Some, None, option_map, Result, Err, refl, sym, ap, subst, ◌∙◌}
+use Rattle.std.specs.Option.{IfSome}
+use Rattle.file_header.specs.declared.header.Header.{Header}
+use Rattle.schema_listing.specs.declared.first_page.Refusal.{Refusal}
+use Rattle.schema_listing.specs.Listing.{read_front, read_in, Tells}
+
+first_bytes : (known : Option (List ℕ)) (n : ℕ) (old new : List ℕ) → old ≡ [] → IfSome (option_map (take n) known) (λ xs. new ≡ old ++ xs)
+    → IfSome known (λ all. new ≡ take n all)
+first_bytes None n old new none read = tt
+first_bytes (Some all) n old new none read = read ∙ ap (λ (l : List ℕ). l ++ take n all) none
+
+-- what is read of a reader's first n bytes, into a list that was empty
+pub first_read : (known at : Option (List ℕ)) (limit n : ℕ) (old new : List ℕ) → at ≡ known → limit ≡ n → old ≡ []
+    → IfSome (option_map (take limit) at) (λ xs. new ≡ old ++ xs) → IfSome known (λ all. new ≡ take n all)
+first_read known at limit n old new same is none read =
+    first_bytes known n old new none
+    (subst (λ (m : ℕ). IfSome (option_map (take m) known) (λ xs. new ≡ old ++ xs)) is
+    (subst (λ (a : Option (List ℕ)). IfSome (option_map (take limit) a) (λ xs. new ≡ old ++ xs)) same read))
+
+-- nothing is written of a page that is refused
+pub refused : (known out : Option (List ℕ)) (first : List ℕ) (why : Refusal) → IfSome known (λ all. first ≡ take 4096 all) → Err why ≡ read_front first
+    → IfSome known (λ bytes. Tells out out (read_in bytes) (Err why))
+refused None out first why is read = tt
+refused (Some all) out first why is read = subst (λ (r : Result Header Refusal). Tells out out r (Err why)) (read ∙ ap read_front is) (refl, refl)

@@ -1,0 +1,54 @@
+-- The lines that tell of a file by its header. Their form is ours.
+use Rattle.std.specs.Prelude.{ℕ, ◌+◌, ◌*◌, ◌==◌, Bool, List, [], ◌∷◌, ◌++◌, codes, decimal, if◌then◌else◌}
+use Rattle.record_layout.specs.declared.schema.KeyPart.{KeyPart}
+use Rattle.record_layout.specs.Schema.{Schema}
+use Rattle.file_header.specs.declared.header.Header.{Header}
+use Rattle.file_header.specs.declared.header.TreeNumbers.{TreeNumbers}
+
+-- how long records are: one length, or the least and the greatest
+abbrev pub lengths_text : ℕ → ℕ → List ℕ
+lengths_text least greatest = if least == greatest then decimal greatest else decimal least ++ (codes " to " ++ decimal greatest)
+
+abbrev pub record_line : Schema → List ℕ
+record_line schema = codes "record " ++ (lengths_text schema.least schema.greatest ++ codes "\n")
+
+-- the kind of key k
+abbrev pub kind_text : ℕ → Bool → List ℕ
+kind_text k duplicates = if k == 0 then codes "prime" else if duplicates then codes "duplicates" else codes "unique"
+
+-- key k, and where it is in a record
+abbrev pub place_text : ℕ → KeyPart → List ℕ
+place_text k part = codes "key " ++ (decimal k ++ (codes " offset " ++ (decimal part.offset ++ (codes " length " ++ decimal part.length))))
+
+-- its kind, and the levels of its tree
+abbrev pub tree_text : List ℕ → ℕ → List ℕ
+tree_text kind height = codes " " ++ (kind ++ (codes " height " ++ (decimal height ++ codes "\n")))
+
+abbrev pub key_line : ℕ → KeyPart → TreeNumbers → List ℕ
+key_line k part tree = place_text k part ++ tree_text (kind_text k part.duplicates) tree.height
+
+-- the keys from key k on, each with its tree
+abbrev pub key_lines : ℕ → List KeyPart → List TreeNumbers → List ℕ
+key_lines k [] trees = []
+key_lines k (part ∷ parts) [] = []
+key_lines k (part ∷ parts) (tree ∷ trees) = key_line k part tree ++ key_lines (k + 1) parts trees
+
+-- a name and a number
+abbrev pub number_text : List ℕ → ℕ → List ℕ
+number_text name n = name ++ (codes " " ++ (decimal n ++ codes "\n"))
+
+unfoldable pub number_line : List ℕ → ℕ → List ℕ
+number_line name n = number_text name n
+
+-- the counts: of records, of pages and of free ones; the next stamp; and the bytes of the pages
+abbrev pub count_lines : Header → List ℕ
+count_lines header =
+    number_line (codes "records") header.records
+    ++ (number_line (codes "pages") header.pages
+    ++ (number_line (codes "free pages") header.free
+    ++ (number_line (codes "next stamp") header.next_stamp
+    ++ number_line (codes "bytes") (header.pages * 4096))))
+
+-- all lines
+abbrev pub lines_of : Header → List ℕ
+lines_of header = record_line header.schema ++ (key_lines 0 header.schema.keys header.trees.items ++ count_lines header)

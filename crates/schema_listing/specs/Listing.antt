@@ -1,0 +1,40 @@
+-- What is told of a file by its first page, and written. All of this is ours.
+use Rattle.std.specs.Prelude.{◌≡◌, ℕ, List, take, length, nat_lt, codes, bytes_eq, Option, Some, None, Result, Ok, Err, if◌then◌else◌}
+use Rattle.std.specs.Io.KnownBytes.{Appends}
+use Rattle.file_header.specs.declared.header.Header.{Header}
+use Rattle.file_header.specs.Reading.{header_in}
+use Rattle.schema_listing.specs.Lines.{lines_of}
+use Rattle.schema_listing.specs.declared.first_page.Refusal.{Refusal}
+use Rattle.schema_listing.specs.declared.first_page.Refusal.TheVariants.{Short, Gate, Header as NoHeader}
+
+-- the numbers by which reasons are told are those of a check
+abbrev pub number_of : Refusal → ℕ
+number_of Short = 1
+number_of Gate = 2
+number_of NoHeader = 3
+
+-- why a page that is not accepted has no header: it begins as a first page whose gate is open, or not
+abbrev pub refusal_of : List ℕ → Refusal
+refusal_of page = if bytes_eq (take 8 page) (codes "DCOBIXIF") then Gate else NoHeader
+
+abbrev pub header_or : Refusal → Option Header → Result Header Refusal
+header_or refusal None = Err refusal
+header_or refusal (Some header) = Ok header
+
+-- the header that a first page has, or why it has none
+abbrev pub read_off : List ℕ → Result Header Refusal
+read_off page = header_or (refusal_of page) (header_in page)
+
+-- the same of the first bytes of a file, as many as a page has where there are so many
+abbrev pub read_front : List ℕ → Result Header Refusal
+read_front first = if nat_lt (length first) 4096 then Err Short else read_off (take 4096 first)
+
+-- the same of all bytes of a file
+abbrev pub read_in : List ℕ → Result Header Refusal
+read_in bytes = read_front (take 4096 bytes)
+
+-- what was written by what was read: the lines of the header, or nothing
+abbrev pub Tells : Option (List ℕ) → Option (List ℕ) → Result Header Refusal → Result Unit Refusal → Type 0
+Tells before after (Ok header) (Ok _) = Appends before after (lines_of header)
+Tells before after (Err why) (Err told) = (told ≡ why) × (after ≡ before)
+Tells before after read told = ⊥
