@@ -10,13 +10,13 @@ use Rattle.deck_runner.specs.DeckRun.{IsNoDeck}
 use Rattle.deck_runner.specs.RunEnd.{Told, ToldInPart}
 use Rattle.deck_runner.specs.declared.run_end.RunEnd.{RunEnd}
 use Rattle.shelf_run.specs.ShelfRun.{OnShelf, IsExactRun, Runs, BreaksOff, LeavesFiles, StaysSound}
-use Rattle.command_words.specs.Asks.{AskRun, AskCheck, AskServe, AskHelp, AskNothing}
+use Rattle.command_words.specs.Asks.{AskRun, AskCheck, AskServe, AskSchema, AskHelp, AskNothing}
 use Rattle.command_line.specs.Folder.{OverFolder}
 use Rattle.command_line.specs.Status.{status_of}
 use Rattle.command_line.specs.declared.fault.Fault.{Fault}
 use Rattle.command_line.specs.declared.fault.Fault.TheVariants.{Deck, Usage, Input, Output, Memory}
 use Rattle.command_line.specs.declared.outcome.Outcome.{Outcome}
-use Rattle.command_line.specs.declared.outcome.Outcome.TheVariants.{Helped, Checked, Ended, Served}
+use Rattle.command_line.specs.declared.outcome.Outcome.TheVariants.{Helped, Checked, Ended, Served, SchemaTold, SchemaRefused}
 
 -- a run that was begun: the bytes of its deck, and what the folder was asked and answered
 pub record Begun : Type 0 where
@@ -41,6 +41,8 @@ IsEnd Helped = ⊥
 IsEnd (Checked verdict) = ⊥
 IsEnd (Ended end) = ⊤
 IsEnd Served = ⊥
+IsEnd SchemaTold = ⊥
+IsEnd (SchemaRefused refusal) = ⊥
 
 -- what was written before and after it
 pub record Written : Type 0 where
@@ -77,12 +79,14 @@ pub record RanAsAsked (words : List Text) (run : Begun) (out : Written) (outcome
   pub asked : AskRun words deck folder pages frames
   pub came : CameTo folder pages frames run out outcome
 
--- what was done for the words: help was written for those that ask for it, a file checked for those that ask for that, requests answered for those that ask for a session, and a run came to its end or to a
+-- what was done for the words: help was written for those that ask for it, a file checked for those that ask for that, requests answered for those that ask for a session, a schema told or refused for those that ask for one, and a run came to its end or to a
 -- fault for those that ask for one; a fault that is told of the words is theirs. The input, the output or memory may fail for any words.
 abbrev pub Did : List Text → Option Begun → Written → Result Outcome Fault → Type 0
 Did words None out (Ok Helped) = (text : Error) × AskHelp words text
 Did words None out (Ok (Checked verdict)) = (file : Text) × AskCheck words file
 Did words None out (Ok Served) = (folder : Text) × (pages : ℕ) × (frames : ℕ) × AskServe words folder pages frames
+Did words None out (Ok SchemaTold) = (file : Text) × AskSchema words file
+Did words None out (Ok (SchemaRefused refusal)) = (file : Text) × AskSchema words file
 Did words None out (Err (Usage text)) = AskNothing words text
 Did words None out (Err Input) = ⊤
 Did words None out (Err Output) = ⊤

@@ -1,7 +1,7 @@
-//! What the program does with the words of its command line: it runs a deck over the files of a folder, answers requests over them, or checks a file, and
-//! answers the exit status.
+//! What the program does with the words of its command line: it runs a deck over the files of a folder, answers requests over them, checks a file, or
+//! tells its schema, and answers the exit status.
 //!
-//! `program` does what the words ask for, writes the transcript, the answers, the verdict or the help to standard output, and tells a fault on another writer. Its
+//! `program` does what the words ask for, writes the transcript, the answers, the verdict, the schema or the help to standard output, and tells a fault on another writer. Its
 //! clauses say which words lead to what, what standard output took, and that the exit status is that of what happened. `write_transcript` carries the theorem of
 //! a run, and `serve_folder` that of a session.
 //! The texts of help, verdicts and faults are shown by tests, and that the system opens the file and the folder that a path names is trusted.
@@ -13,6 +13,7 @@ mod deck_file;
 mod fault;
 mod outcome;
 mod performing;
+mod schema;
 mod session;
 mod streams;
 mod transcript;

@@ -6,6 +6,7 @@ use crate::fault::Fault;
 use deck_runner::RunEnd;
 use file_checker::Verdict;
 use folder_shelf::{Disk, FolderShelf};
+use schema_listing::Refusal;
 use std::io::Write;
 use std::rt::Files;
 
@@ -20,6 +21,10 @@ pub enum Outcome {
     Ended(RunEnd),
     /// Requests were answered to the end of the input.
     Served,
+    /// The schema of a file was written.
+    SchemaTold,
+    /// A file has no schema: its first page is none.
+    SchemaRefused(Refusal),
 }
 
 /// A run that was begun: the bytes of its deck, and the shelf, with what the folder was asked and answered.
@@ -40,22 +45,34 @@ pub fn status_by_verdict(verdict: Verdict) -> u8
 }
 
 impl Outcome {
+    /// Tells why a file has no schema on standard error, as far as that takes it, and answers the exit status.
+    fn tell<E: Write>(self, err: &mut E) -> u8
+        ensures { result ≡ status_for self }
+    {
+        if let Outcome::SchemaRefused(refusal) = self {
+            let _ = writeln!(err, "unsound {}", refusal.number());
+        }
+        self.status()
+    }
+
     fn status(self) -> u8
         ensures { result ≡ status_for self }
     {
         match self {
             Outcome::Helped | Outcome::Ended(_) | Outcome::Served => 0,
+            Outcome::SchemaTold => 0,
+            Outcome::SchemaRefused(_) => 1,
             Outcome::Checked(verdict) => status_by_verdict(verdict),
         }
     }
 }
 
-/// The exit status of what happened. A fault is told, as far as the writer takes it.
+/// The exit status of what happened. A fault, and why a file has no schema, is told as far as the writer takes it.
 pub fn tell<E: Write>(outcome: Result<Outcome, Fault>, err: &mut E) -> u8
     ensures { result ≡ exit_status outcome }
 {
     match outcome {
-        Ok(outcome) => outcome.status(),
+        Ok(outcome) => outcome.tell(err),
         Err(fault) => fault.tell(err),
     }
 }

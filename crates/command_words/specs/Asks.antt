@@ -6,7 +6,7 @@ use Rattle.clap.specs.declared.error.Error.{Error}
 use Rattle.clap.specs.declared.error.ErrorKind.TheVariants.{DisplayHelp, DisplayVersion}
 use Rattle.command_words.specs.CommandLine.{program_app}
 use Rattle.command_words.specs.declared.request.Request.{Request}
-use Rattle.command_words.specs.declared.request.Request.TheVariants.{Run, Check, Serve, Help}
+use Rattle.command_words.specs.declared.request.Request.TheVariants.{Run, Check, Serve, Schema, Help}
 
 -- the text is this number
 abbrev pub IsNumber : ℕ → Text → ℕ → Type 0
@@ -46,11 +46,18 @@ pub record IsServe (met : Option (Text × List Row)) (folder : Text) (pages fram
   pub folder_given : first_of (codes "folder") rows ≡ Some folder
   pub limits : AreLimits rows pages frames
 
+-- the subcommand that was met is to tell the schema of this file
+pub record IsSchema (met : Option (Text × List Row)) (file : Text) : Type 0 where
+  pub rows : List Row
+  pub is : met ≡ Some (codes "schema", rows)
+  pub file_given : first_of (codes "file") rows ≡ Some file
+
 -- the subcommand that was met, with its values, is what is asked for
 abbrev pub IsMet : Option (Text × List Row) → Request → Type 0
 IsMet met (Run deck folder limits) = IsRun met deck.now folder.now limits.pages limits.frames.value
 IsMet met (Check file) = IsCheck met file.now
 IsMet met (Serve folder limits) = IsServe met folder.now limits.pages limits.frames.value
+IsMet met (Schema file) = IsSchema met file.now
 IsMet met (Help text) = ⊥
 
 -- the subcommand that was met is none of these, or its values are none that it can have
@@ -58,6 +65,7 @@ pub record IsNone (met : Option (Text × List Row)) : Type 0 where
   pub no_run : (deck folder : Text) (pages frames : ℕ) → ¬ (IsRun met deck folder pages frames)
   pub no_check : (file : Text) → ¬ (IsCheck met file)
   pub no_serve : (folder : Text) (pages frames : ℕ) → ¬ (IsServe met folder pages frames)
+  pub no_schema : (file : Text) → ¬ (IsSchema met file)
 
 -- the words have no fault
 abbrev pub AreFaultless : List Text → Type 0
@@ -83,6 +91,10 @@ AskCheck words file = AreFaultless words × IsCheck (subcommand_of program_app w
 abbrev pub AskServe : List Text → (folder : Text) (pages frames : ℕ) → Type 0
 AskServe words folder pages frames = AreFaultless words × IsServe (subcommand_of program_app words) folder pages frames
 
+-- for the schema of this file
+abbrev pub AskSchema : List Text → (file : Text) → Type 0
+AskSchema words file = AreFaultless words × IsSchema (subcommand_of program_app words) file
+
 -- for help or the version, as the text shows it
 abbrev pub AskHelp : List Text → Error → Type 0
 AskHelp words text = HaveFault words text × IsShown text
@@ -92,6 +104,7 @@ abbrev pub Ask : List Text → Request → Type 0
 Ask words (Run deck folder limits) = AskRun words deck.now folder.now limits.pages limits.frames.value
 Ask words (Check file) = AskCheck words file.now
 Ask words (Serve folder limits) = AskServe words folder.now limits.pages limits.frames.value
+Ask words (Schema file) = AskSchema words file.now
 Ask words (Help text) = AskHelp words text
 
 -- for nothing, and the text tells why

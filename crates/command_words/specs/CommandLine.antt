@@ -41,6 +41,10 @@ serve_shape = record (new_shape (codes "serve")) {
       ∷ number_rule (codes "frames") 1 4096 (codes "64") ∷ [];
 }
 
+-- `schema FILE`
+abbrev pub schema_shape : Shape
+schema_shape = record (new_shape (codes "schema")) { rules = word_rule (codes "file") ∷ [] }
+
 -- the program, before its subcommands
 abbrev pub program_shape : Shape
 program_shape = record (new_shape (codes "cobix")) {
@@ -49,9 +53,16 @@ program_shape = record (new_shape (codes "cobix")) {
   disable_help_subcommand = true;
 }
 
--- one of the three, or help or the version
+-- to run, check and serve
+abbrev pub runs_app : App
+runs_app = record {
+  top = record program_shape { is_leaf = false };
+  subs = run_shape ∷ check_shape ∷ serve_shape ∷ [];
+}
+
+-- one of the four, or help or the version
 abbrev pub program_app : App
 program_app = record {
   top = record program_shape { is_leaf = false };
-  subs = run_shape ∷ check_shape ∷ serve_shape ∷ [];
+  subs = run_shape ∷ check_shape ∷ serve_shape ∷ schema_shape ∷ [];
 }

@@ -69,3 +69,23 @@ Exit status:
   0   the input ended
   3   the command line is not understood
   4   DIR is no folder or a request could not be read ('cobix: input'), an answer could not be written ('cobix: output'), or memory ran out before the first request ('cobix: memory')";
+
+/// What the schema of a file says.
+pub const SCHEMA: &str = "Lines on standard output:
+  record N, or record N to M                           the length of each record, or the least and the greatest
+  key N offset N length N prime|unique|duplicates height N
+                                                       a line for each key, from 0 on: where it is in a record, its kind, and the levels of its tree
+  records N                                            the records
+  pages N                                              the pages of 4,096 bytes, the first one among them
+  free pages N                                         the pages among them that hold nothing
+  next stamp N                                         the stamp of the next duplicate
+  bytes N                                              the bytes of the pages
+
+Exit status:
+  0   the lines were written; only 'cobix check' tells whether the rest of the file agrees with them
+  1   'unsound N' on standard error, and why:
+      1  short: fewer bytes than a page
+      2  the gate is not closed: it was not closed after a change
+      3  the first page is not that of a file
+  3   the command line is not understood
+  4   the file could not be read ('cobix: input'), the lines could not be written ('cobix: output'), or memory ran out ('cobix: memory')";

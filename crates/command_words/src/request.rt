@@ -4,11 +4,11 @@ ghost use Rattle.std.specs.Option.{IfSome};
 ghost use Rattle.clap.specs.Words.{app_of, found_of, rows_of, rule_of, subcommand_rows_of, with_rule};
 ghost use Rattle.clap.specs.declared.builder.command.Command.TheViews.{out-Command};
 ghost use Rattle.clap.specs.Values.{kind_of};
-ghost use Rattle.command_words.specs.CommandLine.{word_rule, option_rule, number_rule, run_shape, check_shape, serve_shape, program_shape, program_app};
-ghost use Rattle.command_words.specs.Asks.{AreLimits, IsRun, IsCheck, IsServe, IsMet, IsNone, Ask, AskNothing, HaveFault, IsShown};
+ghost use Rattle.command_words.specs.CommandLine.{word_rule, option_rule, number_rule, run_shape, check_shape, serve_shape, schema_shape, program_shape, runs_app, program_app};
+ghost use Rattle.command_words.specs.Asks.{AreLimits, IsRun, IsCheck, IsServe, IsSchema, IsMet, IsNone, Ask, AskNothing, HaveFault, IsShown};
 
 use crate::fault::WordsFault;
-use crate::help::{ANSWERS, REASONS, SERVING, VERSION};
+use crate::help::{ANSWERS, REASONS, SCHEMA, SERVING, VERSION};
 use crate::limits::Limits;
 use clap::builder::ValueParser;
 use clap::error::ErrorKind;
@@ -32,6 +32,10 @@ pub enum Request<'a> {
     Serve {
         folder: &'a str,
         limits: Limits,
+    },
+    /// The schema of the file of this path, by its first page.
+    Schema {
+        file: &'a str,
     },
     /// This text: help, or the version.
     Help(Error),
@@ -157,6 +161,23 @@ fn serve_command<'a>(alloc: Global) -> Result<Command<'a>, AllocError>
     with_limits(alloc, with_folder)
 }
 
+/// `schema`.
+fn schema_command<'a>(alloc: Global) -> Result<Command<'a>, AllocError>
+    ensures shape { IfOk result (λ command. app_of command ≡ record { top = schema_shape; subs = [] }) }
+    ensures local { IfOk result (λ command. (out-Command command).has_globals ≡ false) }
+{
+    let file = word(
+        alloc,
+        "file",
+        "FILE",
+        "The file whose first page is read; it is not changed",
+    );
+    let schema = Command::new(alloc, "schema")
+        .about("Tells the lengths, the keys and the counts of a file, by its first page")
+        .after_help(SCHEMA);
+    schema.arg(file)
+}
+
 /// The program, before its subcommands.
 fn program<'a>(alloc: Global) -> Command<'a>
     ensures shape { app_of result ≡ record { top = program_shape; subs = [] } }
@@ -169,13 +190,21 @@ fn program<'a>(alloc: Global) -> Command<'a>
         .disable_help_subcommand(true)
 }
 
-fn command<'a>(alloc: Global) -> Result<Command<'a>, AllocError>
-    ensures { IfOk result (λ command. app_of command ≡ program_app) }
+/// The program with the subcommands that run, check and serve.
+fn with_runs<'a>(alloc: Global) -> Result<Command<'a>, AllocError>
+    ensures shape { IfOk result (λ command. app_of command ≡ runs_app) }
+    ensures local { IfOk result (λ command. (out-Command command).has_globals ≡ false) }
 {
     program(alloc)
         .subcommand(run_command(alloc)?)?
         .subcommand(check_command(alloc)?)?
         .subcommand(serve_command(alloc)?)
+}
+
+fn command<'a>(alloc: Global) -> Result<Command<'a>, AllocError>
+    ensures { IfOk result (λ command. app_of command ≡ program_app) }
+{
+    with_runs(alloc)?.subcommand(schema_command(alloc)?)
 }
 
 /// The limits of a run, or of a session.
@@ -225,6 +254,16 @@ fn serve_of<'a>(matches: &ArgMatches<'a>) -> Option<Request<'a>>
     Some(Request::Serve { folder, limits })
 }
 
+/// The schema that the matches ask for, if they ask for one.
+fn schema_of<'a>(matches: &ArgMatches<'a>) -> Option<Request<'a>>
+    ensures some { IfSome result (IsMet (subcommand_rows_of matches.now)) }
+    ensures none { result ≡ None → (file : List ℕ) → IsSchema (subcommand_rows_of matches.now) file → ⊥ }
+{
+    let schema = matches.subcommand_matches("schema")?;
+    let file = schema.get_str("file")?;
+    Some(Request::Schema { file })
+}
+
 /// What the matches ask for.
 fn request_of<'a>(matches: &ArgMatches<'a>) -> Option<Request<'a>>
     ensures some { IfSome result (IsMet (subcommand_rows_of matches.now)) }
@@ -236,7 +275,10 @@ fn request_of<'a>(matches: &ArgMatches<'a>) -> Option<Request<'a>>
     if let Some(check) = check_of(matches) {
         return Some(check);
     }
-    serve_of(matches)
+    if let Some(serve) = serve_of(matches) {
+        return Some(serve);
+    }
+    schema_of(matches)
 }
 
 /// What an error of the parse means: it shows help, or tells a mistake.
