@@ -2,6 +2,7 @@
 
 use command_line::{Fault, program};
 use folder_shelf::EmptyDisk;
+use standard_input::StandardInput;
 use standard_output::StandardOutput;
 use std::fs;
 use std::io::{self, Empty, ErrorKind, Write};
@@ -104,7 +105,7 @@ where
         rt,
         alloc,
         given.as_slice(),
-        io::empty(),
+        &mut StandardInput::new(io::empty()),
         &mut out,
         &mut err,
     );

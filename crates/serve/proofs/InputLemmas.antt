@@ -1,9 +1,12 @@
 -- Bytes and frames that a reader gave.
-use Rattle.std.proofs.Common.{◌≡◌, ◌≤◌, ◌<◌, ◌+◌, ◌-◌, ℕ, List, [], ◌∷◌, ◌++◌, take, drop, length, slice_index_or, Option, Some, None, sym, ap, ap₂, subst, ◌∙◌, append_assoc, length-append, length-drop, arith}
+use Rattle.std.proofs.Common.{◌≡◌, ◌≤◌, ◌<◌, ◌+◌, ◌-◌, ℕ, List, [], ◌∷◌, ◌++◌, take, drop, length, slice_index_or, Some, None, refl, sym, ap, ap₂, subst, ◌∙◌, append_assoc, append-nil, length-append, length-drop, arith}
 use Rattle.std.proofs.lemmas.List.{take-append-le, take_all, length-take-le}
 use Rattle.std.proofs.Math.Seq.{take-append-add}
 use borrow.Rule.Slice.PartMut.{put_mid, post_of}
-use Rattle.std.specs.Io.KnownBytes.{Consumes}
+use Rattle.std.specs.Io.KnownBytes.{Consumes, Keeps}
+use Rattle.std.proofs.KnownBytes.{Consumes-nil, Consumes-trans, Consumes-kept}
+use Rattle.standard_input.specs.Reads.{given_by, TellFailure}
+use Rattle.standard_input.specs.Source.{Source, Gives, HasFailed}
 use Rattle.byteorder.specs.Endian.{big_number, big_bytes}
 use Rattle.request_frames.specs.Answer.{framed}
 use Rattle.std.specs.Prelude.{Ok}
@@ -11,11 +14,29 @@ use Rattle.serve.specs.Input.{GivesLess, NoLength, NoBody, BreaksOff, Came}
 use Rattle.serve.specs.declared.input.Next.{Next}
 
 -- bytes that came, and then these
-pub consumes_on : (a b c : Option (List ℕ)) (xs ys zs : List ℕ) → Consumes a b xs → Consumes b c ys → zs ≡ xs ++ ys → Consumes a c zs
-consumes_on None b c xs ys zs p q e = tt
-consumes_on (Some x) None c xs ys zs p q e = absurd p
-consumes_on (Some x) (Some y) None xs ys zs p q e = absurd q
-consumes_on (Some x) (Some y) (Some z) xs ys zs p q e = p ∙ ap (λ l. xs ++ l) q ∙ sym (append_assoc xs ys z) ∙ ap (λ l. l ++ z) (sym e)
+pub gives_on : (a b c : Source) (xs ys zs : List ℕ) → Gives a b xs → Gives b c ys → zs ≡ xs ++ ys → Gives a c zs
+gives_on a b c xs ys zs first then is = record {
+  next = subst (Consumes a.left c.left) (sym is) (Consumes-trans a.left b.left c.left xs ys first.next then.next);
+  noted = then.noted ∙ ap (λ l. l ++ ys) first.noted ∙ append_assoc (given_by a.reads) xs ys ∙ ap (λ l. given_by a.reads ++ l) (sym is);
+}
+
+pub gives_none : (a : Source) → Gives a a []
+gives_none a = record { next = Consumes-nil a.left; noted = sym (append-nil (given_by a.reads)) }
+
+-- a read that gave this, after some that gave nothing
+pub read_gave : (a b c : Source) (n : ℕ) (part : List ℕ) → Gives a b [] → Consumes b.left c.left (take n part)
+    → c.reads ≡ record { room = length part; given = Some (take n part) } ∷ b.reads → Gives a c (take n part)
+read_gave a b c n part none came noted = gives_on a b c [] (take n part) (take n part) none (record { next = came; noted = ap given_by noted }) refl
+
+-- and one that failed
+pub read_fails : (a b c : Source) (room : ℕ) → Gives a b [] → Keeps b.left c.left → c.reads ≡ record { room = room; given = None } ∷ b.reads → Gives a c []
+read_fails a b c room none kept noted = record {
+  next = Consumes-kept a.left b.left c.left [] none.next kept;
+  noted = ap given_by noted ∙ append-nil (given_by b.reads) ∙ none.noted;
+}
+
+pub fails_there : (b c : Source) (room : ℕ) → c.reads ≡ record { room = room; given = None } ∷ b.reads → HasFailed c
+fails_there b c room noted = subst TellFailure (sym noted) refl
 
 -- the part of the room that was filled
 pub room_more : (room part : List ℕ) (at n : ℕ) → at ≤ length room → n ≤ length part
@@ -45,23 +66,23 @@ head_back (h ∷ l ∷ []) e fits =
 head_back (h ∷ l ∷ m ∷ rest) e fits = absurd (omega arith)
 
 -- no length came
-pub no_length : (a b : Option (List ℕ)) → GivesLess 2 a b → BreaksOff a b
+pub no_length : (a b : Source) → GivesLess 2 a b → BreaksOff a b
 no_length a b less = (less.bytes, NoLength less.bytes less.few, less.read)
 
 -- a length, and not the whole body
-pub no_body : (a b c : Option (List ℕ)) (head : List ℕ) (size n : ℕ) → big_bytes 2 size ≡ head → size ≤ 8192 → n ≡ size → Consumes a b head → GivesLess n b c → BreaksOff a c
+pub no_body : (a b c : Source) (head : List ℕ) (size n : ℕ) → big_bytes 2 size ≡ head → size ≤ 8192 → n ≡ size → Gives a b head → GivesLess n b c → BreaksOff a c
 no_body a b c head size n is small e came less =
-    (big_bytes 2 size ++ less.bytes, NoBody size less.bytes small (let few = less.few in omega arith), consumes_on a b c head less.bytes (big_bytes 2 size ++ less.bytes) came less.read (ap (λ l. l ++ less.bytes) is))
+    (big_bytes 2 size ++ less.bytes, NoBody size less.bytes small (let few = less.few in omega arith), gives_on a b c head less.bytes (big_bytes 2 size ++ less.bytes) came less.read (ap (λ l. l ++ less.bytes) is))
 
 -- a length and the body
-pub whole_frame : (a b c : Option (List ℕ)) (head body : List ℕ) (size : ℕ) → big_bytes 2 size ≡ head → length body ≡ size → Consumes a b head → Consumes b c body → Consumes a c (framed body)
+pub whole_frame : (a b c : Source) (head body : List ℕ) (size : ℕ) → big_bytes 2 size ≡ head → length body ≡ size → Gives a b head → Gives b c body → Gives a c (framed body)
 whole_frame a b c head body size is long came then =
-    consumes_on a b c head body (framed body) came then (ap (λ n. big_bytes 2 n ++ body) long ∙ ap (λ l. l ++ body) is)
+    gives_on a b c head body (framed body) came then (ap (λ n. big_bytes 2 n ++ body) long ∙ ap (λ l. l ++ body) is)
 
 -- the body in the buffer
 pub in_buffer : (part behind : List ℕ) (size : ℕ) → length part ≡ size → take size (part ++ behind) ≡ part
 in_buffer part behind size long = subst (λ (n : ℕ). take n (part ++ behind) ≡ part) long (take-append-le (length part) part behind (omega arith) ∙ take_all (length part) part (omega arith))
 
 -- what came, where it is known
-pub came_as : (a b : Option (List ℕ)) (buffer : List ℕ) (next is : Next) → Came a b buffer (Ok next) → next ≡ is → Came a b buffer (Ok is)
+pub came_as : (a b : Source) (buffer : List ℕ) (next is : Next) → Came a b buffer (Ok next) → next ≡ is → Came a b buffer (Ok is)
 came_as a b buffer next is came e = subst (λ (n : Next). Came a b buffer (Ok n)) e came

@@ -1,6 +1,6 @@
 -- The answering of the requests of an input. All of this is ours.
-use Rattle.std.specs.Prelude.{◌≡◌, ◌⊎◌, ℕ, ◌<◌, List, [], ◌∷◌, ◌++◌, flat_map, Option, Some, None, Result, Ok, Err}
-use Rattle.std.specs.Io.KnownBytes.{Consumes, Appends, IsAtEnd}
+use Rattle.std.specs.Prelude.{◌≡◌, ◌⊎◌, ℕ, ◌<◌, ◌≤◌, ◌-◌, ◌^◌, length, List, [], ◌∷◌, ◌++◌, flat_map, Option, Some, None, Result, Ok, Err}
+use Rattle.std.specs.Io.KnownBytes.{Appends}
 use Rattle.byteorder.specs.Endian.{big_bytes}
 use Rattle.io_state.specs.declared.status.Status.{Status}
 use Rattle.indexed_file.specs.Shown.{Shown}
@@ -9,6 +9,7 @@ use Rattle.request_frames.specs.Reading.{request_in}
 use Rattle.request_frames.specs.declared.refusal.Refusal.TheVariants as refusal
 use Rattle.file_session.specs.Files.{Files, no_files}
 use Rattle.file_session.specs.Steps.{ClosesFirst}
+use Rattle.standard_input.specs.Source.{Source, Gives, HasEnded, HasFailed}
 use Rattle.serve.specs.Input.{IsCut}
 use Rattle.serve.specs.Answers.{Answers, answer_frame}
 use Rattle.serve.specs.declared.fault.ServeFault.{ServeFault}
@@ -38,11 +39,11 @@ Closes shown old [] new = (old.opened ≡ []) × (new ≡ old)
 Closes {S} shown old (status ∷ rest) new = (between : Files S) × ClosesFirst shown old status between × Closes shown between rest new
 
 -- the input ended, in a frame or before one
-pub record EndsInput (input_after : Option (List ℕ)) (exchanges : List Exchange) (read written : List ℕ) : Type 0 where
+pub record EndsInput (input_after : Source) (exchanges : List Exchange) (read written : List ℕ) : Type 0 where
   pub cut : List ℕ
   pub is_cut : IsCut cut
   pub read_is : read ≡ requests exchanges ++ cut
-  pub at_end : IsAtEnd input_after
+  pub ended : HasEnded input_after
   pub written_is : written ≡ answers exchanges
 
 -- the answer to a length past the limit
@@ -56,11 +57,12 @@ pub record EndsTooLong (exchanges : List Exchange) (read written : List ℕ) : T
   pub read_is : read ≡ requests exchanges ++ big_bytes 2 size
   pub written_is : written ≡ answers exchanges ++ too_long
 
--- a read failed, in a frame or before one
-pub record FailsToRead (exchanges : List Exchange) (read written : List ℕ) : Type 0 where
+-- a read failed, in a frame or before one; or as many requests were answered as a session has at most
+pub record FailsToRead (input_after : Source) (exchanges : List Exchange) (read written : List ℕ) : Type 0 where
   pub cut : List ℕ
   pub is_cut : IsCut cut
   pub read_is : read ≡ requests exchanges ++ cut
+  pub why : HasFailed input_after ⊎ (2 ^ 64 - 1 ≤ length exchanges)
   pub written_is : written ≡ answers exchanges
 
 -- the writer refused the last answer, of which it has a front, or all where it did not hand it on
@@ -85,20 +87,20 @@ pub record FailsToRefuse (exchanges : List Exchange) (read written : List ℕ) :
   pub written_is : written ≡ answers exchanges ++ front
 
 -- how the requests ended
-abbrev pub Ends : Option (List ℕ) → List Exchange → (read written : List ℕ) → Result Unit ServeFault → Type 0
+abbrev pub Ends : Source → List Exchange → (read written : List ℕ) → Result Unit ServeFault → Type 0
 Ends input_after exchanges read written (Ok _) = EndsInput input_after exchanges read written ⊎ EndsTooLong exchanges read written
-Ends input_after exchanges read written (Err Input) = FailsToRead exchanges read written
+Ends input_after exchanges read written (Err Input) = FailsToRead input_after exchanges read written
 Ends input_after exchanges read written (Err Output) = FailsToAnswer exchanges read written ⊎ FailsToRefuse exchanges read written
 Ends input_after exchanges read written (Err Memory) = ⊥
 
--- what an input has left and what an output has, before and after
+-- what an input has left and gave, and what an output has, before and after
 pub record Streams : Type 0 where
-  pub input : Option (List ℕ)
-  pub input_after : Option (List ℕ)
+  pub input : Source
+  pub input_after : Source
   pub output : Option (List ℕ)
   pub output_after : Option (List ℕ)
 
-abbrev pub streams : (input input_after output output_after : Option (List ℕ)) → Streams
+abbrev pub streams : (input input_after : Source) → (output output_after : Option (List ℕ)) → Streams
 streams input input_after output output_after = record { input = input; input_after = input_after; output = output; output_after = output_after }
 
 -- the requests of the input were answered to its end, or to a fault
@@ -107,7 +109,7 @@ pub record Serves {S : Type 0} (shown : Shown S) (IsNew : S → Type 0) (s : Str
   pub serving : Serving shown IsNew old exchanges new
   pub read : List ℕ
   pub written : List ℕ
-  pub consumes : Consumes s.input s.input_after read
+  pub gives : Gives s.input s.input_after read
   pub appends : Appends s.output s.output_after written
   pub ends : Ends s.input_after exchanges read written result
 
@@ -115,7 +117,7 @@ pub record Serves {S : Type 0} (shown : Shown S) (IsNew : S → Type 0) (s : Str
 pub record ServesOne {S : Type 0} (shown : Shown S) (IsNew : S → Type 0) (s : Streams) (old new : Files S) : Type 0 where
   pub exchange : Exchange
   pub answer : Answers shown IsNew (request_in exchange.body) old exchange.told new
-  pub consumes : Consumes s.input s.input_after (framed exchange.body)
+  pub gives : Gives s.input s.input_after (framed exchange.body)
   pub appends : Appends s.output s.output_after (answer_frame exchange.told)
 
 -- one request was answered, or that was the end

@@ -1,11 +1,12 @@
 //! The next frame of the input.
-ghost use Rattle.std.specs.Prelude.{◌≡◌, ◌≤◌, ◌<◌, true, false, IfOk, OnErr, length, take};
-ghost use Rattle.std.specs.Io.KnownBytes.{Consumes, IsAtEnd, Keeps};
+ghost use Rattle.std.specs.Prelude.{◌≡◌, ◌≤◌, ◌<◌, true, false, IfOk, OnErr, [], length, take};
 ghost use Rattle.byteorder.specs.Endian.{big_bytes};
+ghost use Rattle.standard_input.specs.Source.{source_of, Gives, HasEnded, HasFailed};
 ghost use Rattle.serve.specs.Input.{GivesLess, Came};
 
 use byteorder::{BigEndian, ByteOrder};
 use request_frames::LENGTH_LIMIT;
+use standard_input::StandardInput;
 use std::io::{ErrorKind, Read};
 
 /// So many interrupted reads in a row are a fault of the input.
@@ -27,12 +28,13 @@ pub enum Next {
 }
 
 /// Reads a part, and answers how many bytes came: none at the end.
-fn read_part<R: Read>(reader: &mut R, part: &mut [u8]) -> Result<usize, InputFailed>
+fn read_part<R: Read>(reader: &mut StandardInput<R>, part: &mut [u8]) -> Result<usize, InputFailed>
     ensures within { IfOk result (λ n. n ≤ length part.new) }
     ensures length { length part.new ≡ length part.old }
-    ensures bytes { IfOk result (λ n. Consumes (R.remaining reader.old) (R.remaining reader.new) (take n part.new)) }
-    ensures end { IfOk result (λ n. n ≡ 0 → 0 < length part.old → IsAtEnd (R.remaining reader.new)) }
-    ensures failed { OnErr result (Keeps (R.remaining reader.old) (R.remaining reader.new)) }
+    ensures bytes { IfOk result (λ n. Gives (source_of R.remaining reader.old) (source_of R.remaining reader.new) (take n part.new)) }
+    ensures end { IfOk result (λ n. n ≡ 0 → 0 < length part.old → HasEnded (source_of R.remaining reader.new)) }
+    ensures kept { OnErr result (Gives (source_of R.remaining reader.old) (source_of R.remaining reader.new) []) }
+    ensures failed { OnErr result (HasFailed (source_of R.remaining reader.new)) }
 {
     for _ in 0..MOST_INTERRUPTED {
         match reader.read(part) {
@@ -48,14 +50,15 @@ fn read_part<R: Read>(reader: &mut R, part: &mut [u8]) -> Result<usize, InputFai
 }
 
 /// Reads as many bytes as there is room for, and answers whether there were so many.
-fn read_whole<R: Read>(reader: &mut R, room: &mut [u8]) -> Result<bool, InputFailed>
+fn read_whole<R: Read>(reader: &mut StandardInput<R>, room: &mut [u8]) -> Result<bool, InputFailed>
     ensures length { length room.new ≡ length room.old }
     ensures whole { IfOk result (λ whole. whole ≡ true
-        → Consumes (R.remaining reader.old) (R.remaining reader.new) room.new) }
+        → Gives (source_of R.remaining reader.old) (source_of R.remaining reader.new) room.new) }
     ensures short { IfOk result (λ whole. whole ≡ false
-        → GivesLess (length room.old) (R.remaining reader.old) (R.remaining reader.new)) }
-    ensures end { IfOk result (λ whole. whole ≡ false → IsAtEnd (R.remaining reader.new)) }
-    ensures failed { OnErr result (GivesLess (length room.old) (R.remaining reader.old) (R.remaining reader.new)) }
+        → GivesLess (length room.old) (source_of R.remaining reader.old) (source_of R.remaining reader.new)) }
+    ensures end { IfOk result (λ whole. whole ≡ false → HasEnded (source_of R.remaining reader.new)) }
+    ensures cut { OnErr result (GivesLess (length room.old) (source_of R.remaining reader.old) (source_of R.remaining reader.new)) }
+    ensures failed { OnErr result (HasFailed (source_of R.remaining reader.new)) }
 {
     let mut at = 0;
     'more: while at < room.len() {
@@ -78,10 +81,10 @@ fn length_of(head: &[u8]) -> u16
 
 /// Reads the next frame, and no byte behind it.
 pub fn read_frame<R: Read>(
-    reader: &mut R,
+    reader: &mut StandardInput<R>,
     buffer: &mut [u8; LENGTH_LIMIT],
 ) -> Result<Next, InputFailed>
-    ensures { Came (R.remaining reader.old) (R.remaining reader.new) buffer.new result }
+    ensures { Came (source_of R.remaining reader.old) (source_of R.remaining reader.new) buffer.new result }
 {
     let mut head = [0; 2];
     match read_whole(reader, &mut head) {

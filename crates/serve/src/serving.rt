@@ -3,6 +3,7 @@ ghost use Rattle.std.specs.Prelude.{◌≡◌, ◌≢◌, List, Err};
 ghost use Rattle.io_state.specs.declared.status.Status.{Status as ToldStatus};
 ghost use Rattle.request_frames.specs.Reading.{request_in};
 ghost use Rattle.request_frames.specs.Answer.{Told};
+ghost use Rattle.standard_input.specs.Source.{source_of};
 ghost use Rattle.serve.specs.Output.{Sends};
 ghost use Rattle.serve.specs.Answers.{Answers, answer_frame};
 ghost use Rattle.serve.specs.Serving.{streams, too_long, ServesNext, Serves, Closes, Served};
@@ -15,6 +16,7 @@ use crate::output::{OutputFailed, send_frame};
 use file_session::Session;
 use indexed_file::Library;
 use request_frames::{Answer, AnswerFrame, LENGTH_LIMIT, Refusal, put_answer};
+use standard_input::StandardInput;
 use std::alloc::Global;
 use std::io::{Read, Write};
 
@@ -46,12 +48,12 @@ fn refuse_length<W: Write>(out: &mut W) -> Result<(), OutputFailed>
 fn answer_next<M: Libraries, R: Read, W: Write>(
     libraries: &M,
     session: &mut Session<M::Library>,
-    input: &mut R,
+    input: &mut StandardInput<R>,
     buffer: &mut [u8; LENGTH_LIMIT],
     out: &mut W,
 ) -> Option<Result<(), ServeFault>>
     ensures { ServesNext M.Library.shown (M.is_new libraries.now)
-        (streams (R.remaining input.old) (R.remaining input.new) (W.contents out.old) (W.contents out.new)) session.old session.new result }
+        (streams (source_of R.remaining input.old) (source_of R.remaining input.new) (W.contents out.old) (W.contents out.new)) session.old session.new result }
 {
     match read_frame(input, buffer) {
         Ok(Next::Frame(size)) => match answer(libraries, session, &buffer[..size], out) {
@@ -71,11 +73,11 @@ fn answer_next<M: Libraries, R: Read, W: Write>(
 fn answer_all<M: Libraries, R: Read, W: Write>(
     libraries: &M,
     session: &mut Session<M::Library>,
-    input: &mut R,
+    input: &mut StandardInput<R>,
     out: &mut W,
 ) -> Result<(), ServeFault>
     ensures { Serves M.Library.shown (M.is_new libraries.now)
-        (streams (R.remaining input.old) (R.remaining input.new) (W.contents out.old) (W.contents out.new)) session.old session.new result }
+        (streams (source_of R.remaining input.old) (source_of R.remaining input.new) (W.contents out.old) (W.contents out.new)) session.old session.new result }
 {
     let mut buffer = [0; LENGTH_LIMIT];
     for _ in 0..u64::MAX {
@@ -102,11 +104,11 @@ fn close_all<L: Library + Drop>(session: &mut Session<L>)
 pub fn serve<M: Libraries, R: Read, W: Write>(
     alloc: Global,
     libraries: &M,
-    input: &mut R,
+    input: &mut StandardInput<R>,
     out: &mut W,
 ) -> Result<(), ServeFault>
     ensures served { result ≢ Err ServeFault.Memory → Served M.Library.shown (M.is_new libraries.now)
-        (streams (R.remaining input.old) (R.remaining input.new) (W.contents out.old) (W.contents out.new)) result }
+        (streams (source_of R.remaining input.old) (source_of R.remaining input.new) (W.contents out.old) (W.contents out.new)) result }
     ensures memory { result ≡ Err ServeFault.Memory → (input.new ≡ input.old) × (out.new ≡ out.old) }
 {
     let Ok(session) = Session::new(alloc) else {

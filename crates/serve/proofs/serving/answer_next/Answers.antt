@@ -32,4 +32,4 @@ returns-in-Ok-End g c =
     input_ended _ _ _ _ _ _ came.0 came.1
 
 pub returns-in-Err : goal.returns-in-Err
-returns-in-Err g c = read_failed _ _ _ _ _ _ c.in-Err.ensures
+returns-in-Err g c = read_failed _ _ _ _ _ _ c.in-Err.ensures.0 c.in-Err.ensures.1
