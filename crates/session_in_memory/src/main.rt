@@ -12,12 +12,13 @@ mod memory_libraries;
 
 use memory_libraries::MemoryLibraries;
 use serve::serve;
+use standard_input::StandardInput;
 use std::io::{Stdin, Stdout};
 use std::process::ExitCode;
 
 fn main(rt: HostRuntime) -> ExitCode {
     let libraries = MemoryLibraries::new(rt.alloc());
-    let (mut input, mut out) = (rt.stdin(), rt.stdout());
+    let (mut input, mut out) = (StandardInput::new(rt.stdin()), rt.stdout());
     match serve::<MemoryLibraries, Stdin, Stdout>(rt.alloc(), &libraries, &mut input, &mut out) {
         Ok(()) => ExitCode::SUCCESS,
         Err(_) => ExitCode::FAILURE,
