@@ -1,0 +1,40 @@
+//! The tables of what is explained: in each row the number as it is written, and the text.
+
+use explanation_texts::{faults, reasons, statuses};
+
+macro_rules! rows {
+    ([$kind:literal] $($name:ident $number:literal [$first:literal $($more:literal)*] $text:literal)*) => {
+        [$(($number, concat!($kind, " ", $number, "\n", $first, $("\n", $more,)* "\n", $text))),*]
+    };
+}
+
+macro_rules! lines {
+    ([] $($name:ident $number:literal [$first:literal $($more:literal)*] $text:literal)*) => {
+        [$(($number, concat!($first, $(" ", $more,)*))),*]
+    };
+}
+
+macro_rules! numbers {
+    ([] $($name:ident $number:literal [$first:literal $($more:literal)*] $text:literal)*) => {
+        concat!($(" ", $number),*)
+    };
+}
+
+/// The statuses of verbs, by their two digits.
+pub const STATUSES: [(&str, &str); 23] = statuses!(rows "status");
+
+/// The codes of a refused deck.
+pub const FAULTS: [(&str, &str); 7] = faults!(rows "fault");
+
+/// The reasons of the check.
+pub const REASONS: [(&str, &str); 9] = reasons!(rows "unsound");
+
+/// What each code of a refused deck means, in a line.
+pub const FAULT_LINES: [(&str, &str); 7] = faults!(lines);
+
+/// The numbers of each table, with a space before each.
+pub const STATUS_NUMBERS: &str = statuses!(numbers);
+
+pub const FAULT_NUMBERS: &str = faults!(numbers);
+
+pub const REASON_NUMBERS: &str = reasons!(numbers);
