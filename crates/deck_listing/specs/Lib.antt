@@ -1,0 +1,4 @@
+pub mod Places
+pub mod Verbs
+pub mod Lines
+pub mod Listing

@@ -1,0 +1,93 @@
+-- The lines of the list of a deck. Their form is ours.
+use Rattle.std.specs.Prelude.{ℕ, ◌==◌, ◌&&◌, Bool, true, false, List, [], ◌∷◌, ◌++◌, codes, decimal, find, is_some, Option, Some, None, option_and_then, if◌then◌else◌}
+use Rattle.io_state.specs.declared.modes.Access.{Access}
+use Rattle.io_state.specs.declared.modes.Access.TheVariants.{Sequential, Random, Dynamic}
+use Rattle.io_state.specs.declared.modes.OpenMode.TheVariants.{Input, Output, InputOutput, Extend}
+use Rattle.io_state.specs.declared.statement.FileStatement.{FileStatement}
+use Rattle.io_state.specs.declared.statement.FileStatement.TheVariants.{Open, Close, ReadNext, Read, Start, Write, Rewrite, Delete}
+use Rattle.record_layout.specs.Layout.{Placed}
+use Rattle.record_layout.specs.declared.schema.KeyPart.{KeyPart}
+use Rattle.deck_listing.specs.Verbs.{Verb}
+
+-- ---- items
+
+abbrev pub item_name : Option (List ℕ) → List ℕ
+item_name None = codes "FILLER"
+item_name (Some name) = name
+
+abbrev pub digits_word : Bool → List ℕ
+digits_word true = codes " digits"
+digits_word false = []
+
+-- an item: its name, its place from 0, its length, and whether it is of digits
+abbrev pub item_line : Placed → List ℕ
+item_line item =
+    codes "  item " ++ (item_name item.name ++ (codes " offset " ++ (decimal item.field.offset ++ (codes " length "
+    ++ (decimal item.field.length ++ (digits_word item.field.numeric ++ codes "\n"))))))
+
+-- ---- keys
+
+-- the item has a name, and is the very bytes of the key
+abbrev pub is_key_item : KeyPart → Placed → Bool
+is_key_item key item = is_some item.name && (item.field.offset == key.offset && item.field.length == key.length)
+
+-- the name of the first such item
+abbrev pub key_name : List Placed → KeyPart → List ℕ
+key_name layout key = item_name (option_and_then (λ (item : Placed). item.name) (find (is_key_item key) layout))
+
+abbrev pub key_kind : ℕ → Bool → List ℕ
+key_kind k duplicates = if k == 0 then codes "prime" else (if duplicates then codes "duplicates" else codes "unique")
+
+-- a key: its number, its item's name, and whether two records may have one value of it
+abbrev pub key_line : ℕ → List ℕ → KeyPart → List ℕ
+key_line k name key =
+    codes "  key " ++ (decimal k ++ (codes " " ++ (name ++ (codes " offset " ++ (decimal key.offset ++ (codes " length "
+    ++ (decimal key.length ++ (codes " " ++ (key_kind k key.duplicates ++ codes "\n")))))))))
+
+-- ---- files
+
+abbrev pub access_word : Access → List ℕ
+access_word Sequential = codes "sequential"
+access_word Random = codes "random"
+access_word Dynamic = codes "dynamic"
+
+abbrev pub optional_word : Bool → List ℕ
+optional_word true = codes " optional"
+optional_word false = []
+
+-- the least and the greatest length of records, or the only one
+abbrev pub lengths_text : (least greatest : ℕ) → List ℕ
+lengths_text least greatest = if least == greatest then decimal greatest else decimal least ++ (codes " to " ++ decimal greatest)
+
+-- a file: its name, its name in the folder, the lengths of its records, and how it is accessed
+abbrev pub heading : (name file lengths access optional : List ℕ) → List ℕ
+heading name file lengths access optional =
+    codes "file " ++ (name ++ (codes " " ++ (file ++ (codes " record " ++ (lengths ++ (codes " access " ++ (access ++ (optional ++ codes "\n"))))))))
+
+-- ---- verbs and paragraphs
+
+-- a verb as the transcript writes it
+abbrev pub verb_text : FileStatement → List ℕ
+verb_text (Open Input) = codes "OPEN INPUT"
+verb_text (Open Output) = codes "OPEN OUTPUT"
+verb_text (Open InputOutput) = codes "OPEN I-O"
+verb_text (Open Extend) = codes "OPEN EXTEND"
+verb_text (Close lock) = codes "CLOSE"
+verb_text ReadNext = codes "READ NEXT"
+verb_text (Read key) = codes "READ"
+verb_text (Start key length relation) = codes "START"
+verb_text Write = codes "WRITE"
+verb_text Rewrite = codes "REWRITE"
+verb_text Delete = codes "DELETE"
+
+-- a verb: its number, the line of the deck, and what it does to which file
+abbrev pub verb_line : ℕ → Verb → List ℕ
+verb_line line verb =
+    codes "verb " ++ (decimal verb.number ++ (codes " line " ++ (decimal line ++ (codes " " ++ (verb_text verb.statement ++ (codes " " ++ (verb.file ++ codes "\n")))))))
+
+-- the same without a line
+abbrev pub lineless_verb : Verb → List ℕ
+lineless_verb verb = codes "verb " ++ (decimal verb.number ++ (codes " " ++ (verb_text verb.statement ++ (codes " " ++ (verb.file ++ codes "\n")))))
+
+abbrev pub paragraph_line : (line : ℕ) (name : List ℕ) → List ℕ
+paragraph_line line name = codes "paragraph " ++ (name ++ (codes " line " ++ (decimal line ++ codes "\n")))
