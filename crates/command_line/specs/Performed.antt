@@ -10,13 +10,13 @@ use Rattle.deck_runner.specs.DeckRun.{IsNoDeck}
 use Rattle.deck_runner.specs.RunEnd.{Told, ToldInPart}
 use Rattle.deck_runner.specs.declared.run_end.RunEnd.{RunEnd}
 use Rattle.shelf_run.specs.ShelfRun.{OnShelf, IsExactRun, Runs, BreaksOff, LeavesFiles, StaysSound}
-use Rattle.command_words.specs.Asks.{AskRun, AskCheck, AskServe, AskSchema, AskHelp, AskNothing}
+use Rattle.command_words.specs.Asks.{AskRun, AskCheck, AskServe, AskSchema, AskExplain, AskDeck, AskHelp, AskNothing}
 use Rattle.command_line.specs.Folder.{OverFolder}
 use Rattle.command_line.specs.Status.{status_of}
 use Rattle.command_line.specs.declared.fault.Fault.{Fault}
-use Rattle.command_line.specs.declared.fault.Fault.TheVariants.{Deck, Usage, Input, Output, Memory}
+use Rattle.command_line.specs.declared.fault.Fault.TheVariants.{Deck, NotListed, Unexplained, Usage, Input, Output, Memory}
 use Rattle.command_line.specs.declared.outcome.Outcome.{Outcome}
-use Rattle.command_line.specs.declared.outcome.Outcome.TheVariants.{Helped, Checked, Ended, Served, SchemaTold, SchemaRefused}
+use Rattle.command_line.specs.declared.outcome.Outcome.TheVariants.{Helped, Checked, Ended, Served, SchemaTold, SchemaRefused, Explained, Listed}
 
 -- a run that was begun: the bytes of its deck, and what the folder was asked and answered
 pub record Begun : Type 0 where
@@ -43,6 +43,8 @@ IsEnd (Ended end) = ⊤
 IsEnd Served = ⊥
 IsEnd SchemaTold = ⊥
 IsEnd (SchemaRefused refusal) = ⊥
+IsEnd Explained = ⊥
+IsEnd Listed = ⊥
 
 -- what was written before and after it
 pub record Written : Type 0 where
@@ -87,6 +89,10 @@ Did words None out (Ok (Checked verdict)) = (file : Text) × AskCheck words file
 Did words None out (Ok Served) = (folder : Text) × (pages : ℕ) × (frames : ℕ) × AskServe words folder pages frames
 Did words None out (Ok SchemaTold) = (file : Text) × AskSchema words file
 Did words None out (Ok (SchemaRefused refusal)) = (file : Text) × AskSchema words file
+Did words None out (Ok Explained) = (kind : Text) × (number : Text) × AskExplain words kind number
+Did words None out (Ok Listed) = (deck : Text) × AskDeck words deck
+Did words None out (Err Unexplained) = (kind : Text) × (number : Text) × AskExplain words kind number
+Did words None out (Err (NotListed fault)) = (deck : Text) × AskDeck words deck
 Did words None out (Err (Usage text)) = AskNothing words text
 Did words None out (Err Input) = ⊤
 Did words None out (Err Output) = ⊤

@@ -1,5 +1,5 @@
-//! What the program does with the words of its command line: it runs a deck over the files of a folder, answers requests over them, checks a file, or
-//! tells its schema, and answers the exit status.
+//! What the program does with the words of its command line: it runs a deck over the files of a folder, answers requests over them, checks a file, tells its
+//! schema, explains what was told, or lists a deck, and answers the exit status.
 //!
 //! `program` does what the words ask for, writes the transcript, the answers, the verdict, the schema or the help to standard output, and tells a fault on another writer. Its
 //! clauses say which words lead to what, what standard output took, and that the exit status is that of what happened. `write_transcript` carries the theorem of
@@ -10,6 +10,8 @@
 #![tactic(auto)]
 
 mod deck_file;
+mod deck_list;
+mod explaining;
 mod fault;
 mod outcome;
 mod performing;
@@ -20,6 +22,7 @@ mod transcript;
 mod verdict;
 
 pub use deck_file::read_bytes;
+pub use explaining::every_reason_is_explained;
 pub use fault::Fault;
 pub use outcome::{Outcome, Ran};
 pub use performing::program;

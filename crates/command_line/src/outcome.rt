@@ -25,6 +25,10 @@ pub enum Outcome {
     SchemaTold,
     /// A file has no schema: its first page is none.
     SchemaRefused(Refusal),
+    /// What a number means was written.
+    Explained,
+    /// The list of a deck was written.
+    Listed,
 }
 
 /// A run that was begun: the bytes of its deck, and the shelf, with what the folder was asked and answered.
@@ -62,6 +66,7 @@ impl Outcome {
             Outcome::Helped | Outcome::Ended(_) | Outcome::Served => 0,
             Outcome::SchemaTold => 0,
             Outcome::SchemaRefused(_) => 1,
+            Outcome::Explained | Outcome::Listed => 0,
             Outcome::Checked(verdict) => status_by_verdict(verdict),
         }
     }

@@ -9,7 +9,7 @@ use Rattle.command_words.specs.Asks.{Ask, AskNothing, AreFaultless, IsMet, IsSho
 use Rattle.command_words.specs.declared.fault.WordsFault.{WordsFault}
 use Rattle.command_words.specs.declared.fault.WordsFault.TheVariants.{Usage}
 use Rattle.command_words.specs.declared.request.Request.{Request}
-use Rattle.command_words.specs.declared.request.Request.TheVariants.{Run, Check, Serve, Schema, Help}
+use Rattle.command_words.specs.declared.request.Request.TheVariants.{Run, Check, Serve, Schema, Explain, Deck, Help}
 
 -- the matches of the program's command line, and its faults, are known
 is_known : is_simple program_app ≡ true
@@ -32,6 +32,8 @@ met_asked words met (Run deck folder limits) faultless is h = (faultless, rw (�
 met_asked words met (Check file) faultless is h = (faultless, rw (← is) h)
 met_asked words met (Serve folder limits) faultless is h = (faultless, rw (← is) h)
 met_asked words met (Schema file) faultless is h = (faultless, rw (← is) h)
+met_asked words met (Explain kind number) faultless is h = (faultless, rw (← is) h)
+met_asked words met (Deck deck) faultless is h = (faultless, rw (← is) h)
 met_asked words met (Help text) faultless is h = absurd h
 
 -- of two things, the second

@@ -6,7 +6,7 @@ use Rattle.clap.specs.declared.error.Error.{Error}
 use Rattle.clap.specs.declared.error.ErrorKind.TheVariants.{DisplayHelp, DisplayVersion}
 use Rattle.command_words.specs.CommandLine.{program_app}
 use Rattle.command_words.specs.declared.request.Request.{Request}
-use Rattle.command_words.specs.declared.request.Request.TheVariants.{Run, Check, Serve, Schema, Help}
+use Rattle.command_words.specs.declared.request.Request.TheVariants.{Run, Check, Serve, Schema, Explain, Deck, Help}
 
 -- the text is this number
 abbrev pub IsNumber : ℕ → Text → ℕ → Type 0
@@ -52,12 +52,27 @@ pub record IsSchema (met : Option (Text × List Row)) (file : Text) : Type 0 whe
   pub is : met ≡ Some (codes "schema", rows)
   pub file_given : first_of (codes "file") rows ≡ Some file
 
+-- the subcommand that was met is to explain the number of this kind
+pub record IsExplain (met : Option (Text × List Row)) (kind number : Text) : Type 0 where
+  pub rows : List Row
+  pub is : met ≡ Some (codes "explain", rows)
+  pub kind_given : first_of (codes "kind") rows ≡ Some kind
+  pub number_given : first_of (codes "number") rows ≡ Some number
+
+-- the subcommand that was met is to list this deck
+pub record IsDeck (met : Option (Text × List Row)) (deck : Text) : Type 0 where
+  pub rows : List Row
+  pub is : met ≡ Some (codes "deck", rows)
+  pub deck_given : first_of (codes "deck") rows ≡ Some deck
+
 -- the subcommand that was met, with its values, is what is asked for
 abbrev pub IsMet : Option (Text × List Row) → Request → Type 0
 IsMet met (Run deck folder limits) = IsRun met deck.now folder.now limits.pages limits.frames.value
 IsMet met (Check file) = IsCheck met file.now
 IsMet met (Serve folder limits) = IsServe met folder.now limits.pages limits.frames.value
 IsMet met (Schema file) = IsSchema met file.now
+IsMet met (Explain kind number) = IsExplain met kind.now number.now
+IsMet met (Deck deck) = IsDeck met deck.now
 IsMet met (Help text) = ⊥
 
 -- the subcommand that was met is none of these, or its values are none that it can have
@@ -66,6 +81,8 @@ pub record IsNone (met : Option (Text × List Row)) : Type 0 where
   pub no_check : (file : Text) → ¬ (IsCheck met file)
   pub no_serve : (folder : Text) (pages frames : ℕ) → ¬ (IsServe met folder pages frames)
   pub no_schema : (file : Text) → ¬ (IsSchema met file)
+  pub no_explain : (kind number : Text) → ¬ (IsExplain met kind number)
+  pub no_deck : (deck : Text) → ¬ (IsDeck met deck)
 
 -- the words have no fault
 abbrev pub AreFaultless : List Text → Type 0
@@ -95,6 +112,14 @@ AskServe words folder pages frames = AreFaultless words × IsServe (subcommand_o
 abbrev pub AskSchema : List Text → (file : Text) → Type 0
 AskSchema words file = AreFaultless words × IsSchema (subcommand_of program_app words) file
 
+-- to explain the number of this kind
+abbrev pub AskExplain : List Text → (kind number : Text) → Type 0
+AskExplain words kind number = AreFaultless words × IsExplain (subcommand_of program_app words) kind number
+
+-- to list this deck
+abbrev pub AskDeck : List Text → (deck : Text) → Type 0
+AskDeck words deck = AreFaultless words × IsDeck (subcommand_of program_app words) deck
+
 -- for help or the version, as the text shows it
 abbrev pub AskHelp : List Text → Error → Type 0
 AskHelp words text = HaveFault words text × IsShown text
@@ -105,6 +130,8 @@ Ask words (Run deck folder limits) = AskRun words deck.now folder.now limits.pag
 Ask words (Check file) = AskCheck words file.now
 Ask words (Serve folder limits) = AskServe words folder.now limits.pages limits.frames.value
 Ask words (Schema file) = AskSchema words file.now
+Ask words (Explain kind number) = AskExplain words kind.now number.now
+Ask words (Deck deck) = AskDeck words deck.now
 Ask words (Help text) = AskHelp words text
 
 -- for nothing, and the text tells why

@@ -45,6 +45,14 @@ serve_shape = record (new_shape (codes "serve")) {
 abbrev pub schema_shape : Shape
 schema_shape = record (new_shape (codes "schema")) { rules = word_rule (codes "file") ∷ [] }
 
+-- `explain KIND NUMBER`
+abbrev pub explain_shape : Shape
+explain_shape = record (new_shape (codes "explain")) { rules = word_rule (codes "kind") ∷ word_rule (codes "number") ∷ [] }
+
+-- `deck DECK`
+abbrev pub deck_shape : Shape
+deck_shape = record (new_shape (codes "deck")) { rules = word_rule (codes "deck") ∷ [] }
+
 -- the program, before its subcommands
 abbrev pub program_shape : Shape
 program_shape = record (new_shape (codes "cobix")) {
@@ -60,9 +68,9 @@ runs_app = record {
   subs = run_shape ∷ check_shape ∷ serve_shape ∷ [];
 }
 
--- one of the four, or help or the version
+-- one of these, or help or the version
 abbrev pub program_app : App
 program_app = record {
   top = record program_shape { is_leaf = false };
-  subs = run_shape ∷ check_shape ∷ serve_shape ∷ schema_shape ∷ [];
+  subs = run_shape ∷ check_shape ∷ serve_shape ∷ schema_shape ∷ explain_shape ∷ deck_shape ∷ [];
 }

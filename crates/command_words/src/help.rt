@@ -1,65 +1,50 @@
 //! What is told with the help.
 
-/// The program's version, and the kit and logic that its proofs were checked with.
-pub const VERSION: &str = "0.1 (rattle-kit-13 logic dac8208d650f15bf)";
+use explanation_texts::{faults, reasons, statuses};
 
-/// What a run answers: exit statuses, the statuses of its verbs, and the codes of a refused deck.
-pub const ANSWERS: &str = "Exit status:
+macro_rules! with_faults {
+    ([] $($statuses:tt)*) => {
+        faults!(answers $($statuses)*)
+    };
+}
+
+macro_rules! answers {
+    ([$($status:ident $digits:literal [$first:literal $($more:literal)*] $text:literal)*]
+    $($fault:ident $code:literal [$start:literal $($rest:literal)*] $told:literal)*) => {
+        concat!("Exit status:
   0   the run ended, whatever statuses its verbs answered
   2   the deck is refused: 'cobix: line L: fault C'
   3   the command line is not understood
   4   the deck could not be read or DIR is no folder ('cobix: input'), the transcript could not be written ('cobix: output'), or memory ran out before the first verb ('cobix: memory')
 
-Statuses of verbs, in the transcript:
-  00  done
-  02  done; duplicate: another record has the same value of a key WITH DUPLICATES
-  05  done; the OPTIONAL file was not there
-  10  READ NEXT: end of file, no next record
-  21  key out of sequence, in sequential access
-  22  key exists: duplicate value of a key that has none
-  23  record not found
-  24  boundary violation: no page or stamp is left
-  30  permanent error: the device failed
-  35  OPEN: file not found
-  38  OPEN: the file was closed WITH LOCK
-  39  OPEN: conflict of attributes: the file has other keys or record lengths
-  41  OPEN: already open
-  42  CLOSE: not open
-  43  REWRITE or DELETE in sequential access: no successful READ directly before
-  44  wrong record length
-  46  READ NEXT: no position
-  47  READ or START: not open for reading
-  48  WRITE: not open for writing
-  49  REWRITE or DELETE: not open for updating
-  90  memory ran out
-  91  OPEN: the file is damaged, or was not closed after a change
-  92  an earlier verb failed in its midst
+Statuses of verbs, in the transcript:",
+        $("\n  ", $digits, "  ", $first, $(" ", $more,)*)*
+        "\n\nCodes of a refused deck:",
+        $("\n  ", $code, "   ", $start, $(" ", $rest,)*)*)
+    };
+}
 
-Codes of a refused deck:
-  1   bytes that are no word, or a literal that does not end on its line
-  2   no deck goes on with this word, or it ends too early
-  3   unknown name
-  4   a name, a clause, a file or a description a second time
-  5   not allowed here
-  6   too much: the deck, a number, a ninth file or alternate key
-  7   items that are no record layout, other lengths than the record's, or keys that are none";
-
-/// What a check answers.
-pub const REASONS: &str = "Exit status:
+macro_rules! verdicts {
+    ([] $($reason:ident $number:literal [$first:literal $($more:literal)*] $text:literal)*) => {
+        concat!("Exit status:
   0   'sound records R pages P': the file stands for R records in P pages
-  1   'unsound N', and why:
-      1  short: fewer bytes than a page, or than its pages need; it was cut, or it is no file of cobix
-      2  the gate is not closed: it was not closed after a change
-      3  the first page is not that of a file
-      4  a page is reached twice
-      5  a page of a tree is not what its place requires
-      6  keys of a tree are out of order
-      7  a slot of a record, or a chain of slots or pages, is broken
-      8  an index and the records do not agree
-      9  a page is reached by nothing
+  1   'unsound N', and why:",
+        $("\n      ", $number, "  ", $first, $(" ", $more,)*)*
+        "
       Take the last copy of the file; or, where its records are elsewhere too, make it anew with OPEN OUTPUT
   3   the command line is not understood
-  4   the file could not be read ('cobix: input'), or memory ran out ('cobix: memory')";
+  4   the file could not be read ('cobix: input'), or memory ran out ('cobix: memory')")
+    };
+}
+
+/// The program's version, and the kit and logic that its proofs were checked with.
+pub const VERSION: &str = "0.1 (rattle-kit-13 logic dac8208d650f15bf)";
+
+/// What a run answers: exit statuses, the statuses of its verbs, and the codes of a refused deck.
+pub const ANSWERS: &str = statuses!(with_faults);
+
+/// What a check answers.
+pub const REASONS: &str = reasons!(verdicts);
 
 /// How frames are answered.
 pub const SERVING: &str =
@@ -89,3 +74,24 @@ Exit status:
       3  the first page is not that of a file
   3   the command line is not understood
   4   the file could not be read ('cobix: input'), the lines could not be written ('cobix: output'), or memory ran out ('cobix: memory')";
+
+/// What is explained.
+pub const EXPLAINED: &str = "KIND and NUMBER are what a run or a check has written, for example:
+  status 30    a line of the transcript ended in 30
+  fault 7      a deck was refused: 'cobix: line 12: fault 7'
+  unsound 6    a file was checked: 'unsound 6'
+
+Exit status:
+  0   the explanation was written
+  3   the command line is not understood, or there is no such status, fault or reason
+  4   the explanation could not be written ('cobix: output')";
+
+/// What is listed of a deck.
+pub const LISTED: &str =
+    "It lists the files with their items and keys, and the verbs and paragraphs with their lines of the deck. Verb N writes line N of the transcript. No file is touched.
+
+Exit status:
+  0   the deck is accepted, and was listed
+  2   the deck is refused: 'cobix: line L: fault C', and what the fault means
+  3   the command line is not understood
+  4   the deck could not be read ('cobix: input'), the list could not be written ('cobix: output'), or memory ran out ('cobix: memory')";

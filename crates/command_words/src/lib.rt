@@ -1,4 +1,4 @@
-//! What the words of a command line ask the program for: a run, a check, a schema, a session, or help.
+//! What the words of a command line ask the program for: a run, a check, a session, a schema, an explanation, the list of a deck, or help.
 //!
 //! The words are parsed by `clap`. What they ask for is a definition over its own of what an option's value is, so `read_words` says in both outcomes
 //! which words ask for what. The texts of help and usage are shown by tests.

@@ -1,14 +1,14 @@
 //! What a command line asks for.
-ghost use Rattle.std.specs.Prelude.{◌≡◌, ◌≢◌, ℕ, List, [], Some, None, true, false, map, codes, string_bytes, IfOk, IfErr};
+ghost use Rattle.std.specs.Prelude.{◌≡◌, ◌≢◌, ℕ, List, [], ◌∷◌, Some, None, true, false, map, codes, string_bytes, IfOk, IfErr};
 ghost use Rattle.std.specs.Option.{IfSome};
 ghost use Rattle.clap.specs.Words.{app_of, found_of, rows_of, rule_of, subcommand_rows_of, with_rule};
 ghost use Rattle.clap.specs.declared.builder.command.Command.TheViews.{out-Command};
 ghost use Rattle.clap.specs.Values.{kind_of};
-ghost use Rattle.command_words.specs.CommandLine.{word_rule, option_rule, number_rule, run_shape, check_shape, serve_shape, schema_shape, program_shape, runs_app, program_app};
-ghost use Rattle.command_words.specs.Asks.{AreLimits, IsRun, IsCheck, IsServe, IsSchema, IsMet, IsNone, Ask, AskNothing, HaveFault, IsShown};
+ghost use Rattle.command_words.specs.CommandLine.{word_rule, option_rule, number_rule, run_shape, check_shape, serve_shape, schema_shape, explain_shape, deck_shape, program_shape, runs_app, program_app};
+ghost use Rattle.command_words.specs.Asks.{AreLimits, IsRun, IsCheck, IsServe, IsSchema, IsExplain, IsDeck, IsMet, IsNone, Ask, AskNothing, HaveFault, IsShown};
 
 use crate::fault::WordsFault;
-use crate::help::{ANSWERS, REASONS, SCHEMA, SERVING, VERSION};
+use crate::help::{ANSWERS, EXPLAINED, LISTED, REASONS, SCHEMA, SERVING, VERSION};
 use crate::limits::Limits;
 use clap::builder::ValueParser;
 use clap::error::ErrorKind;
@@ -36,6 +36,15 @@ pub enum Request<'a> {
     /// The schema of the file of this path, by its first page.
     Schema {
         file: &'a str,
+    },
+    /// What the number of this kind means.
+    Explain {
+        kind: &'a str,
+        number: &'a str,
+    },
+    /// What the deck in the file of this path describes and does.
+    Deck {
+        deck: &'a str,
     },
     /// This text: help, or the version.
     Help(Error),
@@ -80,19 +89,26 @@ fn folder<'a>(alloc: Global, help: &'a str) -> Arg<'a>
     word(alloc, "folder", "DIR", help).long("folder")
 }
 
+/// The word of a deck.
+fn deck<'a>(alloc: Global) -> Arg<'a>
+    ensures rule { rule_of result ≡ word_rule (codes "deck") }
+    ensures local { result.global ≡ false }
+{
+    word(
+        alloc,
+        "deck",
+        "DECK",
+        "The file of the deck, of at most 1,048,576 bytes",
+    )
+}
+
 /// `run` with its deck and its folder.
 fn with_files<'a>(alloc: Global, run: Command<'a>) -> Result<Command<'a>, AllocError>
     requires { (out-Command run).has_globals ≡ false }
     ensures shape { IfOk result (λ command. app_of command ≡ with_rule (with_rule (app_of run.entry) (word_rule (codes "deck"))) (option_rule (codes "folder"))) }
     ensures local { IfOk result (λ command. (out-Command command).has_globals ≡ false) }
 {
-    let deck = word(
-        alloc,
-        "deck",
-        "DECK",
-        "The file of the deck, of at most 1,048,576 bytes",
-    );
-    run.arg(deck)?
+    run.arg(deck(alloc))?
         .arg(folder(alloc, "The folder in which the deck's files stay"))
 }
 
@@ -178,6 +194,30 @@ fn schema_command<'a>(alloc: Global) -> Result<Command<'a>, AllocError>
     schema.arg(file)
 }
 
+/// `explain`.
+fn explain_command<'a>(alloc: Global) -> Result<Command<'a>, AllocError>
+    ensures shape { IfOk result (λ command. app_of command ≡ record { top = explain_shape; subs = [] }) }
+    ensures local { IfOk result (λ command. (out-Command command).has_globals ≡ false) }
+{
+    let kind = word(alloc, "kind", "KIND", "'status', 'fault' or 'unsound'");
+    let number = word(alloc, "number", "NUMBER", "Which one, as it is written");
+    let explain = Command::new(alloc, "explain")
+        .about("Explains a status, a fault of a deck, or a reason of a check")
+        .after_help(EXPLAINED);
+    explain.arg(kind)?.arg(number)
+}
+
+/// `deck`.
+fn deck_command<'a>(alloc: Global) -> Result<Command<'a>, AllocError>
+    ensures shape { IfOk result (λ command. app_of command ≡ record { top = deck_shape; subs = [] }) }
+    ensures local { IfOk result (λ command. (out-Command command).has_globals ≡ false) }
+{
+    let listed = Command::new(alloc, "deck")
+        .about("Lists the files, the verbs and the paragraphs of a deck")
+        .after_help(LISTED);
+    listed.arg(deck(alloc))
+}
+
 /// The program, before its subcommands.
 fn program<'a>(alloc: Global) -> Command<'a>
     ensures shape { app_of result ≡ record { top = program_shape; subs = [] } }
@@ -201,10 +241,14 @@ fn with_runs<'a>(alloc: Global) -> Result<Command<'a>, AllocError>
         .subcommand(serve_command(alloc)?)
 }
 
+/// The program with all its subcommands.
 fn command<'a>(alloc: Global) -> Result<Command<'a>, AllocError>
     ensures { IfOk result (λ command. app_of command ≡ program_app) }
 {
-    with_runs(alloc)?.subcommand(schema_command(alloc)?)
+    with_runs(alloc)?
+        .subcommand(schema_command(alloc)?)?
+        .subcommand(explain_command(alloc)?)?
+        .subcommand(deck_command(alloc)?)
 }
 
 /// The limits of a run, or of a session.
@@ -264,6 +308,27 @@ fn schema_of<'a>(matches: &ArgMatches<'a>) -> Option<Request<'a>>
     Some(Request::Schema { file })
 }
 
+/// The explanation that the matches ask for, if they ask for one.
+fn explain_of<'a>(matches: &ArgMatches<'a>) -> Option<Request<'a>>
+    ensures some { IfSome result (IsMet (subcommand_rows_of matches.now)) }
+    ensures none { result ≡ None → (kind number : List ℕ) → IsExplain (subcommand_rows_of matches.now) kind number → ⊥ }
+{
+    let explain = matches.subcommand_matches("explain")?;
+    let kind = explain.get_str("kind")?;
+    let number = explain.get_str("number")?;
+    Some(Request::Explain { kind, number })
+}
+
+/// The deck whose list the matches ask for, if they ask for one.
+fn deck_of<'a>(matches: &ArgMatches<'a>) -> Option<Request<'a>>
+    ensures some { IfSome result (IsMet (subcommand_rows_of matches.now)) }
+    ensures none { result ≡ None → (deck : List ℕ) → IsDeck (subcommand_rows_of matches.now) deck → ⊥ }
+{
+    let listed = matches.subcommand_matches("deck")?;
+    let deck = listed.get_str("deck")?;
+    Some(Request::Deck { deck })
+}
+
 /// What the matches ask for.
 fn request_of<'a>(matches: &ArgMatches<'a>) -> Option<Request<'a>>
     ensures some { IfSome result (IsMet (subcommand_rows_of matches.now)) }
@@ -278,7 +343,13 @@ fn request_of<'a>(matches: &ArgMatches<'a>) -> Option<Request<'a>>
     if let Some(serve) = serve_of(matches) {
         return Some(serve);
     }
-    schema_of(matches)
+    if let Some(schema) = schema_of(matches) {
+        return Some(schema);
+    }
+    if let Some(explain) = explain_of(matches) {
+        return Some(explain);
+    }
+    deck_of(matches)
 }
 
 /// What an error of the parse means: it shows help, or tells a mistake.

@@ -4,8 +4,8 @@ use Rattle.command_line.proofs.AskedSessionLemmas.{as_asked}
 use Rattle.command_line.proofs.performing.perform.Goals as goal
 
 -- the session that was held is the one that the words ask for
-pub returns-clause-session : goal.returns-clause-session
-returns-clause-session g c =
+pub returns-in-Serve-clause-session : goal.returns-in-Serve-clause-session
+returns-in-Serve-clause-session g c =
     let words = map string_bytes c.args.words.now in
     let asked = subst (Ask words) c.in-Serve.is c.in-Ok.ensures.asked in
     as_asked _ _ words _ _ c.in-Serve.folder.now c.in-Serve.limits.pages c.in-Serve.limits.frames.value asked c.serve_path.ensures.came

@@ -1,0 +1,75 @@
+//! The list of the deck in a file.
+ghost use Rattle.std.specs.Prelude.{◌≡◌, ◌≢◌, ℕ, List, string_bytes, IfOk, IfErr};
+ghost use Rattle.std.specs.Io.KnownBytes.{Appends};
+ghost use Rattle.deck_listing.specs.Listing.{Lists};
+ghost use Rattle.command_line.specs.Front.{IsFrontOfInput};
+ghost use Rattle.command_line.specs.Listed.{WritesList, AreRefused, IsListFault};
+ghost use Rattle.command_line.specs.Status.{status_of};
+
+use crate::deck_file::read_deck_file;
+use crate::fault::Fault;
+use crate::outcome::Outcome;
+use deck_listing::list_deck;
+use std::alloc::Global;
+use std::io::Write;
+use std::rt::Files;
+
+/// The code of a deck's fault that is want of memory.
+const MEMORY_CODE: u8 = 8;
+
+/// The list of the deck that the bytes are.
+fn list(alloc: Global, bytes: &[u8]) -> Result<String, Fault>
+    ensures list { IfOk result (λ text. Lists bytes.now (string_bytes text)) }
+    ensures refused { IfErr result (λ fault. (told : _) → fault ≡ Fault.NotListed told → AreRefused bytes.now told) }
+    ensures fault { IfErr result IsListFault }
+{
+    match list_deck(alloc, bytes) {
+        Ok(text) => Ok(text),
+        Err(fault) => {
+            if fault.code == MEMORY_CODE {
+                Err(Fault::Memory)
+            } else {
+                Err(Fault::NotListed(fault))
+            }
+        }
+    }
+}
+
+/// Writes a list.
+fn write_list<W: Write>(text: &str, out: &mut W) -> Result<Outcome, Fault>
+    ensures done { IfOk result (λ outcome. outcome ≡ Outcome.Listed) }
+    ensures written { IfOk result (λ _. Appends (W.contents out.old) (W.contents out.new) text.now) }
+    ensures fault { IfErr result (λ fault. fault ≡ Fault.Output) }
+{
+    match out.write_all(text.as_bytes()) {
+        Ok(()) => Ok(Outcome::Listed),
+        Err(_) => Err(Fault::Output),
+    }
+}
+
+#[tactic(auto, using(crate::proofs::ListLemmas::not_read, crate::proofs::ListLemmas::not_written))]
+/// Writes the list of the deck in the file of a path. `NotListed`: it is refused, and nothing was written.
+pub fn list_path<R: Files, W: Write>(
+    rt: &R,
+    alloc: Global,
+    path: &str,
+    out: &mut W,
+) -> Result<Outcome, Fault>
+    ensures done { IfOk result (λ outcome. outcome ≡ Outcome.Listed) }
+    ensures listed { IfOk result (λ _. (file : R.File) × (bytes : List ℕ) × IsFrontOfInput 1048577 (R.File.remaining file) bytes
+        × WritesList bytes (W.contents out.old) (W.contents out.new)) }
+    ensures refused { IfErr result (λ fault. (told : _) → fault ≡ Fault.NotListed told
+        → (file : R.File) × (bytes : List ℕ) × IsFrontOfInput 1048577 (R.File.remaining file) bytes × AreRefused bytes told) }
+    ensures untouched { IfErr result (λ fault. status_of fault ≢ 4 → out.new ≡ out.old) }
+    ensures fault { IfErr result IsListFault }
+{
+    let bytes = match read_deck_file(rt, alloc, path) {
+        Ok(bytes) => bytes,
+        Err(fault) => return Err(fault),
+    };
+    let text = match list(alloc, bytes.as_slice()) {
+        Ok(text) => text,
+        Err(fault) => return Err(fault),
+    };
+    write_list(&text, out)
+}

@@ -1,0 +1,35 @@
+//! The explanation of a status, a fault of a deck, or a reason of a check.
+ghost use Rattle.std.specs.Prelude.{◌≡◌, ◌⊎◌, map, None, IsSome, IfOk, IfErr};
+ghost use Rattle.file_checker.specs.declared.verdict.Reason.{Reason as ToldReason};
+ghost use Rattle.file_checker.specs.Numbers.{number_of};
+ghost use Rattle.explanations.specs.Explained.{text_in, explained, digit_of};
+ghost use Rattle.command_line.specs.Listed.{WritesText};
+
+use crate::fault::Fault;
+use crate::outcome::Outcome;
+use explanations::{FAULTS, REASONS, STATUSES, explanation_of};
+use std::io::Write;
+
+/// Writes what is explained of a number of a kind. `Unexplained`: there is no such number, and nothing was written.
+pub fn explain<W: Write>(kind: &str, number: &str, out: &mut W) -> Result<Outcome, Fault>
+    ensures done { IfOk result (λ outcome. outcome ≡ Outcome.Explained) }
+    ensures text { IfOk result (λ _. WritesText (explained (map (λ row. (row.0.now, row.1.now)) STATUSES) (map (λ row. (row.0.now, row.1.now)) FAULTS)
+        (map (λ row. (row.0.now, row.1.now)) REASONS) kind.now number.now) (W.contents out.old) (W.contents out.new)) }
+    ensures none { IfErr result (λ fault. fault ≡ Fault.Unexplained → explained (map (λ row. (row.0.now, row.1.now)) STATUSES)
+        (map (λ row. (row.0.now, row.1.now)) FAULTS) (map (λ row. (row.0.now, row.1.now)) REASONS) kind.now number.now ≡ None) }
+    ensures untouched { IfErr result (λ fault. fault ≡ Fault.Unexplained → out.new ≡ out.old) }
+    ensures fault { IfErr result (λ fault. (fault ≡ Fault.Unexplained) ⊎ (fault ≡ Fault.Output)) }
+{
+    let Some(text) = explanation_of(kind, number) else {
+        return Err(Fault::Unexplained);
+    };
+    match out.write_all(text.as_bytes()) {
+        Ok(()) => Ok(Outcome::Explained),
+        Err(_) => Err(Fault::Output),
+    }
+}
+
+/// Each reason of a check is explained.
+pub fn every_reason_is_explained()
+    ensures { (reason : ToldReason) → IsSome (text_in (map (λ row. (row.0.now, row.1.now)) REASONS) (digit_of (number_of reason))) }
+{}
