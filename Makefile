@@ -2,7 +2,7 @@
 # `make run` proves and builds the program, and runs a deck; `make test` proves and tests everything,
 # runs the examples, the cases and some of them out of memory, and checks the documents;
 # `make gnucobol` runs COBOL programs over it, where cobc is there;
-# `make install` puts the program that one of the last two built into PREFIX/bin, and its manual page,
+# `make install` puts the program that `make run` or `make test` built into PREFIX/bin, its manual page,
 # its completion for bash and its line for file(1) into PREFIX/share.
 .PHONY: try run test install gnucobol
 
