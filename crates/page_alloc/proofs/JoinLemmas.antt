@@ -53,11 +53,12 @@ left n w c d e p s t set same honest = record {
     others : IsTrue t.is_honest → (k : ℕ) → k ≢ n → pages_of e t k ≡ pages_of c s k
     others h k differs = set_others n w d e set t k differs ∙ ap (λ pages. pages k) (same h)
 
-pub parts_after : (c d : Cache) (s t : ShelfState) (i j : ℕ) → KeepsStore c d → GoesQuietly c.store.unit s t → i ≤ j → PartsGo c d s t i j
-parts_after c d s t i j keeps quietly faults = record {
+pub parts_after : (c d : Cache) (s t : ShelfState) (i j : ℕ) → KeepsStore c d → GoesQuietly c.store.unit s t → c.asked ≤ d.asked → i ≤ j → PartsGo c d s t i j
+parts_after c d s t i j keeps quietly asked faults = record {
   unit = ap (λ x. x.unit) keeps.store;
   cap = keeps.cap;
   pages = let e : d.store.pages ≡ c.store.pages = ap (λ x. x.pages) keeps.store in omega arith;
+  asked = asked;
   quietly = quietly;
   faults = faults;
 }
@@ -90,10 +91,10 @@ pub over_after : (d e : Cache) (t : ShelfState) → SameFrames d e → IsOver d 
 over_after d e t same over = over_same d e t same.store same.frames over
 
 -- a page of the cache is lent, or could not be loaded
-pub reads_after : (a b : PagedFile) (s t : ShelfState) (i j : ℕ) → b.pager ≡ a.pager → b.changed ≡ a.changed → KeepsPages a.cache b.cache s t → OnlyLooks a.cache b.cache s t → i ≤ j → ReadsPages a b s t i j
-reads_after a b s t i j pager gate kept looks faults = record {
+pub reads_after : (a b : PagedFile) (s t : ShelfState) (i j : ℕ) → b.pager ≡ a.pager → b.changed ≡ a.changed → KeepsPages a.cache b.cache s t → OnlyLooks a.cache b.cache s t → a.cache.asked ≤ b.cache.asked → i ≤ j → ReadsPages a b s t i j
+reads_after a b s t i j pager gate kept looks asked faults = record {
   goes = record {
-    parts = parts_after a.cache b.cache s t i j kept.keeps kept.goes faults;
+    parts = parts_after a.cache b.cache s t i j kept.keeps kept.goes asked faults;
     gate = gate;
     limit = ap (λ x. x.limit) pager;
     ready = λ r. record {

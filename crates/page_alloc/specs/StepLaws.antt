@@ -18,13 +18,14 @@ use Rattle.page_alloc.specs.PagedFile.{IsOpenOver, StandsOrRefused}
 use Rattle.page_alloc.specs.Steps.{Goes, ReadsPages, Moves}
 
 pub parts_stay : (c : Cache) (s : ShelfState) (n : ℕ) → PartsGo c c s s n n
-parts_stay c s n = record { unit = refl; cap = refl; pages = omega arith; quietly = goes_nowhere c.store.unit s; faults = omega arith }
+parts_stay c s n = record { unit = refl; cap = refl; pages = omega arith; asked = omega arith; quietly = goes_nowhere c.store.unit s; faults = omega arith }
 
 pub parts_then : (c d e : Cache) (x y z : ShelfState) (i j k : ℕ) → PartsGo c d x y i j → PartsGo d e y z j k → PartsGo c e x z i k
 parts_then c d e x y z i j k cd de = record {
   unit = de.unit ∙ cd.unit;
   cap = de.cap ∙ cd.cap;
   pages = let p = cd.pages in let q = de.pages in omega arith;
+  asked = let p = cd.asked in let q = de.asked in omega arith;
   quietly = goes_then c.store.unit x y z cd.quietly (subst (λ unit. GoesQuietly unit y z) cd.unit de.quietly);
   faults = let p = cd.faults in let q = de.faults in omega arith;
 }
@@ -67,6 +68,7 @@ goes_moves a b x y i j goes = record {
   unit = goes.parts.unit;
   cap = goes.parts.cap;
   limit = goes.limit;
+  asked = goes.parts.asked;
   others = goes.parts.quietly.others;
   faults = goes.parts.faults;
   ready = goes.ready;
@@ -103,6 +105,7 @@ moves_on a b c x y z i j k ab bc = record {
   unit = bc.unit ∙ ab.unit;
   cap = bc.cap ∙ ab.cap;
   limit = bc.limit ∙ ab.limit;
+  asked = let p = ab.asked in let q = bc.asked in omega arith;
   others = others_then unit x y z ab.others others;
   faults = let p = ab.faults in let q = bc.faults in omega arith;
   ready = λ r. bc.ready (ab.ready r);

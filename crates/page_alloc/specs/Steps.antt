@@ -28,11 +28,12 @@ pub record ReadsPages (old new : PagedFile) (before after : ShelfState) (failed 
   pub rests : Rests (state_of old before) (state_of new after)
 
 -- a call that may open the gate: at each moment a crash leaves what it could leave before, or a refused file. As many frames stay, and the limit
--- of pages
+-- of pages; the count of pages asked for does not fall
 pub record Moves (old new : PagedFile) (before after : ShelfState) (failed fails : ℕ) : Type 0 where
   pub unit : new.cache.store.unit ≡ old.cache.store.unit
   pub cap : new.cache.frames.cap ≡ old.cache.frames.cap
   pub limit : new.pager.limit ≡ old.pager.limit
+  pub asked : old.cache.asked ≤ new.cache.asked
   pub others : KeepsOthers old.cache.store.unit before after
   pub faults : failed ≤ fails
   pub ready : IsOpenOver old before → IsOpenOver new after

@@ -65,6 +65,8 @@ impl<'a, S: Shelf> Pages for FilePages<'a, S> {
 
     ghost goes_changing = { λ a b goes begun. goes.2.gate ∙ begun };
 
+    ghost goes_counts = { λ a b goes. goes.2.parts.asked };
+
     ghost failed_before = { λ a b c failed goes. failed_before
         (S.Shelf.fault_count a.shelf.now) (S.Shelf.fault_count b.shelf.now) (S.Shelf.fault_count c.shelf.now) failed goes.2.parts.faults };
 
@@ -76,6 +78,8 @@ impl<'a, S: Shelf> Pages for FilePages<'a, S> {
     ghost moves_honestly = { λ a b moves. moves.2.others.honest };
 
     ghost moves_ready = { λ a b moves. moves.2.ready };
+
+    ghost moves_counts = { λ a b moves. moves.2.asked };
 
     ghost failed_earlier = { λ a b c failed moves. failed_before
         (S.Shelf.fault_count a.shelf.now) (S.Shelf.fault_count b.shelf.now) (S.Shelf.fault_count c.shelf.now) failed moves.2.faults };

@@ -169,6 +169,7 @@ fn next_free<S: Shelf>(cache: &mut Cache, shelf: &mut S, n: u32) -> Result<u32, 
         IfErr result (CallFails (IsTrue (S.state shelf.new).is_honest × IsTrue (is_free page))
         (HasFailed (S.fault_count shelf.old) (S.fault_count shelf.new)) ⊥) }
     ensures asked { cache.new.asked ≤ cache.old.asked + 1 }
+    ensures grows { cache.old.asked ≤ cache.new.asked }
     ensures faults { S.fault_count shelf.old ≤ S.fault_count shelf.new }
 {
     cache.load(shelf, n)?;

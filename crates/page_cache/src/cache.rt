@@ -83,6 +83,7 @@ impl Cache {
         ensures held { OnOk result (IsSome (frame_of self.new n)) }
         ensures kept { KeepsPages self.old self.new (S.state shelf.old) (S.state shelf.new) }
         ensures asked { self.new.asked ≡ min (self.old.asked + 1) (2 ^ 64 - 1) }
+        ensures grows { self.old.asked ≤ self.new.asked }
         ensures looks { OnlyLooks self.old self.new (S.state shelf.old) (S.state shelf.new) }
         ensures cause { FaultHasCause (S.fault_count shelf.old) (S.fault_count shelf.new) result }
     {
@@ -127,6 +128,7 @@ impl Cache {
         ensures kept { OnErr result (KeepsPages self.old self.new (S.state shelf.old) (S.state shelf.new)) }
         ensures goes_on { MayGoOn self.old self.new (S.state shelf.old) (S.state shelf.new) }
         ensures asked { self.new.asked ≡ min (self.old.asked + 1) (2 ^ 64 - 1) }
+        ensures grows { self.old.asked ≤ self.new.asked }
         ensures cause { FaultHasCause (S.fault_count shelf.old) (S.fault_count shelf.new) result }
     {
         if n < self.store.pages {
@@ -143,6 +145,7 @@ impl Cache {
         ensures kept { OnErr result (KeepsPages self.old self.new (S.state shelf.old) (S.state shelf.new)) }
         ensures goes_on { MayGoOn self.old self.new (S.state shelf.old) (S.state shelf.new) }
         ensures asked { self.new.asked ≡ min (self.old.asked + 1) (2 ^ 64 - 1) }
+        ensures grows { self.old.asked ≤ self.new.asked }
         ensures cause { FaultHasCause (S.fault_count shelf.old) (S.fault_count shelf.new) result }
     {
         self.asked = self.asked.saturating_add(1);
@@ -187,6 +190,7 @@ impl Cache {
         ensures kept { OnErr result (KeepsPages self.old self.new (S.state shelf.old) (S.state shelf.new)) }
         ensures goes_on { MayGoOn self.old self.new (S.state shelf.old) (S.state shelf.new) }
         ensures asked { self.new.asked ≡ min (self.old.asked + 1) (2 ^ 64 - 1) }
+        ensures grows { self.old.asked ≤ self.new.asked }
         ensures cause { FaultHasCause (S.fault_count shelf.old) (S.fault_count shelf.new) result }
     {
         self.asked = self.asked.saturating_add(1);

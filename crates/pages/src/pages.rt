@@ -138,6 +138,9 @@ pub trait Pages {
 
     ghost goes_changing: { (a b : Self) → Goes a b → CanChange a → CanChange b };
 
+    /// The count of pages asked for never falls.
+    ghost goes_counts: { (a b : Self) → Goes a b → (state a).asked ≤ (state b).asked };
+
     ghost failed_before: { (a b c : Self) → HasFailed a b → Goes b c → HasFailed a c };
 
     ghost failed_after: { (a b c : Self) → Goes a b → HasFailed b c → HasFailed a c };
@@ -148,6 +151,8 @@ pub trait Pages {
     ghost moves_honestly: { (a b : Self) → Moves a b → IsTrue (state b).is_honest → IsTrue (state a).is_honest };
 
     ghost moves_ready: { (a b : Self) → Moves a b → IsReady a → IsReady b };
+
+    ghost moves_counts: { (a b : Self) → Moves a b → (state a).asked ≤ (state b).asked };
 
     ghost failed_earlier: { (a b c : Self) → HasFailed a b → Moves b c → HasFailed a c };
 

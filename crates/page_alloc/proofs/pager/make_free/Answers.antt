@@ -1,4 +1,4 @@
-use Rattle.std.proofs.Common.{◌≡◌, ◌∙◌, sym, ap, subst, is_ok, true}
+use Rattle.std.proofs.Common.{◌≡◌, ◌∙◌, sym, ap, subst, is_ok, true, arith}
 use Rattle.page_cache.proofs.OverLemmas.{set_page, set_others, over_set}
 use Rattle.page_alloc.specs.FreePage.{is_free, next_of}
 use Rattle.page_alloc.proofs.JoinLemmas.{counted_after, parts_after}
@@ -29,4 +29,4 @@ returns-clause-goes g c =
     let set = c.held_mut.follows.holds w (ap is_ok c.in_ok-page.was) in
     let keeps = c.load.ensures.kept.keeps in
     parts_after c.args.cache.now (c.held_mut.follows.lender w) (g.S.Shelf.state c.args.shelf.now) (g.S.Shelf.state c.load.new.shelf) _ _
-    (record { store = set.store ∙ keeps.store; cap = set.cap ∙ keeps.cap }) c.load.ensures.kept.goes c.load.ensures.cause.no_fewer
+    (record { store = set.store ∙ keeps.store; cap = set.cap ∙ keeps.cap }) c.load.ensures.kept.goes (let p = c.load.ensures.grows in let q = set.asked in omega arith) c.load.ensures.cause.no_fewer

@@ -14,7 +14,7 @@ returns-in_err-load g c =
     let asked = load.asked in
     let y = err_from_is_err_and c.from_residual.result c.from_residual.ensures.1 in
     let fails = fails_as c.in_err-load.field-0.0 _ _ ⊤ ⊥ c.in_err-load.ensures.cause in
-    let reads = reads_after old (record old { cache = d }) s t _ _ refl refl load.kept load.looks load.cause.no_fewer in
+    let reads = reads_after old (record old { cache = d }) s t _ _ refl refl load.kept load.looks load.grows load.cause.no_fewer in
     rw (y.1, y.2) ((refl, (λ _. tt), (reads.rests, omega arith, (refl, refl, reads), (λ h. tt), (λ h there. fails.damage tt), fails.caused)), record { lends = tt })
 
 pub returns : goal.returns
@@ -29,7 +29,8 @@ returns g c =
     let ok = c.held.ensures.ok c.in_ok-load.ensures.held in
     let asked = load.asked in
     let again = same.asked in
-    let reads = reads_after old (record old { cache = e }) s t _ _ refl refl (kept_after old.cache d e s t load.kept same) (looks_after old.cache d e s t load.looks same) load.cause.no_fewer in (
+    let grows = load.grows in
+    let reads = reads_after old (record old { cache = e }) s t _ _ refl refl (kept_after old.cache d e s t load.kept same) (looks_after old.cache d e s t load.looks same) (omega arith) load.cause.no_fewer in (
       (
         refl,
         (λ _. tt),

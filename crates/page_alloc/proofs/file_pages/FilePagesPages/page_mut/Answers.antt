@@ -15,7 +15,7 @@ returns-in_err-load g c =
     let asked = load.asked in
     let y = err_from_is_err_and c.from_residual.result c.from_residual.ensures.1 in
     let fails = fails_as c.in_err-load.field-0.0 _ _ ⊤ ⊥ c.in_err-load.ensures.cause in
-    let reads = reads_after old (record old { cache = d }) s t _ _ refl refl load.kept load.looks load.cause.no_fewer in
+    let reads = reads_after old (record old { cache = d }) s t _ _ refl refl load.kept load.looks load.grows load.cause.no_fewer in
     rw (y.1, y.2) ((refl, (λ w ok. absurd (cc)), (reads.rests, omega arith, (refl, refl, reads), (λ h there. fails.damage tt), fails.caused)), record { lends = tt })
 
 pub returns : goal.returns
@@ -35,10 +35,11 @@ returns g c =
             let e = c.held_mut.follows.lender w in
             let set = c.held_mut.follows.holds w is_ok in
             let again = set.asked in
+            let grows = load.grows in
             let joined = joined_after old.cache e old.pager s t c.requires.ready.joined (set.store ∙ load.kept.keeps.store) (over_set c.args.n w d e set t here load.kept.over) in (
               left c.args.n w old.cache d e old.pager s t set load.kept.pages load.kept.goes.others.honest,
               omega arith,
-              (refl, refl, goes_after old (record old { cache = e }) s t _ _ c.requires.open refl refl (parts_after old.cache e s t _ _ (record { store = set.store ∙ load.kept.keeps.store; cap = set.cap ∙ load.kept.keeps.cap }) load.kept.goes load.cause.no_fewer) joined),
+              (refl, refl, goes_after old (record old { cache = e }) s t _ _ c.requires.open refl refl (parts_after old.cache e s t _ _ (record { store = set.store ∙ load.kept.keeps.store; cap = set.cap ∙ load.kept.keeps.cap }) load.kept.goes (omega arith) load.cause.no_fewer) joined),
               (λ h. IfOk-weaker c.held_mut.result _ _ (λ page value. shown old.cache d old.pager s t c.args.n page.now (load.kept.pages h) value) c.held_mut.ensures.value),
             )),
         no_fault c.held_mut.result _ ok,
