@@ -8,6 +8,7 @@ use Rattle.page_cache.specs.declared.cache.Cache.{Cache}
 use Rattle.page_cache.specs.Cached.{frame_of, is_counted, pages_of, IsOver}
 use Rattle.page_cache.specs.Calls.{KeepsStore, OnlyLooks, KeepsPages}
 use Rattle.page_cache.specs.Quietly.{GoesQuietly}
+use Rattle.page_cache.proofs.QuietLemmas.{goes_nowhere}
 use Rattle.page_cache.specs.Lending.{FrameSet, SameFrames}
 use Rattle.page_cache.proofs.OverLemmas.{over_same, pages_same, clean_same, held_page, set_page, set_others}
 use Rattle.page_alloc.specs.declared.pager.Pager.{Pager}
@@ -74,6 +75,13 @@ kept_after c d e s t kept same = record {
   keeps = record { store = same.store ∙ kept.keeps.store; cap = same.cap ∙ kept.keeps.cap };
   goes = kept.goes;
 }
+
+-- nothing was asked of the shelf
+pub reordered : (c d : Cache) (s : ShelfState) → IsOver c s → SameFrames c d → KeepsPages c d s s × OnlyLooks c d s s
+reordered c d s over same = (
+  kept_after c c d s s (record { over = over; pages = λ h. refl; keeps = record { store = refl; cap = refl }; goes = goes_nowhere c.store.unit s }) same,
+  looks_after c c d s s (record { clean = λ clean. clean; file = λ clean. refl }) same,
+)
 
 pub at_err : {T : Type 0} {P : Type 0} (r : Result T Fault) → P → OnErr r P
 at_err (Ok x) p = tt

@@ -95,6 +95,10 @@ impl<'a, S: Shelf> Pages for FilePages<'a, S> {
         self.file.cache.held(n)
     }
 
+    fn demote(&mut self, n: u32) {
+        self.file.cache.demote(n);
+    }
+
     fn page_mut(&mut self, n: u32) -> Result<&mut [u8; PAGE_SIZE], Fault> {
         if n == 0 || n >= self.file.pager.count {
             return Err(Fault::Damage);

@@ -1,11 +1,12 @@
 -- What the order of the entries, and a value set in one of them, are to a look-up.
-use Rattle.std.proofs.Common.{◌≡◌, ◌≢◌, ◌-◌, inl, inr, ℕ, Bool, List, [], ◌∷◌, Option, Some, None, IsSome, is_some, true, false, slice_get, take, nat_eq, option_map, refl, sym, ◌∙◌, ap, subst, if◌then◌else◌}
+use Rattle.std.proofs.Common.{◌≡◌, ◌≢◌, ◌-◌, inl, inr, ℕ, Bool, List, [], ◌∷◌, ◌++◌, Option, Some, None, IsSome, is_some, true, false, slice_get, take, nat_eq, option_map, refl, sym, ◌∙◌, ap, subst, if◌then◌else◌}
 use Rattle.std.specs.Option.{option_map_or}
 use Rattle.std.specs.Cmp.{nat_eq_equiv}
-use Rattle.std.specs.Map.{lookup, lookup_entry, remove_entry, set_value, AreApart}
+use Rattle.std.specs.List.{IsDistinct}
+use Rattle.std.specs.Map.{keys_of, lookup, lookup_entry, remove_entry, set_value, AreApart}
 use Rattle.std.proofs.lemmas.Bool.{cases_Bool, eqb-true, eq-eqb, ne_eqb, cases_eq, both_ways, cond-true, cond-false}
-use Rattle.std.proofs.lemmas.Map.{lookup-set_value}
-use Rattle.lru.specs.LruCache.{LruCache, put_entries, promoted}
+use Rattle.std.proofs.lemmas.Map.{lookup-set_value, lookup-remove_entry}
+use Rattle.lru.specs.LruCache.{LruCache, put_entries, promoted, demoted}
 use Rattle.lru.proofs.CallerLemmas.{Contains-lookup_entry}
 
 pub apart_keys : (n k : ℕ) → k ≢ n → AreApart (nat_eq n) (nat_eq k)
@@ -43,6 +44,35 @@ module _ {X : Type 0} where
         | inr differs ↦
             let hit = (Contains-lookup_entry (nat_eq n) es e is).1 in
             rw (apart_keys n k differs e.0 hit) (lookup-removed (nat_eq n) (nat_eq k) (apart_keys n k differs) es)
+      ]
+
+  lookup-behind : (other : ℕ → Bool) (es : List (ℕ × X)) (e : ℕ × X) → other e.0 ≡ false → lookup other (es ++ e ∷ []) ≡ lookup other es
+  lookup-behind other [] e miss = rw miss refl
+  lookup-behind other (f ∷ es) e miss = elim (cases_Bool (other f.0)) [ inl hit ↦ rw hit refl | inr not ↦ rw not (lookup-behind other es e miss) ]
+
+  lookup-last : (test : ℕ → Bool) (es : List (ℕ × X)) (e : ℕ × X) → test e.0 ≡ true → lookup test es ≡ None → lookup test (es ++ e ∷ []) ≡ Some e.1
+  lookup-last test [] e hit none = rw hit refl
+  lookup-last test (f ∷ es) e hit none = elim (cases_Bool (test f.0)) [
+    | inl there ↦ let clash = rw there at none in absurd (cc)
+    | inr not ↦ rw not (lookup-last test es e hit (rw not at none))
+  ]
+
+  pub lookup-demoted : (n k : ℕ) (es : List (ℕ × X)) → IsDistinct nat_eq (keys_of es) → lookup (nat_eq k) (demoted (nat_eq n) es) ≡ lookup (nat_eq k) es
+  lookup-demoted n k es distinct = go (lookup_entry (nat_eq n) es) refl
+    where
+      go : (o : Option (ℕ × X)) → lookup_entry (nat_eq n) es ≡ o → lookup (nat_eq k) (option_map_or (λ e. remove_entry (nat_eq n) es ++ e ∷ []) o es) ≡ lookup (nat_eq k) es
+      go None is = refl
+      go (Some e) is = elim (cases_eq k n) [
+        | inl same ↦
+            let hit = (Contains-lookup_entry (nat_eq n) es e is).1 in
+            let found : lookup (nat_eq n) es ≡ Some e.1 = lookup-lookup_entry (nat_eq n) es ∙ ap (option_map (λ e. e.1)) is in
+            let none : lookup (nat_eq n) (remove_entry (nat_eq n) es) ≡ None =
+            lookup-remove_entry nat_eq_equiv (nat_eq n) (nat_eq_equiv.congr n) n es distinct ∙ cond-true (nat_eq n n) None _ (nat_eq_equiv.refl n) in
+            rw same (lookup-last (nat_eq n) (remove_entry (nat_eq n) es) e hit none ∙ sym found)
+        | inr differs ↦
+            let hit = (Contains-lookup_entry (nat_eq n) es e is).1 in
+            lookup-behind (nat_eq k) (remove_entry (nat_eq n) es) e (apart_keys n k differs e.0 hit)
+            ∙ lookup-remove_entry nat_eq_equiv (nat_eq n) (nat_eq_equiv.congr n) k es distinct ∙ cond-false (nat_eq n k) None _ (ne_eqb n k (λ same. differs (sym same)))
       ]
 
   value_at : (n k : ℕ) (es : List (ℕ × X)) (w : X) → IsSome (lookup (nat_eq n) es) → lookup (nat_eq k) (set_value (nat_eq n) es w) ≡ (if nat_eq n k then Some w else lookup (nat_eq k) es)

@@ -5,12 +5,12 @@ use Rattle.std.specs.Prelude.{slice_index_or, slice_set}
 use Rattle.std.specs.Map.{keys_of, lookup, lookup_entry, remove_entry, set_value}
 use Rattle.std.specs.Option.{option_map_or}
 use Rattle.std.proofs.lemmas.Bool.{cases_Bool, eqb-false}
-use Rattle.std.proofs.lemmas.List.{length-map, length-set, length-append, get_or_default, get_or-set_same, get_or-set_other, get_or_append_left, take-map, take_all, length-take}
+use Rattle.std.proofs.lemmas.List.{map-append, length-map, length-set, length-append, get_or_default, get_or-set_same, get_or-set_other, get_or_append_left, take-map, take_all, length-take}
 use Rattle.std.proofs.lemmas.Option.{slice_get-map}
 use Rattle.std.proofs.lemmas.Map.Made.{lookup-map_values, keys_of-map_values}
 use Rattle.std.proofs.lemmas.Map.Keys.{IsDistinct-head, IsDistinct-tail}
-use Rattle.lru.specs.LruCache.{LruCache, lru_cache, put_entries, promoted, IsValid, last_entry}
-use Rattle.lru.proofs.CallerLemmas.{Contains-promoted, Contains-take}
+use Rattle.lru.specs.LruCache.{LruCache, lru_cache, put_entries, promoted, demoted, IsValid, last_entry}
+use Rattle.lru.proofs.CallerLemmas.{Contains-promoted, Contains-demoted, Contains-take}
 use Rattle.lru.proofs.Splits.{Contains-head, Contains-tail, Contains-cons, Contains-nil}
 use Rattle.page_cache.specs.Places.{framed, IsPlaced}
 use Rattle.page_cache.proofs.FrameLemmas.{put_front}
@@ -33,6 +33,16 @@ length_promoted test es = go (lookup_entry test es) refl
     go : (o : Option (ℕ × ℕ)) → lookup_entry test es ≡ o → length (option_map_or (λ e. e ∷ remove_entry test es) o es) ≡ length es
     go None is = refl
     go (Some e) is = let less = length_removed test es e is in omega arith
+
+length_demoted : (test : ℕ → Bool) (es : List (ℕ × ℕ)) → length (demoted test es) ≡ length es
+length_demoted test es = go (lookup_entry test es) refl
+  where
+    go : (o : Option (ℕ × ℕ)) → lookup_entry test es ≡ o → length (option_map_or (λ e. remove_entry test es ++ e ∷ []) o es) ≡ length es
+    go None is = refl
+    go (Some e) is =
+        let less = length_removed test es e is in
+        let joined = length-append (remove_entry test es) (e ∷ []) in
+        omega arith
 
 is_some_map : {Y Z : Type 0} (g : Y → Z) (o : Option Y) → is_some (option_map g o) ≡ is_some o
 is_some_map g None = refl
@@ -78,6 +88,13 @@ module _ {X : Type 0} where
       go None = refl
       go (Some e) = ap (λ l. (e.0, at e.1) ∷ l) (sym (removed_filled at test es))
 
+  demoted_filled : (at : ℕ → X) (test : ℕ → Bool) (es : List (ℕ × ℕ)) → filled at (demoted test es) ≡ demoted test (filled at es)
+  demoted_filled at test es = go (lookup_entry test es) ∙ ap (λ (o : Option (ℕ × X)). option_map_or (λ e. remove_entry test (filled at es) ++ e ∷ []) o (filled at es)) (sym (entry_filled at test es))
+    where
+      go : (o : Option (ℕ × ℕ)) → filled at (option_map_or (λ e. remove_entry test es ++ e ∷ []) o es) ≡ option_map_or (λ e. remove_entry test (filled at es) ++ e ∷ []) (option_map (λ e. (e.0, at e.1)) o) (filled at es)
+      go None = refl
+      go (Some e) = map-append (λ e. (e.0, at e.1)) (remove_entry test es) (e ∷ []) ∙ ap (λ l. l ++ (e.0, at e.1) ∷ []) (sym (removed_filled at test es))
+
   same_on : (f g : ℕ → X) (es : List (ℕ × ℕ)) → ((e : ℕ × ℕ) → Contains es e → f e.1 ≡ g e.1) → filled f es ≡ filled g es
   same_on f g [] same = refl
   same_on f g (e ∷ es) same =
@@ -98,6 +115,10 @@ module _ {X : Type 0} where
   pub framed_promoted : (test : ℕ → Bool) (places : List X) (es : List (ℕ × ℕ)) → framed places (promoted test es) ≡ promoted test (framed places es)
   framed_promoted test [] es = refl
   framed_promoted test (x ∷ xs) es = promoted_filled (λ p. slice_index_or (x ∷ xs) p x) test es
+
+  pub framed_demoted : (test : ℕ → Bool) (places : List X) (es : List (ℕ × ℕ)) → framed places (demoted test es) ≡ demoted test (framed places es)
+  framed_demoted test [] es = refl
+  framed_demoted test (x ∷ xs) es = demoted_filled (λ p. slice_index_or (x ∷ xs) p x) test es
 
   pub framed_found : (test : ℕ → Bool) (places : List X) (es : List (ℕ × ℕ)) → IsPlaced places es → is_some (lookup test (framed places es)) ≡ is_some (lookup test es)
   framed_found test [] es placed = rw (no_places es placed) refl
@@ -148,6 +169,13 @@ module _ {X : Type 0} where
     below = λ e c. placed.below e (Contains-promoted test es e c);
     apart = λ e f c d. placed.apart e f (Contains-promoted test es e c) (Contains-promoted test es f d);
     many = placed.many ∙ sym (length_promoted test es);
+  }
+
+  pub placed_demoted : (test : ℕ → Bool) (places : List X) (es : List (ℕ × ℕ)) → IsPlaced places es → IsPlaced places (demoted test es)
+  placed_demoted test places es placed = record {
+    below = λ e c. placed.below e (Contains-demoted test es e c);
+    apart = λ e f c d. placed.apart e f (Contains-demoted test es e c) (Contains-demoted test es f d);
+    many = placed.many ∙ sym (length_demoted test es);
   }
 
   pub placed_set : (places : List X) (es : List (ℕ × ℕ)) (p : ℕ) (w : X) → IsPlaced places es → IsPlaced (slice_set places p w) es

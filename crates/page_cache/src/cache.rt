@@ -107,6 +107,16 @@ impl Cache {
         self.frames.promote(n)
     }
 
+    /// Has page `n` be the first that is pushed out, where all frames are taken. Nothing is read or written, and what is held
+    /// stays held.
+    pub fn demote(&mut self, n: u32)
+        ensures same { SameFrames self.old self.new }
+    {
+        if self.frames.len() == self.frames.cap().get() {
+            let _held = self.frames.demote(n);
+        }
+    }
+
     // Whether page n is the one used last.
     #[inline(always)]
     pub(crate) fn is_first(&self, n: u32) -> bool

@@ -5,7 +5,7 @@ ghost use Rattle.std.specs.NonZero.{non_zero_usize_get};
 ghost use Rattle.std.specs.Borrow.{sem};
 ghost use Rattle.std.specs.Map.{lookup};
 ghost use Rattle.std.specs.Map.Iter.{deref_pair};
-ghost use Rattle.lru.specs.LruCache.{lru_cache, put_entries, IsValid, last_entry, promoted};
+ghost use Rattle.lru.specs.LruCache.{lru_cache, put_entries, IsValid, last_entry, promoted, demoted};
 
 use crate::frame::Frame;
 use lru::LruCache;
@@ -72,6 +72,15 @@ impl Frames {
         ensures entries { self.new ≡ lru_cache (promoted (nat_eq n) self.old.entries) self.old.cap }
     {
         self.order.promote(&n)
+    }
+
+    /// Puts page `n` last, and tells whether it has a frame.
+    #[inline(always)]
+    pub fn demote(&mut self, n: u32) -> bool
+        ensures value { result ≡ is_some (lookup (nat_eq n) self.old.entries) }
+        ensures entries { self.new ≡ lru_cache (demoted (nat_eq n) self.old.entries) self.old.cap }
+    {
+        self.order.demote(&n)
     }
 
     /// The page used last, and its frame.

@@ -46,6 +46,12 @@ pub trait Pages {
             × (IsTrue (state after).is_honest → IsSome ((state self.entry.now).live n) → IfErr result (λ e. e ≢ Fault.Damage))
             × IfErr result (IsCaused (HasFailed self.entry.now after) ⊥))) };
 
+    /// A page is not soon asked for again: where pages are held in memory, it may be the first that is given up. Nothing is read or written.
+    fn demote(&mut self, n: u32)
+        requires ready { IsReady self.old }
+        ensures asked { (state self.new).asked ≡ (state self.old).asked }
+        ensures reads { Reads self.old self.new };
+
     /// Lends a page for writing. A page that is in use is shown as it is, and holds what is left in it; every other page stays.
     fn page_mut(&mut self, n: u32) -> Result<&mut [u8; PAGE_SIZE], Fault>
         requires ready { IsReady self.old }

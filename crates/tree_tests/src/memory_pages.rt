@@ -110,6 +110,8 @@ impl Pages for MemoryPages {
         }
     }
 
+    fn demote(&mut self, _n: u32) {}
+
     fn page_mut(&mut self, n: u32) -> Result<&mut [u8; 4096], Fault> {
         match self.pages.get_mut(n as usize) {
             None => Err(Fault::Damage),
