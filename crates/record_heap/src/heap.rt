@@ -72,7 +72,9 @@ impl Heap {
         ensures asked { (P.state pages.new).asked ≤ (P.state pages.old).asked + 1 }
         ensures reads { P.Reads pages.old pages.new }
     {
-        read_record(pages, self.shape, place, to)
+        let length = read_record(pages, self.shape, place, to);
+        pages.demote(place.page);
+        length
     }
 
     /// Puts stamps and a record into the slot that was freed last, and answers its place. Where no slot is free, a new page is taken for it.

@@ -3,4 +3,6 @@ use Rattle.record_heap.proofs.heap.Heap.get_record.Goals as goal
 
 pub returns-clause-got : goal.returns-clause-got
 returns-clause-got g c honest =
-    gets_record c.args.self.now (g.P.Pages.state c.args.pages.now).live c.args.place c.args.to.now c.read_record.new.to c.read_record.result (c.read_record.ensures.got honest)
+    let read = c.read_record-length in
+    let before = g.met.P.Pages.goes_honestly read.new.pages c.demote.new.self (g.met.P.Pages.reads_goes read.new.pages c.demote.new.self c.demote.ensures.reads) honest in
+    gets_record c.args.self.now (g.P.Pages.state c.args.pages.now).live c.args.place c.args.to.now read.new.to read.result (read.ensures.got before)
