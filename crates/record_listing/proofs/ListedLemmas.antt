@@ -1,0 +1,172 @@
+-- The rows that READ NEXT gives, one after another, are those that are asked for.
+use Rattle.std.proofs.Common.{◌≡◌, ◌⊎◌, inl, inr, ◌≤◌, ◌<◌, ℕ, zero, suc, ◌+◌, Bool, true, false, not, ◌&&◌, List, [], ◌∷◌, length, take, drop, Option, Some, None, option_map, refl, sym, ap, subst, ◌∙◌, add-one, arith}
+use Rattle.std.specs.Prelude.{IsTrue}
+use Rattle.std.specs.Ordering.{is_lt, is_gt, is_ge}
+use Rattle.std.proofs.lemmas.Bool.{and_parts, and_from}
+use Rattle.arrayvec.specs.ArrayVec.{ArrayVec}
+use Rattle.page_bytes.specs.Each.{Each}
+use Rattle.io_state.specs.declared.position.Position.{Position}
+use Rattle.io_state.specs.declared.position.Position.TheVariants.{From, After}
+use Rattle.io_state.specs.declared.modes.Relation.TheVariants.{NotLess}
+use Rattle.record_layout.specs.Schema.{Schema, value_of}
+use Rattle.std.proofs.Math.Seq.{take-append_seam}
+use Rattle.indexed_file.specs.declared.answer.Found.{Found}
+use Rattle.indexed_file.specs.Answers.{found_of, area_after}
+use Rattle.indexed_file.specs.File.{Row, File, stamp_of}
+use Rattle.indexed_file.specs.Rank.{row_cmp, value_cmp, least, admits, satisfies}
+use Rattle.indexed_file.specs.Sound.{is_file}
+use Rattle.indexed_file.proofs.TestLemmas.{either}
+use Rattle.record_listing.specs.declared.asked.Asked.{Asked}
+use Rattle.record_listing.specs.Listed.{is_past, is_within, IsOf, ComesBefore, Rise, AreListed}
+use Rattle.record_listing.specs.Reading.{behind, rows_from, rows_asked, ComesNext}
+use Rattle.record_listing.proofs.RankLemmas.{row_total, not_below, not_back, gt_back, admits_up, past_up, front_from, differ}
+use Rattle.record_listing.proofs.LeastLemmas.{each_of, each_weaker, IsLeast, least_is, none_passes}
+use Rattle.record_listing.proofs.ApartLemmas.{one_row}
+
+-- ---- one step
+
+module _ (schema : Schema) (file : File) (k : ℕ) (to : Option (ArrayVec ℕ)) (position : Position) where
+  -- there is no next row
+  pub no_next : (n : ℕ) → least schema k (admits schema k position) file ≡ None → rows_from schema file k to n position ≡ []
+  unfolding rows_from
+  no_next zero none = refl
+  no_next (suc n) none = rw none refl
+
+  -- the next row is past the bound
+  pub next_past : (n : ℕ) (row : Row) → least schema k (admits schema k position) file ≡ Some row → is_past to (value_of schema k row.bytes) ≡ true → rows_from schema file k to n position ≡ []
+  unfolding rows_from
+  next_past zero row is past = refl
+  next_past (suc n) row is past = rw is (rw past refl)
+
+  -- the next row is the first
+  pub next_first : (n : ℕ) (row : Row) → least schema k (admits schema k position) file ≡ Some row → is_past to (value_of schema k row.bytes) ≡ false
+      → rows_from schema file k to (suc n) position ≡ row ∷ rows_from schema file k to n (behind schema k row)
+  unfolding rows_from
+  next_first n row is within = rw is (rw within refl)
+
+  pub no_more : rows_from schema file k to zero position ≡ []
+  unfolding rows_from
+  no_more = refl
+
+-- ---- what was found
+
+from_some : {X : Type 0} (x y : X) → Some x ≡ Some y → x ≡ y
+from_some x y e = cc
+
+module _ (schema : Schema) (file : File) (k : ℕ) (to : Option (ArrayVec ℕ)) (position : Position) (old area : List ℕ) (found : Found) where
+  first_found : (row : Row) → least schema k (admits schema k position) file ≡ Some row → found ≡ found_of schema k file row → area ≡ area_after old (Some row) → is_past to found.key.items ≡ false
+      → ComesNext schema file k to position area found
+  first_found row is same read within =
+      let near : is_past to (value_of schema k row.bytes) ≡ false = subst (λ (f : Found). is_past to f.key.items ≡ false) same within in
+      subst (ComesNext schema file k to position area) (sym same) (record {
+        row = row;
+        bytes = ap (λ (l : List ℕ). take (length row.bytes) l) read ∙ take-append_seam row.bytes (drop (length row.bytes) old);
+        rows = λ n. subst (λ (m : ℕ). rows_from schema file k to m position ≡ row ∷ rows_from schema file k to n (behind schema k row)) (sym (add-one n)) (next_first schema file k to position n row is near);
+      })
+
+  -- a record that was found is the first
+  pub found_first : Some found ≡ option_map (found_of schema k file) (least schema k (admits schema k position) file) → area ≡ area_after old (least schema k (admits schema k position) file) → is_past to found.key.items ≡ false
+      → ComesNext schema file k to position area found
+  found_first is read within = by (least schema k (admits schema k position) file) refl is read
+    where
+      by : (o : Option Row) → least schema k (admits schema k position) file ≡ o → Some found ≡ option_map (found_of schema k file) o → area ≡ area_after old o → ComesNext schema file k to position area found
+      by None e s r = absurd (cc)
+      by (Some row) e s r = first_found row e (from_some _ _ s) r within
+
+  -- where it is past the bound, there is none
+  pub found_past : Some found ≡ option_map (found_of schema k file) (least schema k (admits schema k position) file) → is_past to found.key.items ≡ true → (n : ℕ) → rows_from schema file k to n position ≡ []
+  found_past is past n = by (least schema k (admits schema k position) file) refl is
+    where
+      by : (o : Option Row) → least schema k (admits schema k position) file ≡ o → Some found ≡ option_map (found_of schema k file) o → rows_from schema file k to n position ≡ []
+      by None e s = absurd (cc)
+      by (Some row) e s = next_past schema file k to position n row e (subst (λ (f : Found). is_past to f.key.items ≡ true) (from_some _ _ s) past)
+
+-- where none was found, there is none
+pub none_found : (schema : Schema) (file : File) (k : ℕ) (to : Option (ArrayVec ℕ)) (position : Position) → None ≡ option_map (found_of schema k file) (least schema k (admits schema k position) file) → (n : ℕ) → rows_from schema file k to n position ≡ []
+none_found schema file k to position is n = by (least schema k (admits schema k position) file) refl is
+  where
+    by : (o : Option Row) → least schema k (admits schema k position) file ≡ o → None ≡ option_map (found_of schema k file) o → rows_from schema file k to n position ≡ []
+    by None e s = no_next schema file k to position n e
+    by (Some row) e s = absurd (cc)
+
+-- ---- all rows
+
+module _ (schema : Schema) (file : File) (k : ℕ) (to : Option (ArrayVec ℕ)) (lt : k < length schema.keys) (sound : is_file schema file ≡ true) where
+  abbrev IsIn : Position → Row → Type 0
+  IsIn position row = IsOf file.rows row × (admits schema k position row ≡ true) × (is_past to (value_of schema k row.bytes) ≡ false)
+
+  abbrev Whole : ℕ → Position → List Row → Type 0
+  Whole n position rows = (row : Row) → IsIn position row → IsOf rows row ⊎ ((length rows ≡ n) × Each (λ other. ComesBefore schema k other row) rows)
+
+  -- what is so of so many rows from a position on
+  record AreFrom (n : ℕ) (position : Position) (rows : List Row) : Type 0 where
+    within : Each (IsIn position) rows
+    rise : Rise schema k rows
+    few : length rows ≤ n
+    whole : Whole n position rows
+
+  -- a row is behind another
+  is_behind : (first row : Row) → admits schema k (behind schema k first) row ≡ true → is_lt (row_cmp schema k first row) ≡ true
+  is_behind first row is = sym (gt_back (row_cmp schema k) (row_total schema k) row first) ∙ is
+
+  behind_is : (first row : Row) → is_lt (row_cmp schema k first row) ≡ true → admits schema k (behind schema k first) row ≡ true
+  behind_is first row low = gt_back (row_cmp schema k) (row_total schema k) row first ∙ low
+
+  none_from : (n : ℕ) (position : Position) → least schema k (admits schema k position) file ≡ None → AreFrom n position []
+  none_from n position none = record { within = tt; rise = tt; few = omega arith; whole = λ row is. absurd (none_passes schema k (admits schema k position) file row none is.0 is.1) }
+
+  past_from : (n : ℕ) (position : Position) (first : Row) → least schema k (admits schema k position) file ≡ Some first → is_past to (value_of schema k first.bytes) ≡ true → AreFrom n position []
+  past_from n position first is past =
+      let l = least_is schema k (admits schema k position) file first is in
+      record { within = tt; rise = tt; few = omega arith; whole = λ row one. absurd (differ (past_up schema k to first row past (l.least row one.0 one.1)) one.2) }
+
+  more_from : (n : ℕ) (position : Position) (first : Row) (rows : List Row) → least schema k (admits schema k position) file ≡ Some first → is_past to (value_of schema k first.bytes) ≡ false
+      → AreFrom n (behind schema k first) rows → AreFrom (suc n) position (first ∷ rows)
+  more_from n position first rows is within rest =
+      let l = least_is schema k (admits schema k position) file first is in
+      let up : (row : Row) → IsIn (behind schema k first) row → IsIn position row =
+      λ row one. (one.0, admits_up schema k position first row l.passes (is_behind first row one.1), one.2) in
+      let later : Each (ComesBefore schema k first) rows = each_weaker (IsIn (behind schema k first)) (ComesBefore schema k first) (λ row one. is_behind first row one.1) rows rest.within in
+      record {
+        within = ((l.there, l.passes, within), each_weaker (IsIn (behind schema k first)) (IsIn position) up rows rest.within);
+        rise = (later, rest.rise);
+        few = (let fewer = rest.few in omega (arith, fewer));
+        whole = λ row one.
+            either (is_lt (row_cmp schema k first row)) (IsOf (first ∷ rows) row ⊎ ((length (first ∷ rows) ≡ suc n) × Each (λ other. ComesBefore schema k other row) (first ∷ rows)))
+            (λ yes. elim (rest.whole row (one.0, behind_is first row yes, one.2)) [ inl there ↦ inl (inr there) | inr more ↦ inr (ap suc more.0, (yes, more.1)) ])
+            (λ no. inl (inl (one_row schema k file row first lt sound one.0 l.there (l.least row one.0 one.1) no)));
+      }
+
+  are_from : (n : ℕ) (position : Position) → AreFrom n position (rows_from schema file k to n position)
+  are_from zero position = subst (AreFrom zero position) (sym (no_more schema file k to position)) (record { within = tt; rise = tt; few = omega arith; whole = λ row one. inr (refl, tt) })
+  are_from (suc n) position = by (λ other. are_from n other) (least schema k (admits schema k position) file) refl
+    where
+      by : ((other : Position) → AreFrom n other (rows_from schema file k to n other)) → (o : Option Row) → least schema k (admits schema k position) file ≡ o → AreFrom (suc n) position (rows_from schema file k to (suc n) position)
+      by more None none = subst (AreFrom (suc n) position) (sym (no_next schema file k to position (suc n) none)) (none_from (suc n) position none)
+      by more (Some first) is =
+          either (is_past to (value_of schema k first.bytes)) (AreFrom (suc n) position (rows_from schema file k to (suc n) position))
+          (λ past. subst (AreFrom (suc n) position) (sym (next_past schema file k to position (suc n) first is past)) (past_from (suc n) position first is past))
+          (λ within. subst (AreFrom (suc n) position) (sym (next_first schema file k to position n first is within)) (more_from n position first _ is within (more (behind schema k first))))
+
+-- ---- those that are asked for
+
+not_true : (b : Bool) → b ≡ false → not b ≡ true
+not_true b e = rw e refl
+
+true_not : (b : Bool) → not b ≡ true → b ≡ false
+true_not true e = absurd (cc)
+true_not false e = refl
+
+-- they are those from the first bound on
+pub are_listed : (schema : Schema) (file : File) (asked : Asked) → asked.key < length schema.keys → is_file schema file ≡ true → AreListed schema file asked (rows_asked schema file asked)
+are_listed schema file asked lt sound =
+    let all = are_from schema file asked.key asked.to lt sound asked.first (From asked.from) in
+    let start : (row : Row) → satisfies schema asked.key NotLess asked.from.items row ≡ admits schema asked.key (From asked.from) row =
+    λ row. front_from (value_of schema asked.key row.bytes) asked.from.items in
+    record {
+      within = each_weaker _ (λ row. IsOf file.rows row × IsTrue (is_within schema asked row))
+          (λ row one. (one.0, and_from _ _ (start row ∙ one.1) (not_true _ one.2))) (rows_asked schema file asked) all.within;
+      rise = all.rise;
+      few = all.few;
+      whole = λ row there within. (let parts = and_parts _ _ within in all.whole row (there, sym (start row) ∙ parts.0, true_not _ parts.1));
+    }

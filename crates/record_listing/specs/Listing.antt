@@ -1,0 +1,83 @@
+-- What a list promises.
+use Rattle.std.specs.Prelude.{◌≡◌, ◌<◌, ◌≤◌, ◌⊎◌, ℕ, List, ◌++◌, length, Option, Result, Ok, Err, IsTrue, IsFalse}
+use Rattle.std.specs.Io.KnownBytes.{Appends}
+use Rattle.io_state.specs.declared.fault.Fault.{Fault}
+use Rattle.io_state.specs.declared.fault.Fault.TheVariants.{Device, Memory as NoMemory, Full, Damage, Broken}
+use Rattle.record_layout.specs.Schema.{Schema}
+use Rattle.indexed_file.specs.File.{Row, File}
+use Rattle.indexed_file.specs.World.{Named, Absent as NoFile, Closed, Unsound as Refused, OnlyAt, name_at, named_at, holding_at, is_open}
+use Rattle.indexed_file.specs.Calls.{Keeps, HasRisen}
+use Rattle.indexed_file.specs.Shown.{Shown}
+use Rattle.record_listing.specs.declared.asked.Asked.{Asked}
+use Rattle.record_listing.specs.declared.end.ListEnd.{ListEnd}
+use Rattle.record_listing.specs.declared.end.ListEnd.TheVariants.{Listed, Absent, Unsound, NoKey, Damaged}
+use Rattle.record_listing.specs.declared.end.ListFault.{ListFault}
+use Rattle.record_listing.specs.declared.end.ListFault.TheVariants.{Input, Output, Memory}
+use Rattle.record_listing.specs.declared.rows.Stop.{Stop}
+use Rattle.record_listing.specs.declared.rows.Stop.TheVariants.{Library as GaveUp, Output as NotTaken}
+use Rattle.record_listing.specs.Listed.{AreListed}
+use Rattle.record_listing.specs.Lines.{lines_of}
+
+-- what a fault of the library makes of a list
+abbrev pub end_by : Fault → Result ListEnd ListFault
+end_by Device = Err Input
+end_by NoMemory = Err Memory
+end_by Full = Err Input
+end_by Damage = Ok Damaged
+end_by Broken = Err Input
+
+-- what becomes of a list whose lines were written or not, and whose file was closed or not
+abbrev pub end_of : Result Unit Stop → Result Unit Fault → Result ListEnd ListFault
+end_of (Ok _) (Ok _) = Ok Listed
+end_of (Ok _) (Err fault) = end_by fault
+end_of (Err (GaveUp fault)) shut = end_by fault
+end_of (Err NotTaken) shut = Err Output
+
+-- the lines of the rows of a file that are asked for were written
+pub record WritesLines (schema : Schema) (file : File) (asked : Asked) (before behind : Option (List ℕ)) : Type 0 where
+  pub key : asked.key < length schema.keys
+  pub rows : List Row
+  pub listed : AreListed schema file asked rows
+  pub written : Appends before behind (lines_of rows)
+
+-- a front of them was written, which may be empty
+pub record WritesFront (schema : Schema) (file : File) (asked : Asked) (before behind : Option (List ℕ)) : Type 0 where
+  pub rows : List Row
+  pub listed : AreListed schema file asked rows
+  pub front : List ℕ
+  pub rest : List ℕ
+  pub text : lines_of rows ≡ front ++ rest
+  pub written : Appends before behind front
+
+-- a list of what a name stands for ends so: its lines were written; or nothing was, since there is no file, it is refused, or it does not have the key
+abbrev pub EndsWith : Asked → Named → (before behind : Option (List ℕ)) → ListEnd → Type 0
+EndsWith asked (Closed schema file) before behind Listed = WritesLines schema file asked before behind
+EndsWith asked (Closed schema file) before behind NoKey = (length schema.keys ≤ asked.key) × (behind ≡ before)
+EndsWith asked NoFile before behind Absent = behind ≡ before
+EndsWith asked Refused before behind Unsound = behind ≡ before
+EndsWith asked named before behind end = ⊥
+
+-- a list of what a name stands for ends before its end: nothing was written, or a front of the lines of the file
+abbrev pub BreaksOff : Asked → Named → (before behind : Option (List ℕ)) → Type 0
+BreaksOff asked NoFile before behind = behind ≡ before
+BreaksOff asked Refused before behind = behind ≡ before
+BreaksOff asked (Closed schema file) before behind = (behind ≡ before) ⊎ WritesFront schema file asked before behind
+
+abbrev pub Ends : Asked → Named → (before behind : Option (List ℕ)) → Result ListEnd ListFault → Type 0
+Ends asked named before behind (Ok end) = EndsWith asked named before behind end
+Ends asked named before behind (Err fault) = BreaksOff asked named before behind
+
+-- why a list ends so: the device failed where the file could not be read; and a page is not what its place requires only where the library lies
+abbrev pub TellsWhy : {S : Type 0} → Shown S → List ℕ → (old new : S) → Result ListEnd ListFault → Type 0
+TellsWhy shown name old new (Err Input) = HasRisen (shown.fault_count old) (shown.fault_count new)
+TellsWhy shown name old new (Err Output) = Unit {0}
+TellsWhy shown name old new (Err Memory) = Unit {0}
+TellsWhy shown name old new (Ok Damaged) = IsTrue (shown.is_honest new) → shown.IsShownTruly old name → ⊥
+TellsWhy shown name old new (Ok end) = Unit {0}
+
+-- unit 0 is closed, and its name stands for what it stood for where the library is honest, what it showed was true, and a premise holds
+pub record Leaves {S : Type 0} (shown : Shown S) (Premise : Type 0) (old new : S) : Type 0 where
+  pub only : OnlyAt 0 (shown.world old) (shown.world new)
+  pub named : IsTrue (shown.is_honest new) → shown.IsShownTruly old (name_at (shown.world old) 0) → Premise → named_at (shown.world new) 0 ≡ named_at (shown.world old) 0
+  pub closed : IsFalse (is_open (holding_at (shown.world new) 0))
+  pub keeps : Keeps shown old new

@@ -1,0 +1,82 @@
+-- The rows of an open file, one after another, and the text on its way to the writer.
+use Rattle.std.specs.Prelude.{◌≡◌, ℕ, zero, suc, ◌+◌, Bool, List, [], ◌∷◌, ◌++◌, take, length, Option, Some, None, Result, Ok, Err, if◌then◌else◌}
+use Rattle.std.specs.Option.{option_map_or}
+use Rattle.std.specs.Io.KnownBytes.{Appends}
+use Rattle.arrayvec.specs.ArrayVec.{ArrayVec}
+use Rattle.io_state.specs.declared.fault.Fault.{Fault}
+use Rattle.io_state.specs.declared.position.Position.{Position}
+use Rattle.io_state.specs.declared.position.Position.TheVariants.{From, After}
+use Rattle.record_layout.specs.Schema.{Schema, value_of}
+use Rattle.indexed_file.specs.declared.answer.Found.{Found}
+use Rattle.indexed_file.specs.File.{Row, File, stamp_of}
+use Rattle.indexed_file.specs.Rank.{least, admits}
+use Rattle.indexed_file.specs.Answers.{key_of_row}
+use Rattle.indexed_file.specs.Calls.{OnlyReads, Keeps, MayAnswerShut}
+use Rattle.indexed_file.specs.Shown.{Shown}
+use Rattle.record_listing.specs.declared.asked.Asked.{Asked}
+use Rattle.record_listing.specs.declared.rows.Stop.{Stop}
+use Rattle.record_listing.specs.declared.rows.Stop.TheVariants.{Library as GaveUp, Output as NotTaken}
+use Rattle.record_listing.specs.Listed.{is_past}
+use Rattle.record_listing.specs.Lines.{lines_of}
+
+-- unit 0 was only read
+pub record Reads {S : Type 0} (shown : Shown S) (old new : S) : Type 0 where
+  pub world : OnlyReads 0 (shown.is_honest new) (shown.world old) (shown.world new)
+  pub keeps : Keeps shown old new
+
+-- the position behind a row
+abbrev pub behind : Schema → ℕ → Row → Position
+behind schema k row = After (key_of_row schema k row) (stamp_of k row)
+
+-- the rows from a position on, as READ NEXT gives them one after another: up to the bound, and so many at most
+unfoldable pub rows_from : Schema → File → ℕ → Option (ArrayVec ℕ) → ℕ → Position → List Row
+rows_from schema file k to zero position = []
+rows_from schema file k to (suc n) position =
+    option_map_or (λ row. if is_past to (value_of schema k row.bytes) then [] else row ∷ rows_from schema file k to n (behind schema k row))
+    (least schema k (admits schema k position) file) []
+
+-- the rows that are asked for
+abbrev pub rows_asked : Schema → File → Asked → List Row
+rows_asked schema file asked = rows_from schema file asked.key asked.to asked.first (From asked.from)
+
+-- a record that was found is in the first bytes of the area, and is the first of the rows from a position on
+pub record ComesNext (schema : Schema) (file : File) (k : ℕ) (to : Option (ArrayVec ℕ)) (position : Position) (area : List ℕ) (found : Found) : Type 0 where
+  pub row : Row
+  pub bytes : take found.length area ≡ row.bytes
+  pub rows : (n : ℕ) → rows_from schema file k to (n + 1) position ≡ row ∷ rows_from schema file k to n (After found.key found.stamp)
+
+-- how the rows from a position on go on: there is none, or a first one
+abbrev pub GoesOn : Schema → File → ℕ → Option (ArrayVec ℕ) → Position → List ℕ → Option Found → Type 0
+GoesOn schema file k to position area None = (n : ℕ) → rows_from schema file k to n position ≡ []
+GoesOn schema file k to position area (Some found) = ComesNext schema file k to position area found
+
+-- of the lines of these rows all are on their way but those of the rest: the writer took some bytes, and the others are held
+pub record IsOnItsWay (rows rest : List Row) (before now : Option (List ℕ)) (held : List ℕ) : Type 0 where
+  pub done : List Row
+  pub taken : List ℕ
+  pub rows_are : rows ≡ done ++ rest
+  pub text : lines_of done ≡ taken ++ held
+  pub appends : Appends before now taken
+
+-- a front of the text was written
+pub record IsWrittenInPart (text : List ℕ) (before now : Option (List ℕ)) : Type 0 where
+  pub front : List ℕ
+  pub rest : List ℕ
+  pub text_is : text ≡ front ++ rest
+  pub appends : Appends before now front
+
+-- the lines of these rows are on their way, or only the first of them; or the writer refused one
+abbrev pub ComesOut : List Row → (before now : Option (List ℕ)) → (held : List ℕ) → Result Unit Stop → Type 0
+ComesOut rows before now held (Ok _) = IsOnItsWay rows [] before now held
+ComesOut rows before now held (Err (GaveUp fault)) = (rest : List Row) × IsOnItsWay rows rest before now held
+ComesOut rows before now held (Err NotTaken) = IsWrittenInPart (lines_of rows) before now
+
+-- the lines of these rows were written, or a front of them
+abbrev pub IsWritten : List Row → (before now : Option (List ℕ)) → Result Unit Stop → Type 0
+IsWritten rows before now (Ok _) = Appends before now (lines_of rows)
+IsWritten rows before now (Err stop) = IsWrittenInPart (lines_of rows) before now
+
+-- why not all lines are written: a call of the library answered a fault that it may answer; or the writer refused one
+abbrev pub MayStop : {S : Type 0} → Shown S → S → S → Stop → Type 0
+MayStop shown old new (GaveUp fault) = MayAnswerShut shown 0 old new fault
+MayStop shown old new NotTaken = Unit {0}

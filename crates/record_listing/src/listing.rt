@@ -1,0 +1,125 @@
+//! The list of a file.
+ghost use Rattle.std.specs.Prelude.{◌≡◌, ◌≤◌, ◌<◌, ℕ, List, length, false, IsTrue, IsFalse, OnOk};
+ghost use Rattle.indexed_file.specs.File.{File};
+ghost use Rattle.indexed_file.specs.World.{Closed, name_at, named_at, named_in, holding_at, schema_at, file_at, is_open, is_looked, is_broken};
+ghost use Rattle.indexed_file.specs.Believed.{Believed};
+ghost use Rattle.indexed_file.specs.Calls.{Keeps, NamesFile};
+ghost use Rattle.record_listing.specs.Listing.{end_of, Ends, Leaves, TellsWhy};
+
+use crate::asked::Asked;
+use crate::end::{ListEnd, ListFault, end_by};
+use crate::rows::{Stop, write_rows};
+use indexed_file::{Library, Seen};
+use io_state::{Fault, FileName};
+use record_layout::Schema;
+use std::alloc::Global;
+use std::io::Write;
+
+/// How a list ends whose lines were written or not, and whose file was closed or not.
+fn end_of(written: Result<(), Stop>, shut: Result<(), Fault>) -> Result<ListEnd, ListFault>
+    ensures { result ≡ end_of written shut }
+{
+    match written {
+        Ok(()) => match shut {
+            Ok(()) => Ok(ListEnd::Listed),
+            Err(fault) => end_by(fault),
+        },
+        Err(Stop::Library(fault)) => end_by(fault),
+        Err(Stop::Output) => Err(ListFault::Output),
+    }
+}
+
+/// Lists the open file of unit 0, and closes it.
+fn list_open<L: Library, W: Write>(
+    alloc: Global,
+    lib: &mut L,
+    asked: Asked,
+    greatest: u16,
+    out: &mut W,
+) -> Result<ListEnd, ListFault>
+    requires attached { 0 < length (L.shown.world lib.old).units }
+    requires opened { IsTrue (is_open (holding_at (L.shown.world lib.old) 0)) }
+    requires unbroken { is_broken (holding_at (L.shown.world lib.old) 0) ≡ false }
+    requires key { asked.key < length (schema_at (L.shown.world lib.old) 0).keys }
+    requires length { greatest ≡ (schema_at (L.shown.world lib.old) 0).greatest }
+    requires short { greatest ≤ 4000 }
+    ensures ends { Believed L.shown 0 lib.old lib.new (
+        Ends asked (Closed (schema_at (L.shown.world lib.old) 0) (file_at (L.shown.world lib.old) 0)) (W.contents out.old) (W.contents out.new) result) }
+    ensures cause { TellsWhy L.shown (name_at (L.shown.world lib.old) 0) lib.old lib.new result }
+    ensures leaves { Leaves L.shown (NamesFile 0 (L.shown.world lib.old) (L.shown.world lib.old)) lib.old lib.new }
+{
+    let written = write_rows(alloc, lib, asked, greatest, out);
+    let shut = lib.shut(0);
+    end_of(written, shut)
+}
+
+/// Lists the file of unit 0 that the look just before found sound, with this schema.
+fn list_sound<L: Library, W: Write>(
+    alloc: Global,
+    lib: &mut L,
+    asked: Asked,
+    schema: &Schema,
+    out: &mut W,
+) -> Result<ListEnd, ListFault>
+    requires attached { 0 < length (L.shown.world lib.old).units }
+    requires looked { IsTrue (is_looked (holding_at (L.shown.world lib.old) 0)) }
+    requires schema { schema_at (L.shown.world lib.old) 0 ≡ schema.now }
+    ensures ends { Believed L.shown 0 lib.old lib.new ((file : File) → named_at (L.shown.world lib.old) 0 ≡ Closed schema.now file
+        → Ends asked (Closed schema.now file) (W.contents out.old) (W.contents out.new) result) }
+    ensures cause { TellsWhy L.shown (name_at (L.shown.world lib.old) 0) lib.old lib.new result }
+    ensures leaves { Leaves L.shown ((file : File) × (named_at (L.shown.world lib.old) 0 ≡ Closed schema.now file)) lib.old lib.new }
+{
+    if usize::from(asked.key) >= schema.key_count() {
+        return Ok(ListEnd::NoKey);
+    }
+    match lib.open(0) {
+        Ok(()) => list_open(alloc, lib, asked, schema.greatest(), out),
+        Err(fault) => end_by(fault),
+    }
+}
+
+/// Lists the file of unit 0, which is closed.
+fn list_attached<L: Library, W: Write>(
+    alloc: Global,
+    lib: &mut L,
+    asked: Asked,
+    out: &mut W,
+) -> Result<ListEnd, ListFault>
+    requires attached { 0 < length (L.shown.world lib.old).units }
+    requires closed { IsFalse (is_open (holding_at (L.shown.world lib.old) 0)) }
+    ensures ends { Believed L.shown 0 lib.old lib.new (Ends asked (named_at (L.shown.world lib.old) 0) (W.contents out.old) (W.contents out.new) result) }
+    ensures cause { TellsWhy L.shown (name_at (L.shown.world lib.old) 0) lib.old lib.new result }
+    ensures leaves { Leaves L.shown (Unit {0}) lib.old lib.new }
+{
+    match lib.look(0) {
+        Ok(Seen::Absent) => Ok(ListEnd::Absent),
+        Ok(Seen::Unsound) => Ok(ListEnd::Unsound),
+        Ok(Seen::Sound(schema)) => list_sound(alloc, lib, asked, &schema, out),
+        Err(fault) => end_by(fault),
+    }
+}
+
+/// Writes the lines of the records of a file that are asked for, in the order of the key, and closes the file. The library has this name attached then, and no
+/// other.
+///
+/// `Input`: the device failed. `Output`: the writer refused a line. `Memory`. A part of the lines may have been written then, from the first one on.
+pub fn list_records<L: Library, W: Write>(
+    alloc: Global,
+    lib: &mut L,
+    name: FileName,
+    asked: Asked,
+    out: &mut W,
+) -> Result<ListEnd, ListFault>
+    ensures ends { IsTrue (L.shown.is_honest lib.new) → L.shown.IsShownTruly lib.old name.bytes
+        → Ends asked (named_in (L.shown.world lib.old) name.bytes) (W.contents out.old) (W.contents out.new) result }
+    ensures named { IsTrue (L.shown.is_honest lib.new) → L.shown.IsShownTruly lib.old name.bytes
+        → (other : List ℕ) → named_in (L.shown.world lib.new) other ≡ named_in (L.shown.world lib.old) other }
+    ensures closed { OnOk result (IsFalse (is_open (holding_at (L.shown.world lib.new) 0))) }
+    ensures cause { TellsWhy L.shown name.bytes lib.old lib.new result }
+    ensures keeps { Keeps L.shown lib.old lib.new }
+{
+    match lib.attach(&[name]) {
+        Ok(()) => list_attached(alloc, lib, asked, out),
+        Err(fault) => end_by(fault),
+    }
+}
