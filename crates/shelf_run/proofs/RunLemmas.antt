@@ -24,9 +24,10 @@ use Rattle.shelf_library.specs.Truth.{IsShownTruly}
 use Rattle.shelf_library.specs.Units.{world_of}
 use Rattle.shelf_library.specs.WorldLaws.{named_anywhere}
 use Rattle.shelf_library.specs.declared.held.Held.{Held}
-use Rattle.shelf_run.specs.Files.{files_of, IsSoundImage, AreSound, AreImagesSound, AreSoundThroughout}
+use Rattle.shelf_run.specs.Files.{files_of, reads_of, Represents, IsSoundImage, AllSound, AreImagesSound, AreSoundThroughout}
 use Rattle.shelf_run.specs.ShelfRun.{OnShelf, IsExactRun, RunsBy, Runs, BreaksOff, LeavesFiles, StaysSound, shown_in, over}
-use Rattle.shelf_run.proofs.FilesLemmas.{world_at_first, named_same, sound_if_closed, shown_truly, any, image_passes, image_sound}
+use Rattle.shelf_run.proofs.FilesLemmas.{AreSound, world_at_first, named_same, sound_of, sound_if_closed, shown_truly, any, image_passes, image_sound}
+use Rattle.shelf_run.proofs.WorldLemmas.{runs_from}
 use Rattle.shelf_run.proofs.StatesLemmas.{stays, runs_whole, runs_in_part}
 use Rattle.shelf_run.proofs.MomentsLemmas.{AreReal, over_run, over_broken_off}
 
@@ -73,10 +74,13 @@ module _ (old new : LibraryState) (none : old.shelf.names ≡ []) (empty : old.h
       let deck : Deck = of.0 in (
         deck,
         of.1,
-        elsewhere deck of.2,
-        λ honest sound.
-            let runs = subst (λ (world : World). RunsExactly written written_after world (world_of new.shelf new.held) end deck) first_world (of.3 honest (all_truly deck sound)) in
-            record { transcript_is = runs.transcript_is; end_is = runs.end_is; leaves = named_same new.shelf new.held (file_names deck.files) many ∙ runs.leaves },
+        λ honest world are.
+            let sound = All-weaker (λ name. Represents (reads_of old.shelf name) (named_in world name)) (λ name. IsSoundImage (old.shelf.file name).seen)
+            (λ name. sound_of (reads_of old.shelf name) (named_in world name)) (file_names deck.files) are in
+            let runs = subst (λ (first : World). RunsExactly written written_after first (world_of new.shelf new.held) end deck) first_world (of.3 honest (all_truly deck sound)) in
+            runs_from world old.shelf new.shelf written written_after end deck are
+            (record { transcript_is = runs.transcript_is; end_is = runs.end_is; leaves = named_same new.shelf new.held (file_names deck.files) many ∙ runs.leaves })
+            (elsewhere deck of.2) (stays_sound honest),
       )
 
   -- ---- what a crash may leave
@@ -89,25 +93,22 @@ module _ (old new : LibraryState) (none : old.shelf.names ≡ []) (empty : old.h
 
   no_false_file : (deck : Deck) (AreSuch : Judged LibraryState → List Line → Judged LibraryState → Type 0) (lines : List Line)
       → ((name : List ℕ) (before after : Judged LibraryState) → AreReal old old name → AreSuch before lines after → AreReal old before.point.library name → AreReal old after.point.library name)
-      → DeckRuns shown_in old new deck AreSuch lines → IsTrue new.shelf.is_honest → AreImagesSound old.shelf deck → AreSoundThroughout old.shelf new.shelf deck
-  no_false_file deck AreSuch lines goes runs honest sound =
+      → DeckRuns shown_in old new deck AreSuch lines → IsTrue new.shelf.is_honest → AreImagesSound old.shelf deck → AreSoundThroughout old.shelf new.shelf
+  no_false_file deck AreSuch lines goes runs honest sound name all =
       let was = keeps.honest honest in
-      let now = All-weaker (λ name. (c : Option (List ℕ)) → Leaves (old.shelf.file name) c → IsSoundImage c) (λ name. IsSoundImage (old.shelf.file name).seen)
+      let now = All-weaker (λ name. AllSound (old.shelf.file name)) (λ name. IsSoundImage (old.shelf.file name).seen)
       (λ name all. all (old.shelf.file name).seen (an_image name was)) (file_names deck.files) sound in
       let is = runs.stretches honest (all_truly deck now) in
-      All-weaker (λ name. (c : Option (List ℕ)) → Leaves (old.shelf.file name) c → IsSoundImage c) (λ name. Throughout IsSoundImage (old.shelf.file name) (new.shelf.file name))
-      (λ name all.
       let real = real_at_first name all in
       let begun : AreReal old is.0 name = (is.2.images name).within any real in
       let ended : AreReal old is.1.point.library name = goes name (record { point = record { run = run_before (shown_in.world old) deck; library = is.0 }; ledger = _ }) is.1 real is.3 begun in
-      sound_throughout name (subst (λ (state : LibraryState). AreReal old state name) is.4 ended))
-      (file_names deck.files) sound
+      sound_throughout name (subst (λ (state : LibraryState). AreReal old state name) is.4 ended)
 
   -- ---- a run, by the states of the library
 
   by_states : (IsSuch : LibraryState → LibraryState → Deck → List Line → Type 0) (limit frames : ℕ) (deck : Deck) (lines : List Line) → HasGiven limit frames old → HasGiven limit frames new
       → AreLimited limit frames new.held
-      → IsSuch old new deck lines → (IsTrue new.shelf.is_honest → AreImagesSound old.shelf deck → AreSoundThroughout old.shelf new.shelf deck)
+      → IsSuch old new deck lines → (IsTrue new.shelf.is_honest → AreImagesSound old.shelf deck → AreSoundThroughout old.shelf new.shelf)
       → RunsBy IsSuch limit frames old.shelf new.shelf old.faults new.faults deck lines
   by_states IsSuch limit frames deck lines first last limits run safe = record {
     held = new.held;

@@ -1,18 +1,37 @@
 -- The files of a shelf, as a run finds and leaves them. All of this is ours.
-use Rattle.std.specs.Prelude.{◌≡◌, ℕ, List, [], All, Option}
+use Rattle.std.specs.Prelude.{◌≡◌, ℕ, List, [], All, Option, Some, None}
 use Rattle.indexed_file.specs.File.{File}
-use Rattle.indexed_file.specs.World.{World}
-use Rattle.page_store.specs.DeviceFile.{bytes_or_none}
+use Rattle.indexed_file.specs.World.{World, Named, Absent, Closed, Unsound, named_in}
+use Rattle.page_store.specs.DeviceFile.{DeviceFile, bytes_or_none}
 use Rattle.page_store.specs.Images.{Leaves}
 use Rattle.page_store.specs.Moments.{Throughout}
 use Rattle.page_store.specs.ShelfState.{ShelfState}
 use Rattle.file_control.specs.Described.{file_names}
 use Rattle.deck_reader.specs.declared.deck.Deck.{Deck}
 use Rattle.file_header.specs.declared.header.Header.{Header}
-use Rattle.shelf_file.specs.declared.look.Look.TheVariants.{Accepted}
+use Rattle.shelf_file.specs.declared.look.Look.TheVariants.{Refused, Accepted}
 use Rattle.shelf_file.specs.Named.{look_of, named_of, StandsIn}
+use Rattle.shelf_file.specs.Shelves.{AreClosed}
 
--- what each name stands for, by what a read gives of its file
+-- what a read gives of the file of each name
+abbrev pub Reads : Type 0
+Reads = List ℕ → Option (List ℕ)
+
+abbrev pub reads_of : ShelfState → Reads
+reads_of shelf name = (shelf.file name).seen
+
+-- what a read gives of a file represents this: there is no file; its gate is closed, and its pages stand for exactly these rows of this schema; or
+-- its first page is refused, as that of a file whose gate is open
+abbrev pub Represents : Option (List ℕ) → Named → Type 0
+Represents c Absent = c ≡ None
+Represents c (Closed schema file) = (bytes : List ℕ) × (c ≡ Some bytes) × AreClosed schema file bytes
+Represents c Unsound = look_of c ≡ Refused
+
+-- each of the deck's files represents what its name stands for in this world
+abbrev pub AreIn : World → Reads → Deck → Type 0
+AreIn world reads deck = All (λ name. Represents (reads name) (named_in world name)) (file_names deck.files)
+
+-- what each name reads as, whether or not its file represents it
 abbrev pub files_of : ShelfState → World
 files_of shelf = record { units = []; elsewhere = λ name. named_of (shelf.file name).seen }
 
@@ -21,14 +40,14 @@ abbrev pub IsSoundImage : Option (List ℕ) → Type 0
 IsSoundImage c =
     (header : Header) → look_of c ≡ Accepted header → (rows : File) × StandsIn header (bytes_or_none c) rows
 
--- what a read gives of each of the deck's files is sound
-abbrev pub AreSound : ShelfState → Deck → Type 0
-AreSound shelf deck = All (λ name. IsSoundImage (shelf.file name).seen) (file_names deck.files)
+-- whatever a crash may leave of a file now is sound
+abbrev pub AllSound : DeviceFile → Type 0
+AllSound file = (c : Option (List ℕ)) → Leaves file c → IsSoundImage c
 
--- what a crash may leave of each of them now is sound
+-- and so it is of each of the deck's files
 abbrev pub AreImagesSound : ShelfState → Deck → Type 0
-AreImagesSound shelf deck = All (λ name. (c : Option (List ℕ)) → Leaves (shelf.file name) c → IsSoundImage c) (file_names deck.files)
+AreImagesSound shelf deck = All (λ name. AllSound (shelf.file name)) (file_names deck.files)
 
--- and so is what a crash may leave at each moment from the one shelf to the other
-abbrev pub AreSoundThroughout : ShelfState → ShelfState → Deck → Type 0
-AreSoundThroughout old new deck = All (λ name. Throughout IsSoundImage (old.file name) (new.file name)) (file_names deck.files)
+-- whatever a crash may leave of a file at each moment from the one shelf to the other is sound, if it was so at first
+abbrev pub AreSoundThroughout : ShelfState → ShelfState → Type 0
+AreSoundThroughout old new = (name : List ℕ) → AllSound (old.file name) → Throughout IsSoundImage (old.file name) (new.file name)

@@ -1,2 +1,5 @@
 pub mod Files
+pub mod WorldAfter
 pub mod ShelfRun
+pub mod Histories
+pub mod AnyNights

@@ -15,9 +15,9 @@ use std::num::NonZeroUsize;
 /// Runs the deck that the bytes are over the files of a shelf to which no name is attached, and gives the shelf back. A file has at most `limit` pages of
 /// 4,096 bytes, of which at most `frames` are held in memory while it is open.
 ///
-/// A run whose end is clean has written exactly the transcript of the definitions, and each file name of the deck stands for what they leave, where the
-/// shelf is honest and each of the deck's files was sound. Where it was sound at the start, whatever a crash may have left of it, so it is at each moment. `Deck`,
-/// `Memory` and `Output` are as for `run_deck`.
+/// A run whose end is clean has written exactly the transcript of the definitions, and its files represent what they leave, where the shelf is honest:
+/// in each world that the deck's files represented at the start. Where whatever a crash may leave of them was sound then, it is so at each moment.
+/// `Deck`, `Memory` and `Output` are as for `run_deck`.
 pub fn run_on_shelf<S: Shelf, W: Write>(
     alloc: Global,
     bytes: &[u8],

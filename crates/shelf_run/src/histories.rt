@@ -1,0 +1,14 @@
+//! Runs that follow one another.
+ghost use Rattle.shelf_run.specs.Histories.{CleanNights, NightsFromNothing};
+ghost use Rattle.shelf_run.specs.AnyNights.{AnyNights};
+
+use deck_reader::one_deck;
+
+/// The laws of decks that are run one after another, each over the files that the run before it left, or that a crash left of them. It does nothing.
+pub fn history_laws()
+    ensures clean { CleanNights }
+    ensures from_nothing { NightsFromNothing }
+    ensures any { AnyNights }
+{
+    one_deck();
+}
