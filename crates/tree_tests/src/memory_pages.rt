@@ -48,7 +48,7 @@ pub fn put_byte(rt: &impl Abort, pages: &mut [[u8; 4096]], n: usize, at: usize, 
 // Nothing is claimed of what the pages hold: honesty is never true here, and what a test sees is what it asks.
 impl Pages for MemoryPages {
     ghost use Rattle.std.specs.Prelude.{◌≡◌, ⊤, refl};
-    ghost use Rattle.std.proofs.Common.{◌∙◌};
+    ghost use Rattle.std.proofs.Common.{◌∙◌, le_refl};
     ghost use Rattle.tree_tests.specs.MemoryPages.{unclaimed};
 
     ghost state = { λ p. unclaimed p.left };
@@ -89,6 +89,8 @@ impl Pages for MemoryPages {
 
     ghost goes_changing = { λ a b goes changing. tt };
 
+    ghost goes_counts = { λ a b goes. le_refl 0 };
+
     ghost failed_before = { λ a b c failed goes. failed };
 
     ghost failed_after = { λ a b c goes failed. failed };
@@ -98,6 +100,8 @@ impl Pages for MemoryPages {
     ghost moves_honestly = { λ a b moves honest. honest };
 
     ghost moves_ready = { λ a b moves ready. tt };
+
+    ghost moves_counts = { λ a b moves. le_refl 0 };
 
     ghost failed_earlier = { λ a b c failed moves. failed };
 
