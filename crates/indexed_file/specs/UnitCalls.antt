@@ -1,5 +1,5 @@
 -- The kinds of calls on a unit: what each call of a kind promises, besides its answer.
-use Rattle.std.specs.Prelude.{◌≡◌, ◌≢◌, ℕ, Bool, List, Result, Err, OnOk, OnErr, IfErr, IsTrue, IsFalse}
+use Rattle.std.specs.Prelude.{◌≡◌, ◌≢◌, ℕ, ◌≤◌, Bool, List, Result, Err, OnOk, OnErr, IfErr, IsTrue, IsFalse}
 use Rattle.io_state.specs.declared.fault.Fault.{Fault}
 use Rattle.io_state.specs.declared.fault.Fault.TheVariants.{Full, Broken as BrokenUnit}
 use Rattle.record_layout.specs.Schema.{Schema}
@@ -34,9 +34,10 @@ pub record OpensUnit {S X : Type 0} (shown : Shown S) (u : ℕ) (trace : Trace) 
   pub images : CallGoes shown u trace old new
   pub keeps : Keeps shown old new
 
--- a call that only reads the open unit u, and asks for so many of its pages at most
+-- a call that only reads the open unit u, and asks for so many of its pages at most: the count of them does not fall
 pub record ReadsUnit {S X : Type 0} (shown : Shown S) (u most : ℕ) (old new : S) (result : Result X Fault) : Type 0 where
   pub asked : Believed shown u old new (AsksAtMost shown u most old new result)
+  pub counted : shown.pages_asked old u ≤ shown.pages_asked new u
   pub world : OnlyReads u (shown.is_honest new) (shown.world old) (shown.world new)
   pub pages : SamePages shown u old new
   pub broken : IsTrue (is_broken (holding_at (shown.world old) u)) → result ≡ Err BrokenUnit
@@ -49,9 +50,10 @@ abbrev pub GivesUp : {S : Type 0} → Shown S → ℕ → S → S → Type 0 →
 GivesUp shown u old new reason =
     OnlyReads u (shown.is_honest new) (shown.world old) (shown.world new) × Believed shown u old new reason
 
--- a call that changes the open unit u, which stays open: a fault other than Full leaves it broken
+-- a call that changes the open unit u, which stays open: a fault other than Full leaves it broken. The count of its pages does not fall
 pub record ChangesUnit {S X : Type 0} (shown : Shown S) (u : ℕ) (is_made : X → Bool) (old new : S) (result : Result X Fault) : Type 0 where
   pub asked : Believed shown u old new (AsksAtMost shown u (most_to_change (shown.room old u)) old new result)
+  pub counted : shown.pages_asked old u ≤ shown.pages_asked new u
   pub broken : IsTrue (is_broken (holding_at (shown.world old) u)) → result ≡ Err BrokenUnit
   pub fault : IfErr result (λ fault. fault ≢ Full
       → LeavesBroken u (shown.is_honest new) (shown.world old) (shown.world new) × MayAnswer shown u old new fault)

@@ -111,6 +111,8 @@ impl Library for ListLibrary {
 
     ghost limits = { λ library u opened. record { room = refl; frames = refl } };
 
+    ghost counts = { λ library u closed. refl };
+
     fn attach(&mut self, names: &[FileName]) -> Result<(), Fault> {
         let units = absent_units(self.alloc, names)?;
         if self.units.append(&mut self.others).is_err() {

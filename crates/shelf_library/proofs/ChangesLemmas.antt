@@ -88,6 +88,9 @@ module _
     asked = λ honest shown answered.
         subst (λ (one : Held). asked_of (held_at new.held u) ≤ asked_of one + most_to_change (room_of_held one)) (sym call.opened)
         (subst (λ (one : Held). asked_of one ≤ asked_of (Opened file) + most_to_change (room_of_held (Opened file))) (sym (held_now u file after old new call)) change.asked);
+    counted =
+        subst (λ (one : Held). asked_of one ≤ asked_of (held_at new.held u)) (sym call.opened)
+        (subst (λ (one : Held). file.pages.cache.asked ≤ asked_of one) (sym (held_now u file after old new call)) call.moves.asked);
     broken = broken_told u file after old new call is_made answer made LacksRoom result change;
     fault = fault_after u file after old new call is_made answer made LacksRoom result change;
     unbroken = unbroken_after result change;

@@ -137,6 +137,7 @@ module _ {S : Type 0} (state : S → LibraryState) (a b : S) (u : ℕ) (file aft
       → ReadsUnit (shown_by state) u (most (held_at old.held u)) a b result
   reads_unit most result asks broken cause no_damage = record {
     asked = λ honest truly answered. asked;
+    counted = counted;
     world = reads_world;
     pages = reads_pages;
     broken = λ is. broken (sym broken_is ∙ is);
@@ -150,3 +151,8 @@ module _ {S : Type 0} (state : S → LibraryState) (a b : S) (u : ℕ) (file aft
       asked =
           subst (λ (one : Held). asked_of (held_at new.held u) ≤ asked_of one + most one) (sym call.opened)
           (subst (λ (one : Held). asked_of one ≤ file.pages.cache.asked + most (Opened file)) (sym now_held) asks)
+
+      counted : asked_of (held_at old.held u) ≤ asked_of (held_at new.held u)
+      counted =
+          subst (λ (one : Held). asked_of one ≤ asked_of (held_at new.held u)) (sym call.opened)
+          (subst (λ (one : Held). file.pages.cache.asked ≤ asked_of one) (sym now_held) call.reads.pages.goes.parts.asked)

@@ -21,7 +21,7 @@ use Rattle.shelf_file.specs.declared.shelf_file.ShelfFile.{ShelfFile}
 use Rattle.shelf_file.specs.Named.{look_of, named_of, named_by}
 use Rattle.shelf_file.specs.Standing.{file_in, live_of, room_in}
 use Rattle.shelf_library.specs.State.{held_at, AreReady, AreLimited}
-use Rattle.shelf_library.specs.Units.{world_of, units_of, holding_of, room_of_held, counts_of_held, frames_of_held}
+use Rattle.shelf_library.specs.Units.{world_of, units_of, holding_of, room_of_held, counts_of_held, frames_of_held, asked_of}
 use Rattle.shelf_library.specs.Truth.{IsShownTruly, IsTrulyClosed}
 use Rattle.shelf_library.specs.Crashes.{Passes, PassesBy, AllPass}
 use Rattle.shelf_library.specs.WorldLaws.{named_anywhere, name_now, holding_now, named_now, units_long}
@@ -174,3 +174,21 @@ module _
 
   pub frames_within : frames_of_held (held_at held u) ≡ Some frames
   frames_within = ap frames_of_held file_at.1 ∙ ap Some (are u file_at.0 file_at.1).cap
+
+-- ---- the pages of a unit that is not open are not counted
+
+not_counted : (shelf : ShelfState) (one : Held) → IsFalse (is_open (holding_of shelf one)) → asked_of one ≡ 0
+not_counted shelf Nothing closed = refl
+not_counted shelf (Looked header) closed = refl
+not_counted shelf (Opened file) closed = elim (cases_Bool file.file.broken) [
+  | inl broken ↦ let e : IsFalse (is_open (Broken file.file.schema)) = rw broken at closed in absurd (cc)
+  | inr works ↦ let e : IsFalse (is_open (HasOpened file.file.schema (file_in file shelf))) = rw works at closed in absurd (cc)
+]
+
+pub none_counted : (shelf : ShelfState) (held : List Held) (u : ℕ) → length held ≡ length shelf.names → IsFalse (is_open (holding_at (world_of shelf held) u)) → asked_of (held_at held u) ≡ 0
+none_counted shelf held u many closed = elim (cases_Bool (nat_lt u (length held))) [
+  | inl hit ↦
+      let within = ltb-true u (length held) hit in
+      not_counted shelf (held_at held u) (subst (λ (holding : Holding). IsFalse (is_open holding)) (holding_now shelf held u within many) closed)
+  | inr miss ↦ ap asked_of (get_or_past held u Nothing (ltb-false u (length held) miss))
+]

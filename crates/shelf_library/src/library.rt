@@ -133,7 +133,7 @@ impl<S: Shelf> ShelfLibrary<S> {
 
 impl<S: Shelf> Library for ShelfLibrary<S> {
     ghost use Rattle.shelf_library.specs.Library.{shown_by};
-    ghost use Rattle.shelf_library.specs.Laws.{joins, ends, widens, shows_files, fills, room_within, frames_within};
+    ghost use Rattle.shelf_library.specs.Laws.{joins, ends, widens, shows_files, fills, room_within, frames_within, none_counted};
 
     ghost shown = { shown_by (λ library. record {
       shelf = S.state library.shelf;
@@ -157,6 +157,8 @@ impl<S: Shelf> Library for ShelfLibrary<S> {
       room = room_within (S.state library.shelf) library.units.items library.limit (non_zero_usize_get library.frames) u library.many library.limits opened;
       frames = frames_within (S.state library.shelf) library.units.items library.limit (non_zero_usize_get library.frames) u library.many library.limits opened;
     } };
+
+    ghost counts = { λ library u closed. none_counted (S.state library.shelf) library.units.items u library.many closed };
 
     fn attach(&mut self, names: &[FileName]) -> Result<(), Fault> {
         let units = nothing_held(self.alloc, names.len())?;

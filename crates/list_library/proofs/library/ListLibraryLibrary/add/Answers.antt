@@ -23,6 +23,7 @@ returns-clause-changes c =
     let kept : IsKept old c.add-added.new.self = change_keeps c.add-added.result old c.add-added.new.self (unit_after_add old c.args.bytes.now) _ opened (add_keeps old c.args.bytes.now opened) c.add-added.ensures.unit c.add-added.ensures.fault in
     record {
       asked = first_of (search rules, grind (arith, common_steps));
+      counted = first_of (search rules, grind (arith, common_steps));
       broken = first_of (search rules, grind (arith, common_steps));
       fault = first_of (search rules, grind (arith, common_steps));
       unbroken = first_of (search rules, grind (arith, common_steps));

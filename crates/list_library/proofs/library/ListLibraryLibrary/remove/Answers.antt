@@ -14,6 +14,7 @@ returns-clause-changes c =
     let kept : IsKept old c.remove-removed.new.self = removal_keeps c.remove-removed.result old c.remove-removed.new.self (unit_after_remove old c.as_slice.result.now) opened (remove_keeps old c.as_slice.result.now opened) c.remove-removed.ensures.unit c.remove-removed.ensures.err in
     record {
       asked = first_of (search rules, grind (arith, common_steps));
+      counted = first_of (search rules, grind (arith, common_steps));
       broken = first_of (search rules, grind (arith, common_steps));
       fault = first_of (search rules, grind (arith, common_steps));
       unbroken = first_of (search rules, grind (arith, common_steps));

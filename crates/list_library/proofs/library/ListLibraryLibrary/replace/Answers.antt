@@ -28,6 +28,7 @@ returns-clause-changes c =
     let kept : IsKept old c.replace-replaced.new.self = change_keeps c.replace-replaced.result old c.replace-replaced.new.self (unit_after_replace old c.args.bytes.now) _ opened (replace_keeps old c.args.bytes.now opened) c.replace-replaced.ensures.unit c.replace-replaced.ensures.fault in
     record {
       asked = first_of (search rules, grind (arith, common_steps));
+      counted = first_of (search rules, grind (arith, common_steps));
       broken = first_of (search rules, grind (arith, common_steps));
       fault = first_of (search rules, grind (arith, common_steps));
       unbroken = first_of (search rules, grind (arith, common_steps));
