@@ -2,6 +2,8 @@
 
 `trials()` gives each by its name, as those of edges.py.
 """
+import contextlib
+import socket
 import subprocess
 
 from edges import SECONDS, wants
@@ -172,6 +174,74 @@ def answers_on_a_full_device(room):
     wants(list(room.files.iterdir()), [], "the files")
 
 
+# ---- when answers are written
+
+
+@contextlib.contextmanager
+def client(room):
+    """Gives two functions: one sends bytes to a session, the other takes what one write of the session had."""
+    ours, theirs = socket.socketpair(socket.AF_UNIX, socket.SOCK_SEQPACKET)
+    ours.settimeout(SECONDS)
+    words = [room.program, "serve", "--folder", room.files]
+    with ours, subprocess.Popen(words, stdin=subprocess.PIPE, stdout=theirs, bufsize=0) as session:
+        theirs.close()
+        yield session.stdin.write, lambda: ours.recv(1 << 17)
+    wants(session.returncode, 0, "exit status")
+
+
+def filled(room):
+    serves(room, [*BEGUN, (writes(0, ADAMS), told("00")), (writes(0, SMITH), told("00")), (writes(0, SVEN), told("02"))])
+
+
+READINGS = [
+    (performs(0, READ_NEXT), told("00", ADAMS)),
+    (performs(0, READ, area="0009"), told("23")),
+    (performs(0, READ, key=1, area="0000SMITH "), told("02", SMITH)),
+    (performs(0, START, operand=2, key=0, part=4, area="0003"), told("00")),
+    (performs(0, READ_NEXT), told("00", SVEN)),
+    (performs(0, READ_NEXT), told("10")),
+]
+READINGS_ASKED = b"".join(request for request, _ in READINGS)
+READINGS_TOLD = b"".join(answer for _, answer in READINGS)
+
+
+def answers_in_one_write(room):
+    filled(room)
+    reads = [*READINGS, (performs(0, START, operand=1, key=0, part=4, area="0001"), told("00"))]
+    others = [(writes(0, SMITH), told("22")), (performs(0, CLOSE), told("00")), (releases(0), DONE)]
+    opens = [LISTED[0], (performs(0, OPEN, I_O), told("00"))]
+    with client(room) as (send, one_write):
+        send(b"".join(request for request, _ in [*opens, *reads, others[0], reads[-1], *others[1:]]))
+        for answer in (DONE, told("00"), READINGS_TOLD + told("00"), told("22"), told("00"), told("00"), DONE):
+            wants(one_write(), answer, "a write")
+
+
+def as_many_answers_as_there_is_room_for(room):
+    long = ADAMS + 3984 * "."
+    described = (describes(0, "cust.dat", greatest=4000), DONE)
+    serves(room, [described, BEGUN[1], (writes(0, long), told("00"))])
+    with client(room) as (send, one_write):
+        send(described[0] + LISTED[1][0] + 40 * performs(0, READ, area="0001"))
+        for answer in (DONE, told("00"), 16 * told("00", long), 16 * told("00", long), 8 * told("00", long)):
+            wants(one_write(), answer, "a write")
+
+
+def answers_to_a_client_that_waits(room):
+    filled(room)
+    with client(room) as (send, one_write):
+        for request, answer in [*LISTED, *READINGS]:
+            send(request)
+            wants(one_write(), answer, "a write")
+    next_one = performs(0, READ_NEXT)
+    for sent in range(1, len(next_one)):
+        with client(room) as (send, one_write):
+            send(LISTED[0][0] + LISTED[1][0] + READINGS_ASKED + next_one[:sent])
+            for answer in (DONE, told("00"), READINGS_TOLD):
+                wants(one_write(), answer, "a write")
+            send(next_one[sent:])
+            wants(one_write(), told("46"), "a write")
+
+
 def trials():
     yield "requests that write a file and read it", written_and_read
     yield "a file that is open at the end of the input", closed_at_the_end
@@ -182,3 +252,6 @@ def trials():
     yield "requests on records of varying length", varying_records
     yield "requests on two files", two_files
     yield "answers on a full device", answers_on_a_full_device
+    yield "answers to requests that only read, in one write", answers_in_one_write
+    yield "answers that are more than are held", as_many_answers_as_there_is_room_for
+    yield "a client that waits for each answer", answers_to_a_client_that_waits

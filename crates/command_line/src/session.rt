@@ -15,7 +15,7 @@ use folder_shelf::{Disk, FolderShelf};
 use indexed_file::Library;
 use serve::{Libraries, ServeFault, serve};
 use shelf_library::ShelfLibrary;
-use standard_input::StandardInput;
+use standard_input::{ReadsAhead, StandardInput};
 use std::alloc::Global;
 use std::io::{Read, Write};
 use std::marker::PhantomData;
@@ -77,7 +77,7 @@ fn ended(end: Result<(), ServeFault>) -> Result<(), Fault>
 
 /// Answers the requests of an input over the files of a folder: as the definitions say of them, over libraries that are new at first. What the input gave is noted
 /// in it. `Memory`: nothing was read or written.
-pub fn serve_folder<'a, R: Files, D: Disk, I: Read, W: Write>(
+pub fn serve_folder<'a, R: Files, D: Disk, I: Read + ReadsAhead, W: Write>(
     rt: &'a R,
     alloc: Global,
     folder: &'a str,

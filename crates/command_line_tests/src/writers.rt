@@ -5,7 +5,7 @@ use folder_shelf::EmptyDisk;
 use standard_input::StandardInput;
 use standard_output::StandardOutput;
 use std::fs;
-use std::io::{self, Empty, ErrorKind, Write};
+use std::io::{self, BufReader, Empty, ErrorKind, Write};
 use std::os::fd::AsRawFd;
 use std::os::unix::fs::FileExt;
 use std::process::Abort;
@@ -101,11 +101,12 @@ where
         at_once: usize::MAX,
         room: err,
     };
-    let (status, _ran) = program::<R, EmptyDisk, Empty, Narrow, Narrow>(
+    let nothing = BufReader::new(alloc, io::empty())?;
+    let (status, _ran) = program::<R, EmptyDisk, BufReader<Empty>, Narrow, Narrow>(
         rt,
         alloc,
         given.as_slice(),
-        &mut StandardInput::new(io::empty()),
+        &mut StandardInput::new(nothing),
         &mut out,
         &mut err,
     );

@@ -1,5 +1,5 @@
 -- Bytes and frames that a reader gave.
-use Rattle.std.proofs.Common.{◌≡◌, ◌≤◌, ◌<◌, ◌+◌, ◌-◌, ℕ, List, [], ◌∷◌, ◌++◌, take, drop, length, slice_index_or, Some, None, refl, sym, ap, ap₂, subst, ◌∙◌, append_assoc, append-nil, length-append, length-drop, arith}
+use Rattle.std.proofs.Common.{◌≡◌, ◌≤◌, ◌<◌, ◌+◌, ◌-◌, ℕ, List, [], ◌∷◌, ◌++◌, take, drop, length, slice_index_or, Some, None, refl, sym, ap, ap₂, subst, ◌∙◌, append_assoc, append-nil, take-append-drop, length-append, length-drop, arith}
 use Rattle.std.proofs.lemmas.List.{take-append-le, take_all, length-take-le}
 use Rattle.std.proofs.Math.Seq.{take-append-add}
 use borrow.Rule.Slice.PartMut.{put_mid, post_of}
@@ -10,7 +10,7 @@ use Rattle.standard_input.specs.Source.{Source, Gives, HasFailed}
 use Rattle.byteorder.specs.Endian.{big_number, big_bytes}
 use Rattle.request_frames.specs.Answer.{framed}
 use Rattle.std.specs.Prelude.{Ok}
-use Rattle.serve.specs.Input.{GivesLess, NoLength, NoBody, BreaksOff, Came}
+use Rattle.serve.specs.Input.{GivesLess, BeginsWithFrame, NoLength, NoBody, BreaksOff, Came}
 use Rattle.serve.specs.declared.input.Next.{Next}
 
 -- bytes that came, and then these
@@ -64,6 +64,16 @@ head_back (h ∷ l ∷ []) e fits =
     let low = fits 1 in
     ap₂ (λ (a b : ℕ). a ∷ b ∷ []) (omega arith) (omega arith)
 head_back (h ∷ l ∷ m ∷ rest) e fits = absurd (omega arith)
+
+-- a whole frame at the front
+pub begins_with_frame : (bytes head rest : List ℕ) (size : ℕ) → bytes ≡ head ++ rest → big_bytes 2 size ≡ head → size ≤ length rest → BeginsWithFrame bytes
+begins_with_frame bytes head rest size are is room =
+    let long : length (take size rest) ≡ size = length-take-le size rest room in (
+      take size rest,
+      drop size rest,
+      are ∙ ap (λ (l : List ℕ). head ++ l) (sym (take-append-drop size rest)) ∙ sym (append_assoc head (take size rest) (drop size rest))
+          ∙ ap (λ (l : List ℕ). (l ++ take size rest) ++ drop size rest) (sym is ∙ ap (λ (n : ℕ). big_bytes 2 n) (sym long)),
+    )
 
 -- no length came
 pub no_length : (a b : Source) → GivesLess 2 a b → BreaksOff a b

@@ -1,108 +1,140 @@
--- Requests that were answered, and then more.
-use Rattle.std.proofs.Common.{◌≡◌, ◌⊎◌, ◌≤◌, ◌+◌, ◌-◌, ◌^◌, inl, inr, ℕ, length, length-append, arith, List, [], ◌∷◌, ◌++◌, Option, flat_map, refl, sym, ap, subst, ◌∙◌, append_assoc, append-nil}
+-- Requests that were answered, and then one more.
+use Rattle.std.proofs.Common.{◌≡◌, ◌≤◌, ◌+◌, inl, inr, ℕ, length, length-append, arith, List, [], ◌∷◌, ◌++◌, All, Option, refl, sym, ap, subst, ◌∙◌, append_assoc, append-nil}
 use Rattle.std.proofs.lemmas.Grind.{flat_map-append}
-use Rattle.std.specs.Prelude.{Result, Ok, Err}
+use Rattle.std.proofs.lemmas.List.Elements.{All-nil, All-cons, All-append}
 use Rattle.std.specs.Io.KnownBytes.{Appends}
-use Rattle.std.proofs.KnownBytes.{Appends-trans}
+use Rattle.std.proofs.KnownBytes.{Appends-nil, Appends-trans}
 use Rattle.indexed_file.specs.Shown.{Shown}
 use Rattle.request_frames.specs.Answer.{framed}
 use Rattle.file_session.specs.Files.{Files}
-use Rattle.standard_input.specs.Source.{Source, Gives, HasFailed}
+use Rattle.standard_input.specs.Source.{Source, Gives}
 use Rattle.serve.specs.Answers.{answer_frame}
-use Rattle.serve.specs.Serving.{Exchange, requests, answers, Serving, Ends, Streams, streams, Serves, ServesOne}
-use Rattle.serve.specs.declared.fault.ServeFault.{ServeFault}
-use Rattle.serve.specs.declared.fault.ServeFault.TheVariants.{Input, Output, Memory}
-use Rattle.serve.proofs.InputLemmas.{gives_on}
+use Rattle.serve.specs.Reads.{OnlyReads}
+use Rattle.serve.specs.HeldAnswers.{HandsAllOver, MakesWay}
+use Rattle.serve.specs.Serving.{Exchange, requests, answers, Serving, Streams, streams}
+use Rattle.serve.specs.Answering.{outgoing, AnswersAs, Goes}
+use Rattle.serve.proofs.InputLemmas.{gives_on, gives_none}
 
--- requests were answered so far, so many at least
-pub record HasServed {S : Type 0} (shown : Shown S) (IsNew : S → Type 0) (s : Streams) (old new : Files S) (made : ℕ) : Type 0 where
-  pub exchanges : List Exchange
-  pub serving : Serving shown IsNew old exchanges new
-  pub gives : Gives s.input s.input_after (requests exchanges)
-  pub appends : Appends s.output s.output_after (answers exchanges)
-  pub counted : made ≤ length exchanges
+abbrev pub AllRead : List Exchange → Type 0
+AllRead exchanges = All (λ e. OnlyReads e.body) exchanges
 
--- frames of both, and then these bytes
-both : (f : Exchange → List ℕ) (es more : List Exchange) (behind : List ℕ) → flat_map f es ++ (flat_map f more ++ behind) ≡ flat_map f (es ++ more) ++ behind
-both f es more behind = sym (ap (λ l. l ++ behind) (flat_map-append f es more) ∙ append_assoc (flat_map f es) (flat_map f more) behind)
+-- requests were answered so far, so many at least: the writer took the answers to the first ones, and those to the others, which only read, are held
+pub record HasServed {S : Type 0} (shown : Shown S) (IsNew : S → Type 0) (s : Streams) (held : List ℕ) (old new : Files S) (made : ℕ) : Type 0 where
+  pub taken : List Exchange
+  pub kept : List Exchange
+  pub serving : Serving shown IsNew old (taken ++ kept) new
+  pub gives : Gives s.input s.input_after (requests (taken ++ kept))
+  pub appends : Appends s.output s.output_after (answers taken)
+  pub held_is : held ≡ answers kept
+  pub reads : AllRead kept
+  pub counted : made ≤ length (taken ++ kept)
+
+pub answers_both : (es more : List Exchange) → answers (es ++ more) ≡ answers es ++ answers more
+answers_both es more = flat_map-append (λ e. answer_frame e.told) es more
+
+pub requests_both : (es more : List Exchange) → requests (es ++ more) ≡ requests es ++ requests more
+requests_both es more = flat_map-append (λ e. framed e.body) es more
+
+pub answer_alone : (e : Exchange) → answer_frame e.told ≡ answers (e ∷ [])
+answer_alone e = sym (append-nil (answer_frame e.told))
+
+pub requests_then : (a b c : Source) (es : List Exchange) (e : Exchange) → Gives a b (requests es) → Gives b c (framed e.body) → Gives a c (requests (es ++ e ∷ []))
+requests_then a b c es e first then =
+    gives_on a b c (requests es) (framed e.body) (requests (es ++ e ∷ [])) first then
+    (requests_both es (e ∷ []) ∙ ap (λ l. requests es ++ l) (append-nil (framed e.body)))
+
+-- the answers to these too
+pub taken_too : (x y z : Option (List ℕ)) (es more : List Exchange) (bytes : List ℕ) → bytes ≡ answers more → Appends x y (answers es) → Appends y z bytes → Appends x z (answers (es ++ more))
+taken_too x y z es more bytes is first then =
+    subst (λ (l : List ℕ). Appends x z l) (sym (answers_both es more)) (Appends-trans x y z (answers es) (answers more) first (subst (λ (l : List ℕ). Appends y z l) is then))
+
+pub behind_all : (x y z : Option (List ℕ)) (es more : List Exchange) (held front : List ℕ) → held ≡ answers more → Appends x y (answers es) → Appends y z (held ++ front)
+    → Appends x z (answers (es ++ more) ++ front)
+behind_all x y z es more held front is first then =
+    subst (λ (l : List ℕ). Appends x z l)
+    (ap (λ (l : List ℕ). answers es ++ (l ++ front)) is ∙ sym (append_assoc (answers es) (answers more) front) ∙ ap (λ (l : List ℕ). l ++ front) (sym (answers_both es more)))
+    (Appends-trans x y z (answers es) (held ++ front) first then)
 
 module _ {S : Type 0} (shown : Shown S) (IsNew : S → Type 0) where
   pub join : (es more : List Exchange) (old between new : Files S) → Serving shown IsNew old es between → Serving shown IsNew between more new → Serving shown IsNew old (es ++ more) new
   join [] more old between new first then = subst (λ (from : Files S). Serving shown IsNew from more new) first then
   join (e ∷ es) more old between new (mid, one, rest) then = (mid, one, join es more mid between new rest then)
 
-  -- one more
-  pub served_more : (a b c : Source) (x y z : Option (List ℕ)) (old between new : Files S) (made : ℕ) → HasServed shown IsNew (streams a b x y) old between made → ServesOne shown IsNew (streams b c y z) between new
-      → HasServed shown IsNew (streams a c x z) old new (made + 1)
-  served_more a b c x y z old between new made had one = record {
-    exchanges = had.exchanges ++ one.exchange ∷ [];
-    serving = join had.exchanges (one.exchange ∷ []) old between new had.serving (new, one.answer, refl);
-    gives = gives_on a b c (requests had.exchanges) (framed one.exchange.body) (requests (had.exchanges ++ one.exchange ∷ [])) had.gives one.gives
-        (flat_map-append (λ e. framed e.body) had.exchanges (one.exchange ∷ []) ∙ ap (λ l. requests had.exchanges ++ l) (append-nil (framed one.exchange.body)));
-    appends = subst (Appends x z) (sym (flat_map-append (λ e. answer_frame e.told) had.exchanges (one.exchange ∷ []) ∙ ap (λ l. answers had.exchanges ++ l) (append-nil (answer_frame one.exchange.told))))
-        (Appends-trans x y z (answers had.exchanges) (answer_frame one.exchange.told) had.appends one.appends);
-    counted = let few = had.counted in let more = length-append had.exchanges (one.exchange ∷ []) in omega arith;
+  -- no request so far
+  pub begins_served : (a : Source) (x : Option (List ℕ)) (held : List ℕ) (files : Files S) → held ≡ [] → HasServed shown IsNew (streams a a x x) held files files 0
+  begins_served a x held files none = record {
+    taken = [];
+    kept = [];
+    serving = refl;
+    gives = gives_none a;
+    appends = Appends-nil x;
+    held_is = none;
+    reads = All-nil (λ (e : Exchange). OnlyReads e.body);
+    counted = omega arith;
   }
 
--- why no more was read, of those before too
-failed_or_many : (after : Source) (es more : List Exchange) → HasFailed after ⊎ (2 ^ 64 - 1 ≤ length more) → HasFailed after ⊎ (2 ^ 64 - 1 ≤ length (es ++ more))
-failed_or_many after es more (inl failed) = inl failed
-failed_or_many after es more (inr many) = inr (let both_long = length-append es more in omega arith)
+  module _ (a b : Source) (x y z : Option (List ℕ)) (held after : List ℕ) (old new : Files S) (made : ℕ) (had : HasServed shown IsNew (streams a b x y) held old new made) where
+    -- all that was held is handed over
+    handed : HandsAllOver y z held after → HasServed shown IsNew (streams a b x z) after old new made
+    handed (took, none) = record {
+      taken = had.taken ++ had.kept;
+      kept = [];
+      serving = subst (λ (es : List Exchange). Serving shown IsNew old es new) (sym (append-nil (had.taken ++ had.kept))) had.serving;
+      gives = subst (λ (es : List Exchange). Gives a b (requests es)) (sym (append-nil (had.taken ++ had.kept))) had.gives;
+      appends = taken_too x y z had.taken had.kept held had.held_is had.appends took;
+      held_is = none;
+      reads = All-nil (λ (e : Exchange). OnlyReads e.body);
+      counted = subst (λ (es : List Exchange). made ≤ length es) (sym (append-nil (had.taken ++ had.kept))) had.counted;
+    }
 
--- how they end, of those before too
-ends_on : (after : Source) (es more : List Exchange) (read written : List ℕ) (result : Result Unit ServeFault) → Ends after more read written result
-    → Ends after (es ++ more) (requests es ++ read) (answers es ++ written) result
-ends_on after es more read written (Ok _) (inl end) = inl (record {
-  cut = end.cut;
-  is_cut = end.is_cut;
-  read_is = ap (λ l. requests es ++ l) end.read_is ∙ both (λ e. framed e.body) es more end.cut;
-  ended = end.ended;
-  written_is = ap (λ l. answers es ++ l) end.written_is ∙ sym (flat_map-append (λ e. answer_frame e.told) es more);
-})
-ends_on after es more read written (Ok _) (inr end) = inr (record {
-  size = end.size;
-  past = end.past;
-  read_is = ap (λ l. requests es ++ l) end.read_is ∙ both (λ e. framed e.body) es more _;
-  written_is = ap (λ l. answers es ++ l) end.written_is ∙ both (λ e. answer_frame e.told) es more _;
-})
-ends_on after es more read written (Err Input) end = record {
-  cut = end.cut;
-  is_cut = end.is_cut;
-  read_is = ap (λ l. requests es ++ l) end.read_is ∙ both (λ e. framed e.body) es more end.cut;
-  why = failed_or_many after es more end.why;
-  written_is = ap (λ l. answers es ++ l) end.written_is ∙ sym (flat_map-append (λ e. answer_frame e.told) es more);
-}
-ends_on after es more read written (Err Output) (inl end) = inl (record {
-  before = es ++ end.before;
-  last = end.last;
-  are = ap (λ (l : List Exchange). es ++ l) end.are ∙ sym (append_assoc es end.before (end.last ∷ []));
-  front = end.front;
-  rest = end.rest;
-  frame = end.frame;
-  read_is = ap (λ l. requests es ++ l) end.read_is ∙ sym (flat_map-append (λ e. framed e.body) es more);
-  written_is = ap (λ l. answers es ++ l) end.written_is ∙ both (λ e. answer_frame e.told) es end.before end.front;
-})
-ends_on after es more read written (Err Output) (inr end) = inr (record {
-  size = end.size;
-  past = end.past;
-  front = end.front;
-  rest = end.rest;
-  frame = end.frame;
-  read_is = ap (λ l. requests es ++ l) end.read_is ∙ both (λ e. framed e.body) es more _;
-  written_is = ap (λ l. answers es ++ l) end.written_is ∙ both (λ e. answer_frame e.told) es more end.front;
-})
-ends_on after es more read written (Err Memory) end = absurd end
+    pub way_made : (ahead : List ℕ) → MakesWay ahead y z held after → HasServed shown IsNew (streams a b x z) after old new made
+    way_made ahead (inl (whole, kept, same)) = record {
+      taken = had.taken;
+      kept = had.kept;
+      serving = had.serving;
+      gives = had.gives;
+      appends = subst (λ (l : List ℕ). Appends x z l) (append-nil (answers had.taken)) (Appends-trans x y z (answers had.taken) [] had.appends kept);
+      held_is = same ∙ had.held_is;
+      reads = had.reads;
+      counted = had.counted;
+    }
+    way_made ahead (inr over) = handed over
 
-module _ {S : Type 0} (shown : Shown S) (IsNew : S → Type 0) where
-  -- and then the end
-  pub served_all : (a b c : Source) (x y z : Option (List ℕ)) (old between new : Files S) (made : ℕ) (result : Result Unit ServeFault) → HasServed shown IsNew (streams a b x y) old between made
-      → Serves shown IsNew (streams b c y z) between new result → Serves shown IsNew (streams a c x z) old new result
-  served_all a b c x y z old between new made result had end = record {
-    exchanges = had.exchanges ++ end.exchanges;
-    serving = join shown IsNew had.exchanges end.exchanges old between new had.serving end.serving;
-    read = requests had.exchanges ++ end.read;
-    written = answers had.exchanges ++ end.written;
-    gives = gives_on a b c (requests had.exchanges) end.read (requests had.exchanges ++ end.read) had.gives end.gives refl;
-    appends = Appends-trans x y z (answers had.exchanges) end.written had.appends end.appends;
-    ends = ends_on c had.exchanges end.exchanges end.read end.written result end.ends;
-  }
+  module _ (a b c : Source) (x y z : Option (List ℕ)) (held after : List ℕ) (old between new : Files S) (made : ℕ) (had : HasServed shown IsNew (streams a b x y) held old between made) where
+    -- one more: of all requests the writer took the answers to the first ones
+    more : (e : Exchange) (taken kept : List Exchange) → taken ++ kept ≡ (had.taken ++ had.kept) ++ e ∷ [] → Serving shown IsNew between (e ∷ []) new → Gives b c (framed e.body)
+        → Appends x z (answers taken) → after ≡ answers kept → AllRead kept → HasServed shown IsNew (streams a c x z) after old new (made + 1)
+    more e taken kept are serving gives took is reads = record {
+      taken = taken;
+      kept = kept;
+      serving = subst (λ (es : List Exchange). Serving shown IsNew old es new) (sym are) (join (had.taken ++ had.kept) (e ∷ []) old between new had.serving serving);
+      gives = subst (λ (es : List Exchange). Gives a c (requests es)) (sym are) (requests_then a b c (had.taken ++ had.kept) e had.gives gives);
+      appends = took;
+      held_is = is;
+      reads = reads;
+      counted =
+          let few = had.counted in
+          let long = length-append (had.taken ++ had.kept) (e ∷ []) in
+          let same = ap (λ (es : List Exchange). length es) are in omega arith;
+    }
+
+    pub one_more : (body : List ℕ) → Gives b c (framed body) → AnswersAs shown IsNew body (Goes body (outgoing y z held after)) between new → HasServed shown IsNew (streams a c x z) after old new (made + 1)
+    one_more body gives (told, answer, inl (reads, inl (kept, is))) =
+        let e : Exchange = record { body = body; told = told } in
+        more e had.taken (had.kept ++ e ∷ []) (sym (append_assoc had.taken had.kept (e ∷ []))) (new, answer, refl) gives
+        (subst (λ (l : List ℕ). Appends x z l) (append-nil (answers had.taken)) (Appends-trans x y z (answers had.taken) [] had.appends kept))
+        (is ∙ (λ i. had.held_is i ++ answer_alone e i) ∙ sym (answers_both had.kept (e ∷ [])))
+        (All-append (λ (e : Exchange). OnlyReads e.body) had.kept (e ∷ []) had.reads (All-cons (λ (e : Exchange). OnlyReads e.body) e [] reads (All-nil (λ (e : Exchange). OnlyReads e.body))))
+    one_more body gives (told, answer, inl (reads, inr (took, is))) =
+        let e : Exchange = record { body = body; told = told } in
+        more e (had.taken ++ had.kept) (e ∷ []) refl (new, answer, refl) gives
+        (taken_too x y z had.taken had.kept held had.held_is had.appends took)
+        (is ∙ answer_alone e)
+        (All-cons (λ (e : Exchange). OnlyReads e.body) e [] reads (All-nil (λ (e : Exchange). OnlyReads e.body)))
+    one_more body gives (told, answer, inr (took, none)) =
+        let e : Exchange = record { body = body; told = told } in
+        let all : List Exchange = had.kept ++ e ∷ [] in
+        more e (had.taken ++ all) [] (append-nil (had.taken ++ all) ∙ sym (append_assoc had.taken had.kept (e ∷ []))) (new, answer, refl) gives
+        (taken_too x y z had.taken all (held ++ answer_frame told) ((λ i. had.held_is i ++ answer_alone e i) ∙ sym (answers_both had.kept (e ∷ []))) had.appends took)
+        none
+        (All-nil (λ (e : Exchange). OnlyReads e.body))

@@ -1,5 +1,5 @@
 -- The frames of the input. All of this is ours.
-use Rattle.std.specs.Prelude.{ℕ, ◌<◌, ◌≤◌, List, ◌++◌, length, take, Result, Ok, Err}
+use Rattle.std.specs.Prelude.{◌≡◌, ℕ, ◌<◌, ◌≤◌, List, ◌++◌, length, take, Result, Ok, Err}
 use Rattle.byteorder.specs.Endian.{big_bytes}
 use Rattle.request_frames.specs.Answer.{framed}
 use Rattle.standard_input.specs.Source.{Source, Gives, HasEnded, HasFailed}
@@ -12,6 +12,10 @@ pub record GivesLess (n : ℕ) (before after : Source) : Type 0 where
   pub bytes : List ℕ
   pub read : Gives before after bytes
   pub few : length bytes < n
+
+-- a whole frame stands at the front
+abbrev pub BeginsWithFrame : List ℕ → Type 0
+BeginsWithFrame bytes = (body : List ℕ) × (behind : List ℕ) × (bytes ≡ framed body ++ behind)
 
 -- less than a frame: not two bytes, or a length and fewer bytes than it says
 pub data IsCut : List ℕ → Type 0 where

@@ -1,5 +1,5 @@
 -- The answering of the requests of an input. All of this is ours.
-use Rattle.std.specs.Prelude.{◌≡◌, ◌⊎◌, ℕ, ◌<◌, ◌≤◌, ◌-◌, ◌^◌, length, List, [], ◌∷◌, ◌++◌, flat_map, Option, Some, None, Result, Ok, Err}
+use Rattle.std.specs.Prelude.{◌≡◌, ◌⊎◌, ℕ, ◌<◌, ◌≤◌, ◌-◌, ◌^◌, All, length, List, [], ◌∷◌, ◌++◌, flat_map, Option, Result, Ok, Err}
 use Rattle.std.specs.Io.KnownBytes.{Appends}
 use Rattle.byteorder.specs.Endian.{big_bytes}
 use Rattle.io_state.specs.declared.status.Status.{Status}
@@ -12,6 +12,7 @@ use Rattle.file_session.specs.Steps.{ClosesFirst}
 use Rattle.standard_input.specs.Source.{Source, Gives, HasEnded, HasFailed}
 use Rattle.serve.specs.Input.{IsCut}
 use Rattle.serve.specs.Answers.{Answers, answer_frame}
+use Rattle.serve.specs.Reads.{OnlyReads}
 use Rattle.serve.specs.declared.fault.ServeFault.{ServeFault}
 use Rattle.serve.specs.declared.fault.ServeFault.TheVariants.{Input, Output, Memory}
 
@@ -76,6 +77,27 @@ pub record FailsToAnswer (exchanges : List Exchange) (read written : List ℕ) :
   pub read_is : read ≡ requests exchanges
   pub written_is : written ≡ answers before ++ front
 
+-- behind the requests that were performed: less than a frame, a length past the limit, or a frame whose request was not performed
+pub data IsUnanswered : List ℕ → Type 0 where
+  Less : (bytes : List ℕ) → IsCut bytes → IsUnanswered bytes
+  PastLimit : (size : ℕ) → 8192 < size → IsUnanswered (big_bytes 2 size)
+  NotPerformed : (body : List ℕ) → IsUnanswered (framed body)
+
+-- the writer refused one of the answers that were held, of which it has a front, or all where it did not hand it on: its request and those behind it only read
+pub record FailsToHandOver (exchanges : List Exchange) (read written : List ℕ) : Type 0 where
+  pub before : List Exchange
+  pub failed : Exchange
+  pub behind : List Exchange
+  pub are : exchanges ≡ before ++ failed ∷ behind
+  pub reads : All (λ e. OnlyReads e.body) (failed ∷ behind)
+  pub front : List ℕ
+  pub rest : List ℕ
+  pub frame : answer_frame failed.told ≡ front ++ rest
+  pub more : List ℕ
+  pub unanswered : IsUnanswered more
+  pub read_is : read ≡ requests exchanges ++ more
+  pub written_is : written ≡ answers before ++ front
+
 -- so with the refusal of a length past the limit
 pub record FailsToRefuse (exchanges : List Exchange) (read written : List ℕ) : Type 0 where
   pub size : ℕ
@@ -90,7 +112,8 @@ pub record FailsToRefuse (exchanges : List Exchange) (read written : List ℕ) :
 abbrev pub Ends : Source → List Exchange → (read written : List ℕ) → Result Unit ServeFault → Type 0
 Ends input_after exchanges read written (Ok _) = EndsInput input_after exchanges read written ⊎ EndsTooLong exchanges read written
 Ends input_after exchanges read written (Err Input) = FailsToRead input_after exchanges read written
-Ends input_after exchanges read written (Err Output) = FailsToAnswer exchanges read written ⊎ FailsToRefuse exchanges read written
+Ends input_after exchanges read written (Err Output) =
+    FailsToAnswer exchanges read written ⊎ FailsToHandOver exchanges read written ⊎ FailsToRefuse exchanges read written
 Ends input_after exchanges read written (Err Memory) = ⊥
 
 -- what an input has left and gave, and what an output has, before and after
@@ -112,18 +135,6 @@ pub record Serves {S : Type 0} (shown : Shown S) (IsNew : S → Type 0) (s : Str
   pub gives : Gives s.input s.input_after read
   pub appends : Appends s.output s.output_after written
   pub ends : Ends s.input_after exchanges read written result
-
--- one request was answered
-pub record ServesOne {S : Type 0} (shown : Shown S) (IsNew : S → Type 0) (s : Streams) (old new : Files S) : Type 0 where
-  pub exchange : Exchange
-  pub answer : Answers shown IsNew (request_in exchange.body) old exchange.told new
-  pub gives : Gives s.input s.input_after (framed exchange.body)
-  pub appends : Appends s.output s.output_after (answer_frame exchange.told)
-
--- one request was answered, or that was the end
-abbrev pub ServesNext : {S : Type 0} → Shown S → (S → Type 0) → Streams → (old new : Files S) → Option (Result Unit ServeFault) → Type 0
-ServesNext shown IsNew s old new None = ServesOne shown IsNew s old new
-ServesNext shown IsNew s old new (Some result) = Serves shown IsNew s old new result
 
 -- a whole session: its requests were answered, from the first one, when no file was described; and then the files that were still open were closed
 pub record Served {S : Type 0} (shown : Shown S) (IsNew : S → Type 0) (s : Streams) (result : Result Unit ServeFault) : Type 0 where

@@ -1,12 +1,12 @@
 //! The next frame of the input.
-ghost use Rattle.std.specs.Prelude.{◌≡◌, ◌≤◌, ◌<◌, true, false, IfOk, OnErr, [], length, take};
-ghost use Rattle.byteorder.specs.Endian.{big_bytes};
+ghost use Rattle.std.specs.Prelude.{◌≡◌, ◌⊎◌, ◌≤◌, ◌<◌, true, false, IfOk, OnErr, [], length, take};
 ghost use Rattle.standard_input.specs.Source.{source_of, Gives, HasEnded, HasFailed};
-ghost use Rattle.serve.specs.Input.{GivesLess, Came};
+ghost use Rattle.serve.specs.Input.{GivesLess, Came, BeginsWithFrame};
 
-use byteorder::{BigEndian, ByteOrder};
+use crate::frame::length_of;
+use crate::held_answers::HeldAnswers;
 use request_frames::LENGTH_LIMIT;
-use standard_input::StandardInput;
+use standard_input::{ReadsAhead, StandardInput};
 use std::io::{ErrorKind, Read};
 
 /// So many interrupted reads in a row are a fault of the input.
@@ -71,19 +71,13 @@ fn read_whole<R: Read>(reader: &mut StandardInput<R>, room: &mut [u8]) -> Result
     Ok(true)
 }
 
-/// The length that a frame begins with.
-fn length_of(head: &[u8]) -> u16
-    requires { length head.now ≡ 2 }
-    ensures { big_bytes 2 result ≡ head.now }
-{
-    BigEndian::read_u16(head)
-}
-
-/// Reads the next frame, and no byte behind it.
-pub fn read_frame<R: Read>(
+/// Reads the next frame, and no byte behind it. It may wait, so no answer is held then, unless the frame has come whole.
+pub fn read_frame<R: Read + ReadsAhead>(
     reader: &mut StandardInput<R>,
     buffer: &mut [u8; LENGTH_LIMIT],
+    _held: &HeldAnswers,
 ) -> Result<Next, InputFailed>
+    requires none_waits { (_held.now ≡ []) ⊎ BeginsWithFrame (R.told reader.old.reader) }
     ensures { Came (source_of R.remaining reader.old) (source_of R.remaining reader.new) buffer.new result }
 {
     let mut head = [0; 2];

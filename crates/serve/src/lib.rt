@@ -1,16 +1,20 @@
 //! Requests for verbs, read from an input and answered on an output.
 //!
-//! A request is answered when its verb was performed, and before the next one is read. At the end of the input the files that are still open are closed, in the
-//! order of opening. What is written is the frames of the answers, each what the definitions say of its request.
+//! A request is answered when its verb was performed. The answers to READ and START are held while the next request has come already; all others are written
+//! before the next one is read. At the end of the input the files that are still open are closed, in the order of opening. What is written is the frames of the
+//! answers, each what the definitions say of its request.
 //!
-//! Read `specs/Answers.antt`, `specs/Serving.antt`, and then `serving`.
+//! Read `specs/Answers.antt`, `specs/Serving.antt`, then `held_answers`, and then `serving`.
 #![tactic(auto)]
 
 mod answering;
 mod fault;
+mod frame;
+mod held_answers;
 mod input;
 mod libraries;
 mod output;
+mod reads;
 mod serving;
 
 pub use fault::ServeFault;

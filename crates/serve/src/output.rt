@@ -1,4 +1,4 @@
-//! The writing of an answer, all of it.
+//! The writing of answers, all of them.
 ghost use Rattle.std.specs.Prelude.{◌≡◌, ◌≤◌, ◌<◌, take, length, OnOk, OnErr};
 ghost use Rattle.std.specs.Option.{IfSome, IfNone};
 ghost use Rattle.std.specs.Io.KnownBytes.{Appends, Keeps};
@@ -34,12 +34,12 @@ fn offer<W: Write>(out: &mut W, text: &[u8]) -> Option<usize>
 }
 
 #[tactic(auto, using(crate::proofs::OutputLemmas::nothing_written, crate::proofs::OutputLemmas::all_written))]
-/// Writes a frame. A writer that takes no byte, fails, or is interrupted a thousand times in a row refuses it.
-fn write_frame<W: Write>(out: &mut W, frame: &[u8]) -> Result<(), OutputFailed>
-    ensures written { OnOk result (Appends (W.contents out.old) (W.contents out.new) frame.now) }
-    ensures refused { OnErr result (AppendsFront (W.contents out.old) (W.contents out.new) frame.now) }
+/// Writes frames. A writer that takes no byte, fails, or is interrupted a thousand times in a row refuses them.
+fn write_frames<W: Write>(out: &mut W, frames: &[u8]) -> Result<(), OutputFailed>
+    ensures written { OnOk result (Appends (W.contents out.old) (W.contents out.new) frames.now) }
+    ensures refused { OnErr result (AppendsFront (W.contents out.old) (W.contents out.new) frames.now) }
 {
-    let mut rest = frame;
+    let mut rest = frames;
     'more: while !rest.is_empty() {
         let Some(n) = offer(out, rest) else {
             return Err(OutputFailed);
@@ -50,11 +50,11 @@ fn write_frame<W: Write>(out: &mut W, frame: &[u8]) -> Result<(), OutputFailed>
     Ok(())
 }
 
-/// Writes a frame, and has the writer hand it on.
-pub fn send_frame<W: Write>(out: &mut W, frame: &[u8]) -> Result<(), OutputFailed>
-    ensures { Sends (W.contents out.old) (W.contents out.new) frame.now result }
+/// Writes frames, and has the writer hand them on.
+pub fn send_frames<W: Write>(out: &mut W, frames: &[u8]) -> Result<(), OutputFailed>
+    ensures { Sends (W.contents out.old) (W.contents out.new) frames.now result }
 {
-    write_frame(out, frame)?;
+    write_frames(out, frames)?;
     match out.flush() {
         Ok(()) => Ok(()),
         Err(_) => Err(OutputFailed),

@@ -1,91 +1,141 @@
 //! The requests of a session, one after another.
-ghost use Rattle.std.specs.Prelude.{◌≡◌, ◌≢◌, List, Err};
+ghost use Rattle.std.specs.Prelude.{◌≡◌, ◌≢◌, ◌⊎◌, [], ◌++◌, List, Err, OnOk, OnErr};
 ghost use Rattle.io_state.specs.declared.status.Status.{Status as ToldStatus};
-ghost use Rattle.request_frames.specs.Reading.{request_in};
-ghost use Rattle.request_frames.specs.Answer.{Told};
 ghost use Rattle.standard_input.specs.Source.{source_of};
-ghost use Rattle.serve.specs.Output.{Sends};
-ghost use Rattle.serve.specs.Answers.{Answers, answer_frame};
-ghost use Rattle.serve.specs.Serving.{streams, too_long, ServesNext, Serves, Closes, Served};
+ghost use Rattle.serve.specs.Answers.{answer_frame};
+ghost use Rattle.serve.specs.HeldAnswers.{HandsAllOver, RefusesHeld, HoldsToo, RefusesNext};
+ghost use Rattle.serve.specs.Serving.{streams, Serves, Closes, Served};
+ghost use Rattle.serve.specs.Answering.{outgoing, AnswersAs, Goes, FailsOne, Finishes, RefusesLength};
 
 use crate::answering::answer_request;
 use crate::fault::ServeFault;
+use crate::held_answers::HeldAnswers;
 use crate::input::{Next, read_frame};
 use crate::libraries::Libraries;
-use crate::output::{OutputFailed, send_frame};
+use crate::output::{OutputFailed, send_frames};
+use crate::reads::only_reads;
 use file_session::Session;
 use indexed_file::Library;
 use request_frames::{Answer, AnswerFrame, LENGTH_LIMIT, Refusal, put_answer};
-use standard_input::StandardInput;
+use standard_input::{ReadsAhead, StandardInput};
 use std::alloc::Global;
 use std::io::{Read, Write};
 
-/// Answers a request, and tells whether the writer took the answer.
+/// Answers a request that only reads. The answer is held.
+fn answer_read<M: Libraries, W: Write>(
+    libraries: &M,
+    session: &mut Session<M::Library>,
+    body: &[u8],
+    held: &mut HeldAnswers,
+    out: &mut W,
+) -> Result<(), OutputFailed>
+    ensures answered { OnOk result (AnswersAs M.Library.shown (M.is_new libraries.now) body.now
+        (λ told. HoldsToo (W.contents out.old) (W.contents out.new) held.old held.new (answer_frame told)) session.old session.new) }
+    ensures refused { OnErr result (AnswersAs M.Library.shown (M.is_new libraries.now) body.now
+        (λ told. RefusesHeld (W.contents out.old) (W.contents out.new) held.old) session.old session.new) }
+{
+    let mut answer = AnswerFrame::new();
+    answer_request(libraries, session, body, &mut answer);
+    held.add(answer.as_slice(), out)
+}
+
+/// Answers another request. All that is held is handed to the writer before it is performed, and its own answer at once.
+fn answer_other<M: Libraries, W: Write>(
+    libraries: &M,
+    session: &mut Session<M::Library>,
+    body: &[u8],
+    held: &mut HeldAnswers,
+    out: &mut W,
+) -> Result<(), OutputFailed>
+    ensures answered { OnOk result (AnswersAs M.Library.shown (M.is_new libraries.now) body.now
+        (λ told. HandsAllOver (W.contents out.old) (W.contents out.new) (held.old ++ answer_frame told) held.new) session.old session.new) }
+    ensures refused { OnErr result ((RefusesHeld (W.contents out.old) (W.contents out.new) held.old × (session.new ≡ session.old))
+        ⊎ AnswersAs M.Library.shown (M.is_new libraries.now) body.now
+        (λ told. RefusesNext (W.contents out.old) (W.contents out.new) held.old (answer_frame told)) session.old session.new) }
+{
+    held.hand_over(out)?;
+    let mut frame = AnswerFrame::new();
+    answer_request(libraries, session, body, &mut frame);
+    send_frames(out, frame.as_slice())
+}
+
+/// Answers a request.
 fn answer<M: Libraries, W: Write>(
     libraries: &M,
     session: &mut Session<M::Library>,
     body: &[u8],
+    held: &mut HeldAnswers,
     out: &mut W,
 ) -> Result<(), OutputFailed>
-    ensures { (told : Told) × Answers M.Library.shown (M.is_new libraries.now) (request_in body.now) session.old told session.new
-        × Sends (W.contents out.old) (W.contents out.new) (answer_frame told) result }
+    ensures answered { OnOk result (AnswersAs M.Library.shown (M.is_new libraries.now) body.now
+        (Goes body.now (outgoing (W.contents out.old) (W.contents out.new) held.old held.new)) session.old session.new) }
+    ensures refused { OnErr result (FailsOne M.Library.shown (M.is_new libraries.now) body.now
+        (outgoing (W.contents out.old) (W.contents out.new) held.old held.new) session.old session.new) }
 {
-    let mut frame = AnswerFrame::new();
-    answer_request(libraries, session, body, &mut frame);
-    send_frame(out, frame.as_slice())
-}
-
-/// Refuses a length past the limit.
-fn refuse_length<W: Write>(out: &mut W) -> Result<(), OutputFailed>
-    ensures { Sends (W.contents out.old) (W.contents out.new) too_long result }
-{
-    let mut refusal = AnswerFrame::new();
-    put_answer(&mut refusal, &Answer::Refused(Refusal::TooLong));
-    send_frame(out, refusal.as_slice())
-}
-
-/// Answers the next request. Where there is none, or the writer refuses the answer, how the requests ended.
-fn answer_next<M: Libraries, R: Read, W: Write>(
-    libraries: &M,
-    session: &mut Session<M::Library>,
-    input: &mut StandardInput<R>,
-    buffer: &mut [u8; LENGTH_LIMIT],
-    out: &mut W,
-) -> Option<Result<(), ServeFault>>
-    ensures { ServesNext M.Library.shown (M.is_new libraries.now)
-        (streams (source_of R.remaining input.old) (source_of R.remaining input.new) (W.contents out.old) (W.contents out.new)) session.old session.new result }
-{
-    match read_frame(input, buffer) {
-        Ok(Next::Frame(size)) => match answer(libraries, session, &buffer[..size], out) {
-            Ok(()) => None,
-            Err(_) => Some(Err(ServeFault::Output)),
-        },
-        Ok(Next::TooLong) => match refuse_length(out) {
-            Ok(()) => Some(Ok(())),
-            Err(_) => Some(Err(ServeFault::Output)),
-        },
-        Ok(Next::End) => Some(Ok(())),
-        Err(_) => Some(Err(ServeFault::Input)),
+    if only_reads(body) {
+        answer_read(libraries, session, body, held, out)
+    } else {
+        answer_other(libraries, session, body, held, out)
     }
 }
 
-/// Answers requests until there is none.
-fn answer_all<M: Libraries, R: Read, W: Write>(
+/// Refuses a length past the limit, behind all that is held.
+fn refuse_length<W: Write>(held: &mut HeldAnswers, out: &mut W) -> Result<(), ServeFault>
+    ensures { RefusesLength (W.contents out.old) (W.contents out.new) held.old result }
+{
+    let Ok(()) = held.hand_over(out) else {
+        return Err(ServeFault::Output);
+    };
+    let mut refusal = AnswerFrame::new();
+    put_answer(&mut refusal, &Answer::Refused(Refusal::TooLong));
+    match send_frames(out, refusal.as_slice()) {
+        Ok(()) => Ok(()),
+        Err(_) => Err(ServeFault::Output),
+    }
+}
+
+/// Hands all that is held to the writer where the requests end.
+fn finish<W: Write>(
+    end: Result<(), ServeFault>,
+    held: &mut HeldAnswers,
+    out: &mut W,
+) -> Result<(), ServeFault>
+    ensures { Finishes end (outgoing (W.contents out.old) (W.contents out.new) held.old held.new) result }
+{
+    match held.hand_over(out) {
+        Ok(()) => end,
+        Err(_) => Err(ServeFault::Output),
+    }
+}
+
+/// Answers requests until there is none. Before it waits for one, all that is held is handed to the writer.
+fn answer_all<M: Libraries, R: Read + ReadsAhead, W: Write>(
     libraries: &M,
     session: &mut Session<M::Library>,
     input: &mut StandardInput<R>,
+    held: &mut HeldAnswers,
     out: &mut W,
 ) -> Result<(), ServeFault>
+    requires none_held { held.old ≡ [] }
     ensures { Serves M.Library.shown (M.is_new libraries.now)
         (streams (source_of R.remaining input.old) (source_of R.remaining input.new) (W.contents out.old) (W.contents out.new)) session.old session.new result }
 {
     let mut buffer = [0; LENGTH_LIMIT];
     for _ in 0..u64::MAX {
-        if let Some(end) = answer_next(libraries, session, input, &mut buffer, out) {
-            return end;
-        }
+        let Ok(()) = held.make_way(input.ahead(), out) else {
+            return Err(ServeFault::Output);
+        };
+        let size = match read_frame(input, &mut buffer, held) {
+            Ok(Next::Frame(size)) => size,
+            Ok(Next::TooLong) => return refuse_length(held, out),
+            Ok(Next::End) => return finish(Ok(()), held, out),
+            Err(_) => return finish(Err(ServeFault::Input), held, out),
+        };
+        let Ok(()) = answer(libraries, session, &buffer[..size], held, out) else {
+            return Err(ServeFault::Output);
+        };
     }
-    Err(ServeFault::Input)
+    finish(Err(ServeFault::Input), held, out)
 }
 
 /// Closes the files that are open, in the order of opening.
@@ -97,11 +147,12 @@ fn close_all<L: Library + Drop>(session: &mut Session<L>)
     }
 }
 
-/// Answers the requests of an input, and closes the files that are open then, in the order of opening.
+/// Answers the requests of an input, and closes the files that are open then, in the order of opening. The answers to requests that only read are held while the
+/// next request has come, and all of them are written before a request is performed that may change a file.
 ///
 /// The input ends, or a length past the limit is refused, and nothing behind it is read. `Input`: a read failed, or 2^64 - 1 requests were answered. `Output`:
 /// the writer refused an answer. `Memory`: memory was wanted before the first request, and nothing was read or written.
-pub fn serve<M: Libraries, R: Read, W: Write>(
+pub fn serve<M: Libraries, R: Read + ReadsAhead, W: Write>(
     alloc: Global,
     libraries: &M,
     input: &mut StandardInput<R>,
@@ -114,8 +165,11 @@ pub fn serve<M: Libraries, R: Read, W: Write>(
     let Ok(session) = Session::new(alloc) else {
         return Err(ServeFault::Memory);
     };
-    let mut session = session;
-    let end = answer_all(libraries, &mut session, input, out);
+    let Ok(held) = HeldAnswers::new(alloc) else {
+        return Err(ServeFault::Memory);
+    };
+    let (mut session, mut held) = (session, held);
+    let end = answer_all(libraries, &mut session, input, &mut held, out);
     close_all(&mut session);
     end
 }

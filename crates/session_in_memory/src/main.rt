@@ -13,13 +13,21 @@ mod memory_libraries;
 use memory_libraries::MemoryLibraries;
 use serve::serve;
 use standard_input::StandardInput;
-use std::io::{Stdin, Stdout};
+use std::io::{BufReader, Stdin, Stdout};
 use std::process::ExitCode;
 
 fn main(rt: HostRuntime) -> ExitCode {
     let libraries = MemoryLibraries::new(rt.alloc());
-    let (mut input, mut out) = (StandardInput::new(rt.stdin()), rt.stdout());
-    match serve::<MemoryLibraries, Stdin, Stdout>(rt.alloc(), &libraries, &mut input, &mut out) {
+    let Ok(reader) = BufReader::new(rt.alloc(), rt.stdin()) else {
+        return ExitCode::FAILURE;
+    };
+    let (mut input, mut out) = (StandardInput::new(reader), rt.stdout());
+    match serve::<MemoryLibraries, BufReader<Stdin>, Stdout>(
+        rt.alloc(),
+        &libraries,
+        &mut input,
+        &mut out,
+    ) {
         Ok(()) => ExitCode::SUCCESS,
         Err(_) => ExitCode::FAILURE,
     }

@@ -6,7 +6,9 @@
 //! Read `specs/Reads.antt` first, then `StandardInput`, and `specs/Source.antt`.
 #![tactic(auto)]
 
+mod reads_ahead;
 mod record;
 mod standard_input;
 
+pub use reads_ahead::ReadsAhead;
 pub use standard_input::StandardInput;

@@ -4,6 +4,7 @@ ghost use Rattle.std.specs.Io.{ReadsAtMost};
 ghost use Rattle.std.specs.Io.KnownBytes.{ReadConsumes};
 ghost use Rattle.standard_input.specs.Reads.{answered};
 
+use crate::reads_ahead::ReadsAhead;
 use crate::record::Record;
 use std::io::{self, Read};
 
@@ -25,6 +26,15 @@ impl<R: Read> StandardInput<R> {
             reader,
             calls: Record::new(),
         }
+    }
+}
+
+impl<R: ReadsAhead> StandardInput<R> {
+    /// The bytes that have come and were not taken yet, as the reader below tells them. Nothing is noted.
+    pub fn ahead(&self) -> &[u8]
+        ensures { result.now ≡ R.told self.now.reader }
+    {
+        self.reader.ahead()
     }
 }
 

@@ -1,0 +1,56 @@
+-- The answering of one request, and of the end, where answers are held. All of this is ours.
+use Rattle.std.specs.Prelude.{◌≡◌, ◌⊎◌, ℕ, List, ◌++◌, Option, Result, Ok, Err}
+use Rattle.std.specs.Io.KnownBytes.{Appends}
+use Rattle.indexed_file.specs.Shown.{Shown}
+use Rattle.request_frames.specs.Answer.{Told}
+use Rattle.request_frames.specs.Reading.{request_in}
+use Rattle.file_session.specs.Files.{Files}
+use Rattle.serve.specs.Answers.{Answers, answer_frame}
+use Rattle.serve.specs.Reads.{OnlyReads}
+use Rattle.serve.specs.HeldAnswers.{HandsAllOver, RefusesHeld, HoldsToo, RefusesNext}
+use Rattle.serve.specs.Serving.{too_long}
+use Rattle.serve.specs.declared.fault.ServeFault.{ServeFault}
+use Rattle.serve.specs.declared.fault.ServeFault.TheVariants.{Input, Output, Memory}
+
+-- what a writer has, if that is known, and what is held for it, before and after
+pub record Outgoing : Type 0 where
+  pub written : Option (List ℕ)
+  pub written_after : Option (List ℕ)
+  pub held : List ℕ
+  pub held_after : List ℕ
+
+abbrev pub outgoing : (written written_after : Option (List ℕ)) → (held held_after : List ℕ) → Outgoing
+outgoing written written_after held held_after = record { written = written; written_after = written_after; held = held; held_after = held_after }
+
+-- a request was answered, so that this is so of what was told
+abbrev pub AnswersAs : {S : Type 0} → Shown S → (IsNew : S → Type 0) → (body : List ℕ) → (Told → Type 0) → (old new : Files S) → Type 0
+AnswersAs shown IsNew body IsSo old new = (told : Told) × Answers shown IsNew (request_in body) old told new × IsSo told
+
+-- the answer is held, if the request only reads; or the writer took it behind all that was held
+abbrev pub Goes : (body : List ℕ) → Outgoing → Told → Type 0
+Goes body o told =
+    (OnlyReads body × HoldsToo o.written o.written_after o.held o.held_after (answer_frame told))
+    ⊎ HandsAllOver o.written o.written_after (o.held ++ answer_frame told) o.held_after
+
+-- the writer refused what was held, behind a request that only reads; or it refused the answer
+abbrev pub Stays : (body : List ℕ) → Outgoing → Told → Type 0
+Stays body o told =
+    (OnlyReads body × RefusesHeld o.written o.written_after o.held) ⊎ RefusesNext o.written o.written_after o.held (answer_frame told)
+
+-- the writer refused what was held, and the request was not performed; or it was, and then the writer refused
+abbrev pub FailsOne : {S : Type 0} → Shown S → (IsNew : S → Type 0) → (body : List ℕ) → Outgoing → (old new : Files S) → Type 0
+FailsOne shown IsNew body o old new =
+    (RefusesHeld o.written o.written_after o.held × (new ≡ old)) ⊎ AnswersAs shown IsNew body (Stays body o) old new
+
+-- where the requests end, the writer took all that was held, or refused it
+abbrev pub Finishes : Result Unit ServeFault → Outgoing → Result Unit ServeFault → Type 0
+Finishes end o result =
+    ((result ≡ end) × HandsAllOver o.written o.written_after o.held o.held_after)
+    ⊎ ((result ≡ Err Output) × RefusesHeld o.written o.written_after o.held)
+
+-- the writer took the refusal of a length past the limit behind all that was held, or refused one of the two
+abbrev pub RefusesLength : (written written_after : Option (List ℕ)) → (held : List ℕ) → Result Unit ServeFault → Type 0
+RefusesLength written written_after held (Ok _) = Appends written written_after (held ++ too_long)
+RefusesLength written written_after held (Err Input) = ⊥
+RefusesLength written written_after held (Err Output) = RefusesHeld written written_after held ⊎ RefusesNext written written_after held too_long
+RefusesLength written written_after held (Err Memory) = ⊥
