@@ -4,3 +4,6 @@ pub mod ServingLemmas
 pub mod HeldLemmas
 pub mod EndLemmas
 pub mod ClosingLemmas
+pub mod BookLemmas
+pub mod JudgedLemmas
+pub mod NoFalseFileLemmas

@@ -5,3 +5,5 @@ pub mod Reads
 pub mod HeldAnswers
 pub mod Serving
 pub mod Answering
+pub mod Books
+pub mod NoFalseFile

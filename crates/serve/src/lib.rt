@@ -4,7 +4,10 @@
 //! before the next one is read. At the end of the input the files that are still open are closed, in the order of opening. What is written is the frames of the
 //! answers, each what the definitions say of its request.
 //!
-//! Read `specs/Answers.antt`, `specs/Serving.antt`, then `held_answers`, and then `serving`.
+//! At each moment a crash leaves no false file, as in the run of a deck.
+//!
+//! Read `specs/Answers.antt`, `specs/Serving.antt`, then `held_answers`, and then `serving`; `specs/Books.antt` and `specs/NoFalseFile.antt` for what a crash may
+//! leave.
 #![tactic(auto)]
 
 mod answering;
@@ -16,8 +19,10 @@ mod libraries;
 mod output;
 mod reads;
 mod serving;
+mod whole_session;
 
 pub use fault::ServeFault;
 pub use input::{InputFailed, Next, read_frame};
 pub use libraries::Libraries;
 pub use serving::serve;
+pub use whole_session::no_false_file;
