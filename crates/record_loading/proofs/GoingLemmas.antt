@@ -1,0 +1,84 @@
+-- The parts of a load follow one another.
+use Rattle.std.proofs.Common.{◌≡◌, ◌<◌, ℕ, ◌+◌, true, false, List, [], ◌∷◌, length, slice_set, slice_index_or, refl, ◌∙◌}
+use Rattle.io_state.specs.declared.status.Status.{Status}
+use Rattle.io_state.specs.declared.statement.FileStatement.{FileStatement}
+use Rattle.io_state.specs.declared.statement.FileStatement.TheVariants.{Write}
+use Rattle.io_state.specs.Status.{is_successful}
+use Rattle.indexed_file.specs.World.{World, FileUnit, Absent, Shut, OnlyAt}
+use Rattle.indexed_file.specs.Calls.{Keeps}
+use Rattle.indexed_file.specs.Shown.{Shown}
+use Rattle.verbs.specs.declared.answer.Answer.{Answer}
+use Rattle.verbs.specs.Held.{Held, silent}
+use Rattle.verbs.specs.Fits.{Fits}
+use Rattle.verbs.specs.Performed.{FileInMemory, IsPerformed, Trusted, in_memory, state_in}
+use Rattle.verbs.proofs.WorldLemmas.{only_twice}
+use Rattle.record_listing.proofs.WorldLemmas.{keeps_self, keeps_both, still_true}
+use Rattle.record_loading.specs.ReadLine.{ReadsRecord}
+use Rattle.record_loading.specs.Loading.{IsWrittenUpTo, IsRefusedAt}
+use Rattle.record_loading.specs.Going.{GoesOn}
+use Rattle.record_loading.proofs.WrittenLemmas.{written_here, refused_here}
+
+abbrev no_unit : FileUnit
+no_unit = record { name = []; named = Absent; holding = Shut }
+
+set_self : (units : List FileUnit) → units ≡ slice_set units 0 (record { name = (slice_index_or units 0 no_unit).name; named = (slice_index_or units 0 no_unit).named; holding = (slice_index_or units 0 no_unit).holding })
+set_self [] = refl
+set_self (unit ∷ units) = refl
+
+only_self : (w : World) → OnlyAt 0 w w
+only_self w = λ i. record { units = set_self w.units i; elsewhere = w.elsewhere }
+
+module _ {S : Type 0} (shown : Shown S) where
+  pub goes_self : (held : Held) (library : S) → Fits held (shown.world library) 0 → GoesOn shown (in_memory held library []) (in_memory held library [])
+  goes_self held library fits = record {
+    fits = fits;
+    schema = refl;
+    only = only_self (shown.world library);
+    keeps = keeps_self shown library;
+    standing = λ honest truly standing. standing;
+  }
+
+  -- a statement that was performed
+  pub goes_performed : (statement : FileStatement) (n : ℕ) (before : FileInMemory S) (answer : Answer) (after : FileInMemory S) → IsPerformed shown 0 statement n before answer after
+      → GoesOn shown (in_memory before.held before.library []) (in_memory after.held after.library [])
+  goes_performed statement n before answer after does = record {
+    fits = does.fits;
+    schema = does.schema;
+    only = does.only;
+    keeps = does.keeps;
+    standing = does.standing;
+  }
+
+  module _ (a b c : FileInMemory S) (some : 0 < length (shown.world a.library).units) (first : GoesOn shown a b) where
+    -- what is to be believed of a later part
+    pub trusted : (fact : Type 0) → Keeps shown b.library c.library → Trusted shown 0 b c fact → Trusted shown 0 a c fact
+    trusted fact keeps believed honest truly standing =
+        let before = keeps.honest honest in
+        believed honest (still_true shown a.library b.library some first.only first.keeps before truly) (first.standing before truly standing)
+
+    pub goes_both : GoesOn shown b c → GoesOn shown a c
+    goes_both second = record {
+      fits = second.fits;
+      schema = second.schema ∙ first.schema;
+      only = only_twice 0 (shown.world a.library) (shown.world b.library) (shown.world c.library) some first.only second.only;
+      keeps = keeps_both shown a.library b.library c.library first.keeps second.keeps;
+      standing = trusted _ second.keeps second.standing;
+    }
+
+  -- a record was read, and WRITE was answered so
+  module _ (a : FileInMemory S) (held after : Held) (library later : S) (area area_now : List ℕ) (n : ℕ) (status : Status) (text rest behind : List ℕ) (count : ℕ)
+      (some : 0 < length (shown.world a.library).units) (goes : GoesOn shown (in_memory a.held a.library []) (in_memory held library []))
+      (does : IsPerformed shown 0 Write n (in_memory held library area_now) (silent status) (in_memory after later area_now))
+      (so_far : Trusted shown 0 (in_memory a.held a.library []) (in_memory held library []) (IsWrittenUpTo a.held.connector.schema text count rest (state_in shown 0 a) (state_in shown 0 (in_memory held library area))))
+      (reads : ReadsRecord rest a.held.connector.schema.least area area_now n behind) (whole : length area ≡ a.held.connector.schema.greatest) (same : length area_now ≡ length area) where
+    pub written : is_successful status ≡ true → Trusted shown 0 (in_memory a.held a.library []) (in_memory after later [])
+        (IsWrittenUpTo a.held.connector.schema text (count + 1) behind (state_in shown 0 a) (state_in shown 0 (in_memory after later area_now)))
+    written success honest truly standing =
+        written_here a.held.connector.schema rest (state_in shown 0 (in_memory held library area)) area_now n behind same reads whole (so_far (does.keeps.honest honest) truly standing)
+        (trusted (in_memory a.held a.library []) (in_memory held library []) (in_memory after later []) some goes _ does.keeps does.step honest truly standing) success
+
+    pub refused : is_successful status ≡ false → Trusted shown 0 (in_memory a.held a.library []) (in_memory after later [])
+        (IsRefusedAt a.held.connector.schema text count status (state_in shown 0 a) (state_in shown 0 (in_memory after later area_now)))
+    refused failed honest truly standing =
+        refused_here a.held.connector.schema rest (state_in shown 0 (in_memory held library area)) area_now n behind same reads whole (so_far (does.keeps.honest honest) truly standing)
+        (trusted (in_memory a.held a.library []) (in_memory held library []) (in_memory after later []) some goes _ does.keeps does.step honest truly standing) failed

@@ -1,0 +1,3 @@
+pub mod ReadLine
+pub mod Loading
+pub mod Going

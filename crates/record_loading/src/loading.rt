@@ -1,0 +1,79 @@
+//! The loading of records into a file.
+ghost use Rattle.std.specs.Prelude.{◌≡◌, ◌<◌, ◌≤◌, ℕ, List, length, replicate, false, IsTrue, IsFalse, OnErr, IfOk, bytes_eq};
+ghost use Rattle.indexed_file.specs.World.{named_in, holding_at, is_open, OnlyAt};
+ghost use Rattle.indexed_file.specs.Believed.{Believed};
+ghost use Rattle.indexed_file.specs.Calls.{Keeps};
+ghost use Rattle.deck_runner.specs.Beginning.{IsUntouched};
+ghost use Rattle.record_loading.specs.Loading.{mode_of, LoadsNamed};
+ghost use Rattle.record_loading.specs.Going.{LoadsUnit};
+
+use crate::end::{Load, LoadEnd, LoadFault, mode_of};
+use crate::writing::write_lines;
+use indexed_file::Library;
+use io_state::{Access, FileName, OpenMode};
+use record_layout::Schema;
+use std::alloc::{AllocError, Global};
+use verbs::Connector;
+
+/// A record area of spaces.
+fn blank_area(alloc: Global, size: u16) -> Result<Vec<u8>, AllocError>
+    ensures { IfOk result (λ area. area.items ≡ replicate size 32) }
+{
+    let mut area = Vec::new(alloc);
+    area.resize(usize::from(size), b' ')?;
+    Ok(area)
+}
+
+/// Loads the records into the file of unit 0, which is closed.
+fn load_attached<L: Library>(
+    lib: &mut L,
+    schema: &Schema,
+    mode: OpenMode,
+    area: &mut [u8],
+    text: &[u8],
+) -> LoadEnd
+    requires attached { 0 < length (L.shown.world lib.old).units }
+    requires closed { IsFalse (is_open (holding_at (L.shown.world lib.old) 0)) }
+    requires area { length area.old ≡ schema.now.greatest }
+    ensures loads { Believed L.shown 0 lib.old lib.new (LoadsUnit L.shown schema.now mode text.now area.old lib.old result lib.new) }
+    ensures only { OnlyAt 0 (L.shown.world lib.old) (L.shown.world lib.new) }
+    ensures keeps { Keeps L.shown lib.old lib.new }
+{
+    let least = schema.least();
+    let mut connector = Connector::new(Access::Dynamic, false, schema.copy());
+    let opened = connector.open(lib, 0, mode);
+    if !opened.is_success() {
+        return LoadEnd::NotOpened { status: opened };
+    }
+    let lines = write_lines(&mut connector, lib, least, area, text);
+    let closed = connector.close(lib, 0, false);
+    LoadEnd::Opened { lines, closed }
+}
+
+/// Opens the file of a name, writes the record of each line of a text, and closes the file. The library has this name attached then, and no other. The first line that
+/// is the line of no record of the file, or whose WRITE is no success, ends it, and what was written before stays.
+///
+/// `Memory`: nothing was done.
+pub fn load_records<L: Library>(
+    alloc: Global,
+    lib: &mut L,
+    name: FileName,
+    schema: &Schema,
+    load: Load,
+    text: &[u8],
+) -> Result<LoadEnd, LoadFault>
+    ensures loads { IfOk result (λ end. IsTrue (L.shown.is_honest lib.new) → L.shown.IsShownTruly lib.old name.bytes
+        → LoadsNamed name.bytes schema.now (mode_of load) text.now (L.shown.world lib.old) end (L.shown.world lib.new)) }
+    ensures others { (other : List ℕ) → bytes_eq name.bytes other ≡ false
+        → named_in (L.shown.world lib.new) other ≡ named_in (L.shown.world lib.old) other }
+    ensures memory { OnErr result (IsUntouched L.shown lib.old lib.new) }
+    ensures keeps { Keeps L.shown lib.old lib.new }
+{
+    let Ok(mut area) = blank_area(alloc, schema.greatest()) else {
+        return Err(LoadFault::Memory);
+    };
+    match lib.attach(&[name]) {
+        Ok(()) => Ok(load_attached(lib, schema, mode_of(load), area.as_mut_slice(), text)),
+        Err(_) => Err(LoadFault::Memory),
+    }
+}

@@ -1,0 +1,46 @@
+//! The records of lines are written into an open file.
+ghost use Rattle.std.specs.Prelude.{◌≡◌, ◌≤◌, length, []};
+ghost use Rattle.verbs.specs.Fits.{Fits};
+ghost use Rattle.verbs.specs.Performed.{Trusted, in_memory};
+ghost use Rattle.record_loading.specs.Going.{GoesOn, LeavesLines};
+
+use crate::end::LinesEnd;
+use crate::line::read_record;
+use indexed_file::Library;
+use verbs::Connector;
+
+/// Writes the records of the lines of a text into the file of unit 0, one after another. The first line that is the line of no record of the file, or whose WRITE is no
+/// success, ends it.
+pub fn write_lines<L: Library>(
+    connector: &mut Connector,
+    lib: &mut L,
+    least: u16,
+    area: &mut [u8],
+    text: &[u8],
+) -> LinesEnd
+    requires fits { Fits connector.old (L.shown.world lib.old) 0 }
+    requires least { least ≡ connector.old.connector.schema.least }
+    requires area { length area.old ≡ connector.old.connector.schema.greatest }
+    requires short { length area.old ≤ 4000 }
+    ensures goes { GoesOn L.shown (in_memory connector.old lib.old []) (in_memory connector.new lib.new []) }
+    ensures lines { Trusted L.shown 0 (in_memory connector.old lib.old []) (in_memory connector.new lib.new [])
+        (LeavesLines L.shown text.now result (in_memory connector.old lib.old area.old) (in_memory connector.new lib.new [])) }
+{
+    let mut rest = text;
+    let mut records = 0;
+    'more: while !rest.is_empty() {
+        let Some(line) = read_record(rest, least, area) else {
+            return LinesEnd::NoRecord { line: records + 1 };
+        };
+        let status = connector.write(lib, 0, area, line.length as u16);
+        if !status.is_success() {
+            return LinesEnd::Refused {
+                line: records + 1,
+                status,
+            };
+        }
+        records += 1;
+        rest = line.behind;
+    }
+    LinesEnd::Loaded { records }
+}
