@@ -1,0 +1,3 @@
+pub mod Shelf
+pub mod Listing
+pub mod ShelfLaws

@@ -1,0 +1,31 @@
+-- What the list of a file's bytes promises. All of this is ours.
+use Rattle.std.specs.Prelude.{◌≡◌, ◌⊎◌, ◌≤◌, ℕ, List, length, Option, Result, Ok, Err}
+use Rattle.record_layout.specs.Schema.{Schema}
+use Rattle.indexed_file.specs.File.{File}
+use Rattle.shelf_file.specs.Shelves.{AreClosed}
+use Rattle.file_checker.specs.Sound.{IsRight}
+use Rattle.file_checker.specs.declared.verdict.Verdict.TheVariants.{Unsound as IsRefused}
+use Rattle.record_listing.specs.declared.asked.Asked.{Asked}
+use Rattle.record_listing.specs.declared.end.ListFault.{ListFault}
+use Rattle.record_listing.specs.Listing.{WritesLines, WritesFront}
+use Rattle.file_listing.specs.declared.listing.FileList.{FileList}
+use Rattle.file_listing.specs.declared.listing.FileList.TheVariants.{Listed, NoKey, Unsound}
+
+-- the bytes stand for a file of a schema, and this is so of it
+abbrev pub StandFor : List ℕ → (Schema → File → Type 0) → Type 0
+StandFor bytes P = (schema : Schema) × (file : File) × AreClosed schema file bytes × P schema file
+
+-- a list of these bytes ends so: the lines of their rows that are asked for were written; or nothing was, since they stand for a file that does not have the key,
+-- or a check tells this reason
+abbrev pub EndsWith : List ℕ → Asked → (before behind : Option (List ℕ)) → FileList → Type 0
+EndsWith bytes asked before behind Listed = StandFor bytes (λ schema file. WritesLines schema file asked before behind)
+EndsWith bytes asked before behind NoKey = StandFor bytes (λ schema file. (length schema.keys ≤ asked.key) × (behind ≡ before))
+EndsWith bytes asked before behind (Unsound reason) = IsRight bytes (IsRefused reason) × (behind ≡ before)
+
+-- it ends before its end: nothing was written, or a front of the lines
+abbrev pub BreaksOff : List ℕ → Asked → (before behind : Option (List ℕ)) → Type 0
+BreaksOff bytes asked before behind = (behind ≡ before) ⊎ StandFor bytes (λ schema file. WritesFront schema file asked before behind)
+
+abbrev pub Ends : List ℕ → Asked → (before behind : Option (List ℕ)) → Result FileList ListFault → Type 0
+Ends bytes asked before behind (Ok end) = EndsWith bytes asked before behind end
+Ends bytes asked before behind (Err fault) = BreaksOff bytes asked before behind

@@ -1,0 +1,70 @@
+//! The list of the bytes.
+ghost use Rattle.std.specs.Prelude.{◌≡◌, ℕ, IfOk, IfErr};
+ghost use Rattle.file_checker.specs.Sound.{IsSound};
+ghost use Rattle.file_listing.specs.Listing.{Ends};
+
+use crate::file_bytes::FileBytes;
+use file_checker::{CheckFault, Reason, Verdict, check_file};
+use io_state::FileName;
+use record_listing::{Asked, ListEnd, ListFault, list_records};
+use shelf_library::ShelfLibrary;
+use std::alloc::Global;
+use std::io::Write;
+use std::num::NonZeroUsize;
+
+/// The most pages of a file: no call makes one.
+const PAGES: u32 = 4_294_967_295;
+
+/// How many pages are held at most.
+const FRAMES: usize = 64;
+
+/// What became of the list of a file.
+#[derive(Clone, Copy, Debug, PartialEq, Eq)]
+pub enum FileList {
+    /// The lines were written.
+    Listed,
+    /// The file does not have the key. Nothing was written.
+    NoKey,
+    /// The file is unsound, for the reason that a check tells. Nothing was written.
+    Unsound(Reason),
+}
+
+/// Lists the records of bytes that are sound.
+fn list_sound<W: Write>(
+    alloc: Global,
+    bytes: Vec<u8>,
+    asked: Asked,
+    out: &mut W,
+) -> Result<FileList, ListFault>
+    requires sound { (records : ℕ) × (pages : ℕ) × IsSound bytes.items records pages }
+    ensures ends { Ends bytes.items asked (W.contents out.old) (W.contents out.new) result }
+{
+    let shelf = FileBytes::new(alloc, bytes);
+    let frames = NonZeroUsize::new(FRAMES).unwrap_or(NonZeroUsize::MIN);
+    let mut library = ShelfLibrary::new(alloc, shelf, PAGES, frames);
+    match list_records(alloc, &mut library, FileName::new(), asked, out) {
+        Ok(ListEnd::Listed) => Ok(FileList::Listed),
+        Ok(ListEnd::NoKey) => Ok(FileList::NoKey),
+        Ok(ListEnd::Absent | ListEnd::Unsound | ListEnd::Damaged) => unreachable!(),
+        Err(fault) => Err(fault),
+    }
+}
+
+/// Writes the lines of the records that are asked for of the file that has these bytes, once a check has found them sound.
+///
+/// `Output`: the writer refused a line; a part of the lines may have been written. `Memory`: the same, or nothing was written. `Input` never comes of bytes that are there.
+pub fn list_file<W: Write>(
+    alloc: Global,
+    bytes: Vec<u8>,
+    asked: Asked,
+    out: &mut W,
+) -> Result<FileList, ListFault>
+    ensures ends { Ends bytes.items asked (W.contents out.old) (W.contents out.new) result }
+{
+    match check_file(alloc, &mut bytes.as_slice()) {
+        Ok(Verdict::Sound { .. }) => list_sound(alloc, bytes, asked, out),
+        Ok(Verdict::Unsound(reason)) => Ok(FileList::Unsound(reason)),
+        Err(CheckFault::Input) => Err(ListFault::Input),
+        Err(CheckFault::Memory) => Err(ListFault::Memory),
+    }
+}
