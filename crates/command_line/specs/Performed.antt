@@ -1,5 +1,5 @@
 -- What the program did for the words of its command line. All of this is ours.
-use Rattle.std.specs.Prelude.{◌≡◌, ◌≢◌, ℕ, true, List, Option, Some, None, Result, Ok, Err, IfOk, ⊤}
+use Rattle.std.specs.Prelude.{◌≡◌, ◌≢◌, ◌⊎◌, ℕ, Bool, true, List, [], ◌∷◌, Option, Some, None, Result, Ok, Err, IfOk, ⊤}
 use Rattle.arrayvec.specs.ArrayString.{ArrayString}
 use Rattle.clap.specs.Words.{Text}
 use Rattle.clap.specs.declared.error.Error.{Error}
@@ -10,13 +10,13 @@ use Rattle.deck_runner.specs.DeckRun.{IsNoDeck}
 use Rattle.deck_runner.specs.RunEnd.{Told, ToldInPart}
 use Rattle.deck_runner.specs.declared.run_end.RunEnd.{RunEnd}
 use Rattle.shelf_run.specs.ShelfRun.{OnShelf, IsExactRun, Runs, BreaksOff, LeavesFiles, StaysSound}
-use Rattle.command_words.specs.Asks.{AskRun, AskCheck, AskServe, AskSchema, AskExplain, AskDeck, AskHelp, AskNothing}
+use Rattle.command_words.specs.Asks.{AskRun, AskCheck, AskServe, AskSchema, AskExplain, AskDeck, AskList, AskCobol, AskHelp, AskNothing}
 use Rattle.command_line.specs.Folder.{OverFolder}
 use Rattle.command_line.specs.Status.{status_of}
 use Rattle.command_line.specs.declared.fault.Fault.{Fault}
-use Rattle.command_line.specs.declared.fault.Fault.TheVariants.{Deck, NotListed, Unexplained, Usage, Input, Output, Memory}
+use Rattle.command_line.specs.declared.fault.Fault.TheVariants.{Deck, NotListed, Unexplained, LongValue, Usage, Input, Output, Memory}
 use Rattle.command_line.specs.declared.outcome.Outcome.{Outcome}
-use Rattle.command_line.specs.declared.outcome.Outcome.TheVariants.{Helped, Checked, Ended, Served, SchemaTold, SchemaRefused, Explained, Listed}
+use Rattle.command_line.specs.declared.outcome.Outcome.TheVariants.{Helped, Checked, Ended, Served, SchemaTold, SchemaRefused, Explained, Listed, CheckedAll, Records, InCobol}
 
 -- a run that was begun: the bytes of its deck, and what the folder was asked and answered
 pub record Begun : Type 0 where
@@ -45,6 +45,9 @@ IsEnd SchemaTold = ⊥
 IsEnd (SchemaRefused refusal) = ⊥
 IsEnd Explained = ⊥
 IsEnd Listed = ⊥
+IsEnd (CheckedAll sound) = ⊥
+IsEnd (Records list) = ⊥
+IsEnd InCobol = ⊥
 
 -- what was written before and after it
 pub record Written : Type 0 where
@@ -81,18 +84,26 @@ pub record RanAsAsked (words : List Text) (run : Begun) (out : Written) (outcome
   pub asked : AskRun words deck folder pages frames
   pub came : CameTo folder pages frames run out outcome
 
--- what was done for the words: help was written for those that ask for it, a file checked for those that ask for that, requests answered for those that ask for a session, a schema told or refused for those that ask for one, and a run came to its end or to a
+-- the words ask for the list of a deck, or for a deck as a COBOL program
+abbrev pub AskOfDeck : List Text → Type 0
+AskOfDeck words = ((deck : Text) × AskDeck words deck) ⊎ ((deck : Text) × (fixed : Bool) × AskCobol words deck fixed)
+
+-- what was done for the words: help was written for those that ask for it, files checked for those that ask for that, records listed for those that ask for them, a program written for those that ask for one in COBOL, requests answered for those that ask for a session, a schema told or refused for those that ask for one, and a run came to its end or to a
 -- fault for those that ask for one; a fault that is told of the words is theirs. The input, the output or memory may fail for any words.
 abbrev pub Did : List Text → Option Begun → Written → Result Outcome Fault → Type 0
 Did words None out (Ok Helped) = (text : Error) × AskHelp words text
-Did words None out (Ok (Checked verdict)) = (file : Text) × AskCheck words file
+Did words None out (Ok (Checked verdict)) = (file : Text) × AskCheck words (file ∷ [])
+Did words None out (Ok (CheckedAll sound)) = (files : List Text) × AskCheck words files
 Did words None out (Ok Served) = (folder : Text) × (pages : ℕ) × (frames : ℕ) × AskServe words folder pages frames
 Did words None out (Ok SchemaTold) = (file : Text) × AskSchema words file
 Did words None out (Ok (SchemaRefused refusal)) = (file : Text) × AskSchema words file
 Did words None out (Ok Explained) = (kind : Text) × (number : Text) × AskExplain words kind number
 Did words None out (Ok Listed) = (deck : Text) × AskDeck words deck
+Did words None out (Ok (Records list)) = (file : Text) × (key : ℕ) × (from : Option Text) × (to : Option Text) × (first : ℕ) × AskList words file key from to first
+Did words None out (Ok InCobol) = (deck : Text) × (fixed : Bool) × AskCobol words deck fixed
+Did words None out (Err LongValue) = (file : Text) × (key : ℕ) × (from : Option Text) × (to : Option Text) × (first : ℕ) × AskList words file key from to first
 Did words None out (Err Unexplained) = (kind : Text) × (number : Text) × AskExplain words kind number
-Did words None out (Err (NotListed fault)) = (deck : Text) × AskDeck words deck
+Did words None out (Err (NotListed fault)) = AskOfDeck words
 Did words None out (Err (Usage text)) = AskNothing words text
 Did words None out (Err Input) = ⊤
 Did words None out (Err Output) = ⊤

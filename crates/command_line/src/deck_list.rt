@@ -1,21 +1,40 @@
 //! The list of the deck in a file.
 ghost use Rattle.std.specs.Prelude.{◌≡◌, ◌≢◌, ℕ, List, string_bytes, IfOk, IfErr};
 ghost use Rattle.std.specs.Io.KnownBytes.{Appends};
+ghost use Rattle.deck_reader.specs.declared.deck.Deck.{Deck as ToldDeck};
+ghost use Rattle.deck_reader.specs.Deck.{IsDeck};
 ghost use Rattle.deck_listing.specs.Listing.{Lists};
 ghost use Rattle.command_line.specs.Front.{IsFrontOfInput};
 ghost use Rattle.command_line.specs.Listed.{WritesList, AreRefused, IsListFault};
 ghost use Rattle.command_line.specs.Status.{status_of};
 
 use crate::deck_file::read_deck_file;
-use crate::fault::Fault;
+use crate::fault::{Fault, RefusedDeck};
 use crate::outcome::Outcome;
+use deck_diagnosis::diagnose;
 use deck_listing::list_deck;
+use file_control::DeckFault;
 use std::alloc::Global;
 use std::io::Write;
 use std::rt::Files;
 
 /// The code of a deck's fault that is want of memory.
 const MEMORY_CODE: u8 = 8;
+
+/// The fault of bytes that are no deck, with the words for it; or want of memory.
+pub fn refused(alloc: Global, bytes: &[u8], fault: DeckFault) -> Fault
+    requires none { fault.code ≢ 8 → (deck : ToldDeck) → IsDeck bytes.now deck → ⊥ }
+    ensures refused { (told : _) → result ≡ Fault.NotListed told → AreRefused bytes.now told }
+    ensures fault { IsListFault result }
+{
+    if fault.code == MEMORY_CODE {
+        return Fault::Memory;
+    }
+    match diagnose(alloc, bytes, fault) {
+        Ok(diagnosis) => Fault::NotListed(RefusedDeck { fault, diagnosis }),
+        Err(_) => Fault::Memory,
+    }
+}
 
 /// The list of the deck that the bytes are.
 fn list(alloc: Global, bytes: &[u8]) -> Result<String, Fault>
@@ -25,13 +44,7 @@ fn list(alloc: Global, bytes: &[u8]) -> Result<String, Fault>
 {
     match list_deck(alloc, bytes) {
         Ok(text) => Ok(text),
-        Err(fault) => {
-            if fault.code == MEMORY_CODE {
-                Err(Fault::Memory)
-            } else {
-                Err(Fault::NotListed(fault))
-            }
-        }
+        Err(fault) => Err(refused(alloc, bytes, fault)),
     }
 }
 

@@ -1,7 +1,7 @@
 //! What the program does with the words of its command line: it runs a deck over the files of a folder, answers requests over them, checks a file, tells its
-//! schema, explains what was told, or lists a deck, and answers the exit status.
+//! schema or its records, explains what was told, lists a deck or writes it in COBOL, and answers the exit status.
 //!
-//! `program` does what the words ask for, writes the transcript, the answers, the verdict, the schema or the help to standard output, and tells a fault on another writer. Its
+//! `program` does what the words ask for, writes the transcript, the answers, the verdicts, the lines or the help to standard output, and tells a fault on another writer. Its
 //! clauses say which words lead to what, what standard output took, and that the exit status is that of what happened. `write_transcript` carries the theorem of
 //! a run, and `serve_folder` that of a session.
 //! The texts of help, verdicts and faults are shown by tests, and that the system opens the file and the folder that a path names is trusted.
@@ -9,10 +9,12 @@
 //! Read `performing` first, then `transcript`, which runs the bytes of a deck, and `session`.
 #![tactic(auto)]
 
+mod cobol;
 mod deck_file;
 mod deck_list;
 mod explaining;
 mod fault;
+mod listing;
 mod outcome;
 mod performing;
 mod schema;

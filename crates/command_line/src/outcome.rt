@@ -1,13 +1,14 @@
 //! What became of the words of a command line.
 ghost use Rattle.std.specs.Prelude.{◌≡◌};
-ghost use Rattle.command_line.specs.Status.{status_of, status_by, status_for, exit_status};
+ghost use Rattle.command_line.specs.Status.{status_of, status_by, status_of_list, status_where, status_for, exit_status};
 
 use crate::fault::Fault;
 use deck_runner::RunEnd;
 use file_checker::Verdict;
+use file_listing::FileList;
 use folder_shelf::{Disk, FolderShelf};
 use schema_listing::Refusal;
-use std::io::Write;
+use std::io::{self, Write};
 use std::rt::Files;
 
 /// What was done, whole.
@@ -17,6 +18,8 @@ pub enum Outcome {
     Helped,
     /// A file was checked, and this verdict written.
     Checked(Verdict),
+    /// Files were checked, and their verdicts written: whether all of them are sound.
+    CheckedAll(bool),
     /// A run ended.
     Ended(RunEnd),
     /// Requests were answered to the end of the input.
@@ -29,6 +32,10 @@ pub enum Outcome {
     Explained,
     /// The list of a deck was written.
     Listed,
+    /// The records of a file were listed, or it was found why not.
+    Records(FileList),
+    /// A deck was written as a COBOL program.
+    InCobol,
 }
 
 /// A run that was begun: the bytes of its deck, and the shelf, with what the folder was asked and answered.
@@ -36,6 +43,32 @@ pub enum Outcome {
 pub struct Ran<'a, R: Files, D: Disk> {
     pub bytes: Vec<u8>,
     pub shelf: FolderShelf<&'a R, D>,
+}
+
+/// The exit status that tells what became of the list of a file.
+pub fn status_by_list(list: FileList) -> u8
+    ensures { result ≡ status_of_list list }
+{
+    match list {
+        FileList::Listed => 0,
+        FileList::NoKey | FileList::Unsound(_) => 1,
+    }
+}
+
+/// The exit status that tells whether all files are sound.
+pub fn status_if_all(sound: bool) -> u8
+    ensures { result ≡ status_where sound }
+{
+    if sound { 0 } else { 1 }
+}
+
+/// Tells why the records of a file were not listed, if they were not.
+fn tell_list<E: Write>(list: FileList, err: &mut E) -> io::Result<()> {
+    match list {
+        FileList::Listed => Ok(()),
+        FileList::NoKey => writeln!(err, "cobix: the file has no such key"),
+        FileList::Unsound(reason) => writeln!(err, "unsound {}", reason.number()),
+    }
 }
 
 /// The exit status that tells a verdict.
@@ -49,12 +82,15 @@ pub fn status_by_verdict(verdict: Verdict) -> u8
 }
 
 impl Outcome {
-    /// Tells why a file has no schema on standard error, as far as that takes it, and answers the exit status.
+    /// Tells why a file has no schema or no list on standard error, as far as that takes it, and answers the exit status.
     fn tell<E: Write>(self, err: &mut E) -> u8
         ensures { result ≡ status_for self }
     {
         if let Outcome::SchemaRefused(refusal) = self {
             let _ = writeln!(err, "unsound {}", refusal.number());
+        }
+        if let Outcome::Records(list) = self {
+            let _ = tell_list(list, err);
         }
         self.status()
     }
@@ -66,13 +102,15 @@ impl Outcome {
             Outcome::Helped | Outcome::Ended(_) | Outcome::Served => 0,
             Outcome::SchemaTold => 0,
             Outcome::SchemaRefused(_) => 1,
-            Outcome::Explained | Outcome::Listed => 0,
+            Outcome::Explained | Outcome::Listed | Outcome::InCobol => 0,
+            Outcome::Records(list) => status_by_list(list),
             Outcome::Checked(verdict) => status_by_verdict(verdict),
+            Outcome::CheckedAll(sound) => status_if_all(sound),
         }
     }
 }
 
-/// The exit status of what happened. A fault, and why a file has no schema, is told as far as the writer takes it.
+/// The exit status of what happened. A fault, and why a file has no schema or no list, is told as far as the writer takes it.
 pub fn tell<E: Write>(outcome: Result<Outcome, Fault>, err: &mut E) -> u8
     ensures { result ≡ exit_status outcome }
 {

@@ -1,3 +1,4 @@
 pub mod NumberLemmas
 pub mod MetLemmas
 pub mod AskLemmas
+pub mod FlagLemmas

@@ -1,10 +1,10 @@
 -- The subcommand that a parse met, and its values.
-use Rattle.std.proofs.Common.{◌≡◌, List, Option, Some, None, option_map, sym, ap, ap₂, ◌∙◌, Bor}
-use Rattle.clap.specs.Words.{Text, Row, first_of, first_value, rows_of, subcommand_name_of, subcommand_rows_of}
+use Rattle.std.proofs.Common.{◌≡◌, List, map, Option, Some, None, option_map, sym, ap, ap₂, ◌∙◌, Bor}
+use Rattle.clap.specs.Words.{Text, Row, all_of, first_of, matched_of, raw_values, first_value, rows_of, subcommand_name_of, subcommand_rows_of}
 use Rattle.clap.specs.declared.parser.matches.ArgMatches.{ArgMatches}
 use Rattle.clap.specs.declared.parser.matches.ArgMatches.TheViews.{out-ArgMatches}
 use Rattle.clap.specs.declared.parser.matches.Found.{Found}
-use Rattle.clap.proofs.WalkLemmas.{first_value-rows}
+use Rattle.clap.proofs.WalkLemmas.{first_value-rows, raw_values-rows}
 
 some_same : {X : Type 0} (x y : X) → Some x ≡ Some y → x ≡ y
 some_same x y e = cc
@@ -37,4 +37,18 @@ no_text f id read e none rows same text given =
     let absent : None ≡ first_value f id = rw none at e in
     let first : first_of id rows ≡ None = rw same (text_read f id None absent) in
     let bad : Some text ≡ None = sym given ∙ first in
+    absurd (cc)
+
+-- the texts of all uses that were read
+pub texts_read : (f : Found) (id : Text) (read : Option (Bor (List (Bor Text)))) → option_map (λ s. map (λ v. v.now) s.now) read ≡ option_map raw_values (matched_of f id)
+    → (texts : Bor (List (Bor Text))) → read ≡ Some texts → all_of id (rows_of f) ≡ Some (map (λ v. v.now) texts.now)
+texts_read f id read e texts is = sym (raw_values-rows f id) ∙ sym e ∙ ap (λ (o : Option (Bor (List (Bor Text)))). option_map (λ s. map (λ v. v.now) s.now) o) is
+
+-- none was read
+pub no_texts : (f : Found) (id : Text) (read : Option (Bor (List (Bor Text)))) → option_map (λ s. map (λ v. v.now) s.now) read ≡ option_map raw_values (matched_of f id) → read ≡ None
+    → (rows : List Row) → rows ≡ rows_of f → (texts : List Text) → all_of id rows ≡ Some texts → ⊥
+no_texts f id read e none rows same texts given =
+    let absent : None ≡ option_map raw_values (matched_of f id) = rw none at e in
+    let found : all_of id rows ≡ None = rw same (sym (raw_values-rows f id) ∙ sym absent) in
+    let bad : Some texts ≡ None = sym given ∙ found in
     absurd (cc)

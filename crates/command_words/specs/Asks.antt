@@ -1,12 +1,12 @@
 -- What the words of a command line ask for. All of this is ours; which words give an argument which values, and which are a fault, is a definition of `clap`.
-use Rattle.std.specs.Prelude.{◌≡◌, ◌⊎◌, ◌≤◌, ◌<◌, ◌^◌, ℕ, List, [], Option, Some, codes}
+use Rattle.std.specs.Prelude.{◌≡◌, ◌⊎◌, ◌≤◌, ◌<◌, ◌^◌, ℕ, Bool, true, false, List, [], map, Option, Some, option_map, codes}
 use Rattle.std.specs.Str.Parse.{IsNumeral, digits_value, without_leading_plus}
-use Rattle.clap.specs.Words.{IsAmong, Row, Text, first_of, one_of, fault_of, kind_of, subcommand_of}
+use Rattle.clap.specs.Words.{IsAmong, Row, Text, all_of, first_of, one_of, fault_of, kind_of, subcommand_of}
 use Rattle.clap.specs.declared.error.Error.{Error}
 use Rattle.clap.specs.declared.error.ErrorKind.TheVariants.{DisplayHelp, DisplayVersion}
 use Rattle.command_words.specs.CommandLine.{program_app}
 use Rattle.command_words.specs.declared.request.Request.{Request}
-use Rattle.command_words.specs.declared.request.Request.TheVariants.{Run, Check, Serve, Schema, Explain, Deck, Help}
+use Rattle.command_words.specs.declared.request.Request.TheVariants.{Run, Check, Serve, Schema, Explain, Deck, List as ListRecords, Cobol, Help}
 
 -- the text is this number
 abbrev pub IsNumber : ℕ → Text → ℕ → Type 0
@@ -33,11 +33,11 @@ pub record IsRun (met : Option (Text × List Row)) (deck folder : Text) (pages f
   pub folder_given : first_of (codes "folder") rows ≡ Some folder
   pub limits : AreLimits rows pages frames
 
--- the subcommand that was met is the check of this file
-pub record IsCheck (met : Option (Text × List Row)) (file : Text) : Type 0 where
+-- the subcommand that was met is the check of these files
+pub record IsCheck (met : Option (Text × List Row)) (files : List Text) : Type 0 where
   pub rows : List Row
   pub is : met ≡ Some (codes "check", rows)
-  pub file_given : first_of (codes "file") rows ≡ Some file
+  pub files_given : all_of (codes "file") rows ≡ Some files
 
 -- the subcommand that was met is to serve the files of this folder, with these limits
 pub record IsServe (met : Option (Text × List Row)) (folder : Text) (pages frames : ℕ) : Type 0 where
@@ -65,24 +65,64 @@ pub record IsDeck (met : Option (Text × List Row)) (deck : Text) : Type 0 where
   pub is : met ≡ Some (codes "deck", rows)
   pub deck_given : first_of (codes "deck") rows ≡ Some deck
 
+-- the subcommand that was met is to list records of this file in the order of a key, from a value on, to a value, and so many at most
+pub record IsList (met : Option (Text × List Row)) (file : Text) (key : ℕ) (from to : Option Text) (first : ℕ) : Type 0 where
+  pub rows : List Row
+  pub is : met ≡ Some (codes "list", rows)
+  pub file_given : first_of (codes "file") rows ≡ Some file
+  pub key_text : Text
+  pub key_given : one_of (codes "key") rows ≡ Some key_text
+  pub key_is : IsNumber 8 key_text key
+  pub first_text : Text
+  pub first_given : one_of (codes "first") rows ≡ Some first_text
+  pub first_is : IsNumber 64 first_text first
+  pub from_is : first_of (codes "from") rows ≡ from
+  pub to_is : first_of (codes "to") rows ≡ to
+
+-- the text is this truth value
+abbrev pub IsFlag : Text → Bool → Type 0
+IsFlag text true = text ≡ codes "true"
+IsFlag text false = text ≡ codes "false"
+
+-- the subcommand that was met is to write this deck in COBOL, in fixed form or not
+pub record IsCobol (met : Option (Text × List Row)) (deck : Text) (fixed : Bool) : Type 0 where
+  pub rows : List Row
+  pub is : met ≡ Some (codes "cobol", rows)
+  pub deck_given : first_of (codes "deck") rows ≡ Some deck
+  pub fixed_text : Text
+  pub fixed_given : one_of (codes "fixed") rows ≡ Some fixed_text
+  pub fixed_is : IsFlag fixed_text fixed
+
 -- the subcommand that was met, with its values, is what is asked for
 abbrev pub IsMet : Option (Text × List Row) → Request → Type 0
 IsMet met (Run deck folder limits) = IsRun met deck.now folder.now limits.pages limits.frames.value
-IsMet met (Check file) = IsCheck met file.now
+IsMet met (Check files) = IsCheck met (map (λ file. file.now) files.items)
 IsMet met (Serve folder limits) = IsServe met folder.now limits.pages limits.frames.value
 IsMet met (Schema file) = IsSchema met file.now
 IsMet met (Explain kind number) = IsExplain met kind.now number.now
 IsMet met (Deck deck) = IsDeck met deck.now
+IsMet met (ListRecords file key from to first) = IsList met file.now key (option_map (λ text. text.now) from) (option_map (λ text. text.now) to) first
+IsMet met (Cobol deck fixed) = IsCobol met deck.now fixed
 IsMet met (Help text) = ⊥
 
--- the subcommand that was met is none of these, or its values are none that it can have
-pub record IsNone (met : Option (Text × List Row)) : Type 0 where
+-- the subcommand that was met is no run, session, schema, explanation or list of a deck, or its values are none that it can have
+pub record IsNoRunOrList (met : Option (Text × List Row)) : Type 0 where
   pub no_run : (deck folder : Text) (pages frames : ℕ) → ¬ (IsRun met deck folder pages frames)
-  pub no_check : (file : Text) → ¬ (IsCheck met file)
   pub no_serve : (folder : Text) (pages frames : ℕ) → ¬ (IsServe met folder pages frames)
   pub no_schema : (file : Text) → ¬ (IsSchema met file)
   pub no_explain : (kind number : Text) → ¬ (IsExplain met kind number)
   pub no_deck : (deck : Text) → ¬ (IsDeck met deck)
+
+-- and no list of records and no program in COBOL
+pub record IsNoRecords (met : Option (Text × List Row)) : Type 0 where
+  pub no_list : (file : Text) (key : ℕ) (from to : Option Text) (first : ℕ) → ¬ (IsList met file key from to first)
+  pub no_cobol : (deck : Text) (fixed : Bool) → ¬ (IsCobol met deck fixed)
+
+-- it is none of these, and no check
+pub record IsNone (met : Option (Text × List Row)) : Type 0 where
+  pub no_run_or_list : IsNoRunOrList met
+  pub no_records : IsNoRecords met
+  pub no_check : (files : List Text) → ¬ (IsCheck met files)
 
 -- the words have no fault
 abbrev pub AreFaultless : List Text → Type 0
@@ -100,9 +140,9 @@ IsShown text = (kind_of text ≡ DisplayHelp) ⊎ (kind_of text ≡ DisplayVersi
 abbrev pub AskRun : List Text → (deck folder : Text) (pages frames : ℕ) → Type 0
 AskRun words deck folder pages frames = AreFaultless words × IsRun (subcommand_of program_app words) deck folder pages frames
 
--- for the check of this file
-abbrev pub AskCheck : List Text → (file : Text) → Type 0
-AskCheck words file = AreFaultless words × IsCheck (subcommand_of program_app words) file
+-- for the check of these files
+abbrev pub AskCheck : List Text → (files : List Text) → Type 0
+AskCheck words files = AreFaultless words × IsCheck (subcommand_of program_app words) files
 
 -- to serve the files of this folder, with these limits
 abbrev pub AskServe : List Text → (folder : Text) (pages frames : ℕ) → Type 0
@@ -120,6 +160,14 @@ AskExplain words kind number = AreFaultless words × IsExplain (subcommand_of pr
 abbrev pub AskDeck : List Text → (deck : Text) → Type 0
 AskDeck words deck = AreFaultless words × IsDeck (subcommand_of program_app words) deck
 
+-- to list records of this file
+abbrev pub AskList : List Text → (file : Text) (key : ℕ) (from to : Option Text) (first : ℕ) → Type 0
+AskList words file key from to first = AreFaultless words × IsList (subcommand_of program_app words) file key from to first
+
+-- to write this deck in COBOL
+abbrev pub AskCobol : List Text → (deck : Text) (fixed : Bool) → Type 0
+AskCobol words deck fixed = AreFaultless words × IsCobol (subcommand_of program_app words) deck fixed
+
 -- for help or the version, as the text shows it
 abbrev pub AskHelp : List Text → Error → Type 0
 AskHelp words text = HaveFault words text × IsShown text
@@ -127,11 +175,13 @@ AskHelp words text = HaveFault words text × IsShown text
 -- for this
 abbrev pub Ask : List Text → Request → Type 0
 Ask words (Run deck folder limits) = AskRun words deck.now folder.now limits.pages limits.frames.value
-Ask words (Check file) = AskCheck words file.now
+Ask words (Check files) = AskCheck words (map (λ file. file.now) files.items)
 Ask words (Serve folder limits) = AskServe words folder.now limits.pages limits.frames.value
 Ask words (Schema file) = AskSchema words file.now
 Ask words (Explain kind number) = AskExplain words kind.now number.now
 Ask words (Deck deck) = AskDeck words deck.now
+Ask words (ListRecords file key from to first) = AskList words file.now key (option_map (λ text. text.now) from) (option_map (λ text. text.now) to) first
+Ask words (Cobol deck fixed) = AskCobol words deck.now fixed
 Ask words (Help text) = AskHelp words text
 
 -- for nothing, and the text tells why

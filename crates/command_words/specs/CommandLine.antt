@@ -2,6 +2,8 @@
 use Rattle.std.specs.Prelude.{ℕ, [], ◌∷◌, Some, true, false, codes}
 use Rattle.clap.specs.Words.{App, Shape, Rule, Text, new_rule}
 use Rattle.clap.specs.Simple.{new_shape}
+use Rattle.clap.specs.Lexer.{usize_max}
+use Rattle.clap.specs.declared.builder.action.ArgAction.TheVariants.{SetTrue}
 use Rattle.clap.specs.declared.builder.value_parser.ValueParser.TheVariants.{Unsigned}
 
 -- a word that has to be given
@@ -11,6 +13,18 @@ word_rule name = record (new_rule name) { value_names = 1; required = true }
 -- an option that has to be given
 abbrev pub option_rule : Text → Rule
 option_rule name = record (word_rule name) { long = Some name }
+
+-- words of which at least one has to be given
+abbrev pub words_rule : Text → Rule
+words_rule name = record (word_rule name) { range = Some (record { start_inclusive = 1; end_inclusive = usize_max }) }
+
+-- an option that is a text
+abbrev pub text_rule : Text → Rule
+text_rule name = record (new_rule name) { long = Some name; value_names = 1 }
+
+-- an option without a value
+abbrev pub flag_rule : Text → Rule
+flag_rule name = record (new_rule name) { long = Some name; action = Some SetTrue }
 
 -- an option that is a number within these bounds
 abbrev pub number_rule : Text → ℕ → ℕ → Text → Rule
@@ -29,9 +43,9 @@ run_shape = record (new_shape (codes "run")) {
       ∷ number_rule (codes "frames") 1 4096 (codes "64") ∷ [];
 }
 
--- `check FILE`
+-- `check FILE..`
 abbrev pub check_shape : Shape
-check_shape = record (new_shape (codes "check")) { rules = word_rule (codes "file") ∷ [] }
+check_shape = record (new_shape (codes "check")) { rules = words_rule (codes "file") ∷ [] }
 
 -- `serve --folder DIR [--pages N] [--frames N]`
 abbrev pub serve_shape : Shape
@@ -53,6 +67,17 @@ explain_shape = record (new_shape (codes "explain")) { rules = word_rule (codes 
 abbrev pub deck_shape : Shape
 deck_shape = record (new_shape (codes "deck")) { rules = word_rule (codes "deck") ∷ [] }
 
+-- `list FILE [--key N] [--from V] [--to V] [--first N]`
+abbrev pub list_shape : Shape
+list_shape = record (new_shape (codes "list")) {
+  rules = word_rule (codes "file") ∷ number_rule (codes "key") 0 8 (codes "0") ∷ text_rule (codes "from") ∷ text_rule (codes "to")
+      ∷ number_rule (codes "first") 0 18446744073709551615 (codes "18446744073709551615") ∷ [];
+}
+
+-- `cobol DECK [--fixed]`
+abbrev pub cobol_shape : Shape
+cobol_shape = record (new_shape (codes "cobol")) { rules = word_rule (codes "deck") ∷ flag_rule (codes "fixed") ∷ [] }
+
 -- the program, before its subcommands
 abbrev pub program_shape : Shape
 program_shape = record (new_shape (codes "cobix")) {
@@ -68,9 +93,16 @@ runs_app = record {
   subs = run_shape ∷ check_shape ∷ serve_shape ∷ [];
 }
 
--- one of these, or help or the version
+-- and to tell of a file, of a number or of a deck
+abbrev pub lists_app : App
+lists_app = record {
+  top = record program_shape { is_leaf = false };
+  subs = run_shape ∷ check_shape ∷ serve_shape ∷ schema_shape ∷ explain_shape ∷ deck_shape ∷ [];
+}
+
+-- one of these, to list records or to write a deck in COBOL, or help or the version
 abbrev pub program_app : App
 program_app = record {
   top = record program_shape { is_leaf = false };
-  subs = run_shape ∷ check_shape ∷ serve_shape ∷ schema_shape ∷ explain_shape ∷ deck_shape ∷ [];
+  subs = run_shape ∷ check_shape ∷ serve_shape ∷ schema_shape ∷ explain_shape ∷ deck_shape ∷ list_shape ∷ cobol_shape ∷ [];
 }

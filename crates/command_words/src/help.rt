@@ -92,6 +92,27 @@ pub const LISTED: &str =
 
 Exit status:
   0   the deck is accepted, and was listed
-  2   the deck is refused: 'cobix: line L: fault C', and what the fault means
+  2   the deck is refused: 'cobix: line L: fault C', and then the line, the word and why
   3   the command line is not understood
   4   the deck could not be read ('cobix: input'), the list could not be written ('cobix: output'), or memory ran out ('cobix: memory')";
+
+/// What the list of a file's records is.
+pub const RECORDS: &str =
+    "Each line is a record in brackets, as a transcript shows it. V is compared with the first bytes of each value.
+The file is checked first, and read once before the first line.
+
+Exit status:
+  0   the lines were written
+  1   'unsound N' on standard error, as of 'cobix check', or the file does not have the key; no line was written
+  3   the command line is not understood, or V is longer than 250 bytes
+  4   the file could not be read ('cobix: input'), the lines could not be written ('cobix: output'), or memory ran out ('cobix: memory')";
+
+/// What a deck is in COBOL.
+pub const COBOL: &str =
+    "The program opens the same files, performs the same verbs and displays the same lines, so that another file handler can be held against cobix with 'diff'.
+
+Exit status:
+  0   the program was written
+  2   the deck is refused: 'cobix: line L: fault C', and then the line, the word and why
+  3   the command line is not understood
+  4   the deck could not be read ('cobix: input'), the program could not be written ('cobix: output'), or memory ran out ('cobix: memory')";

@@ -1,18 +1,26 @@
-use Rattle.std.proofs.Common.{◌≡◌, [], map, string_bytes, subst}
+use Rattle.std.proofs.Common.{◌≡◌, [], map, string_bytes, subst, inr}
 use Rattle.clap.specs.Words.{App, HasKind, fault_of, subcommand_of, subcommand_rows_of}
+use Rattle.command_words.specs.Asks.{IsMet, IsNone}
 use Rattle.command_words.proofs.AskLemmas.{simple, simple_and_free, met_asked, help_asked, nothing_asked}
 use Rattle.command_words.proofs.request.read_words.Goals as goal
 
-pub returns-in-Some-clause-asked : goal.returns-in-Some-clause-asked
-returns-in-Some-clause-asked c =
+pub returns-in-Ok-Some-clause-asked : goal.returns-in-Ok-Some-clause-asked
+returns-in-Ok-Some-clause-asked c =
     let words = map string_bytes c.args.words.now in
     let is = c.in_ok-command.ensures in
     let faultless = subst (λ (app : App). fault_of app words ≡ []) is (c.in-Ok.ensures.kinds (simple_and_free _ is)) in
     let met = subst (λ (app : App). subcommand_rows_of c.in-Ok.matches ≡ subcommand_of app words) is (c.in-Ok.ensures.ok.2 (simple _ is)).1 in
-    met_asked words (subcommand_rows_of c.in-Ok.matches) c.in-Some.request faultless met c.in-Some.ensures.some
+    let asked : IsMet (subcommand_rows_of c.in-Ok.matches) c.in-Ok-Some.request = rw c.in-Ok-Some.field-0-is at c.in-Ok-Some.ensures.some in
+    met_asked words (subcommand_rows_of c.in-Ok.matches) c.in-Ok-Some.request faultless met asked
 
-pub returns-in-Ok-clause-nothing : goal.returns-in-Ok-clause-nothing
-returns-in-Ok-clause-nothing c = λ text is. absurd (cc)
+pub returns-in-Ok-error-clause-nothing : goal.returns-in-Ok-error-clause-nothing
+returns-in-Ok-error-clause-nothing c =
+    λ text is_told.
+    let words = map string_bytes c.args.words.now in
+    let is = c.in_ok-command.ensures in
+    let faultless = subst (λ (app : App). fault_of app words ≡ []) is (c.in-Ok.ensures.kinds (simple_and_free _ is)) in
+    let met = subst (λ (app : App). subcommand_rows_of c.in-Ok.matches ≡ subcommand_of app words) is (c.in-Ok.ensures.ok.2 (simple _ is)).1 in
+    inr (faultless, subst IsNone met (c.in-Ok-None.ensures.none c.in-Ok-None.field-0-is))
 
 pub returns-clause-asked : goal.returns-clause-asked
 returns-clause-asked c =

@@ -1,0 +1,19 @@
+use Rattle.std.proofs.Common.{ℕ, List, option_map, subst}
+use Rattle.file_listing.specs.Listing.{Ends}
+use Rattle.command_line.specs.Front.{IsFrontOfInput}
+use Rattle.command_line.specs.Records.{ListsRecords}
+use Rattle.command_line.proofs.ListLemmas.{listed_as}
+use Rattle.command_line.proofs.listing.list_records.Goals as goal
+
+pub returns-clause-records : goal.returns-clause-records
+returns-clause-records g c =
+    let front = c.in-Ok-read_file.ensures.bytes in
+    let bytes = c.in-Ok-read_file.bytes.items in
+    let before = g.W.Write.contents c.args.out.now in
+    let behind = g.W.Write.contents c.list_file.new.out in
+    listed_as
+    {P = λ list. (file : g.row.R-File.Denot) × (all : List ℕ) × IsFrontOfInput 18446744073709551615 (g.R.File.Read.remaining file) all
+    × ListsRecords all c.args.bounds.key (option_map (λ text. text.now) c.args.bounds.from) (option_map (λ text. text.now) c.args.bounds.to) c.args.bounds.first before behind list}
+    c.list_file.result c.ended.result
+    (λ list is. (front.0, bytes, front.1, (c.in-Ok.asked, c.in-Ok.ensures.asked, subst (Ends bytes c.in-Ok.asked before behind) is c.list_file.ensures.ends)))
+    c.ended.ensures.done c.ended.ensures.there

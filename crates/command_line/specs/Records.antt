@@ -1,0 +1,17 @@
+-- What is listed of the records of a file. All of this is ours.
+use Rattle.std.specs.Prelude.{◌≡◌, ℕ, List, [], Option, option_map}
+use Rattle.std.specs.Option.{unwrap_or}
+use Rattle.record_listing.specs.declared.asked.Asked.{Asked}
+use Rattle.file_listing.specs.Listing.{EndsWith}
+use Rattle.file_listing.specs.declared.listing.FileList.{FileList}
+
+-- this is asked for by the number of a key, the first and the last value, and how many records at most
+pub record IsAskedFor (key : ℕ) (from to : Option (List ℕ)) (first : ℕ) (asked : Asked) : Type 0 where
+  pub key_is : asked.key ≡ key
+  pub from_is : asked.from.items ≡ unwrap_or from []
+  pub to_is : option_map (λ value. value.items) asked.to ≡ to
+  pub first_is : asked.first ≡ first
+
+-- the list of these bytes ended so
+abbrev pub ListsRecords : List ℕ → (key : ℕ) (from to : Option (List ℕ)) (first : ℕ) → (before behind : Option (List ℕ)) → FileList → Type 0
+ListsRecords bytes key from to first before behind list = (asked : Asked) × IsAskedFor key from to first asked × EndsWith bytes asked before behind list

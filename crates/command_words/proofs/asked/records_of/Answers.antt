@@ -1,0 +1,8 @@
+use Rattle.command_words.proofs.asked.records_of.Goals as goal
+
+pub returns-clause-none : goal.returns-clause-none
+returns-clause-none c =
+    λ none. record {
+      no_list = c.list_of.ensures.none c.in_default.is;
+      no_cobol = c.cobol_of.ensures.none none;
+    }

@@ -1,0 +1,90 @@
+//! The arguments of the subcommands.
+ghost use Rattle.std.specs.Prelude.{◌≡◌, false, codes};
+ghost use Rattle.clap.specs.Words.{rule_of};
+ghost use Rattle.command_words.specs.CommandLine.{word_rule, words_rule, option_rule, text_rule, flag_rule, number_rule};
+
+use clap::builder::ValueParser;
+use clap::{Arg, ArgAction};
+use std::alloc::Global;
+
+/// An option that is a number within these bounds.
+pub fn number<'a>(
+    alloc: Global,
+    name: &'a str,
+    least: u64,
+    most: u64,
+    default: &'a str,
+    help: &'a str,
+) -> Arg<'a>
+    ensures rule { rule_of result ≡ number_rule name.entry.now least most default.entry.now }
+    ensures local { result.global ≡ false }
+{
+    Arg::new(alloc, name)
+        .long(name)
+        .value_name("N")
+        .default_value(default)
+        .help(help)
+        .value_parser(ValueParser::unsigned(least, most))
+}
+
+/// A word that has to be given.
+pub fn word<'a>(alloc: Global, name: &'a str, value: &'a str, help: &'a str) -> Arg<'a>
+    ensures rule { rule_of result ≡ word_rule name.entry.now }
+    ensures local { result.global ≡ false }
+{
+    Arg::new(alloc, name)
+        .value_name(value)
+        .required(true)
+        .help(help)
+}
+
+/// The option of a folder.
+pub fn folder<'a>(alloc: Global, help: &'a str) -> Arg<'a>
+    ensures rule { rule_of result ≡ option_rule (codes "folder") }
+    ensures local { result.global ≡ false }
+{
+    word(alloc, "folder", "DIR", help).long("folder")
+}
+
+/// The word of a deck.
+pub fn deck<'a>(alloc: Global) -> Arg<'a>
+    ensures rule { rule_of result ≡ word_rule (codes "deck") }
+    ensures local { result.global ≡ false }
+{
+    word(
+        alloc,
+        "deck",
+        "DECK",
+        "The file of the deck, of at most 1,048,576 bytes",
+    )
+}
+
+/// Words of which at least one has to be given.
+pub fn words<'a>(alloc: Global, name: &'a str, value: &'a str, help: &'a str) -> Arg<'a>
+    ensures rule { rule_of result ≡ words_rule name.entry.now }
+    ensures local { result.global ≡ false }
+{
+    word(alloc, name, value, help).num_args(1..)
+}
+
+/// An option that is a text.
+pub fn text<'a>(alloc: Global, name: &'a str, value: &'a str, help: &'a str) -> Arg<'a>
+    ensures rule { rule_of result ≡ text_rule name.entry.now }
+    ensures local { result.global ≡ false }
+{
+    Arg::new(alloc, name)
+        .long(name)
+        .value_name(value)
+        .help(help)
+}
+
+/// An option without a value.
+pub fn flag<'a>(alloc: Global, name: &'a str, help: &'a str) -> Arg<'a>
+    ensures rule { rule_of result ≡ flag_rule name.entry.now }
+    ensures local { result.global ≡ false }
+{
+    Arg::new(alloc, name)
+        .long(name)
+        .action(ArgAction::SetTrue)
+        .help(help)
+}

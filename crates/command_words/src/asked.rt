@@ -1,0 +1,174 @@
+//! What the matches of a parse ask for.
+ghost use Rattle.std.specs.Prelude.{◌≡◌, ℕ, Bool, List, Option, None, IfOk};
+ghost use Rattle.std.specs.Option.{IfSome};
+ghost use Rattle.clap.specs.Words.{found_of, rows_of, subcommand_rows_of};
+ghost use Rattle.command_words.specs.Asks.{AreLimits, IsRun, IsCheck, IsServe, IsSchema, IsExplain, IsDeck, IsList, IsCobol, IsMet, IsNoRunOrList, IsNoRecords, IsNone};
+
+use crate::limits::Limits;
+use crate::request::Request;
+use clap::ArgMatches;
+use std::alloc::{AllocError, Global};
+
+/// The limits of a run, or of a session.
+fn limits_of(files: &ArgMatches<'_>) -> Option<Limits>
+    ensures some { IfSome result (λ limits. AreLimits (rows_of (found_of files.now)) limits.pages limits.frames.value) }
+    ensures none { result ≡ None → (pages frames : ℕ) → AreLimits (rows_of (found_of files.now)) pages frames → ⊥ }
+{
+    let pages = files.get_one("pages")?;
+    let frames = files.get_one("frames")?;
+    Limits::of(pages, frames)
+}
+
+/// The run that the matches ask for, if they ask for one.
+fn run_of<'a>(matches: &ArgMatches<'a>) -> Option<Request<'a>>
+    ensures some { IfSome result (IsMet (subcommand_rows_of matches.now)) }
+    ensures none { result ≡ None → (deck folder : List ℕ) (pages frames : ℕ) → IsRun (subcommand_rows_of matches.now) deck folder pages frames → ⊥ }
+{
+    let run = matches.subcommand_matches("run")?;
+    let deck = run.get_str("deck")?;
+    let folder = run.get_str("folder")?;
+    let limits = limits_of(run)?;
+    Some(Request::Run {
+        deck,
+        folder,
+        limits,
+    })
+}
+
+/// The checks that the matches ask for, if they ask for some.
+fn check_of<'a>(alloc: Global, matches: &ArgMatches<'a>) -> Result<Option<Request<'a>>, AllocError>
+    ensures some { IfOk result (λ found. IfSome found (IsMet (subcommand_rows_of matches.now))) }
+    ensures none { IfOk result (λ found. found ≡ None → (files : List (List ℕ)) → IsCheck (subcommand_rows_of matches.now) files → ⊥) }
+{
+    let check = match matches.subcommand_matches("check") {
+        Some(check) => check,
+        None => return Ok(None),
+    };
+    match check.get_strs("file") {
+        Some(files) => {
+            let files = files.to_vec(alloc)?;
+            Ok(Some(Request::Check { files }))
+        }
+        None => Ok(None),
+    }
+}
+
+/// The session that the matches ask for, if they ask for one.
+fn serve_of<'a>(matches: &ArgMatches<'a>) -> Option<Request<'a>>
+    ensures some { IfSome result (IsMet (subcommand_rows_of matches.now)) }
+    ensures none { result ≡ None → (folder : List ℕ) (pages frames : ℕ) → IsServe (subcommand_rows_of matches.now) folder pages frames → ⊥ }
+{
+    let serve = matches.subcommand_matches("serve")?;
+    let folder = serve.get_str("folder")?;
+    let limits = limits_of(serve)?;
+    Some(Request::Serve { folder, limits })
+}
+
+/// The schema that the matches ask for, if they ask for one.
+fn schema_of<'a>(matches: &ArgMatches<'a>) -> Option<Request<'a>>
+    ensures some { IfSome result (IsMet (subcommand_rows_of matches.now)) }
+    ensures none { result ≡ None → (file : List ℕ) → IsSchema (subcommand_rows_of matches.now) file → ⊥ }
+{
+    let schema = matches.subcommand_matches("schema")?;
+    let file = schema.get_str("file")?;
+    Some(Request::Schema { file })
+}
+
+/// The explanation that the matches ask for, if they ask for one.
+fn explain_of<'a>(matches: &ArgMatches<'a>) -> Option<Request<'a>>
+    ensures some { IfSome result (IsMet (subcommand_rows_of matches.now)) }
+    ensures none { result ≡ None → (kind number : List ℕ) → IsExplain (subcommand_rows_of matches.now) kind number → ⊥ }
+{
+    let explain = matches.subcommand_matches("explain")?;
+    let kind = explain.get_str("kind")?;
+    let number = explain.get_str("number")?;
+    Some(Request::Explain { kind, number })
+}
+
+/// The deck whose list the matches ask for, if they ask for one.
+fn deck_of<'a>(matches: &ArgMatches<'a>) -> Option<Request<'a>>
+    ensures some { IfSome result (IsMet (subcommand_rows_of matches.now)) }
+    ensures none { result ≡ None → (deck : List ℕ) → IsDeck (subcommand_rows_of matches.now) deck → ⊥ }
+{
+    let listed = matches.subcommand_matches("deck")?;
+    let deck = listed.get_str("deck")?;
+    Some(Request::Deck { deck })
+}
+
+/// The list that the matches ask for, if they ask for one.
+fn list_of<'a>(matches: &ArgMatches<'a>) -> Option<Request<'a>>
+    ensures some { IfSome result (IsMet (subcommand_rows_of matches.now)) }
+    ensures none { result ≡ None → (file : List ℕ) (key : ℕ) (from to : Option (List ℕ)) (first : ℕ)
+        → IsList (subcommand_rows_of matches.now) file key from to first → ⊥ }
+{
+    let list = matches.subcommand_matches("list")?;
+    let file = list.get_str("file")?;
+    let key = list.get_one("key")?;
+    let first = list.get_one("first")?;
+    Some(Request::List {
+        file,
+        key,
+        from: list.get_str("from"),
+        to: list.get_str("to"),
+        first,
+    })
+}
+
+/// The program in COBOL that the matches ask for, if they ask for one.
+fn cobol_of<'a>(matches: &ArgMatches<'a>) -> Option<Request<'a>>
+    ensures some { IfSome result (IsMet (subcommand_rows_of matches.now)) }
+    ensures none { result ≡ None → (deck : List ℕ) (fixed : Bool) → IsCobol (subcommand_rows_of matches.now) deck fixed → ⊥ }
+{
+    let cobol = matches.subcommand_matches("cobol")?;
+    let deck = cobol.get_str("deck")?;
+    let fixed = cobol.get_one("fixed")?;
+    Some(Request::Cobol { deck, fixed })
+}
+
+/// A run, a session, a schema, an explanation or the list of a deck that the matches ask for, if they ask for one.
+fn run_or_list_of<'a>(matches: &ArgMatches<'a>) -> Option<Request<'a>>
+    ensures some { IfSome result (IsMet (subcommand_rows_of matches.now)) }
+    ensures none { result ≡ None → IsNoRunOrList (subcommand_rows_of matches.now) }
+{
+    if let Some(run) = run_of(matches) {
+        return Some(run);
+    }
+    if let Some(serve) = serve_of(matches) {
+        return Some(serve);
+    }
+    if let Some(schema) = schema_of(matches) {
+        return Some(schema);
+    }
+    if let Some(explain) = explain_of(matches) {
+        return Some(explain);
+    }
+    deck_of(matches)
+}
+
+/// A list of records or a program in COBOL that the matches ask for, if they ask for one.
+fn records_of<'a>(matches: &ArgMatches<'a>) -> Option<Request<'a>>
+    ensures some { IfSome result (IsMet (subcommand_rows_of matches.now)) }
+    ensures none { result ≡ None → IsNoRecords (subcommand_rows_of matches.now) }
+{
+    if let Some(list) = list_of(matches) {
+        return Some(list);
+    }
+    cobol_of(matches)
+}
+
+/// What the matches ask for.
+pub fn request_of<'a>(
+    alloc: Global,
+    matches: &ArgMatches<'a>,
+) -> Result<Option<Request<'a>>, AllocError>
+    ensures some { IfOk result (λ found. IfSome found (IsMet (subcommand_rows_of matches.now))) }
+    ensures none { IfOk result (λ found. found ≡ None → IsNone (subcommand_rows_of matches.now)) }
+{
+    if let Some(request) = run_or_list_of(matches) {
+        return Ok(Some(request));
+    }
+    if let Some(request) = records_of(matches) {
+        return Ok(Some(request));
+    }
+    check_of(alloc, matches)
+}

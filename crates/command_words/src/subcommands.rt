@@ -1,0 +1,231 @@
+//! The subcommands, with their words and options.
+ghost use Rattle.std.specs.Prelude.{◌≡◌, [], false, codes, IfOk};
+ghost use Rattle.clap.specs.Words.{app_of, with_rule};
+ghost use Rattle.clap.specs.declared.builder.command.Command.TheViews.{out-Command};
+ghost use Rattle.command_words.specs.CommandLine.{word_rule, option_rule, text_rule, number_rule, run_shape, check_shape, serve_shape, schema_shape, explain_shape, deck_shape, list_shape, cobol_shape, program_shape, runs_app, lists_app, program_app};
+
+use crate::arguments::{deck, flag, folder, number, text, word, words};
+use crate::help::{ANSWERS, COBOL, EXPLAINED, LISTED, REASONS, RECORDS, SCHEMA, SERVING, VERSION};
+use clap::Command;
+use std::alloc::{AllocError, Global};
+
+/// `run` with its deck and its folder.
+fn with_files<'a>(alloc: Global, run: Command<'a>) -> Result<Command<'a>, AllocError>
+    requires { (out-Command run).has_globals ≡ false }
+    ensures shape { IfOk result (λ command. app_of command ≡ with_rule (with_rule (app_of run.entry) (word_rule (codes "deck"))) (option_rule (codes "folder"))) }
+    ensures local { IfOk result (λ command. (out-Command command).has_globals ≡ false) }
+{
+    run.arg(deck(alloc))?
+        .arg(folder(alloc, "The folder in which the deck's files stay"))
+}
+
+/// `run` or `serve` with its limits.
+fn with_limits<'a>(alloc: Global, files: Command<'a>) -> Result<Command<'a>, AllocError>
+    requires { (out-Command files).has_globals ≡ false }
+    ensures shape { IfOk result (λ command. app_of command ≡ with_rule (with_rule (app_of files.entry) (number_rule (codes "pages") 16 4294967295 (codes "1048576"))) (number_rule (codes "frames") 1 4096 (codes "64"))) }
+    ensures local { IfOk result (λ command. (out-Command command).has_globals ≡ false) }
+{
+    let pages = number(
+        alloc,
+        "pages",
+        16,
+        4_294_967_295,
+        "1048576",
+        "The most pages of 4,096 bytes that a file may have, from 16 to 4,294,967,295",
+    );
+    let frames = number(
+        alloc,
+        "frames",
+        1,
+        4096,
+        "64",
+        "How many pages of an open file are held in memory at most, from 1 to 4,096",
+    );
+    files.arg(pages)?.arg(frames)
+}
+
+/// `run`, with its words and options.
+fn run_command<'a>(alloc: Global) -> Result<Command<'a>, AllocError>
+    ensures shape { IfOk result (λ command. app_of command ≡ record { top = run_shape; subs = [] }) }
+    ensures local { IfOk result (λ command. (out-Command command).has_globals ≡ false) }
+{
+    let run = Command::new(alloc, "run")
+        .about("Runs a deck, and writes its transcript to standard output")
+        .after_help(ANSWERS);
+    with_limits(alloc, with_files(alloc, run)?)
+}
+
+/// `check`.
+fn check_command<'a>(alloc: Global) -> Result<Command<'a>, AllocError>
+    ensures shape { IfOk result (λ command. app_of command ≡ record { top = check_shape; subs = [] }) }
+    ensures local { IfOk result (λ command. (out-Command command).has_globals ≡ false) }
+{
+    let files = words(
+        alloc,
+        "file",
+        "FILE",
+        "The files that are checked; they are not changed",
+    );
+    let check = Command::new(alloc, "check")
+        .about("Checks whether files stand for records")
+        .after_help(REASONS);
+    check.arg(files)
+}
+
+/// `serve`.
+fn serve_command<'a>(alloc: Global) -> Result<Command<'a>, AllocError>
+    ensures shape { IfOk result (λ command. app_of command ≡ record { top = serve_shape; subs = [] }) }
+    ensures local { IfOk result (λ command. (out-Command command).has_globals ≡ false) }
+{
+    let serve = Command::new(alloc, "serve")
+        .about("Performs the verbs that frames on standard input ask for")
+        .after_help(SERVING);
+    let with_folder = serve.arg(folder(alloc, "The folder in which the files stay"))?;
+    with_limits(alloc, with_folder)
+}
+
+/// `schema`.
+fn schema_command<'a>(alloc: Global) -> Result<Command<'a>, AllocError>
+    ensures shape { IfOk result (λ command. app_of command ≡ record { top = schema_shape; subs = [] }) }
+    ensures local { IfOk result (λ command. (out-Command command).has_globals ≡ false) }
+{
+    let file = word(
+        alloc,
+        "file",
+        "FILE",
+        "The file whose first page is read; it is not changed",
+    );
+    let schema = Command::new(alloc, "schema")
+        .about("Tells the lengths, the keys and the counts of a file, by its first page")
+        .after_help(SCHEMA);
+    schema.arg(file)
+}
+
+/// `explain`.
+fn explain_command<'a>(alloc: Global) -> Result<Command<'a>, AllocError>
+    ensures shape { IfOk result (λ command. app_of command ≡ record { top = explain_shape; subs = [] }) }
+    ensures local { IfOk result (λ command. (out-Command command).has_globals ≡ false) }
+{
+    let kind = word(alloc, "kind", "KIND", "'status', 'fault' or 'unsound'");
+    let number = word(alloc, "number", "NUMBER", "Which one, as it is written");
+    let explain = Command::new(alloc, "explain")
+        .about("Explains a status, a fault of a deck, or a reason of a check")
+        .after_help(EXPLAINED);
+    explain.arg(kind)?.arg(number)
+}
+
+/// `deck`.
+fn deck_command<'a>(alloc: Global) -> Result<Command<'a>, AllocError>
+    ensures shape { IfOk result (λ command. app_of command ≡ record { top = deck_shape; subs = [] }) }
+    ensures local { IfOk result (λ command. (out-Command command).has_globals ≡ false) }
+{
+    let listed = Command::new(alloc, "deck")
+        .about("Lists the files, the verbs and the paragraphs of a deck")
+        .after_help(LISTED);
+    listed.arg(deck(alloc))
+}
+
+/// The options of a list.
+fn with_bounds<'a>(alloc: Global, list: Command<'a>) -> Result<Command<'a>, AllocError>
+    requires { (out-Command list).has_globals ≡ false }
+    ensures shape { IfOk result (λ command. app_of command ≡ with_rule (with_rule (with_rule (app_of list.entry) (number_rule (codes "key") 0 8 (codes "0")))
+        (text_rule (codes "from"))) (text_rule (codes "to"))) }
+    ensures local { IfOk result (λ command. (out-Command command).has_globals ≡ false) }
+{
+    let key = number(
+        alloc,
+        "key",
+        0,
+        8,
+        "0",
+        "The key in whose order they are listed: 0 is the prime key, 1 to 8 the alternate keys",
+    );
+    let from = text(alloc, "from", "V", "The first value, or its first bytes");
+    let to = text(alloc, "to", "V", "The last value, or its first bytes");
+    list.arg(key)?.arg(from)?.arg(to)
+}
+
+/// `list`.
+fn list_command<'a>(alloc: Global) -> Result<Command<'a>, AllocError>
+    ensures shape { IfOk result (λ command. app_of command ≡ record { top = list_shape; subs = [] }) }
+    ensures local { IfOk result (λ command. (out-Command command).has_globals ≡ false) }
+{
+    let file = word(
+        alloc,
+        "file",
+        "FILE",
+        "The file whose records are listed; it is not changed",
+    );
+    let list = Command::new(alloc, "list")
+        .about("Lists the records of a file, a line each, in the order of a key")
+        .after_help(RECORDS);
+    let bounded = with_bounds(alloc, list.arg(file)?)?;
+    let first = number(
+        alloc,
+        "first",
+        0,
+        18_446_744_073_709_551_615,
+        "18446744073709551615",
+        "The most records that are listed; where it is not given, all of them",
+    );
+    bounded.arg(first.hide_default_value(true))
+}
+
+/// `cobol`.
+fn cobol_command<'a>(alloc: Global) -> Result<Command<'a>, AllocError>
+    ensures shape { IfOk result (λ command. app_of command ≡ record { top = cobol_shape; subs = [] }) }
+    ensures local { IfOk result (λ command. (out-Command command).has_globals ≡ false) }
+{
+    let fixed = flag(
+        alloc,
+        "fixed",
+        "Writes it in columns 8 to 72, and not in free form",
+    );
+    let cobol = Command::new(alloc, "cobol")
+        .about("Writes a deck as a COBOL program that displays the same transcript")
+        .after_help(COBOL);
+    cobol.arg(deck(alloc))?.arg(fixed)
+}
+
+/// The program, before its subcommands.
+fn program<'a>(alloc: Global) -> Command<'a>
+    ensures shape { app_of result ≡ record { top = program_shape; subs = [] } }
+    ensures local { (out-Command result).has_globals ≡ false }
+{
+    Command::new(alloc, "cobix")
+        .about("Indexed files of COBOL")
+        .version(VERSION)
+        .subcommand_required(true)
+        .disable_help_subcommand(true)
+}
+
+/// The program with the subcommands that run, check and serve.
+fn with_runs<'a>(alloc: Global) -> Result<Command<'a>, AllocError>
+    ensures shape { IfOk result (λ command. app_of command ≡ runs_app) }
+    ensures local { IfOk result (λ command. (out-Command command).has_globals ≡ false) }
+{
+    program(alloc)
+        .subcommand(run_command(alloc)?)?
+        .subcommand(check_command(alloc)?)?
+        .subcommand(serve_command(alloc)?)
+}
+
+/// The program with these, and those that tell of a file, of a number or of a deck.
+fn with_lists<'a>(alloc: Global) -> Result<Command<'a>, AllocError>
+    ensures shape { IfOk result (λ command. app_of command ≡ lists_app) }
+    ensures local { IfOk result (λ command. (out-Command command).has_globals ≡ false) }
+{
+    with_runs(alloc)?
+        .subcommand(schema_command(alloc)?)?
+        .subcommand(explain_command(alloc)?)?
+        .subcommand(deck_command(alloc)?)
+}
+
+/// The program with all its subcommands.
+pub fn command<'a>(alloc: Global) -> Result<Command<'a>, AllocError>
+    ensures { IfOk result (λ command. app_of command ≡ program_app) }
+{
+    with_lists(alloc)?
+        .subcommand(list_command(alloc)?)?
+        .subcommand(cobol_command(alloc)?)
+}
