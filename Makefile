@@ -33,6 +33,7 @@ test:
 
 # Programs that GnuCOBOL compiles, over the program that was built: needs cobc.
 gnucobol: $(PROGRAM)
+	cases/cobol $(PROGRAM)
 	gnucobol/test $(PROGRAM)
 
 install: $(PROGRAM)
