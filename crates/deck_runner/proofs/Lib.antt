@@ -1,4 +1,3 @@
-pub mod OutputLemmas
 pub mod CleanLemmas
 pub mod RunLaws
 pub mod FrontLemmas

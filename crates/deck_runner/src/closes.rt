@@ -4,10 +4,9 @@ ghost use Rattle.deck_runner.specs.Stretches.{ClosesAt, ClosesAtInPart, ClosesFi
 ghost use Rattle.deck_runner.specs.State.{state, IsSafeIn, GoesOn, Leads};
 ghost use Rattle.deck_runner.specs.HeldLines.{so_far, Come, ComeInPart};
 
-use crate::held_lines::HeldLines;
-use crate::output::Refused;
 use crate::run_end::RunEnd;
 use crate::running_deck::RunningDeck;
+use held_text::{HeldText, Refused};
 use indexed_file::Library;
 use io_state::FileStatement;
 use std::io::Write;
@@ -18,7 +17,7 @@ impl RunningDeck {
         &mut self,
         u: usize,
         library: &mut L,
-        held: &mut HeldLines,
+        held: &mut HeldText,
         out: &mut W,
     ) -> Result<RunEnd, Refused>
         requires safe { IsSafeIn L.shown (state library.old self.old) }
@@ -43,7 +42,7 @@ impl RunningDeck {
     pub fn close_all<L: Library, W: Write>(
         &mut self,
         library: &mut L,
-        held: &mut HeldLines,
+        held: &mut HeldText,
         out: &mut W,
     ) -> Result<RunEnd, Refused>
         requires safe { IsSafeIn L.shown (state library.old self.old) }

@@ -10,9 +10,9 @@ ghost use Rattle.deck_runner.specs.DeckRun.{OfDeck, RunsExactly, IsRefusedDeck};
 
 use crate::beginning::begin;
 use crate::fault::RunFault;
-use crate::held_lines::HeldLines;
 use crate::run_end::RunEnd;
 use deck_reader::{Deck, read_deck};
+use held_text::{HeldText, Refused};
 use indexed_file::Library;
 use std::alloc::Global;
 use std::io::Write;
@@ -35,7 +35,7 @@ fn run_read<L: Library, W: Write>(
         × (out.new ≡ out.old) × IsUntouched L.shown library.old library.new) }
     ensures keeps { Keeps L.shown library.old library.new }
 {
-    let Ok(held) = HeldLines::new(alloc) else {
+    let Ok(held) = HeldText::new(alloc) else {
         return Err(RunFault::Memory);
     };
     let Ok(begun) = begin(alloc, deck, library) else {

@@ -1,24 +1,12 @@
-//! The text that is on its way to the writer.
-ghost use Rattle.std.specs.Prelude.{◌≡◌, ◌≤◌, [], length, IfOk, OnOk, OnErr};
-ghost use Rattle.std.specs.Io.KnownBytes.{Appends};
-ghost use Rattle.deck_runner.specs.Output.{AppendsFront, Adds};
+//! The lines that are on their way to the writer.
+ghost use Rattle.std.specs.Prelude.{◌≡◌, OnOk, OnErr};
+ghost use Rattle.held_text.specs.Output.{AppendsFront};
 ghost use Rattle.deck_runner.specs.Reads.{only_reads};
 ghost use Rattle.deck_runner.specs.HeldLines.{MakesWay};
 
-use crate::output::{Refused, write_text};
+use held_text::{HeldText, Refused};
 use io_state::FileStatement;
-use std::alloc::{AllocError, Global};
 use std::io::Write;
-use std::marker::Model;
-
-/// The most bytes that are held.
-const HELD_LIMIT: usize = 65_536;
-
-/// The text of lines that the writer has not been offered yet. Its memory is set aside when it is made.
-#[derive(Drop)]
-pub struct HeldLines {
-    text: Vec<u8>,
-}
 
 /// Whether a statement leaves all files as they are: READ and START.
 fn only_reads(statement: &FileStatement) -> bool
@@ -36,61 +24,18 @@ fn only_reads(statement: &FileStatement) -> bool
     )
 }
 
-impl Model for HeldLines {
-    ghost use Rattle.std.specs.Prelude.{◌≤◌, ℕ, List, length, vec_capacity};
-
-    ghost Value = { List ℕ };
-
-    ghost view = { λ held. held.text.items };
-
-    ghost invariant = { λ held. (length held.text.items ≤ 65536) × (65536 ≤ vec_capacity held.text) };
-}
-
-impl HeldLines {
-    /// Holds nothing.
-    pub fn new(alloc: Global) -> Result<Self, AllocError>
-        ensures { IfOk result (λ held. held ≡ []) }
-    {
-        let text = Vec::with_capacity(alloc, HELD_LIMIT)?;
-        Ok(HeldLines { text })
+/// Hands all lines that are held to the writer before a statement that may change a file. A refusal leaves a proper front of them in
+/// the writer.
+pub fn make_way<W: Write>(
+    held: &mut HeldText,
+    statement: &FileStatement,
+    out: &mut W,
+) -> Result<(), Refused>
+    ensures ready { OnOk result (MakesWay (W.contents out.old) (W.contents out.new) held.old held.new statement.now) }
+    ensures refused { OnErr result (AppendsFront (W.contents out.old) (W.contents out.new) held.old) }
+{
+    if only_reads(statement) {
+        return Ok(());
     }
-
-    /// Hands all that is held to the writer. A refusal leaves a proper front of it in the writer.
-    pub fn hand_over<W: Write>(&mut self, out: &mut W) -> Result<(), Refused>
-        ensures written { OnOk result (Appends (W.contents out.old) (W.contents out.new) self.old) }
-        ensures empty { OnOk result (self.new ≡ []) }
-        ensures refused { OnErr result (AppendsFront (W.contents out.old) (W.contents out.new) self.old) }
-    {
-        write_text(out, self.text.as_slice())?;
-        self.text.clear();
-        Ok(())
-    }
-
-    /// Hands all that is held to the writer before a statement that may change a file. A refusal is as for `hand_over`.
-    pub fn make_way<W: Write>(
-        &mut self,
-        statement: &FileStatement,
-        out: &mut W,
-    ) -> Result<(), Refused>
-        ensures ready { OnOk result (MakesWay (W.contents out.old) (W.contents out.new) self.old self.new statement.now) }
-        ensures refused { OnErr result (AppendsFront (W.contents out.old) (W.contents out.new) self.old) }
-    {
-        if only_reads(statement) {
-            return Ok(());
-        }
-        self.hand_over(out)
-    }
-
-    /// Holds the text of one more line. Where it has no room, all that is held is handed to the writer first.
-    pub fn add<W: Write>(&mut self, line: &[u8], out: &mut W) -> Result<(), Refused>
-        requires { length line.now ≤ 65536 }
-        ensures added { OnOk result (Adds (W.contents out.old) (W.contents out.new) self.old self.new line.now) }
-        ensures refused { OnErr result (AppendsFront (W.contents out.old) (W.contents out.new) self.old) }
-    {
-        if HELD_LIMIT - self.text.len() < line.len() {
-            self.hand_over(out)?;
-        }
-        let _ = self.text.extend_from_slice(line);
-        Ok(())
-    }
+    held.hand_over(out)
 }

@@ -16,7 +16,6 @@ mod deck_run;
 mod fault;
 mod held_lines;
 mod line;
-mod output;
 mod run_end;
 mod running_deck;
 mod running_file;

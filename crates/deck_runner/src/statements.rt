@@ -8,10 +8,10 @@ ghost use Rattle.deck_runner.specs.Conditions.{CanPerform, IsStatementIn};
 ghost use Rattle.deck_runner.specs.State.{state, IsSafeIn, GoesOn, Leads};
 ghost use Rattle.deck_runner.specs.HeldLines.{so_far, Come, ComeInPart};
 
-use crate::held_lines::HeldLines;
-use crate::output::Refused;
+use crate::held_lines::make_way;
 use crate::run_end::RunEnd;
 use crate::running_deck::RunningDeck;
+use held_text::{HeldText, Refused};
 use indexed_file::Library;
 use io_state::FileStatement;
 use procedure_division::Statement;
@@ -32,7 +32,7 @@ impl RunningDeck {
         u: usize,
         statement: &FileStatement,
         library: &mut L,
-        held: &mut HeldLines,
+        held: &mut HeldText,
         out: &mut W,
     ) -> Result<RunEnd, Refused>
         requires safe { IsSafeIn L.shown (state library.old self.old) }
@@ -46,7 +46,7 @@ impl RunningDeck {
             (Leads L.shown (state library.old self.old) (state library.new self.new)
             (AreStretchesInPart L.shown (PerformStatement u statement.now ∷ [])))) }
     {
-        held.make_way(statement, out)?;
+        make_way(held, statement, out)?;
         let clean = self.perform_on(u, statement, library);
         held.add(self.line.as_slice(), out)?;
         Ok(RunEnd::one(clean))
@@ -57,7 +57,7 @@ impl RunningDeck {
         &mut self,
         statement: &Statement,
         library: &mut L,
-        held: &mut HeldLines,
+        held: &mut HeldText,
         out: &mut W,
     ) -> Result<RunEnd, Refused>
         requires safe { IsSafeIn L.shown (state library.old self.old) }
@@ -98,7 +98,7 @@ impl RunningDeck {
         &mut self,
         statements: &[Statement],
         library: &mut L,
-        held: &mut HeldLines,
+        held: &mut HeldText,
         out: &mut W,
     ) -> Result<RunEnd, Refused>
         requires safe { IsSafeIn L.shown (state library.old self.old) }

@@ -8,10 +8,9 @@ ghost use Rattle.deck_runner.specs.State.{state, IsSafeIn, GoesOn, Leads};
 ghost use Rattle.deck_runner.specs.RunEnd.{Told, ToldInPart};
 ghost use Rattle.deck_runner.specs.Reads.{ReadsChangeNoFile};
 
-use crate::held_lines::HeldLines;
-use crate::output::Refused;
 use crate::run_end::RunEnd;
 use crate::running_deck::RunningDeck;
+use held_text::{HeldText, Refused};
 use indexed_file::Library;
 use procedure_division::Statement;
 use std::io::Write;
@@ -24,7 +23,7 @@ impl RunningDeck {
         &mut self,
         statements: &[Statement],
         library: &mut L,
-        held: &mut HeldLines,
+        held: &mut HeldText,
         out: &mut W,
     ) -> Result<RunEnd, Refused>
         requires safe { IsSafeIn L.shown (state library.old self.old) }

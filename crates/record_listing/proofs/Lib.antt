@@ -2,7 +2,6 @@ pub mod RankLemmas
 pub mod LeastLemmas
 pub mod ApartLemmas
 pub mod ListedLemmas
-pub mod OutputLemmas
 pub mod ReadingLemmas
 pub mod WorldLemmas
 pub mod StepLemmas

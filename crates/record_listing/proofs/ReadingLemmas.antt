@@ -5,7 +5,7 @@ use Rattle.std.proofs.KnownBytes.{Appends-nil, Appends-trans}
 use Rattle.std.proofs.lemmas.Grind.{flat_map-append}
 use Rattle.indexed_file.specs.File.{Row}
 use Rattle.record_listing.specs.Lines.{line_of, lines_of}
-use Rattle.record_listing.specs.Output.{AppendsFront, Adds}
+use Rattle.held_text.specs.Output.{AppendsFront, Adds}
 use Rattle.record_listing.specs.declared.rows.Stop.{Stop}
 use Rattle.record_listing.specs.declared.rows.Stop.TheVariants.{Library as GaveUp, Output as NotTaken}
 use Rattle.record_listing.specs.Reading.{IsOnItsWay, IsWrittenInPart, ComesOut, IsWritten}

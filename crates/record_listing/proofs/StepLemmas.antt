@@ -11,7 +11,7 @@ use Rattle.indexed_file.specs.World.{World, name_at, schema_at, file_at}
 use Rattle.indexed_file.specs.Believed.{Believed}
 use Rattle.indexed_file.specs.Shown.{Shown}
 use Rattle.record_listing.specs.Lines.{line_of}
-use Rattle.record_listing.specs.Output.{AppendsFront, Adds}
+use Rattle.held_text.specs.Output.{AppendsFront, Adds}
 use Rattle.record_listing.specs.Reading.{Reads, rows_from, GoesOn, ComesNext, IsOnItsWay}
 use Rattle.record_listing.proofs.ListedLemmas.{no_more}
 use Rattle.record_listing.proofs.ReadingLemmas.{one_more}

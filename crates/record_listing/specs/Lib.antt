@@ -1,5 +1,4 @@
 pub mod Listed
 pub mod Lines
-pub mod Output
 pub mod Reading
 pub mod Listing

@@ -8,11 +8,9 @@
 
 mod asked;
 mod end;
-mod held_lines;
 mod line;
 mod listing;
 mod next;
-mod output;
 mod rows;
 
 pub use asked::Asked;

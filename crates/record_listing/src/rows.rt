@@ -4,13 +4,13 @@ ghost use Rattle.indexed_file.specs.World.{holding_at, schema_at, file_at, is_op
 ghost use Rattle.indexed_file.specs.File.{Row};
 ghost use Rattle.indexed_file.specs.Believed.{Believed};
 ghost use Rattle.record_listing.specs.Lines.{line_of};
-ghost use Rattle.record_listing.specs.Output.{Adds, AppendsFront};
+ghost use Rattle.held_text.specs.Output.{Adds, AppendsFront};
 ghost use Rattle.record_listing.specs.Reading.{Reads, rows_asked, IsWritten, ComesOut, MayStop};
 
 use crate::asked::Asked;
-use crate::held_lines::HeldLines;
 use crate::line::{LineText, make_line};
 use crate::next::next_record;
+use held_text::HeldText;
 use indexed_file::{Found, Library};
 use io_state::{Fault, Key, Position};
 use std::alloc::{AllocError, Global};
@@ -27,7 +27,7 @@ pub enum Stop {
 
 /// Holds the line of the record in the first bytes of the area.
 fn hold_record<W: Write>(
-    lines: &mut HeldLines,
+    lines: &mut HeldText,
     line: &mut LineText,
     area: &[u8],
     size: u16,
@@ -50,7 +50,7 @@ fn hold_rows<L: Library, W: Write>(
     lib: &mut L,
     asked: Asked,
     area: &mut [u8],
-    lines: &mut HeldLines,
+    lines: &mut HeldText,
     out: &mut W,
 ) -> Result<(), Stop>
     requires attached { 0 < length (L.shown.world lib.old).units }
@@ -99,7 +99,7 @@ fn is_refused(held: Result<(), Stop>) -> bool
 /// Hands the lines that are held to the writer, unless it refused one.
 fn hand_over<W: Write>(
     held: Result<(), Stop>,
-    lines: &mut HeldLines,
+    lines: &mut HeldText,
     out: &mut W,
 ) -> Result<(), Stop>
     ensures written { (rows : List Row) (before : Option (List ℕ)) → ComesOut rows before (W.contents out.old) lines.old held
@@ -147,7 +147,7 @@ pub fn write_rows<L: Library, W: Write>(
     let Ok(mut area) = blank_area(alloc, greatest) else {
         return Err(Stop::Library(Fault::Memory));
     };
-    let Ok(mut lines) = HeldLines::new(alloc) else {
+    let Ok(mut lines) = HeldText::new(alloc) else {
         return Err(Stop::Library(Fault::Memory));
     };
     let held = hold_rows(lib, asked, area.as_mut_slice(), &mut lines, out);

@@ -1,5 +1,4 @@
 pub mod InputLemmas
-pub mod OutputLemmas
 pub mod ServingLemmas
 pub mod HeldLemmas
 pub mod EndLemmas

@@ -7,7 +7,8 @@ use Rattle.request_frames.specs.Reading.{request_in}
 use Rattle.file_session.specs.Files.{Files}
 use Rattle.serve.specs.Answers.{Answers, answer_frame}
 use Rattle.serve.specs.Reads.{OnlyReads}
-use Rattle.serve.specs.HeldAnswers.{HandsAllOver, RefusesHeld, HoldsToo, RefusesNext}
+use Rattle.held_text.specs.Output.{Adds}
+use Rattle.serve.specs.HeldAnswers.{HandsAllOver, RefusesHeld, RefusesNext}
 use Rattle.serve.specs.Serving.{too_long}
 use Rattle.serve.specs.declared.fault.ServeFault.{ServeFault}
 use Rattle.serve.specs.declared.fault.ServeFault.TheVariants.{Input, Output, Memory}
@@ -29,7 +30,7 @@ AnswersAs shown IsNew body IsSo old new = (told : Told) × Answers shown IsNew (
 -- the answer is held, if the request only reads; or the writer took it behind all that was held
 abbrev pub Goes : (body : List ℕ) → Outgoing → Told → Type 0
 Goes body o told =
-    (OnlyReads body × HoldsToo o.written o.written_after o.held o.held_after (answer_frame told))
+    (OnlyReads body × Adds o.written o.written_after o.held o.held_after (answer_frame told))
     ⊎ HandsAllOver o.written o.written_after (o.held ++ answer_frame told) o.held_after
 
 -- the writer refused what was held, behind a request that only reads; or it refused the answer

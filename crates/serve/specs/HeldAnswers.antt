@@ -17,11 +17,6 @@ abbrev pub MakesWay : (ahead : List ℕ) → (written written_after : Option (Li
 MakesWay ahead written written_after held held_after =
     (BeginsWithFrame ahead × Appends written written_after [] × (held_after ≡ held)) ⊎ HandsAllOver written written_after held held_after
 
--- a frame is held behind those that were held, or alone where the writer took those
-abbrev pub HoldsToo : (written written_after : Option (List ℕ)) → (held held_after frame : List ℕ) → Type 0
-HoldsToo written written_after held held_after frame =
-    (Appends written written_after [] × (held_after ≡ held ++ frame)) ⊎ (Appends written written_after held × (held_after ≡ frame))
-
 -- the writer took what was held, and refused the frame behind it: it has a front of that, or all and did not hand it on
 abbrev pub RefusesNext : (written written_after : Option (List ℕ)) → (held frame : List ℕ) → Type 0
 RefusesNext written written_after held frame =

@@ -4,7 +4,7 @@ ghost use Rattle.standard_input.specs.Source.{source_of, Gives, HasEnded, HasFai
 ghost use Rattle.serve.specs.Input.{GivesLess, Came, BeginsWithFrame};
 
 use crate::frame::length_of;
-use crate::held_answers::HeldAnswers;
+use held_text::HeldText;
 use request_frames::LENGTH_LIMIT;
 use standard_input::{ReadsAhead, StandardInput};
 use std::io::{ErrorKind, Read};
@@ -75,7 +75,7 @@ fn read_whole<R: Read>(reader: &mut StandardInput<R>, room: &mut [u8]) -> Result
 pub fn read_frame<R: Read + ReadsAhead>(
     reader: &mut StandardInput<R>,
     buffer: &mut [u8; LENGTH_LIMIT],
-    _held: &HeldAnswers,
+    _held: &HeldText,
 ) -> Result<Next, InputFailed>
     requires none_waits { (_held.now ≡ []) ⊎ BeginsWithFrame (R.told reader.old.reader) }
     ensures { Came (source_of R.remaining reader.old) (source_of R.remaining reader.new) buffer.new result }

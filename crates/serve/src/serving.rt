@@ -2,19 +2,21 @@
 ghost use Rattle.std.specs.Prelude.{◌≡◌, ◌≢◌, ◌⊎◌, [], ◌++◌, List, Err, OnOk, OnErr};
 ghost use Rattle.io_state.specs.declared.status.Status.{Status as ToldStatus};
 ghost use Rattle.standard_input.specs.Source.{source_of};
+ghost use Rattle.held_text.specs.Output.{Adds};
 ghost use Rattle.serve.specs.Answers.{answer_frame};
-ghost use Rattle.serve.specs.HeldAnswers.{HandsAllOver, RefusesHeld, HoldsToo, RefusesNext};
+ghost use Rattle.serve.specs.HeldAnswers.{HandsAllOver, RefusesHeld, RefusesNext};
 ghost use Rattle.serve.specs.Serving.{streams, Serves, Closes, Served};
 ghost use Rattle.serve.specs.Answering.{outgoing, AnswersAs, Goes, FailsOne, Finishes, RefusesLength};
 
 use crate::answering::answer_request;
 use crate::fault::ServeFault;
-use crate::held_answers::HeldAnswers;
+use crate::held_answers::{make_way, send_held};
 use crate::input::{Next, read_frame};
 use crate::libraries::Libraries;
-use crate::output::{OutputFailed, send_frames};
+use crate::output::send_frames;
 use crate::reads::only_reads;
 use file_session::Session;
+use held_text::{HeldText, Refused};
 use indexed_file::Library;
 use request_frames::{Answer, AnswerFrame, LENGTH_LIMIT, Refusal, put_answer};
 use standard_input::{ReadsAhead, StandardInput};
@@ -26,11 +28,11 @@ fn answer_read<M: Libraries, W: Write>(
     libraries: &M,
     session: &mut Session<M::Library>,
     body: &[u8],
-    held: &mut HeldAnswers,
+    held: &mut HeldText,
     out: &mut W,
-) -> Result<(), OutputFailed>
+) -> Result<(), Refused>
     ensures answered { OnOk result (AnswersAs M.Library.shown (M.is_new libraries.now) body.now
-        (λ told. HoldsToo (W.contents out.old) (W.contents out.new) held.old held.new (answer_frame told)) session.old session.new) }
+        (λ told. Adds (W.contents out.old) (W.contents out.new) held.old held.new (answer_frame told)) session.old session.new) }
     ensures refused { OnErr result (AnswersAs M.Library.shown (M.is_new libraries.now) body.now
         (λ told. RefusesHeld (W.contents out.old) (W.contents out.new) held.old) session.old session.new) }
 {
@@ -44,16 +46,16 @@ fn answer_other<M: Libraries, W: Write>(
     libraries: &M,
     session: &mut Session<M::Library>,
     body: &[u8],
-    held: &mut HeldAnswers,
+    held: &mut HeldText,
     out: &mut W,
-) -> Result<(), OutputFailed>
+) -> Result<(), Refused>
     ensures answered { OnOk result (AnswersAs M.Library.shown (M.is_new libraries.now) body.now
         (λ told. HandsAllOver (W.contents out.old) (W.contents out.new) (held.old ++ answer_frame told) held.new) session.old session.new) }
     ensures refused { OnErr result ((RefusesHeld (W.contents out.old) (W.contents out.new) held.old × (session.new ≡ session.old))
         ⊎ AnswersAs M.Library.shown (M.is_new libraries.now) body.now
         (λ told. RefusesNext (W.contents out.old) (W.contents out.new) held.old (answer_frame told)) session.old session.new) }
 {
-    held.hand_over(out)?;
+    send_held(held, out)?;
     let mut frame = AnswerFrame::new();
     answer_request(libraries, session, body, &mut frame);
     send_frames(out, frame.as_slice())
@@ -64,9 +66,9 @@ fn answer<M: Libraries, W: Write>(
     libraries: &M,
     session: &mut Session<M::Library>,
     body: &[u8],
-    held: &mut HeldAnswers,
+    held: &mut HeldText,
     out: &mut W,
-) -> Result<(), OutputFailed>
+) -> Result<(), Refused>
     ensures answered { OnOk result (AnswersAs M.Library.shown (M.is_new libraries.now) body.now
         (Goes body.now (outgoing (W.contents out.old) (W.contents out.new) held.old held.new)) session.old session.new) }
     ensures refused { OnErr result (FailsOne M.Library.shown (M.is_new libraries.now) body.now
@@ -80,10 +82,10 @@ fn answer<M: Libraries, W: Write>(
 }
 
 /// Refuses a length past the limit, behind all that is held.
-fn refuse_length<W: Write>(held: &mut HeldAnswers, out: &mut W) -> Result<(), ServeFault>
+fn refuse_length<W: Write>(held: &mut HeldText, out: &mut W) -> Result<(), ServeFault>
     ensures { RefusesLength (W.contents out.old) (W.contents out.new) held.old result }
 {
-    let Ok(()) = held.hand_over(out) else {
+    let Ok(()) = send_held(held, out) else {
         return Err(ServeFault::Output);
     };
     let mut refusal = AnswerFrame::new();
@@ -97,12 +99,12 @@ fn refuse_length<W: Write>(held: &mut HeldAnswers, out: &mut W) -> Result<(), Se
 /// Hands all that is held to the writer where the requests end.
 fn finish<W: Write>(
     end: Result<(), ServeFault>,
-    held: &mut HeldAnswers,
+    held: &mut HeldText,
     out: &mut W,
 ) -> Result<(), ServeFault>
     ensures { Finishes end (outgoing (W.contents out.old) (W.contents out.new) held.old held.new) result }
 {
-    match held.hand_over(out) {
+    match send_held(held, out) {
         Ok(()) => end,
         Err(_) => Err(ServeFault::Output),
     }
@@ -113,7 +115,7 @@ fn answer_all<M: Libraries, R: Read + ReadsAhead, W: Write>(
     libraries: &M,
     session: &mut Session<M::Library>,
     input: &mut StandardInput<R>,
-    held: &mut HeldAnswers,
+    held: &mut HeldText,
     out: &mut W,
 ) -> Result<(), ServeFault>
     requires none_held { held.old ≡ [] }
@@ -122,7 +124,7 @@ fn answer_all<M: Libraries, R: Read + ReadsAhead, W: Write>(
 {
     let mut buffer = [0; LENGTH_LIMIT];
     for _ in 0..u64::MAX {
-        let Ok(()) = held.make_way(input.ahead(), out) else {
+        let Ok(()) = make_way(held, input.ahead(), out) else {
             return Err(ServeFault::Output);
         };
         let size = match read_frame(input, &mut buffer, held) {
@@ -165,7 +167,7 @@ pub fn serve<M: Libraries, R: Read + ReadsAhead, W: Write>(
     let Ok(session) = Session::new(alloc) else {
         return Err(ServeFault::Memory);
     };
-    let Ok(held) = HeldAnswers::new(alloc) else {
+    let Ok(held) = HeldText::new(alloc) else {
         return Err(ServeFault::Memory);
     };
     let (mut session, mut held) = (session, held);

@@ -12,36 +12,36 @@ loop-init g c = begins_served _ _ _ _ _ _ c.requires.none_held
 
 pub returns-in_default : goal.returns-in_default
 returns-in_default g c =
-    held_refused _ _ _ _ _ _ _ (g.W.Write.contents c.make_way.new.out) c.loop.held c.make_way.new.self _ _ _ c.loop.invariant [] (Less [] (NoLength [] (omega arith))) (gives_none _) c.in_default.ensures.refused
+    held_refused _ _ _ _ _ _ _ (g.W.Write.contents c.make_way.new.out) c.loop.held c.make_way.new.held _ _ _ c.loop.invariant [] (Less [] (NoLength [] (omega arith))) (gives_none _) c.in_default.ensures.refused
 
 pub returns-in-Ok-TooLong : goal.returns-in-Ok-TooLong
 returns-in-Ok-TooLong g c =
-    let way = way_made _ _ _ _ _ _ (g.W.Write.contents c.make_way.new.out) c.loop.held c.make_way.new.self _ _ _ c.loop.invariant c.ahead.result.now c.in-Ok.ensures.ready in
+    let way = way_made _ _ _ _ _ _ (g.W.Write.contents c.make_way.new.out) c.loop.held c.make_way.new.held _ _ _ c.loop.invariant c.ahead.result.now c.in-Ok.ensures.ready in
     let came = came_as _ _ _ _ TooLong c.in-Ok-TooLong.ensures c.in-Ok-TooLong.field-0-is in
-    length_told _ _ _ _ _ _ _ (g.W.Write.contents c.refuse_length.new.out) c.make_way.new.self c.refuse_length.new.held _ _ _ way c.refuse_length.result came c.refuse_length.ensures
+    length_told _ _ _ _ _ _ _ (g.W.Write.contents c.refuse_length.new.out) c.make_way.new.held c.refuse_length.new.held _ _ _ way c.refuse_length.result came c.refuse_length.ensures
 
 pub returns-in-Ok-End : goal.returns-in-Ok-End
 returns-in-Ok-End g c =
-    let way = way_made _ _ _ _ _ _ (g.W.Write.contents c.make_way.new.out) c.loop.held c.make_way.new.self _ _ _ c.loop.invariant c.ahead.result.now c.in-Ok.ensures.ready in
+    let way = way_made _ _ _ _ _ _ (g.W.Write.contents c.make_way.new.out) c.loop.held c.make_way.new.held _ _ _ c.loop.invariant c.ahead.result.now c.in-Ok.ensures.ready in
     let came = came_as _ _ _ _ End c.in-Ok-End.ensures c.in-Ok-End.field-0-is in
-    input_ended _ _ _ _ _ _ _ (g.W.Write.contents c.finish.new.out) c.make_way.new.self c.finish.new.held _ _ _ way c.finish.result came.0 came.1 c.finish.ensures
+    input_ended _ _ _ _ _ _ _ (g.W.Write.contents c.finish.new.out) c.make_way.new.held c.finish.new.held _ _ _ way c.finish.result came.0 came.1 c.finish.ensures
 
 pub returns-in-Err : goal.returns-in-Err
 returns-in-Err g c =
-    let way = way_made _ _ _ _ _ _ (g.W.Write.contents c.make_way.new.out) c.loop.held c.make_way.new.self _ _ _ c.loop.invariant c.ahead.result.now c.in-Ok.ensures.ready in
-    read_failed _ _ _ _ _ _ _ (g.W.Write.contents c.finish-in-Err.new.out) c.make_way.new.self c.finish-in-Err.new.held _ _ _ way c.finish-in-Err.result c.in-Err.ensures.0 c.in-Err.ensures.1 c.finish-in-Err.ensures
+    let way = way_made _ _ _ _ _ _ (g.W.Write.contents c.make_way.new.out) c.loop.held c.make_way.new.held _ _ _ c.loop.invariant c.ahead.result.now c.in-Ok.ensures.ready in
+    read_failed _ _ _ _ _ _ _ (g.W.Write.contents c.finish-in-Err.new.out) c.make_way.new.held c.finish-in-Err.new.held _ _ _ way c.finish-in-Err.result c.in-Err.ensures.0 c.in-Err.ensures.1 c.finish-in-Err.ensures
 
 pub returns-in_default-answer : goal.returns-in_default-answer
 returns-in_default-answer g c =
-    let way = way_made _ _ _ _ _ _ (g.W.Write.contents c.make_way.new.out) c.loop.held c.make_way.new.self _ _ _ c.loop.invariant c.ahead.result.now c.in-Ok.ensures.ready in
+    let way = way_made _ _ _ _ _ _ (g.W.Write.contents c.make_way.new.out) c.loop.held c.make_way.new.held _ _ _ c.loop.invariant c.ahead.result.now c.in-Ok.ensures.ready in
     let came = came_as _ _ _ _ (Frame c.in-Ok-Frame.size) c.in-Ok-Frame.ensures c.in-Ok-Frame.field-0-is in
-    one_failed _ _ _ _ _ _ _ (g.W.Write.contents c.answer.new.out) c.make_way.new.self c.answer.new.held _ _ _ _ way (take c.in-Ok-Frame.size c.read_frame.new.buffer) came.1 c.in_default-answer.ensures.refused
+    one_failed _ _ _ _ _ _ _ (g.W.Write.contents c.answer.new.out) c.make_way.new.held c.answer.new.held _ _ _ _ way (take c.in-Ok-Frame.size c.read_frame.new.buffer) came.1 c.in_default-answer.ensures.refused
 
 pub loop-preserved : goal.loop-preserved
 loop-preserved g c =
-    let way = way_made _ _ _ _ _ _ (g.W.Write.contents c.make_way.new.out) c.loop.held c.make_way.new.self _ _ _ c.loop.invariant c.ahead.result.now c.in-Ok.ensures.ready in
+    let way = way_made _ _ _ _ _ _ (g.W.Write.contents c.make_way.new.out) c.loop.held c.make_way.new.held _ _ _ c.loop.invariant c.ahead.result.now c.in-Ok.ensures.ready in
     let came = came_as _ _ _ _ (Frame c.in-Ok-Frame.size) c.in-Ok-Frame.ensures c.in-Ok-Frame.field-0-is in
-    one_more _ _ _ _ _ _ _ (g.W.Write.contents c.answer.new.out) c.make_way.new.self c.answer.new.held _ _ _ _ way (take c.in-Ok-Frame.size c.read_frame.new.buffer) came.1 c.in-Ok-answer.ensures.answered
+    one_more _ _ _ _ _ _ _ (g.W.Write.contents c.answer.new.out) c.make_way.new.held c.answer.new.held _ _ _ _ way (take c.in-Ok-Frame.size c.read_frame.new.buffer) came.1 c.in-Ok-answer.ensures.answered
 
 pub returns : goal.returns
 returns g c =

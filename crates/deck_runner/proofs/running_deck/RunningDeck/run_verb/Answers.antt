@@ -35,7 +35,7 @@ returns-in_err-add-clause-refused g c =
           all_in_part (IsStretch g.L.Library.shown) (Perform c.args.u c.args.statement.now ∷ []) (point_in g.L.Library.shown first) (point_in g.L.Library.shown next) lines
           (one_step (IsStretch g.L.Library.shown) (Perform c.args.u c.args.statement.now) (point_in g.L.Library.shown first) (point_in g.L.Library.shown next) lines p))
           (made.line ∷ []) made.leads,
-      line_behind_refused (g.W.Write.contents c.args.out.now) (g.W.Write.contents c.make_way.new.out) (g.W.Write.contents c.add.new.out) c.args.held.now c.make_way.new.self c.args.statement.now made.line made.statement_is
+      line_behind_refused (g.W.Write.contents c.args.out.now) (g.W.Write.contents c.make_way.new.out) (g.W.Write.contents c.add.new.out) c.args.held.now c.make_way.new.held c.args.statement.now made.line made.statement_is
           c.in_ok-make_way.ensures.ready c.in_err-add.ensures.refused,
     )
 
@@ -45,6 +45,6 @@ returns-clause-done g c =
       made.line ∷ [],
       end_of_one c.one.result made.line c.perform_on-clean.result made.clean_is c.one.ensures,
       made.leads,
-      line_goes (g.W.Write.contents c.args.out.now) (g.W.Write.contents c.make_way.new.out) (g.W.Write.contents c.add.new.out) c.args.held.now c.make_way.new.self c.args.statement.now made.line made.statement_is
+      line_goes (g.W.Write.contents c.args.out.now) (g.W.Write.contents c.make_way.new.out) (g.W.Write.contents c.add.new.out) c.args.held.now c.make_way.new.held c.args.statement.now made.line made.statement_is
           c.add.new.self c.as_slice.result.now (c.as_slice.ensures.value ∙ made.text) c.in_ok-make_way.ensures.ready c.in_ok-add.ensures.added,
     )

@@ -1,5 +1,5 @@
-use Rattle.record_listing.proofs.OutputLemmas.{more_written}
-use Rattle.record_listing.proofs.output.write_text.Goals as goal
+use Rattle.held_text.proofs.OutputLemmas.{more_written}
+use Rattle.held_text.proofs.output.write_text.Goals as goal
 
 pub more-preserved : goal.more-preserved
 more-preserved g c =

@@ -1,5 +1,5 @@
 use Rattle.std.specs.Io.KnownBytes.{Keeps}
-use Rattle.record_listing.proofs.output.offer.Given as goal
+use Rattle.held_text.proofs.output.offer.Given as goal
 
 -- no byte was taken so far
 abbrev pub invariant-loop : goal.invariant-loop

@@ -1,7 +1,7 @@
-//! The lines that are on their way to the writer.
-ghost use Rattle.std.specs.Prelude.{◌≡◌, ◌≤◌, [], length, IfOk, OnOk, OnErr};
+//! The text that is on its way to a writer.
+ghost use Rattle.std.specs.Prelude.{◌≡◌, ◌<◌, ◌≤◌, [], length, true, false, IfOk, OnOk, OnErr};
 ghost use Rattle.std.specs.Io.KnownBytes.{Appends};
-ghost use Rattle.record_listing.specs.Output.{AppendsFront, Adds};
+ghost use Rattle.held_text.specs.Output.{AppendsFront, Adds};
 
 use crate::output::{Refused, write_text};
 use std::alloc::{AllocError, Global};
@@ -11,13 +11,13 @@ use std::marker::Model;
 /// The most bytes that are held.
 const HELD_LIMIT: usize = 65_536;
 
-/// The text of lines that the writer has not been offered yet. Its memory is set aside when it is made.
+/// A text that a writer has not been offered yet: 65,536 bytes at most, whose memory is set aside when it is made.
 #[derive(Drop)]
-pub struct HeldLines {
+pub struct HeldText {
     text: Vec<u8>,
 }
 
-impl Model for HeldLines {
+impl Model for HeldText {
     ghost use Rattle.std.specs.Prelude.{◌≤◌, ℕ, List, length, vec_capacity};
 
     ghost Value = { List ℕ };
@@ -27,13 +27,21 @@ impl Model for HeldLines {
     ghost invariant = { λ held. (length held.text.items ≤ 65536) × (65536 ≤ vec_capacity held.text) };
 }
 
-impl HeldLines {
+impl HeldText {
     /// Holds nothing.
     pub fn new(alloc: Global) -> Result<Self, AllocError>
         ensures { IfOk result (λ held. held ≡ []) }
     {
         let text = Vec::with_capacity(alloc, HELD_LIMIT)?;
-        Ok(HeldLines { text })
+        Ok(HeldText { text })
+    }
+
+    /// Whether nothing is held.
+    pub fn is_empty(&self) -> bool
+        ensures yes { result ≡ true → self.now ≡ [] }
+        ensures no { result ≡ false → 0 < length self.now }
+    {
+        self.text.is_empty()
     }
 
     /// Hands all that is held to the writer. A refusal leaves a proper front of it in the writer.
@@ -47,16 +55,16 @@ impl HeldLines {
         Ok(())
     }
 
-    /// Holds the text of one more line. Where it has no room, all that is held is handed to the writer first.
-    pub fn add<W: Write>(&mut self, line: &[u8], out: &mut W) -> Result<(), Refused>
-        requires { length line.now ≤ 65536 }
-        ensures added { OnOk result (Adds (W.contents out.old) (W.contents out.new) self.old self.new line.now) }
+    /// Holds one more piece of text. Where it has no room, all that is held is handed to the writer first. A refusal is as for `hand_over`.
+    pub fn add<W: Write>(&mut self, text: &[u8], out: &mut W) -> Result<(), Refused>
+        requires { length text.now ≤ 65536 }
+        ensures added { OnOk result (Adds (W.contents out.old) (W.contents out.new) self.old self.new text.now) }
         ensures refused { OnErr result (AppendsFront (W.contents out.old) (W.contents out.new) self.old) }
     {
-        if HELD_LIMIT - self.text.len() < line.len() {
+        if HELD_LIMIT - self.text.len() < text.len() {
             self.hand_over(out)?;
         }
-        let _ = self.text.extend_from_slice(line);
+        let _ = self.text.extend_from_slice(text);
         Ok(())
     }
 }

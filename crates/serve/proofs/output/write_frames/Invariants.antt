@@ -1,9 +1,0 @@
-use Rattle.std.proofs.Common.{length}
-use Rattle.serve.proofs.OutputLemmas.{IsWritten}
-use Rattle.serve.proofs.output.write_frames.Given as goal
-
-abbrev pub invariant-more : goal.invariant-more
-invariant-more g l = IsWritten (g.W.Write.contents l.initial.out) (g.W.Write.contents l.out) l.frames l.rest
-
-abbrev pub decreases-more : goal.decreases-more
-decreases-more g l = length l.rest
