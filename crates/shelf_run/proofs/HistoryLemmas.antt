@@ -1,12 +1,12 @@
 -- Nights that follow one another.
-use Rattle.std.proofs.Common.{◌≡◌, ℕ, true, List, [], ◌∷◌, map, All, Option, IsTrue, refl, sym, ap, subst}
+use Rattle.std.proofs.Common.{◌≡◌, ℕ, List, [], ◌∷◌, Option, sym, subst}
 use Rattle.std.proofs.lemmas.List.Elements.{All-head, All-tail, All-weaker}
 use Rattle.indexed_file.specs.World.{World, named_in}
 use Rattle.file_control.specs.Described.{file_names}
 use Rattle.deck_reader.specs.declared.deck.Deck.{Deck}
 use Rattle.deck_reader.specs.Deck.{IsDeck}
-use Rattle.shelf_run.specs.Files.{Reads, reads_of, Represents, AreIn}
-use Rattle.shelf_run.specs.Histories.{Night, IsClean, FollowOn, decks_of, IsHistory, CleanNights, NightsFromNothing, no_files}
+use Rattle.shelf_run.specs.Files.{reads_of, Represents, AreIn}
+use Rattle.shelf_run.specs.Histories.{Night, IsClean, decks_of, CleanNights, NightsFromNothing, no_files}
 use Rattle.shelf_run.specs.ShelfRun.{RunsFrom}
 use Rattle.shelf_run.specs.WorldAfter.{world_after}
 

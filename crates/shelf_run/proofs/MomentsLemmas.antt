@@ -1,22 +1,14 @@
 -- What a crash may leave of the deck's files at each moment of a run.
-use Rattle.std.proofs.Common.{◌≡◌, ◌⊎◌, ℕ, true, List, [], ◌∷◌, ◌++◌, All, Option, Some, None, IsTrue, inl, inr, refl, sym, ap, subst}
-use Rattle.indexed_file.specs.Images.{Stays}
-use Rattle.page_store.specs.Images.{Leaves}
-use Rattle.page_store.specs.Moments.{Throughout}
-use Rattle.page_store.proofs.MomentLemmas.{throughout_none, throughout_weaker}
-use Rattle.page_store.specs.ShelfState.{ShelfState}
+use Rattle.std.proofs.Common.{ℕ, List, [], ◌∷◌, inl, inr, sym, subst}
 use Rattle.procedure_division.specs.declared.statement.Statement.{Statement}
-use Rattle.file_control.specs.Described.{file_names}
-use Rattle.deck_reader.specs.declared.deck.Deck.{Deck}
 use Rattle.deck_runner.specs.Line.{Line}
-use Rattle.deck_runner.specs.NoFalseFile.{Judged, IsSafeStretch, IsSafeRun, IsSafeBrokenOff, DeckRuns, during, trace_for}
+use Rattle.deck_runner.specs.NoFalseFile.{Judged, IsSafeStretch, IsSafeRun, IsSafeBrokenOff, during, trace_for}
 use Rattle.deck_runner.specs.Steps.{AreStepsOf, until_stop, closes_from, AreStepsInPart}
-use Rattle.shelf_library.specs.Crashes.{Passes, AllPass}
+use Rattle.shelf_library.specs.Crashes.{AllPass}
 use Rattle.shelf_library.specs.Laws.{joins}
 use Rattle.shelf_library.specs.State.{LibraryState}
-use Rattle.shelf_run.specs.Files.{IsSoundImage, AreImagesSound, AreSoundThroughout}
 use Rattle.shelf_run.specs.ShelfRun.{shown_in}
-use Rattle.shelf_run.proofs.FilesLemmas.{any, all_any, image_passes, image_sound}
+use Rattle.shelf_run.proofs.FilesLemmas.{any, all_any}
 
 -- from the start on each image is absent, closed or refused
 abbrev pub AreReal : LibraryState → LibraryState → List ℕ → Type 0

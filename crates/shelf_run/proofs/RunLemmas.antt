@@ -1,14 +1,11 @@
 -- What the run over a library over a shelf says of the files of the shelf.
-use Rattle.std.proofs.Common.{◌≡◌, ◌≢◌, ℕ, ◌<◌, true, List, [], ◌∷◌, length, map, All, Option, None, Some, IsTrue, refl, sym, ap, subst, ◌∙◌, ◌++◌}
+use Rattle.std.proofs.Common.{◌≡◌, ℕ, List, [], ◌∷◌, length, All, Option, IsTrue, refl, sym, ap, subst, ◌∙◌, ◌++◌}
 use Rattle.std.proofs.lemmas.List.Elements.{All-weaker}
-use Rattle.std.specs.Io.KnownBytes.{Appends}
 use Rattle.indexed_file.specs.Calls.{Keeps}
-use Rattle.indexed_file.specs.World.{World, Named, named_in}
-use Rattle.page_store.specs.DeviceFile.{DeviceFile}
+use Rattle.indexed_file.specs.World.{World, named_in}
 use Rattle.page_store.specs.Images.{Leaves}
 use Rattle.page_store.specs.Moments.{Throughout}
 use Rattle.page_store.proofs.MomentLemmas.{throughout_none, throughout_weaker}
-use Rattle.page_store.specs.ShelfState.{ShelfState}
 use Rattle.file_control.specs.Described.{file_names}
 use Rattle.deck_reader.specs.declared.deck.Deck.{Deck}
 use Rattle.deck_runner.specs.declared.run_end.RunEnd.{RunEnd}
@@ -18,7 +15,6 @@ use Rattle.deck_runner.specs.Line.{Line}
 use Rattle.deck_runner.specs.NoFalseFile.{Judged, DeckRuns, RunsWhole, RunsInPart, IsSafeRun, IsSafeBrokenOff}
 use Rattle.deck_runner.specs.RunEnd.{Told, ToldInPart}
 use Rattle.shelf_library.specs.Library.{shown_by}
-use Rattle.shelf_library.specs.Laws.{joins}
 use Rattle.shelf_library.specs.State.{LibraryState, AreLimited}
 use Rattle.shelf_library.specs.Truth.{IsShownTruly}
 use Rattle.shelf_library.specs.Units.{world_of}

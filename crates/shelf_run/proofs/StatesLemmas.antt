@@ -1,5 +1,5 @@
 -- A run over a library, by the states of the library.
-use Rattle.std.proofs.Common.{◌≡◌, ◌⊎◌, ℕ, true, List, [], ◌∷◌, ◌++◌, slice_get, Option, Some, None, IsTrue, inl, inr, refl, ap}
+use Rattle.std.proofs.Common.{ℕ, List, [], ◌∷◌, slice_get, Option, Some, None, inl, inr, ap}
 use Rattle.indexed_file.specs.Images.{Trace, Stays, LibraryMayLeave, LeavesOnly, ImagesGo}
 use Rattle.indexed_file.specs.Calls.{Keeps}
 use Rattle.indexed_file.specs.World.{Named}

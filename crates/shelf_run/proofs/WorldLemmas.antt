@@ -1,5 +1,5 @@
 -- A run of the definitions over the files of a shelf, in a world that these represent.
-use Rattle.std.proofs.Common.{◌≡◌, ℕ, ◌<◌, Bool, true, false, List, [], ◌∷◌, length, map, All, Option, None, IsTrue, bytes_eq, refl, sym, ap, subst, ◌∙◌}
+use Rattle.std.proofs.Common.{◌≡◌, ℕ, ◌<◌, true, List, [], ◌∷◌, length, map, All, Option, None, bytes_eq, refl, sym, ap, subst, ◌∙◌}
 use Rattle.std.specs.Prelude.{if◌then◌else◌, slice_index_or}
 use Rattle.std.specs.List.{list_any}
 use Rattle.std.specs.Io.KnownBytes.{Appends}
@@ -16,10 +16,10 @@ use Rattle.deck_reader.specs.declared.deck.Deck.{Deck}
 use Rattle.deck_runner.specs.declared.run_end.RunEnd.{RunEnd}
 use Rattle.deck_runner.specs.Beginning.{run_before, file_before, item_before, area_before, SameElsewhere, is_elsewhere}
 use Rattle.deck_runner.specs.DeckRun.{RunsExactly}
-use Rattle.deck_runner.specs.Run.{RunFile, Run, LengthValue, lines_of_run, transcript, after_run}
+use Rattle.deck_runner.specs.Run.{RunFile, Run, lines_of_run, transcript, after_run}
 use Rattle.deck_runner.specs.RunEnd.{end_of}
 use Rattle.shelf_run.specs.Files.{files_of, reads_of, IsSoundImage, Represents, AreIn}
-use Rattle.shelf_run.specs.ShelfRun.{RunsFrom, StaysSound}
+use Rattle.shelf_run.specs.ShelfRun.{RunsFrom}
 use Rattle.shelf_run.specs.WorldAfter.{run_from, left_of, world_after}
 use Rattle.shelf_run.proofs.FilesLemmas.{named_is, sound_of, represents_sound}
 
