@@ -1,9 +1,9 @@
 -- Nights that end in any way, or that a crash stops.
-use Rattle.std.proofs.Common.{◌≡◌, ◌⊎◌, ℕ, zero, suc, ◌+◌, true, List, [], ◌∷◌, ◌++◌, length, take, All, Option, Some, None, IsTrue, inl, inr, refl, sym, ap, subst, ◌∙◌}
+use Rattle.std.proofs.Common.{◌≡◌, ◌⊎◌, ℕ, zero, suc, ◌+◌, List, [], ◌∷◌, ◌++◌, length, take, All, Option, IsTrue, inl, inr, refl, ap, subst, ◌∙◌}
 use Rattle.std.proofs.Math.Seq.{take-append-add}
 use Rattle.std.proofs.lemmas.List.Elements.{All-nil, All-cons, All-head, All-tail, All-weaker}
 use Rattle.page_store.specs.DeviceFile.{FileStep, DeviceFile}
-use Rattle.page_store.specs.Images.{Durable, nothing, after, durable_from, durable, MayLeave, Leaves}
+use Rattle.page_store.specs.Images.{Durable, nothing, after, durable_from, durable, MayLeave}
 use Rattle.page_store.specs.Moments.{AtEachMoment, Throughout}
 use Rattle.page_store.specs.ShelfState.{ShelfState}
 use Rattle.page_store.proofs.ImageLemmas.{durable_from-append}
@@ -28,7 +28,7 @@ moment_within P d (s ∷ more) zero each c may = each.0 c may
 moment_within P d (s ∷ more) (suc n) each c may = moment_within P (after d s) more n each.1 c may
 
 -- what a crash at some moment may leave is as all images are
-moment : (P : Option (List ℕ) → Type 0) (old new : DeviceFile) → Throughout P old new → (c : Option (List ℕ)) → MayBeFound old new c → P c
+pub moment : (P : Option (List ℕ) → Type 0) (old new : DeviceFile) → Throughout P old new → (c : Option (List ℕ)) → MayBeFound old new c → P c
 moment P old new all c found =
     let n : ℕ = found.0 in
     let steps : take (length old.log + n) new.log ≡ old.log ++ take n all.more = ap (take (length old.log + n)) all.goes_on ∙ take-append-add old.log all.more n in

@@ -1,27 +1,24 @@
 -- What a library over a shelf shows of its files, and what they stand for.
-use Rattle.std.proofs.Common.{◌≡◌, ℕ, ◌<◌, ◌*◌, Bool, true, false, List, [], ◌∷◌, length, map, All, Option, None, Some, IsTrue, refl, sym, ap, subst, ◌∙◌, arith}
+use Rattle.std.proofs.Common.{◌≡◌, ℕ, ◌*◌, true, List, [], ◌∷◌, length, map, All, Option, None, Some, IsTrue, refl, sym, ap, subst, ◌∙◌, arith}
 use Rattle.std.specs.List.{list_all}
 use Rattle.indexed_file.specs.Moments.{Test}
 use Rattle.std.specs.Prelude.{nat_lt}
 use Rattle.indexed_file.specs.File.{File}
-use Rattle.indexed_file.specs.World.{World, Named, Absent, Closed, Unsound, named_in}
+use Rattle.indexed_file.specs.World.{Named, Absent, Closed, Unsound, named_in}
 use Rattle.indexed_file.proofs.TestLemmas.{either}
 use Rattle.record_layout.specs.Schema.{Schema}
 use Rattle.file_header.specs.Reading.{header_in}
 use Rattle.page_store.specs.Pages.{page_of}
-use Rattle.page_store.specs.DeviceFile.{DeviceFile, content, bytes_or_none}
-use Rattle.page_store.specs.Images.{Leaves}
-use Rattle.page_store.specs.ShelfState.{ShelfState, unit_name}
+use Rattle.page_store.specs.DeviceFile.{DeviceFile, bytes_or_none}
+use Rattle.page_store.specs.ShelfState.{ShelfState}
 use Rattle.file_control.specs.Described.{file_names}
 use Rattle.deck_reader.specs.declared.deck.Deck.{Deck}
 use Rattle.file_header.specs.declared.header.Header.{Header}
 use Rattle.shelf_file.specs.declared.look.Look.{Look}
 use Rattle.shelf_file.specs.declared.look.Look.TheVariants.{NoFile, Refused, Accepted}
-use Rattle.shelf_file.specs.declared.shelf_file.ShelfFile.{ShelfFile}
 use Rattle.shelf_file.specs.Named.{look_of, look_by, named_of, named_by, StandsIn}
 use Rattle.shelf_file.proofs.AcceptedLemmas.{reads_back, named_by_header}
 use Rattle.shelf_library.specs.Crashes.{Passes, PassesBy}
-use Rattle.shelf_library.specs.State.{held_at}
 use Rattle.shelf_library.specs.Truth.{IsShownTruly, IsTrulyClosed}
 use Rattle.shelf_library.specs.Units.{world_of}
 use Rattle.shelf_library.specs.WorldLaws.{named_anywhere}
@@ -94,7 +91,7 @@ look_there bytes (Some header) is =
     (λ short. let e : Refused ≡ NoFile = rw short at is in absurd (cc))
     (λ long. let e : Accepted header ≡ NoFile = rw long at is in absurd (cc))
 
-file_there : (bytes : List ℕ) → look_of (Some bytes) ≡ NoFile → ⊥
+pub file_there : (bytes : List ℕ) → look_of (Some bytes) ≡ NoFile → ⊥
 file_there bytes is =
     either (nat_lt (length bytes) 4096) ⊥
     (λ short. let e : Refused ≡ NoFile = rw short at is in absurd (cc))

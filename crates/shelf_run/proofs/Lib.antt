@@ -6,3 +6,5 @@ pub mod RunLemmas
 pub mod HistoryLemmas
 pub mod AnyNightLemmas
 pub mod NightCases
+pub mod NightRowLemmas
+pub mod NightsByRowsLemmas

@@ -3,3 +3,4 @@ pub mod WorldAfter
 pub mod ShelfRun
 pub mod Histories
 pub mod AnyNights
+pub mod NightRows

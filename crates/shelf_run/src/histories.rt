@@ -1,6 +1,7 @@
 //! Runs that follow one another.
 ghost use Rattle.shelf_run.specs.Histories.{CleanNights, NightsFromNothing};
 ghost use Rattle.shelf_run.specs.AnyNights.{AnyNights};
+ghost use Rattle.shelf_run.specs.NightRows.{NightsByRows};
 
 use deck_reader::one_deck;
 
@@ -9,6 +10,7 @@ pub fn history_laws()
     ensures clean { CleanNights }
     ensures from_nothing { NightsFromNothing }
     ensures any { AnyNights }
+    ensures rows { NightsByRows }
 {
     one_deck();
 }

@@ -1,4 +1,5 @@
 use Rattle.shelf_run.proofs.AnyNightLemmas.{any_nights}
+use Rattle.shelf_run.proofs.NightsByRowsLemmas.{nights_by_rows}
 use Rattle.shelf_run.proofs.HistoryLemmas.{clean_nights, from_nothing}
 use Rattle.shelf_run.proofs.histories.history_laws.Goals as goal
 
@@ -10,3 +11,6 @@ returns-clause-from_nothing c = from_nothing c.one_deck.ensures
 
 pub returns-clause-any : goal.returns-clause-any
 returns-clause-any c = any_nights
+
+pub returns-clause-rows : goal.returns-clause-rows
+returns-clause-rows c = nights_by_rows
