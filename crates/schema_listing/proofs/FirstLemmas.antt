@@ -1,9 +1,11 @@
 -- The first bytes of a reader.
-use Rattle.std.proofs.Common.{◌≡◌, ℕ, List, [], ◌++◌, take, Option, Some, None, option_map, Result, Err, refl, sym, ap, subst, ◌∙◌}
+use Rattle.std.proofs.Common.{◌≡◌, ℕ, List, [], ◌++◌, take, Option, Some, None, option_map, Result, Err, refl, ap, subst, ◌∙◌}
 use Rattle.std.specs.Option.{IfSome}
 use Rattle.file_header.specs.declared.header.Header.{Header}
 use Rattle.schema_listing.specs.declared.first_page.Refusal.{Refusal}
+use Rattle.record_layout.specs.Schema.{Schema}
 use Rattle.schema_listing.specs.Listing.{read_front, read_in, Tells}
+use Rattle.schema_listing.specs.Comparing.{TellsDifferences}
 
 first_bytes : (known : Option (List ℕ)) (n : ℕ) (old new : List ℕ) → old ≡ [] → IfSome (option_map (take n) known) (λ xs. new ≡ old ++ xs)
     → IfSome known (λ all. new ≡ take n all)
@@ -23,3 +25,8 @@ pub refused : (known out : Option (List ℕ)) (first : List ℕ) (why : Refusal)
     → IfSome known (λ bytes. Tells out out (read_in bytes) (Err why))
 refused None out first why is read = tt
 refused (Some all) out first why is read = subst (λ (r : Result Header Refusal). Tells out out r (Err why)) (read ∙ ap read_front is) (refl, refl)
+
+pub not_compared : (known out : Option (List ℕ)) (deck : Schema) (first : List ℕ) (why : Refusal) → IfSome known (λ all. first ≡ take 4096 all) → Err why ≡ read_front first
+    → IfSome known (λ bytes. TellsDifferences deck out out (read_in bytes) (Err why))
+not_compared None out deck first why is read = tt
+not_compared (Some all) out deck first why is read = subst (λ (r : Result Header Refusal). TellsDifferences deck out out r (Err why)) (read ∙ ap read_front is) (refl, refl)

@@ -10,14 +10,14 @@ use record_layout::{KeyPart, Schema};
 use std::alloc::{AllocError, Global};
 
 /// Adds a text.
-fn add(lines: &mut Vec<u8>, text: &[u8]) -> Result<(), AllocError>
+pub fn add(lines: &mut Vec<u8>, text: &[u8]) -> Result<(), AllocError>
     ensures { OnOk result (lines.new.items ≡ lines.old.items ++ text.now) }
 {
     lines.extend_from_slice(text)
 }
 
 /// Adds a number.
-fn add_number(lines: &mut Vec<u8>, n: u64) -> Result<(), AllocError>
+pub fn add_number(lines: &mut Vec<u8>, n: u64) -> Result<(), AllocError>
     ensures { OnOk result (lines.new.items ≡ lines.old.items ++ decimal n) }
 {
     let mut buffer = Buffer::new();
@@ -25,7 +25,7 @@ fn add_number(lines: &mut Vec<u8>, n: u64) -> Result<(), AllocError>
 }
 
 /// Adds how long records are.
-fn add_lengths(lines: &mut Vec<u8>, least: u16, greatest: u16) -> Result<(), AllocError>
+pub fn add_lengths(lines: &mut Vec<u8>, least: u16, greatest: u16) -> Result<(), AllocError>
     ensures { OnOk result (lines.new.items ≡ lines.old.items ++ lengths_text least greatest) }
 {
     if least == greatest {

@@ -39,7 +39,7 @@ impl ListingFault {
 }
 
 /// The bytes of a reader, as many as a page has at most.
-fn read_first<R: Read + Drop>(alloc: Global, reader: R) -> Result<Vec<u8>, ListingFault>
+pub fn read_first<R: Read + Drop>(alloc: Global, reader: R) -> Result<Vec<u8>, ListingFault>
     ensures bytes { IfSome (R.remaining reader) (λ all. IfOk result (λ bytes. bytes.items ≡ take 4096 all)) }
     ensures fault { IfErr result (λ fault. fault ≢ ListingFault.Output) }
 {
@@ -52,7 +52,7 @@ fn read_first<R: Read + Drop>(alloc: Global, reader: R) -> Result<Vec<u8>, Listi
 }
 
 /// The header of a file by its first bytes, as many as a page has, or all that there are.
-fn header_in(bytes: &[u8]) -> Result<Header, Refusal>
+pub fn header_in(bytes: &[u8]) -> Result<Header, Refusal>
     ensures header { result ≡ read_front bytes.now }
     ensures allowed { IfOk result IsHeader }
 {

@@ -1,0 +1,77 @@
+//! The schema of a file, held against that of a deck.
+ghost use Rattle.std.specs.Prelude.{◌≡◌, ◌≢◌, IfOk, IfErr, OnOk, OnErr};
+ghost use Rattle.std.specs.Option.{IfSome};
+ghost use Rattle.std.specs.Io.KnownBytes.{Appends};
+ghost use Rattle.schema_listing.specs.Differences.{differences};
+ghost use Rattle.schema_listing.specs.Comparing.{comparison_of, TellsDifferences};
+ghost use Rattle.schema_listing.specs.Listing.{read_in};
+
+use crate::differences::difference_lines;
+use crate::first_page::Refusal;
+use crate::listing::{ListingFault, header_in, read_first};
+use record_layout::Schema;
+use std::alloc::Global;
+use std::io::{Read, Write};
+
+/// Whether the schema of a file is that of a deck.
+#[derive(Clone, Copy, Debug, PartialEq, Eq)]
+pub enum Comparison {
+    /// It is. No line was written.
+    Same,
+    /// It is not: OPEN in the deck would answer 39. A line was written for each difference.
+    Different,
+}
+
+/// Compares two schemas.
+fn comparison_of(file: &Schema, deck: &Schema) -> Comparison
+    ensures { result ≡ comparison_of file.now deck.now }
+{
+    if file.same(deck) {
+        Comparison::Same
+    } else {
+        Comparison::Different
+    }
+}
+
+/// Writes the lines of the differences.
+fn write_differences<W: Write>(
+    alloc: Global,
+    file: &Schema,
+    deck: &Schema,
+    out: &mut W,
+) -> Result<(), ListingFault>
+    ensures written { OnOk result (Appends (W.contents out.old) (W.contents out.new) (differences file.now deck.now)) }
+    ensures memory { IfErr result (λ fault. fault ≢ ListingFault.Output → (fault ≡ ListingFault.Memory) × (out.new ≡ out.old)) }
+{
+    let Ok(lines) = difference_lines(alloc, file, deck) else {
+        return Err(ListingFault::Memory);
+    };
+    match out.write_all(&lines) {
+        Ok(()) => Ok(()),
+        Err(_) => Err(ListingFault::Output),
+    }
+}
+
+/// Writes a line for each difference of the schema of the file that a reader has from that of a deck, by the first page of the file alone; or writes nothing, and tells
+/// why the page is none.
+///
+/// Input where the reader fails; Memory. Both leave the writer as it was. Output where the writer fails: it may have a part of the lines.
+pub fn compare_schema<R: Read + Drop, W: Write>(
+    alloc: Global,
+    reader: R,
+    deck: &Schema,
+    out: &mut W,
+) -> Result<Result<Comparison, Refusal>, ListingFault>
+    ensures told { IfSome (R.remaining reader) (λ bytes. IfOk result (TellsDifferences deck.now (W.contents out.old) (W.contents out.new) (read_in bytes))) }
+    ensures refused { IfOk result (λ told. OnErr told (out.new ≡ out.old)) }
+    ensures fault { IfErr result (λ fault. fault ≢ ListingFault.Output → out.new ≡ out.old) }
+{
+    let bytes = read_first(alloc, reader)?;
+    match header_in(&bytes) {
+        Ok(header) => {
+            write_differences(alloc, &header.schema, deck, out)?;
+            Ok(Ok(comparison_of(&header.schema, deck)))
+        }
+        Err(refusal) => Ok(Err(refusal)),
+    }
+}
