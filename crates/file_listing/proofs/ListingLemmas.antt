@@ -10,13 +10,14 @@ use Rattle.shelf_library.specs.declared.held.Held.{Held}
 use Rattle.shelf_run.specs.Files.{Represents}
 use Rattle.shelf_run.proofs.FilesLemmas.{world_at_first, shown_truly, named_is, sound_of}
 use Rattle.file_checker.specs.Sound.{IsSound}
+use Rattle.record_forms.specs.declared.form.Form.{Form}
 use Rattle.record_listing.specs.declared.asked.Asked.{Asked}
 use Rattle.record_listing.specs.declared.end.ListEnd.{ListEnd}
 use Rattle.record_listing.specs.declared.end.ListEnd.TheVariants.{Listed as LinesWritten, Absent, Unsound as Refused, NoKey as HasNoKey, Damaged}
 use Rattle.record_listing.specs.declared.end.ListFault.{ListFault}
 use Rattle.record_listing.specs.Listing.{Ends as EndsNamed}
 use Rattle.file_listing.specs.Shelf.{state_of}
-use Rattle.file_listing.specs.Listing.{EndsWith, BreaksOff}
+use Rattle.file_listing.specs.Listing.{EndsWithIn, BreaksOffIn}
 use Rattle.file_listing.specs.declared.file_bytes.FileBytes.{FileBytes}
 use Rattle.file_listing.specs.declared.listing.FileList.TheVariants.{Listed, NoKey}
 
@@ -35,32 +36,32 @@ module _ (shelf : FileBytes) (held : List Held) (bytes : List ℕ) (schema : Sch
       (ap (λ (world : World). named_in world []) (world_at_first (state_of shelf) none) ∙ named_is (Some shelf.bytes.items) (Closed schema file) stands)
 
 -- what the end of a list of the file of the name means for its bytes
-abbrev pub MeansFor : List ℕ → Asked → (before behind : Option (List ℕ)) → Result ListEnd ListFault → Type 0
-MeansFor bytes asked before behind (Ok LinesWritten) = EndsWith bytes asked before behind Listed
-MeansFor bytes asked before behind (Ok HasNoKey) = EndsWith bytes asked before behind NoKey
-MeansFor bytes asked before behind (Ok Absent) = ⊥
-MeansFor bytes asked before behind (Ok Refused) = ⊥
-MeansFor bytes asked before behind (Ok Damaged) = ⊥
-MeansFor bytes asked before behind (Err fault) = BreaksOff bytes asked before behind
+abbrev pub MeansFor : Form → List ℕ → Asked → (before behind : Option (List ℕ)) → Result ListEnd ListFault → Type 0
+MeansFor form bytes asked before behind (Ok LinesWritten) = EndsWithIn form bytes asked before behind Listed
+MeansFor form bytes asked before behind (Ok HasNoKey) = EndsWithIn form bytes asked before behind NoKey
+MeansFor form bytes asked before behind (Ok Absent) = ⊥
+MeansFor form bytes asked before behind (Ok Refused) = ⊥
+MeansFor form bytes asked before behind (Ok Damaged) = ⊥
+MeansFor form bytes asked before behind (Err fault) = BreaksOffIn form bytes asked before behind
 
-pub means : (bytes : List ℕ) (asked : Asked) (before behind : Option (List ℕ)) (schema : Schema) (file : File) (closed : AreClosed schema file bytes) (result : Result ListEnd ListFault)
-    → EndsNamed asked (Closed schema file) before behind result → MeansFor bytes asked before behind result
-means bytes asked before behind schema file closed (Ok LinesWritten) is = (schema, file, closed, is)
-means bytes asked before behind schema file closed (Ok HasNoKey) is = (schema, file, closed, is)
-means bytes asked before behind schema file closed (Ok Absent) is = is
-means bytes asked before behind schema file closed (Ok Refused) is = is
-means bytes asked before behind schema file closed (Ok Damaged) is = is
-means bytes asked before behind schema file closed (Err fault) (inl nothing) = inl nothing
-means bytes asked before behind schema file closed (Err fault) (inr front) = inr (schema, file, closed, front)
+pub means : (form : Form) (bytes : List ℕ) (asked : Asked) (before behind : Option (List ℕ)) (schema : Schema) (file : File) (closed : AreClosed schema file bytes) (result : Result ListEnd ListFault)
+    → EndsNamed form asked (Closed schema file) before behind result → MeansFor form bytes asked before behind result
+means form bytes asked before behind schema file closed (Ok LinesWritten) is = (schema, file, closed, is)
+means form bytes asked before behind schema file closed (Ok HasNoKey) is = (schema, file, closed, is)
+means form bytes asked before behind schema file closed (Ok Absent) is = is
+means form bytes asked before behind schema file closed (Ok Refused) is = is
+means form bytes asked before behind schema file closed (Ok Damaged) is = is
+means form bytes asked before behind schema file closed (Err fault) (inl nothing) = inl nothing
+means form bytes asked before behind schema file closed (Err fault) (inr front) = inr (schema, file, closed, front)
 
-pub meant : (shelf : FileBytes) (held : List Held) (name bytes : List ℕ) (records pages : ℕ) → IsSound bytes records pages → (state_of shelf).names ≡ [] → held ≡ [] → shelf.bytes.items ≡ bytes
+pub meant : (form : Form) (shelf : FileBytes) (held : List Held) (name bytes : List ℕ) (records pages : ℕ) → IsSound bytes records pages → (state_of shelf).names ≡ [] → held ≡ [] → shelf.bytes.items ≡ bytes
     → name ≡ [] → (asked : Asked) (before behind : Option (List ℕ)) (result : Result ListEnd ListFault)
-    → (IsShownTruly (state_of shelf) held name → EndsNamed asked (named_in (world_of (state_of shelf) held) name) before behind result)
-    → MeansFor bytes asked before behind result
-meant shelf held name bytes records pages sound none empty same unnamed asked before behind result ends =
+    → (IsShownTruly (state_of shelf) held name → EndsNamed form asked (named_in (world_of (state_of shelf) held) name) before behind result)
+    → MeansFor form bytes asked before behind result
+meant form shelf held name bytes records pages sound none empty same unnamed asked before behind result ends =
     let closed : AreClosed sound.header.schema sound.file bytes = record { header = sound.header; accepted = sound.accepted; schema_is = refl; stands = sound.stands } in
     let shown = subst (λ (n : List ℕ). IsShownTruly (state_of shelf) held n) (sym unnamed) (truly shelf held bytes sound.header.schema sound.file closed none empty same) in
     let stands_for = subst (λ (n : List ℕ). named_in (world_of (state_of shelf) held) n ≡ Closed sound.header.schema sound.file) (sym unnamed)
     (named shelf held bytes sound.header.schema sound.file closed none empty same) in
-    means bytes asked before behind sound.header.schema sound.file closed result
-    (subst (λ (n : Named). EndsNamed asked n before behind result) stands_for (ends shown))
+    means form bytes asked before behind sound.header.schema sound.file closed result
+    (subst (λ (n : Named). EndsNamed form asked n before behind result) stands_for (ends shown))

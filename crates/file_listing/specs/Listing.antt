@@ -5,6 +5,8 @@ use Rattle.indexed_file.specs.File.{File}
 use Rattle.shelf_file.specs.Shelves.{AreClosed}
 use Rattle.file_checker.specs.Sound.{IsRight}
 use Rattle.file_checker.specs.declared.verdict.Verdict.TheVariants.{Unsound as IsRefused}
+use Rattle.record_forms.specs.declared.form.Form.{Form}
+use Rattle.record_forms.specs.declared.form.Form.TheVariants.{Text}
 use Rattle.record_listing.specs.declared.asked.Asked.{Asked}
 use Rattle.record_listing.specs.declared.end.ListFault.{ListFault}
 use Rattle.record_listing.specs.Listing.{WritesLines, WritesFront}
@@ -15,17 +17,24 @@ use Rattle.file_listing.specs.declared.listing.FileList.TheVariants.{Listed, NoK
 abbrev pub StandFor : List ℕ → (Schema → File → Type 0) → Type 0
 StandFor bytes P = (schema : Schema) × (file : File) × AreClosed schema file bytes × P schema file
 
--- a list of these bytes ends so: the lines of their rows that are asked for were written; or nothing was, since they stand for a file that does not have the key,
+-- a list of these bytes in a form ends so: the list of their rows that are asked for was written; or nothing was, since they stand for a file that does not have the key,
 -- or a check tells this reason
-abbrev pub EndsWith : List ℕ → Asked → (before behind : Option (List ℕ)) → FileList → Type 0
-EndsWith bytes asked before behind Listed = StandFor bytes (λ schema file. WritesLines schema file asked before behind)
-EndsWith bytes asked before behind NoKey = StandFor bytes (λ schema file. (length schema.keys ≤ asked.key) × (behind ≡ before))
-EndsWith bytes asked before behind (Unsound reason) = IsRight bytes (IsRefused reason) × (behind ≡ before)
+abbrev pub EndsWithIn : Form → List ℕ → Asked → (before behind : Option (List ℕ)) → FileList → Type 0
+EndsWithIn form bytes asked before behind Listed = StandFor bytes (λ schema file. WritesLines form schema file asked before behind)
+EndsWithIn form bytes asked before behind NoKey = StandFor bytes (λ schema file. (length schema.keys ≤ asked.key) × (behind ≡ before))
+EndsWithIn form bytes asked before behind (Unsound reason) = IsRight bytes (IsRefused reason) × (behind ≡ before)
 
--- it ends before its end: nothing was written, or a front of the lines
-abbrev pub BreaksOff : List ℕ → Asked → (before behind : Option (List ℕ)) → Type 0
-BreaksOff bytes asked before behind = (behind ≡ before) ⊎ StandFor bytes (λ schema file. WritesFront schema file asked before behind)
+-- it ends before its end: nothing was written, or a front of the list
+abbrev pub BreaksOffIn : Form → List ℕ → Asked → (before behind : Option (List ℕ)) → Type 0
+BreaksOffIn form bytes asked before behind = (behind ≡ before) ⊎ StandFor bytes (λ schema file. WritesFront form schema file asked before behind)
+
+abbrev pub EndsIn : Form → List ℕ → Asked → (before behind : Option (List ℕ)) → Result FileList ListFault → Type 0
+EndsIn form bytes asked before behind (Ok end) = EndsWithIn form bytes asked before behind end
+EndsIn form bytes asked before behind (Err fault) = BreaksOffIn form bytes asked before behind
+
+-- the same of a list as text
+abbrev pub EndsWith : List ℕ → Asked → (before behind : Option (List ℕ)) → FileList → Type 0
+EndsWith bytes asked before behind end = EndsWithIn Text bytes asked before behind end
 
 abbrev pub Ends : List ℕ → Asked → (before behind : Option (List ℕ)) → Result FileList ListFault → Type 0
-Ends bytes asked before behind (Ok end) = EndsWith bytes asked before behind end
-Ends bytes asked before behind (Err fault) = BreaksOff bytes asked before behind
+Ends bytes asked before behind result = EndsIn Text bytes asked before behind result

@@ -1,11 +1,12 @@
 //! The list of the bytes.
 ghost use Rattle.std.specs.Prelude.{◌≡◌, ℕ, IfOk, IfErr};
 ghost use Rattle.file_checker.specs.Sound.{IsSound};
-ghost use Rattle.file_listing.specs.Listing.{Ends};
+ghost use Rattle.file_listing.specs.Listing.{Ends, EndsIn};
 
 use crate::file_bytes::FileBytes;
 use file_checker::{CheckFault, Reason, Verdict, check_file};
 use io_state::FileName;
+use record_forms::Form;
 use record_listing::{Asked, ListEnd, ListFault, list_records};
 use shelf_library::ShelfLibrary;
 use std::alloc::Global;
@@ -34,15 +35,16 @@ fn list_sound<W: Write>(
     alloc: Global,
     bytes: Vec<u8>,
     asked: Asked,
+    form: &Form,
     out: &mut W,
 ) -> Result<FileList, ListFault>
     requires sound { (records : ℕ) × (pages : ℕ) × IsSound bytes.items records pages }
-    ensures ends { Ends bytes.items asked (W.contents out.old) (W.contents out.new) result }
+    ensures ends { EndsIn form.now bytes.items asked (W.contents out.old) (W.contents out.new) result }
 {
     let shelf = FileBytes::new(alloc, bytes);
     let frames = NonZeroUsize::new(FRAMES).unwrap_or(NonZeroUsize::MIN);
     let mut library = ShelfLibrary::new(alloc, shelf, PAGES, frames);
-    match list_records(alloc, &mut library, FileName::new(), asked, out) {
+    match list_records(alloc, &mut library, FileName::new(), asked, form, out) {
         Ok(ListEnd::Listed) => Ok(FileList::Listed),
         Ok(ListEnd::NoKey) => Ok(FileList::NoKey),
         Ok(ListEnd::Absent | ListEnd::Unsound | ListEnd::Damaged) => unreachable!(),
@@ -50,9 +52,27 @@ fn list_sound<W: Write>(
     }
 }
 
-/// Writes the lines of the records that are asked for of the file that has these bytes, once a check has found them sound.
+/// Writes the lines of the records that are asked for of the file that has these bytes, in a form, once a check has found them sound.
 ///
-/// `Output`: the writer refused a line; a part of the lines may have been written. `Memory`: the same, or nothing was written. `Input` never comes of bytes that are there.
+/// `Output`: the writer refused a line; a front of the list may have been written. `Memory`: the same, or nothing was written. `Input` never comes of bytes that are there.
+pub fn list_file_as<W: Write>(
+    alloc: Global,
+    bytes: Vec<u8>,
+    asked: Asked,
+    form: &Form,
+    out: &mut W,
+) -> Result<FileList, ListFault>
+    ensures ends { EndsIn form.now bytes.items asked (W.contents out.old) (W.contents out.new) result }
+{
+    match check_file(alloc, &mut bytes.as_slice()) {
+        Ok(Verdict::Sound { .. }) => list_sound(alloc, bytes, asked, form, out),
+        Ok(Verdict::Unsound(reason)) => Ok(FileList::Unsound(reason)),
+        Err(CheckFault::Input) => Err(ListFault::Input),
+        Err(CheckFault::Memory) => Err(ListFault::Memory),
+    }
+}
+
+/// Writes the lines of the records that are asked for of the file that has these bytes, as text, once a check has found them sound. It is `list_file_as` with `Form::Text`.
 pub fn list_file<W: Write>(
     alloc: Global,
     bytes: Vec<u8>,
@@ -61,10 +81,5 @@ pub fn list_file<W: Write>(
 ) -> Result<FileList, ListFault>
     ensures ends { Ends bytes.items asked (W.contents out.old) (W.contents out.new) result }
 {
-    match check_file(alloc, &mut bytes.as_slice()) {
-        Ok(Verdict::Sound { .. }) => list_sound(alloc, bytes, asked, out),
-        Ok(Verdict::Unsound(reason)) => Ok(FileList::Unsound(reason)),
-        Err(CheckFault::Input) => Err(ListFault::Input),
-        Err(CheckFault::Memory) => Err(ListFault::Memory),
-    }
+    list_file_as(alloc, bytes, asked, &Form::Text, out)
 }

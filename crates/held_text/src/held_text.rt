@@ -1,7 +1,7 @@
 //! The text that is on its way to a writer.
-ghost use Rattle.std.specs.Prelude.{◌≡◌, ◌<◌, ◌≤◌, [], length, true, false, IfOk, OnOk, OnErr};
+ghost use Rattle.std.specs.Prelude.{◌≡◌, ◌<◌, ◌≤◌, [], ◌++◌, length, true, false, IfOk, OnOk, OnErr};
 ghost use Rattle.std.specs.Io.KnownBytes.{Appends};
-ghost use Rattle.held_text.specs.Output.{AppendsFront, Adds};
+ghost use Rattle.held_text.specs.Output.{AppendsFront, Adds, Holds};
 
 use crate::output::{Refused, write_text};
 use std::alloc::{AllocError, Global};
@@ -66,5 +66,20 @@ impl HeldText {
         }
         let _ = self.text.extend_from_slice(text);
         Ok(())
+    }
+
+    /// Holds one more piece of text, of any length. One that is longer than all that can be held is written at once, after what was held. A refusal leaves a proper
+    /// front of both in the writer.
+    pub fn hold<W: Write>(&mut self, text: &[u8], out: &mut W) -> Result<(), Refused>
+        ensures held { OnOk result (Holds (W.contents out.old) (W.contents out.new) self.old self.new text.now) }
+        ensures refused { OnErr result (AppendsFront (W.contents out.old) (W.contents out.new) (self.old ++ text.now)) }
+    {
+        if text.len() <= HELD_LIMIT {
+            return self.add(text, out);
+        }
+        match self.hand_over(out) {
+            Ok(()) => write_text(out, text),
+            Err(refused) => Err(refused),
+        }
     }
 }

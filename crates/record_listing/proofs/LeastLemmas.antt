@@ -1,5 +1,5 @@
 -- The row of least rank among those that pass a test.
-use Rattle.std.proofs.Common.{◌≡◌, ◌⊎◌, inl, inr, ℕ, Bool, true, false, List, [], ◌∷◌, filter, Option, Some, None, refl, sym, subst, ◌∙◌}
+use Rattle.std.proofs.Common.{◌≡◌, inl, inr, ℕ, Bool, true, false, List, [], ◌∷◌, filter, Option, Some, None, refl, sym, subst}
 use Rattle.std.specs.Ordering.{is_lt}
 use Rattle.page_bytes.specs.Each.{Each}
 use Rattle.record_layout.specs.Schema.{Schema}

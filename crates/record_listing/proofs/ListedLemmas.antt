@@ -1,26 +1,26 @@
 -- The rows that READ NEXT gives, one after another, are those that are asked for.
-use Rattle.std.proofs.Common.{◌≡◌, ◌⊎◌, inl, inr, ◌≤◌, ◌<◌, ℕ, zero, suc, ◌+◌, Bool, true, false, not, ◌&&◌, List, [], ◌∷◌, length, take, drop, Option, Some, None, option_map, refl, sym, ap, subst, ◌∙◌, add-one, arith}
+use Rattle.std.proofs.Common.{◌≡◌, ◌⊎◌, inl, inr, ◌≤◌, ◌<◌, ℕ, zero, suc, Bool, true, false, not, List, [], ◌∷◌, length, take, drop, Option, Some, None, option_map, refl, sym, ap, subst, ◌∙◌, add-one, arith}
 use Rattle.std.specs.Prelude.{IsTrue}
-use Rattle.std.specs.Ordering.{is_lt, is_gt, is_ge}
+use Rattle.std.specs.Ordering.{is_lt}
 use Rattle.std.proofs.lemmas.Bool.{and_parts, and_from}
 use Rattle.arrayvec.specs.ArrayVec.{ArrayVec}
 use Rattle.page_bytes.specs.Each.{Each}
 use Rattle.io_state.specs.declared.position.Position.{Position}
-use Rattle.io_state.specs.declared.position.Position.TheVariants.{From, After}
+use Rattle.io_state.specs.declared.position.Position.TheVariants.{From}
 use Rattle.io_state.specs.declared.modes.Relation.TheVariants.{NotLess}
 use Rattle.record_layout.specs.Schema.{Schema, value_of}
 use Rattle.std.proofs.Math.Seq.{take-append_seam}
 use Rattle.indexed_file.specs.declared.answer.Found.{Found}
 use Rattle.indexed_file.specs.Answers.{found_of, area_after}
-use Rattle.indexed_file.specs.File.{Row, File, stamp_of}
-use Rattle.indexed_file.specs.Rank.{row_cmp, value_cmp, least, admits, satisfies}
+use Rattle.indexed_file.specs.File.{Row, File}
+use Rattle.indexed_file.specs.Rank.{row_cmp, least, admits, satisfies}
 use Rattle.indexed_file.specs.Sound.{is_file}
 use Rattle.indexed_file.proofs.TestLemmas.{either}
 use Rattle.record_listing.specs.declared.asked.Asked.{Asked}
 use Rattle.record_listing.specs.Listed.{is_past, is_within, IsOf, ComesBefore, Rise, AreListed}
 use Rattle.record_listing.specs.Reading.{behind, rows_from, rows_asked, ComesNext}
-use Rattle.record_listing.proofs.RankLemmas.{row_total, not_below, not_back, gt_back, admits_up, past_up, front_from, differ}
-use Rattle.record_listing.proofs.LeastLemmas.{each_of, each_weaker, IsLeast, least_is, none_passes}
+use Rattle.record_listing.proofs.RankLemmas.{row_total, gt_back, admits_up, past_up, front_from, differ}
+use Rattle.record_listing.proofs.LeastLemmas.{each_weaker, least_is, none_passes}
 use Rattle.record_listing.proofs.ApartLemmas.{one_row}
 
 -- ---- one step

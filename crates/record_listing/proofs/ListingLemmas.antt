@@ -1,37 +1,31 @@
 -- How a list ends.
-use Rattle.std.proofs.Common.{◌≡◌, ◌⊎◌, inl, inr, ◌≤◌, ◌<◌, ℕ, Bool, true, false, List, [], ◌∷◌, ◌++◌, length, map, Option, Some, None, Result, Ok, Err, refl, sym, ap, subst, ◌∙◌, append-nil}
-use Rattle.std.specs.Prelude.{IsTrue, IsFalse, IfErr}
-use Rattle.std.specs.Io.KnownBytes.{Appends}
+use Rattle.std.proofs.Common.{◌≡◌, inl, inr, ◌<◌, ℕ, true, false, List, [], length, Option, Result, Ok, Err, refl, sym, ap, ◌∙◌, append-nil}
+use Rattle.std.specs.Prelude.{IsTrue, IfErr}
 use Rattle.io_state.specs.declared.fault.Fault.{Fault}
 use Rattle.io_state.specs.declared.fault.Fault.TheVariants.{Device, Memory as NoMemory, Full, Damage, Broken}
 use Rattle.record_layout.specs.Schema.{Schema}
-use Rattle.indexed_file.specs.declared.answer.Seen.{Seen}
 use Rattle.indexed_file.specs.declared.answer.Seen.TheVariants.{Sound, Absent as SeenAbsent, Unsound as SeenUnsound}
-use Rattle.indexed_file.specs.File.{Row, File}
+use Rattle.indexed_file.specs.File.{File}
 use Rattle.indexed_file.specs.Sound.{is_file}
-use Rattle.indexed_file.specs.World.{World, Named, Absent as NoFile, Closed, Unsound as Refused, name_at, holding_at, is_broken}
+use Rattle.indexed_file.specs.World.{Named, Absent as NoFile, Closed, Unsound as Refused, name_at, holding_at, is_broken}
 use Rattle.indexed_file.specs.Answers.{seen_of}
 use Rattle.indexed_file.specs.Calls.{Keeps, MayAnswer, MayAnswerShut}
 use Rattle.indexed_file.specs.Shown.{Shown}
 use Rattle.record_listing.specs.declared.asked.Asked.{Asked}
-use Rattle.record_listing.specs.declared.end.ListEnd.{ListEnd}
-use Rattle.record_listing.specs.declared.end.ListEnd.TheVariants.{Listed, Absent, Unsound, NoKey, Damaged}
-use Rattle.record_listing.specs.declared.end.ListFault.{ListFault}
-use Rattle.record_listing.specs.declared.end.ListFault.TheVariants.{Input, Output, Memory}
 use Rattle.record_listing.specs.declared.rows.Stop.{Stop}
 use Rattle.record_listing.specs.declared.rows.Stop.TheVariants.{Library as GaveUp, Output as NotTaken}
-use Rattle.record_listing.specs.Lines.{lines_of}
-use Rattle.record_listing.specs.Listed.{AreListed}
+use Rattle.record_forms.specs.declared.form.Form.{Form}
+use Rattle.record_listing.specs.Lines.{list_of}
 use Rattle.record_listing.specs.Reading.{IsWritten, IsWrittenInPart, MayStop, Reads, rows_asked}
 use Rattle.record_listing.specs.Listing.{end_by, end_of, WritesFront, BreaksOff, Ends, TellsWhy}
 use Rattle.record_listing.proofs.ListedLemmas.{are_listed}
 use Rattle.record_listing.proofs.WorldLemmas.{fault_later, fault_before, unbroken_fault}
 
 -- nothing was written
-pub broken_off : (asked : Asked) (named : Named) (a : Option (List ℕ)) → BreaksOff asked named a a
-broken_off asked NoFile a = refl
-broken_off asked Refused a = refl
-broken_off asked (Closed schema file) a = inl refl
+pub broken_off : (form : Form) (asked : Asked) (named : Named) (a : Option (List ℕ)) → BreaksOff form asked named a a
+broken_off form asked NoFile a = refl
+broken_off form asked Refused a = refl
+broken_off form asked (Closed schema file) a = inl refl
 
 -- what was found sound is closed
 pub is_closed : (named : Named) (schema : Schema) → Sound schema ≡ seen_of named → (file : File) × (named ≡ Closed schema file)
@@ -81,23 +75,23 @@ module _ {S : Type 0} (shown : Shown S) (a c : S) where
 
   module _ (honest : IsTrue (shown.is_honest c)) (truly : shown.IsShownTruly a (name_at (shown.world a) 0)) where
     -- a call that gave up breaks the list off
-    pub ends_by : (asked : Asked) (named : Named) (before behind : Option (List ℕ)) (fault : Fault) → MayAnswerShut shown 0 a c fault → BreaksOff asked named before behind → Ends asked named before behind (end_by fault)
-    ends_by asked named before behind Device may off = off
-    ends_by asked named before behind NoMemory may off = off
-    ends_by asked named before behind Full may off = off
-    ends_by asked named before behind Damage may off = absurd (may.1 honest truly)
-    ends_by asked named before behind Broken may off = off
+    pub ends_by : (form : Form) (asked : Asked) (named : Named) (before behind : Option (List ℕ)) (fault : Fault) → MayAnswerShut shown 0 a c fault → BreaksOff form asked named before behind → Ends form asked named before behind (end_by fault)
+    ends_by form asked named before behind Device may off = off
+    ends_by form asked named before behind NoMemory may off = off
+    ends_by form asked named before behind Full may off = off
+    ends_by form asked named before behind Damage may off = absurd (may.1 honest truly)
+    ends_by form asked named before behind Broken may off = off
 
-    in_front : (schema : Schema) (file : File) (asked : Asked) (before behind : Option (List ℕ)) → asked.key < length schema.keys → is_file schema file ≡ true
-        → IsWrittenInPart (lines_of (rows_asked schema file asked)) before behind → WritesFront schema file asked before behind
-    in_front schema file asked before behind lt sound part =
+    in_front : (form : Form) (schema : Schema) (file : File) (asked : Asked) (before behind : Option (List ℕ)) → asked.key < length schema.keys → is_file schema file ≡ true
+        → IsWrittenInPart (list_of form (rows_asked schema file asked)) before behind → WritesFront form schema file asked before behind
+    in_front form schema file asked before behind lt sound part =
         record { rows = rows_asked schema file asked; listed = are_listed schema file asked lt sound; front = part.front; rest = part.rest; text = part.text_is; written = part.appends }
 
-    pub ends : (schema : Schema) (file : File) (asked : Asked) (before behind : Option (List ℕ)) (written : Result Unit Stop) (shut : Result Unit Fault) → asked.key < length schema.keys → is_file schema file ≡ true
-        → IsWritten (rows_asked schema file asked) before behind written → IfErr written (MayStop shown a c) → IfErr shut (MayAnswerShut shown 0 a c) → Ends asked (Closed schema file) before behind (end_of written shut)
-    ends schema file asked before behind (Ok done) (Ok closed) lt sound appends may also = record { key = lt; rows = rows_asked schema file asked; listed = are_listed schema file asked lt sound; written = appends }
-    ends schema file asked before behind (Ok done) (Err fault) lt sound appends may also =
-        ends_by asked (Closed schema file) before behind fault also
-        (inr (in_front schema file asked before behind lt sound (record { front = lines_of (rows_asked schema file asked); rest = []; text_is = sym (append-nil (lines_of (rows_asked schema file asked))); appends = appends })))
-    ends schema file asked before behind (Err (GaveUp fault)) shut lt sound part may also = ends_by asked (Closed schema file) before behind fault may (inr (in_front schema file asked before behind lt sound part))
-    ends schema file asked before behind (Err NotTaken) shut lt sound part may also = inr (in_front schema file asked before behind lt sound part)
+    pub ends : (form : Form) (schema : Schema) (file : File) (asked : Asked) (before behind : Option (List ℕ)) (written : Result Unit Stop) (shut : Result Unit Fault) → asked.key < length schema.keys → is_file schema file ≡ true
+        → IsWritten (list_of form (rows_asked schema file asked)) before behind written → IfErr written (MayStop shown a c) → IfErr shut (MayAnswerShut shown 0 a c) → Ends form asked (Closed schema file) before behind (end_of written shut)
+    ends form schema file asked before behind (Ok done) (Ok closed) lt sound appends may also = record { key = lt; rows = rows_asked schema file asked; listed = are_listed schema file asked lt sound; written = appends }
+    ends form schema file asked before behind (Ok done) (Err fault) lt sound appends may also =
+        ends_by form asked (Closed schema file) before behind fault also
+        (inr (in_front form schema file asked before behind lt sound (record { front = list_of form (rows_asked schema file asked); rest = []; text_is = sym (append-nil (list_of form (rows_asked schema file asked))); appends = appends })))
+    ends form schema file asked before behind (Err (GaveUp fault)) shut lt sound part may also = ends_by form asked (Closed schema file) before behind fault may (inr (in_front form schema file asked before behind lt sound part))
+    ends form schema file asked before behind (Err NotTaken) shut lt sound part may also = inr (in_front form schema file asked before behind lt sound part)

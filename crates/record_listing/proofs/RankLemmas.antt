@@ -1,10 +1,9 @@
 -- The order of rows, and what is so of each row behind one.
-use Rattle.std.proofs.Common.{◌≡◌, ℕ, zero, suc, Bool, true, false, not, List, [], ◌∷◌, length, take, refl, ap, sym, subst, ◌∙◌, Option, Some, None}
+use Rattle.std.proofs.Common.{◌≡◌, ℕ, zero, suc, Bool, true, false, List, [], ◌∷◌, length, take, refl, ap, sym, ◌∙◌, Option, Some, None}
 use Rattle.std.specs.Ordering.{is_lt, is_gt, is_ge, nat_cmp, ordering_then, ordering_reverse}
 use Rattle.std.specs.declared.cmp.Ordering.{Ordering}
 use Rattle.std.specs.declared.cmp.Ordering.TheVariants.{Less, Equal, Greater}
 use Rattle.std.specs.Cmp.{IsTotalOrder}
-use Rattle.std.specs.Cmp.Lexicographic.{slice_cmp}
 use Rattle.std.proofs.lemmas.Cmp.{nat_list_cmp_total, nat_cmp_total, on_total, then_total}
 use Rattle.arrayvec.specs.ArrayVec.{ArrayVec}
 use Rattle.io_state.specs.declared.position.Position.{Position}

@@ -1,5 +1,5 @@
 -- One record more.
-use Rattle.std.proofs.Common.{◌≡◌, ◌≤◌, ◌<◌, ℕ, ◌+◌, ◌-◌, List, [], ◌∷◌, length, take, Option, Some, sym, ap, subst, ◌∙◌, arith}
+use Rattle.std.proofs.Common.{◌≡◌, ◌≤◌, ◌<◌, ℕ, ◌+◌, ◌-◌, List, [], ◌∷◌, ◌++◌, length, take, Option, Some, Err, sym, ap, subst, ◌∙◌, arith}
 use Rattle.std.specs.Prelude.{IsTrue}
 use Rattle.arrayvec.specs.ArrayVec.{ArrayVec}
 use Rattle.io_state.specs.declared.position.Position.{Position}
@@ -10,11 +10,15 @@ use Rattle.indexed_file.specs.File.{Row, File}
 use Rattle.indexed_file.specs.World.{World, name_at, schema_at, file_at}
 use Rattle.indexed_file.specs.Believed.{Believed}
 use Rattle.indexed_file.specs.Shown.{Shown}
-use Rattle.record_listing.specs.Lines.{line_of}
-use Rattle.held_text.specs.Output.{AppendsFront, Adds}
-use Rattle.record_listing.specs.Reading.{Reads, rows_from, GoesOn, ComesNext, IsOnItsWay}
+use Rattle.record_forms.specs.declared.form.Form.{Form}
+use Rattle.record_forms.specs.Lines.{line_in}
+use Rattle.record_listing.specs.Lines.{lines_of}
+use Rattle.held_text.specs.Output.{AppendsFront, Holds}
+use Rattle.record_listing.specs.Reading.{Reads, rows_from, GoesOn, ComesNext, IsOnItsWay, IsWrittenInPart, HoldsLine, ComesOut}
+use Rattle.record_listing.specs.declared.rows.Stop.{Stop}
+use Rattle.record_listing.specs.declared.rows.Stop.TheVariants.{Library as GaveUp, Output as NotTaken}
 use Rattle.record_listing.proofs.ListedLemmas.{no_more}
-use Rattle.record_listing.proofs.ReadingLemmas.{one_more}
+use Rattle.record_listing.proofs.ReadingLemmas.{one_more, refused_line}
 use Rattle.record_listing.proofs.WorldLemmas.{still_true}
 
 -- how the rows go on in the file as it was at first
@@ -28,22 +32,36 @@ goes_on shown a b c k to position area o found some first next honest truly is g
     subst (λ (w : World). ComesNext (schema_at w 0) (file_at w 0) k to position area found) (first.world.same before)
     (subst (GoesOn (schema_at (shown.world b) 0) (file_at (shown.world b) 0) k to position area) is (goes honest true_then))
 
-module _ (rows : List Row) (schema : Schema) (file : File) (k : ℕ) (to : Option (ArrayVec ℕ)) (n : ℕ) (position : Position) (area : List ℕ) (found : Found)
-    (next : ComesNext schema file k to position area found) (some : 0 < n) (a b c : Option (List ℕ)) (held : List ℕ) (way : IsOnItsWay rows (rows_from schema file k to n position) a b held) where
+module _ (form : Form) (rows : List Row) (schema : Schema) (file : File) (k : ℕ) (to : Option (ArrayVec ℕ)) (n : ℕ) (position : Position) (area : List ℕ) (found : Found)
+    (next : ComesNext schema file k to position area found) (some : 0 < n) (a b c : Option (List ℕ)) (held : List ℕ) (way : IsOnItsWay form rows (rows_from schema file k to n position) a b held) where
   -- the next row is the first of those that are still to come
-  pub way_on : IsOnItsWay rows (next.row ∷ rows_from schema file k to (n - 1) (After found.key found.stamp)) a b held
+  pub way_on : IsOnItsWay form rows (next.row ∷ rows_from schema file k to (n - 1) (After found.key found.stamp)) a b held
   way_on =
       let e : n ≡ (n - 1) + 1 = omega (arith, some) in
-      subst (λ (rest : List Row). IsOnItsWay rows rest a b held) (ap (λ (m : ℕ). rows_from schema file k to m position) e ∙ next.rows (n - 1)) way
+      subst (λ (rest : List Row). IsOnItsWay form rows rest a b held) (ap (λ (m : ℕ). rows_from schema file k to m position) e ∙ next.rows (n - 1)) way
 
   -- its line is on its way too
-  pub step : (now : List ℕ) → Adds b c held now (line_of (take found.length area)) → IsOnItsWay rows (rows_from schema file k to (n - 1) (After found.key found.stamp)) a c now
+  pub step : (now : List ℕ) → Holds b c held now (line_in form (take found.length area)) → IsOnItsWay form rows (rows_from schema file k to (n - 1) (After found.key found.stamp)) a c now
   step now added =
-      one_more rows (rows_from schema file k to (n - 1) (After found.key found.stamp)) next.row a b c held now way_on (subst (λ (bytes : List ℕ). Adds b c held now (line_of bytes)) next.bytes added)
+      one_more form rows (rows_from schema file k to (n - 1) (After found.key found.stamp)) next.row a b c held now way_on (subst (λ (bytes : List ℕ). Holds b c held now (line_in form bytes)) next.bytes added)
+
+  -- the writer refused it, or what was held before
+  pub step_refused : AppendsFront b c (held ++ line_in form (take found.length area)) → IsWrittenInPart (lines_of form rows) a c
+  step_refused front =
+      refused_line form rows (rows_from schema file k to (n - 1) (After found.key found.stamp)) next.row a b c held way_on (subst (λ (bytes : List ℕ). AppendsFront b c (held ++ line_in form bytes)) next.bytes front)
+
+  -- it is not held, or refused
+  pub step_stopped : (now : List ℕ) (stop : Stop) → HoldsLine b c held now (line_in form (take found.length area)) (Err stop) → ComesOut form rows a c now (Err stop)
+  step_stopped now (GaveUp fault) (want, same, kept) = (
+    rows_from schema file k to n position,
+    subst (λ (h : List ℕ). IsOnItsWay form rows (rows_from schema file k to n position) a c h) (sym kept)
+        (subst (λ (o : Option (List ℕ)). IsOnItsWay form rows (rows_from schema file k to n position) a o held) (sym same) way),
+  )
+  step_stopped now NotTaken front = step_refused front
 
 -- as many are done as are asked for
-pub all_done : (rows : List Row) (schema : Schema) (file : File) (k : ℕ) (to : Option (ArrayVec ℕ)) (n : ℕ) (position : Position) (a b : Option (List ℕ)) (held : List ℕ) → n ≤ 0
-    → IsOnItsWay rows (rows_from schema file k to n position) a b held → IsOnItsWay rows [] a b held
-all_done rows schema file k to n position a b held none way =
+pub all_done : (form : Form) (rows : List Row) (schema : Schema) (file : File) (k : ℕ) (to : Option (ArrayVec ℕ)) (n : ℕ) (position : Position) (a b : Option (List ℕ)) (held : List ℕ) → n ≤ 0
+    → IsOnItsWay form rows (rows_from schema file k to n position) a b held → IsOnItsWay form rows [] a b held
+all_done form rows schema file k to n position a b held none way =
     let e : n ≡ 0 = omega (arith, none) in
-    subst (λ (rest : List Row). IsOnItsWay rows rest a b held) (ap (λ (m : ℕ). rows_from schema file k to m position) e ∙ no_more schema file k to position) way
+    subst (λ (rest : List Row). IsOnItsWay form rows rest a b held) (ap (λ (m : ℕ). rows_from schema file k to m position) e ∙ no_more schema file k to position) way

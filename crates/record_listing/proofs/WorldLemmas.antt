@@ -1,14 +1,13 @@
 -- What calls on unit 0 leave.
-use Rattle.std.proofs.Common.{◌≡◌, ◌⊎◌, inl, inr, ◌≤◌, ◌<◌, ℕ, ◌+◌, ◌-◌, ◌^◌, Bool, true, false, List, [], ◌∷◌, length, slice_set, slice_index_or, Result, Ok, Err, refl, sym, ap, subst, ◌∙◌, arith}
-use Rattle.std.specs.Prelude.{IsTrue, IsFalse, IfErr, bytes_eq, if◌then◌else◌, unwrap_or}
+use Rattle.std.proofs.Common.{◌≡◌, inl, inr, ◌≤◌, ◌<◌, ℕ, Bool, true, false, List, [], ◌∷◌, length, slice_set, slice_index_or, refl, sym, ap, subst, ◌∙◌, arith}
+use Rattle.std.specs.Prelude.{IsTrue, unwrap_or}
 use Rattle.io_state.specs.declared.fault.Fault.{Fault}
 use Rattle.io_state.specs.declared.fault.Fault.TheVariants.{Device, Memory, Full, Damage, Broken as BrokenUnit}
-use Rattle.record_layout.specs.Schema.{Schema}
-use Rattle.indexed_file.specs.File.{File, empty_file}
+use Rattle.indexed_file.specs.File.{empty_file}
 use Rattle.indexed_file.specs.Sound.{is_file}
-use Rattle.indexed_file.specs.SoundWorld.{is_sound_holding, ShowsFiles}
-use Rattle.indexed_file.specs.World.{World, FileUnit, Named, Absent, Closed, Unsound, Holding, Shut, Looked, Opened, Broken, name_in, named_in, unit_at, name_at, named_at, holding_at, schema_at, file_at, schema_in, file_in, with_unit, OnlyAt, is_open, is_broken}
-use Rattle.indexed_file.specs.Calls.{Keeps, OnlyReads, SameState, HasRisen, MayFail, MayAnswerShut}
+use Rattle.indexed_file.specs.SoundWorld.{is_sound_holding}
+use Rattle.indexed_file.specs.World.{World, FileUnit, Named, Absent, Holding, Shut, Looked, Opened, Broken, name_in, named_in, name_at, named_at, holding_at, schema_in, file_in, with_unit, OnlyAt, is_open}
+use Rattle.indexed_file.specs.Calls.{Keeps, HasRisen, MayFail, MayAnswerShut}
 use Rattle.indexed_file.specs.Shown.{Shown}
 use Rattle.verbs.proofs.WorldLemmas.{only_twice, attached_after, name_after}
 use Rattle.record_listing.specs.Reading.{Reads}

@@ -1,12 +1,17 @@
--- The line of a record. Its form is ours: brackets and escapes are those of the transcript.
-use Rattle.std.specs.Prelude.{ℕ, List, [], ◌∷◌, ◌++◌, flat_map}
+-- The list of rows: a line for each, in the form that is asked for.
+use Rattle.std.specs.Prelude.{ℕ, List, ◌++◌, flat_map}
 use Rattle.indexed_file.specs.File.{Row}
-use Rattle.deck_runner.specs.Line.{shown_byte}
+use Rattle.record_forms.specs.declared.form.Form.{Form}
+use Rattle.record_forms.specs.Lines.{text_line, line_in, header_in}
 
--- the record in brackets, and LF
+-- the line of a record as text
 abbrev pub line_of : List ℕ → List ℕ
-line_of bytes = 91 ∷ (flat_map shown_byte bytes ++ (93 ∷ 10 ∷ []))
+line_of bytes = text_line bytes
 
 -- the lines of rows
-abbrev pub lines_of : List Row → List ℕ
-lines_of rows = flat_map (λ row. line_of row.bytes) rows
+abbrev pub lines_of : Form → List Row → List ℕ
+lines_of form rows = flat_map (λ row. line_in form row.bytes) rows
+
+-- the whole list
+abbrev pub list_of : Form → List Row → List ℕ
+list_of form rows = header_in form ++ lines_of form rows

@@ -16,7 +16,8 @@ use Rattle.record_listing.specs.declared.end.ListFault.TheVariants.{Input, Outpu
 use Rattle.record_listing.specs.declared.rows.Stop.{Stop}
 use Rattle.record_listing.specs.declared.rows.Stop.TheVariants.{Library as GaveUp, Output as NotTaken}
 use Rattle.record_listing.specs.Listed.{AreListed}
-use Rattle.record_listing.specs.Lines.{lines_of}
+use Rattle.record_forms.specs.declared.form.Form.{Form}
+use Rattle.record_listing.specs.Lines.{list_of}
 
 -- what a fault of the library makes of a list
 abbrev pub end_by : Fault → Result ListEnd ListFault
@@ -33,39 +34,39 @@ end_of (Ok _) (Err fault) = end_by fault
 end_of (Err (GaveUp fault)) shut = end_by fault
 end_of (Err NotTaken) shut = Err Output
 
--- the lines of the rows of a file that are asked for were written
-pub record WritesLines (schema : Schema) (file : File) (asked : Asked) (before behind : Option (List ℕ)) : Type 0 where
+-- the list of the rows of a file that are asked for was written
+pub record WritesLines (form : Form) (schema : Schema) (file : File) (asked : Asked) (before behind : Option (List ℕ)) : Type 0 where
   pub key : asked.key < length schema.keys
   pub rows : List Row
   pub listed : AreListed schema file asked rows
-  pub written : Appends before behind (lines_of rows)
+  pub written : Appends before behind (list_of form rows)
 
--- a front of them was written, which may be empty
-pub record WritesFront (schema : Schema) (file : File) (asked : Asked) (before behind : Option (List ℕ)) : Type 0 where
+-- a front of it was written, which may be empty
+pub record WritesFront (form : Form) (schema : Schema) (file : File) (asked : Asked) (before behind : Option (List ℕ)) : Type 0 where
   pub rows : List Row
   pub listed : AreListed schema file asked rows
   pub front : List ℕ
   pub rest : List ℕ
-  pub text : lines_of rows ≡ front ++ rest
+  pub text : list_of form rows ≡ front ++ rest
   pub written : Appends before behind front
 
--- a list of what a name stands for ends so: its lines were written; or nothing was, since there is no file, it is refused, or it does not have the key
-abbrev pub EndsWith : Asked → Named → (before behind : Option (List ℕ)) → ListEnd → Type 0
-EndsWith asked (Closed schema file) before behind Listed = WritesLines schema file asked before behind
-EndsWith asked (Closed schema file) before behind NoKey = (length schema.keys ≤ asked.key) × (behind ≡ before)
-EndsWith asked NoFile before behind Absent = behind ≡ before
-EndsWith asked Refused before behind Unsound = behind ≡ before
-EndsWith asked named before behind end = ⊥
+-- a list of what a name stands for ends so: its list was written; or nothing was, since there is no file, it is refused, or it does not have the key
+abbrev pub EndsWith : Form → Asked → Named → (before behind : Option (List ℕ)) → ListEnd → Type 0
+EndsWith form asked (Closed schema file) before behind Listed = WritesLines form schema file asked before behind
+EndsWith form asked (Closed schema file) before behind NoKey = (length schema.keys ≤ asked.key) × (behind ≡ before)
+EndsWith form asked NoFile before behind Absent = behind ≡ before
+EndsWith form asked Refused before behind Unsound = behind ≡ before
+EndsWith form asked named before behind end = ⊥
 
--- a list of what a name stands for ends before its end: nothing was written, or a front of the lines of the file
-abbrev pub BreaksOff : Asked → Named → (before behind : Option (List ℕ)) → Type 0
-BreaksOff asked NoFile before behind = behind ≡ before
-BreaksOff asked Refused before behind = behind ≡ before
-BreaksOff asked (Closed schema file) before behind = (behind ≡ before) ⊎ WritesFront schema file asked before behind
+-- a list of what a name stands for ends before its end: nothing was written, or a front of the list of the file
+abbrev pub BreaksOff : Form → Asked → Named → (before behind : Option (List ℕ)) → Type 0
+BreaksOff form asked NoFile before behind = behind ≡ before
+BreaksOff form asked Refused before behind = behind ≡ before
+BreaksOff form asked (Closed schema file) before behind = (behind ≡ before) ⊎ WritesFront form schema file asked before behind
 
-abbrev pub Ends : Asked → Named → (before behind : Option (List ℕ)) → Result ListEnd ListFault → Type 0
-Ends asked named before behind (Ok end) = EndsWith asked named before behind end
-Ends asked named before behind (Err fault) = BreaksOff asked named before behind
+abbrev pub Ends : Form → Asked → Named → (before behind : Option (List ℕ)) → Result ListEnd ListFault → Type 0
+Ends form asked named before behind (Ok end) = EndsWith form asked named before behind end
+Ends form asked named before behind (Err fault) = BreaksOff form asked named before behind
 
 -- why a list ends so: the device failed where the file could not be read; and a page is not what its place requires only where the library lies
 abbrev pub TellsWhy : {S : Type 0} → Shown S → List ℕ → (old new : S) → Result ListEnd ListFault → Type 0

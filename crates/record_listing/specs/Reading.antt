@@ -1,9 +1,9 @@
 -- The rows of an open file, one after another, and the text on its way to the writer.
-use Rattle.std.specs.Prelude.{◌≡◌, ℕ, zero, suc, ◌+◌, Bool, List, [], ◌∷◌, ◌++◌, take, length, Option, Some, None, Result, Ok, Err, if◌then◌else◌}
+use Rattle.std.specs.Prelude.{◌≡◌, ℕ, zero, suc, ◌+◌, List, [], ◌∷◌, ◌++◌, take, Option, Some, None, Result, Ok, Err, if◌then◌else◌}
 use Rattle.std.specs.Option.{option_map_or}
 use Rattle.std.specs.Io.KnownBytes.{Appends}
 use Rattle.arrayvec.specs.ArrayVec.{ArrayVec}
-use Rattle.io_state.specs.declared.fault.Fault.{Fault}
+use Rattle.io_state.specs.declared.fault.Fault.TheVariants.{Memory}
 use Rattle.io_state.specs.declared.position.Position.{Position}
 use Rattle.io_state.specs.declared.position.Position.TheVariants.{From, After}
 use Rattle.record_layout.specs.Schema.{Schema, value_of}
@@ -17,6 +17,8 @@ use Rattle.record_listing.specs.declared.asked.Asked.{Asked}
 use Rattle.record_listing.specs.declared.rows.Stop.{Stop}
 use Rattle.record_listing.specs.declared.rows.Stop.TheVariants.{Library as GaveUp, Output as NotTaken}
 use Rattle.record_listing.specs.Listed.{is_past}
+use Rattle.record_forms.specs.declared.form.Form.{Form}
+use Rattle.held_text.specs.Output.{AppendsFront, Holds}
 use Rattle.record_listing.specs.Lines.{lines_of}
 
 -- unit 0 was only read
@@ -51,11 +53,11 @@ GoesOn schema file k to position area None = (n : ℕ) → rows_from schema file
 GoesOn schema file k to position area (Some found) = ComesNext schema file k to position area found
 
 -- of the lines of these rows all are on their way but those of the rest: the writer took some bytes, and the others are held
-pub record IsOnItsWay (rows rest : List Row) (before now : Option (List ℕ)) (held : List ℕ) : Type 0 where
+pub record IsOnItsWay (form : Form) (rows rest : List Row) (before now : Option (List ℕ)) (held : List ℕ) : Type 0 where
   pub done : List Row
   pub taken : List ℕ
   pub rows_are : rows ≡ done ++ rest
-  pub text : lines_of done ≡ taken ++ held
+  pub text : lines_of form done ≡ taken ++ held
   pub appends : Appends before now taken
 
 -- a front of the text was written
@@ -66,15 +68,21 @@ pub record IsWrittenInPart (text : List ℕ) (before now : Option (List ℕ)) : 
   pub appends : Appends before now front
 
 -- the lines of these rows are on their way, or only the first of them; or the writer refused one
-abbrev pub ComesOut : List Row → (before now : Option (List ℕ)) → (held : List ℕ) → Result Unit Stop → Type 0
-ComesOut rows before now held (Ok _) = IsOnItsWay rows [] before now held
-ComesOut rows before now held (Err (GaveUp fault)) = (rest : List Row) × IsOnItsWay rows rest before now held
-ComesOut rows before now held (Err NotTaken) = IsWrittenInPart (lines_of rows) before now
+abbrev pub ComesOut : Form → List Row → (before now : Option (List ℕ)) → (held : List ℕ) → Result Unit Stop → Type 0
+ComesOut form rows before now held (Ok _) = IsOnItsWay form rows [] before now held
+ComesOut form rows before now held (Err (GaveUp fault)) = (rest : List Row) × IsOnItsWay form rows rest before now held
+ComesOut form rows before now held (Err NotTaken) = IsWrittenInPart (lines_of form rows) before now
 
--- the lines of these rows were written, or a front of them
-abbrev pub IsWritten : List Row → (before now : Option (List ℕ)) → Result Unit Stop → Type 0
-IsWritten rows before now (Ok _) = Appends before now (lines_of rows)
-IsWritten rows before now (Err stop) = IsWrittenInPart (lines_of rows) before now
+-- the text was written, or a front of it
+abbrev pub IsWritten : List ℕ → (before now : Option (List ℕ)) → Result Unit Stop → Type 0
+IsWritten text before now (Ok _) = Appends before now text
+IsWritten text before now (Err stop) = IsWrittenInPart text before now
+
+-- the line of a record is held; or there is no memory for it, and what was held and written is as it was; or the writer refused it or what was held
+abbrev pub HoldsLine : (before now : Option (List ℕ)) → (held held_after line : List ℕ) → Result Unit Stop → Type 0
+HoldsLine before now held held_after line (Ok _) = Holds before now held held_after line
+HoldsLine before now held held_after line (Err (GaveUp fault)) = (fault ≡ Memory) × (now ≡ before) × (held_after ≡ held)
+HoldsLine before now held held_after line (Err NotTaken) = AppendsFront before now (held ++ line)
 
 -- why not all lines are written: a call of the library answered a fault that it may answer; or the writer refused one
 abbrev pub MayStop : {S : Type 0} → Shown S → S → S → Stop → Type 0

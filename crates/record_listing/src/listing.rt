@@ -11,6 +11,7 @@ use crate::end::{ListEnd, ListFault, end_by};
 use crate::rows::{Stop, write_rows};
 use indexed_file::{Library, Seen};
 use io_state::{Fault, FileName};
+use record_forms::Form;
 use record_layout::Schema;
 use std::alloc::Global;
 use std::io::Write;
@@ -34,6 +35,7 @@ fn list_open<L: Library, W: Write>(
     alloc: Global,
     lib: &mut L,
     asked: Asked,
+    form: &Form,
     greatest: u16,
     out: &mut W,
 ) -> Result<ListEnd, ListFault>
@@ -44,11 +46,11 @@ fn list_open<L: Library, W: Write>(
     requires length { greatest ≡ (schema_at (L.shown.world lib.old) 0).greatest }
     requires short { greatest ≤ 4000 }
     ensures ends { Believed L.shown 0 lib.old lib.new (
-        Ends asked (Closed (schema_at (L.shown.world lib.old) 0) (file_at (L.shown.world lib.old) 0)) (W.contents out.old) (W.contents out.new) result) }
+        Ends form.now asked (Closed (schema_at (L.shown.world lib.old) 0) (file_at (L.shown.world lib.old) 0)) (W.contents out.old) (W.contents out.new) result) }
     ensures cause { TellsWhy L.shown (name_at (L.shown.world lib.old) 0) lib.old lib.new result }
     ensures leaves { Leaves L.shown (NamesFile 0 (L.shown.world lib.old) (L.shown.world lib.old)) lib.old lib.new }
 {
-    let written = write_rows(alloc, lib, asked, greatest, out);
+    let written = write_rows(alloc, lib, asked, form, greatest, out);
     let shut = lib.shut(0);
     end_of(written, shut)
 }
@@ -58,6 +60,7 @@ fn list_sound<L: Library, W: Write>(
     alloc: Global,
     lib: &mut L,
     asked: Asked,
+    form: &Form,
     schema: &Schema,
     out: &mut W,
 ) -> Result<ListEnd, ListFault>
@@ -65,7 +68,7 @@ fn list_sound<L: Library, W: Write>(
     requires looked { IsTrue (is_looked (holding_at (L.shown.world lib.old) 0)) }
     requires schema { schema_at (L.shown.world lib.old) 0 ≡ schema.now }
     ensures ends { Believed L.shown 0 lib.old lib.new ((file : File) → named_at (L.shown.world lib.old) 0 ≡ Closed schema.now file
-        → Ends asked (Closed schema.now file) (W.contents out.old) (W.contents out.new) result) }
+        → Ends form.now asked (Closed schema.now file) (W.contents out.old) (W.contents out.new) result) }
     ensures cause { TellsWhy L.shown (name_at (L.shown.world lib.old) 0) lib.old lib.new result }
     ensures leaves { Leaves L.shown ((file : File) × (named_at (L.shown.world lib.old) 0 ≡ Closed schema.now file)) lib.old lib.new }
 {
@@ -73,7 +76,7 @@ fn list_sound<L: Library, W: Write>(
         return Ok(ListEnd::NoKey);
     }
     match lib.open(0) {
-        Ok(()) => list_open(alloc, lib, asked, schema.greatest(), out),
+        Ok(()) => list_open(alloc, lib, asked, form, schema.greatest(), out),
         Err(fault) => end_by(fault),
     }
 }
@@ -83,24 +86,25 @@ fn list_attached<L: Library, W: Write>(
     alloc: Global,
     lib: &mut L,
     asked: Asked,
+    form: &Form,
     out: &mut W,
 ) -> Result<ListEnd, ListFault>
     requires attached { 0 < length (L.shown.world lib.old).units }
     requires closed { IsFalse (is_open (holding_at (L.shown.world lib.old) 0)) }
-    ensures ends { Believed L.shown 0 lib.old lib.new (Ends asked (named_at (L.shown.world lib.old) 0) (W.contents out.old) (W.contents out.new) result) }
+    ensures ends { Believed L.shown 0 lib.old lib.new (Ends form.now asked (named_at (L.shown.world lib.old) 0) (W.contents out.old) (W.contents out.new) result) }
     ensures cause { TellsWhy L.shown (name_at (L.shown.world lib.old) 0) lib.old lib.new result }
     ensures leaves { Leaves L.shown (Unit {0}) lib.old lib.new }
 {
     match lib.look(0) {
         Ok(Seen::Absent) => Ok(ListEnd::Absent),
         Ok(Seen::Unsound) => Ok(ListEnd::Unsound),
-        Ok(Seen::Sound(schema)) => list_sound(alloc, lib, asked, &schema, out),
+        Ok(Seen::Sound(schema)) => list_sound(alloc, lib, asked, form, &schema, out),
         Err(fault) => end_by(fault),
     }
 }
 
-/// Writes the lines of the records of a file that are asked for, in the order of the key, and closes the file. The library has this name attached then, and no
-/// other.
+/// Writes the lines of the records of a file that are asked for in a form, in the order of the key, and closes the file. The library has this name attached then,
+/// and no other.
 ///
 /// `Input`: the device failed. `Output`: the writer refused a line. `Memory`. A part of the lines may have been written then, from the first one on.
 pub fn list_records<L: Library, W: Write>(
@@ -108,10 +112,11 @@ pub fn list_records<L: Library, W: Write>(
     lib: &mut L,
     name: FileName,
     asked: Asked,
+    form: &Form,
     out: &mut W,
 ) -> Result<ListEnd, ListFault>
     ensures ends { IsTrue (L.shown.is_honest lib.new) → L.shown.IsShownTruly lib.old name.bytes
-        → Ends asked (named_in (L.shown.world lib.old) name.bytes) (W.contents out.old) (W.contents out.new) result }
+        → Ends form.now asked (named_in (L.shown.world lib.old) name.bytes) (W.contents out.old) (W.contents out.new) result }
     ensures named { IsTrue (L.shown.is_honest lib.new) → L.shown.IsShownTruly lib.old name.bytes
         → (other : List ℕ) → named_in (L.shown.world lib.new) other ≡ named_in (L.shown.world lib.old) other }
     ensures closed { OnOk result (IsFalse (is_open (holding_at (L.shown.world lib.new) 0))) }
@@ -119,7 +124,7 @@ pub fn list_records<L: Library, W: Write>(
     ensures keeps { Keeps L.shown lib.old lib.new }
 {
     match lib.attach(&[name]) {
-        Ok(()) => list_attached(alloc, lib, asked, out),
+        Ok(()) => list_attached(alloc, lib, asked, form, out),
         Err(fault) => end_by(fault),
     }
 }

@@ -3,16 +3,17 @@ ghost use Rattle.std.specs.Prelude.{◌≡◌, ◌≤◌, ◌<◌, ◌⊎◌, []
 ghost use Rattle.indexed_file.specs.World.{holding_at, schema_at, file_at, is_open, is_broken};
 ghost use Rattle.indexed_file.specs.File.{Row};
 ghost use Rattle.indexed_file.specs.Believed.{Believed};
-ghost use Rattle.record_listing.specs.Lines.{line_of};
-ghost use Rattle.held_text.specs.Output.{Adds, AppendsFront};
-ghost use Rattle.record_listing.specs.Reading.{Reads, rows_asked, IsWritten, ComesOut, MayStop};
+ghost use Rattle.record_forms.specs.declared.form.Form.{Form};
+ghost use Rattle.record_forms.specs.Lines.{line_in, header_in};
+ghost use Rattle.record_listing.specs.Lines.{lines_of, list_of};
+ghost use Rattle.record_listing.specs.Reading.{Reads, rows_asked, IsWritten, HoldsLine, ComesOut, MayStop};
 
 use crate::asked::Asked;
-use crate::line::{LineText, make_line};
 use crate::next::next_record;
-use held_text::HeldText;
+use held_text::{HeldText, write_text};
 use indexed_file::{Found, Library};
 use io_state::{Fault, Key, Position};
+use record_forms::{Form, append_header, append_line};
 use std::alloc::{AllocError, Global};
 use std::io::Write;
 
@@ -25,21 +26,22 @@ pub enum Stop {
     Output,
 }
 
-/// Holds the line of the record in the first bytes of the area.
+/// Holds the line of the record in the first bytes of the area. It is put together in `line`.
 fn hold_record<W: Write>(
     lines: &mut HeldText,
-    line: &mut LineText,
+    line: &mut Vec<u8>,
+    form: &Form,
     area: &[u8],
     size: u16,
     out: &mut W,
 ) -> Result<(), Stop>
-    requires { length area.now ≤ 4000 }
-    ensures added { OnOk result (Adds (W.contents out.old) (W.contents out.new) lines.old lines.new (line_of (take size area.now))) }
-    ensures refused { OnErr result (AppendsFront (W.contents out.old) (W.contents out.new) lines.old) }
-    ensures output { IfErr result (λ stop. stop ≡ Stop.Output) }
+    ensures { HoldsLine (W.contents out.old) (W.contents out.new) lines.old lines.new (line_in form.now (take size area.now)) result }
 {
-    make_line(line, &area[..usize::from(size).min(area.len())]);
-    match lines.add(line.as_slice(), out) {
+    line.clear();
+    if append_line(line, form, &area[..usize::from(size).min(area.len())]).is_err() {
+        return Err(Stop::Library(Fault::Memory));
+    }
+    match lines.hold(line.as_slice(), out) {
         Ok(()) => Ok(()),
         Err(_) => Err(Stop::Output),
     }
@@ -47,8 +49,10 @@ fn hold_record<W: Write>(
 
 /// Holds the lines of the records that are asked for. Where a call of the library gives up, the first of them are held or written.
 fn hold_rows<L: Library, W: Write>(
+    alloc: Global,
     lib: &mut L,
     asked: Asked,
+    form: &Form,
     area: &mut [u8],
     lines: &mut HeldText,
     out: &mut W,
@@ -61,7 +65,7 @@ fn hold_rows<L: Library, W: Write>(
     requires short { length area.old ≤ 4000 }
     requires empty { lines.old ≡ [] }
     ensures reads { Reads L.shown lib.old lib.new }
-    ensures rows { Believed L.shown 0 lib.old lib.new (ComesOut
+    ensures rows { Believed L.shown 0 lib.old lib.new (ComesOut form.now
         (rows_asked (schema_at (L.shown.world lib.old) 0) (file_at (L.shown.world lib.old) 0) asked)
         (W.contents out.old) (W.contents out.new) lines.new result) }
     ensures cause { IfErr result (MayStop L.shown lib.old lib.new) }
@@ -72,7 +76,7 @@ fn hold_rows<L: Library, W: Write>(
         to,
         first,
     } = asked;
-    let mut line = LineText::new();
+    let mut line = Vec::new(alloc);
     let mut position = Position::From(from);
     let mut left = first;
     'more: while left > 0 {
@@ -81,9 +85,13 @@ fn hold_rows<L: Library, W: Write>(
             Ok(None) => return Ok(()),
             Err(fault) => return Err(Stop::Library(fault)),
         };
-        hold_record(lines, &mut line, area, found.length, out)?;
-        position = Position::After(found.key, found.stamp);
-        left -= 1;
+        match hold_record(lines, &mut line, form, area, found.length, out) {
+            Ok(()) => {
+                position = Position::After(found.key, found.stamp);
+                left -= 1;
+            }
+            Err(stop) => return Err(stop),
+        }
     }
     Ok(())
 }
@@ -102,8 +110,8 @@ fn hand_over<W: Write>(
     lines: &mut HeldText,
     out: &mut W,
 ) -> Result<(), Stop>
-    ensures written { (rows : List Row) (before : Option (List ℕ)) → ComesOut rows before (W.contents out.old) lines.old held
-        → IsWritten rows before (W.contents out.new) result }
+    ensures written { (form : Form) (rows : List Row) (before : Option (List ℕ)) → ComesOut form rows before (W.contents out.old) lines.old held
+        → IsWritten (lines_of form rows) before (W.contents out.new) result }
     ensures cause { (result ≡ held) ⊎ (result ≡ Err Stop.Output) }
 {
     if is_refused(held) {
@@ -124,11 +132,27 @@ fn blank_area(alloc: Global, size: u16) -> Result<Vec<u8>, AllocError>
     Ok(area)
 }
 
-/// Writes the lines of the records of the open file of unit 0 that are asked for. Where that fails, the first of them may have been written.
+/// Writes what stands before the first line.
+fn write_header<W: Write>(alloc: Global, form: &Form, out: &mut W) -> Result<(), Stop>
+    ensures written { IsWritten (header_in form.now) (W.contents out.old) (W.contents out.new) result }
+    ensures cause { IfErr result (λ stop. (stop ≡ Stop.Output) ⊎ (stop ≡ Stop.Library Fault.Memory)) }
+{
+    let mut header = Vec::new(alloc);
+    if append_header(&mut header, form).is_err() {
+        return Err(Stop::Library(Fault::Memory));
+    }
+    match write_text(out, header.as_slice()) {
+        Ok(()) => Ok(()),
+        Err(_) => Err(Stop::Output),
+    }
+}
+
+/// Writes the list of the records of the open file of unit 0 that are asked for. Where that fails, a front of it may have been written.
 pub fn write_rows<L: Library, W: Write>(
     alloc: Global,
     lib: &mut L,
     asked: Asked,
+    form: &Form,
     greatest: u16,
     out: &mut W,
 ) -> Result<(), Stop>
@@ -140,7 +164,7 @@ pub fn write_rows<L: Library, W: Write>(
     requires short { greatest ≤ 4000 }
     ensures reads { Reads L.shown lib.old lib.new }
     ensures rows { Believed L.shown 0 lib.old lib.new (IsWritten
-        (rows_asked (schema_at (L.shown.world lib.old) 0) (file_at (L.shown.world lib.old) 0) asked)
+        (list_of form.now (rows_asked (schema_at (L.shown.world lib.old) 0) (file_at (L.shown.world lib.old) 0) asked))
         (W.contents out.old) (W.contents out.new) result) }
     ensures cause { IfErr result (MayStop L.shown lib.old lib.new) }
 {
@@ -150,6 +174,19 @@ pub fn write_rows<L: Library, W: Write>(
     let Ok(mut lines) = HeldText::new(alloc) else {
         return Err(Stop::Library(Fault::Memory));
     };
-    let held = hold_rows(lib, asked, area.as_mut_slice(), &mut lines, out);
-    hand_over(held, &mut lines, out)
+    match write_header(alloc, form, out) {
+        Ok(()) => {
+            let held = hold_rows(
+                alloc,
+                lib,
+                asked,
+                form,
+                area.as_mut_slice(),
+                &mut lines,
+                out,
+            );
+            hand_over(held, &mut lines, out)
+        }
+        Err(stop) => Err(stop),
+    }
 }

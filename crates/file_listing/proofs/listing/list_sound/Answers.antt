@@ -10,9 +10,9 @@ pub returns-in-Ok-Listed : goal.returns-in-Ok-Listed
 returns-in-Ok-Listed g c =
     record {
       ends =
-          subst (MeansFor c.args.bytes.items c.args.asked (g.W.Write.contents c.args.out.now) (g.W.Write.contents c.list_records.new.out))
+          subst (MeansFor c.args.form.now c.args.bytes.items c.args.asked (g.W.Write.contents c.args.out.now) (g.W.Write.contents c.list_records.new.out))
           (c.in-Ok-Listed.is ∙ ap (λ (end : ListEnd). let all : Result ListEnd ListFault = Ok end in all) c.in-Ok-Listed.field-0-is)
-          (meant c.new-library.result.shelf c.new-library.result.units.items c.new-2.result.bytes c.args.bytes.items _ _ c.requires.sound.2
+          (meant c.args.form.now c.new-library.result.shelf c.new-library.result.units.items c.new-2.result.bytes c.args.bytes.items _ _ c.requires.sound.2
           (ap (λ (s : FileBytes). (state_of s).names) c.new-library.ensures.shelf ∙ c.new-shelf.ensures.units)
           c.new-library.ensures.units
           (ap (λ (s : FileBytes). s.bytes.items) c.new-library.ensures.shelf ∙ ap (λ v. v.items) c.new-shelf.ensures.bytes)
@@ -24,8 +24,8 @@ pub returns : goal.returns
 returns g c =
     record {
       ends =
-          subst (MeansFor c.args.bytes.items c.args.asked (g.W.Write.contents c.args.out.now) (g.W.Write.contents c.list_records.new.out)) c.in-Err.is
-          (meant c.new-library.result.shelf c.new-library.result.units.items c.new-2.result.bytes c.args.bytes.items _ _ c.requires.sound.2
+          subst (MeansFor c.args.form.now c.args.bytes.items c.args.asked (g.W.Write.contents c.args.out.now) (g.W.Write.contents c.list_records.new.out)) c.in-Err.is
+          (meant c.args.form.now c.new-library.result.shelf c.new-library.result.units.items c.new-2.result.bytes c.args.bytes.items _ _ c.requires.sound.2
           (ap (λ (s : FileBytes). (state_of s).names) c.new-library.ensures.shelf ∙ c.new-shelf.ensures.units)
           c.new-library.ensures.units
           (ap (λ (s : FileBytes). s.bytes.items) c.new-library.ensures.shelf ∙ ap (λ v. v.items) c.new-shelf.ensures.bytes)

@@ -1,4 +1,4 @@
-use Rattle.std.proofs.Common.{◌≡◌, length, IsTrue}
+use Rattle.std.proofs.Common.{IsTrue}
 use Rattle.indexed_file.specs.World.{schema_at, file_at, name_at}
 use Rattle.record_listing.specs.Reading.{Reads, rows_from, rows_asked, IsOnItsWay}
 use Rattle.record_listing.proofs.rows.hold_rows.Given as goal
@@ -11,7 +11,7 @@ invariant-more g l =
     record {
       reads : Reads shown l.fn.lib l.lib;
       rows : IsTrue (shown.is_honest l.lib) → shown.IsShownTruly l.fn.lib (name_at world 0)
-          → IsOnItsWay (rows_asked (schema_at world 0) (file_at world 0) l.fn.asked)
+          → IsOnItsWay l.fn.form (rows_asked (schema_at world 0) (file_at world 0) l.fn.asked)
           (rows_from (schema_at world 0) (file_at world 0) l.fn.asked.key l.fn.asked.to l.left l.position)
           (g.W.Write.contents l.fn.out) (g.W.Write.contents l.out) l.lines;
     }

@@ -1,0 +1,6 @@
+use Rattle.record_forms.specs.Json.{escaped}
+use Rattle.record_forms.proofs.TextLemmas.{in_quotes}
+use Rattle.record_forms.proofs.json.add_string.Goals as goal
+
+pub returns : goal.returns
+returns c = in_quotes escaped _ c.args.bytes.now _ _ _ c.in_ok-push.ensures.items c.in_ok-add_bytes.ensures c.in_ok-push-2.ensures.items

@@ -1,0 +1,5 @@
+pub mod Columns
+pub mod Csv
+pub mod Json
+pub mod Lines
+pub mod Parts

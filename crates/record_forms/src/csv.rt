@@ -1,0 +1,119 @@
+//! A line of CSV.
+ghost use Rattle.std.specs.Prelude.{◌≡◌, ◌∷◌, ◌++◌, [], map, flat_map, OnOk};
+ghost use Rattle.deck_runner.specs.Line.{shown_byte};
+ghost use Rattle.record_forms.specs.Columns.{text_of, name_of, value_of};
+ghost use Rattle.record_forms.specs.Csv.{doubled, field, fields, csv_line};
+
+use crate::column::{Column, cell_of};
+use crate::shown::{escape_of, is_plain};
+use std::alloc::AllocError;
+
+/// Adds a byte to a field.
+fn add_byte(text: &mut Vec<u8>, byte: u8) -> Result<(), AllocError>
+    ensures { OnOk result (text.new.items ≡ text.old.items ++ flat_map doubled (shown_byte byte)) }
+{
+    if byte == b'"' {
+        text.extend_from_slice(b"\"\"")
+    } else if is_plain(byte) {
+        text.push(byte)?;
+        Ok(())
+    } else {
+        text.extend_from_slice(&escape_of(byte))
+    }
+}
+
+/// Adds bytes to a field.
+fn add_bytes(text: &mut Vec<u8>, bytes: &[u8]) -> Result<(), AllocError>
+    ensures { OnOk result (text.new.items ≡ text.old.items ++ flat_map (λ byte. flat_map doubled (shown_byte byte)) bytes.now) }
+{
+    for byte in bytes {
+        add_byte(text, *byte)?;
+    }
+    Ok(())
+}
+
+/// Adds the field of bytes.
+fn add_field(text: &mut Vec<u8>, bytes: &[u8]) -> Result<(), AllocError>
+    ensures { OnOk result (text.new.items ≡ text.old.items ++ field (text_of bytes.now)) }
+{
+    text.push(b'"')?;
+    add_bytes(text, bytes)?;
+    text.push(b'"')?;
+    Ok(())
+}
+
+/// Adds the value of a column.
+fn add_value(text: &mut Vec<u8>, column: &Column, bytes: &[u8]) -> Result<(), AllocError>
+    ensures { OnOk result (text.new.items ≡ text.old.items ++ field (value_of bytes.now column.now)) }
+{
+    add_field(text, cell_of(column, bytes))
+}
+
+/// Adds the values of columns, each behind a comma.
+fn add_more_values(text: &mut Vec<u8>, columns: &[Column], bytes: &[u8]) -> Result<(), AllocError>
+    ensures { OnOk result (text.new.items ≡ text.old.items ++ flat_map (λ column. 44 ∷ field (value_of bytes.now column)) columns.now) }
+{
+    for column in columns {
+        text.push(b',')?;
+        add_value(text, column, bytes)?;
+    }
+    Ok(())
+}
+
+/// Adds the values of columns.
+fn add_values(text: &mut Vec<u8>, columns: &[Column], bytes: &[u8]) -> Result<(), AllocError>
+    ensures { OnOk result (text.new.items ≡ text.old.items ++ fields (map (value_of bytes.now) columns.now)) }
+{
+    let Some((first, rest)) = columns.split_first() else {
+        return Ok(());
+    };
+    add_value(text, first, bytes)?;
+    add_more_values(text, rest, bytes)?;
+    Ok(())
+}
+
+/// Adds the line of a record.
+pub fn add_line(text: &mut Vec<u8>, columns: &[Column], bytes: &[u8]) -> Result<(), AllocError>
+    ensures { OnOk result (text.new.items ≡ text.old.items ++ csv_line (map (value_of bytes.now) columns.now)) }
+{
+    add_values(text, columns, bytes)?;
+    text.extend_from_slice(b"\r\n")
+}
+
+/// Adds the name of a column.
+fn add_name(text: &mut Vec<u8>, column: &Column) -> Result<(), AllocError>
+    ensures { OnOk result (text.new.items ≡ text.old.items ++ field (name_of column.now)) }
+{
+    add_field(text, column.name.as_str().as_bytes())
+}
+
+/// Adds the names of columns, each behind a comma.
+fn add_more_names(text: &mut Vec<u8>, columns: &[Column]) -> Result<(), AllocError>
+    ensures { OnOk result (text.new.items ≡ text.old.items ++ flat_map (λ column. 44 ∷ field (name_of column)) columns.now) }
+{
+    for column in columns {
+        text.push(b',')?;
+        add_name(text, column)?;
+    }
+    Ok(())
+}
+
+/// Adds the names of columns.
+fn add_names(text: &mut Vec<u8>, columns: &[Column]) -> Result<(), AllocError>
+    ensures { OnOk result (text.new.items ≡ text.old.items ++ fields (map name_of columns.now)) }
+{
+    let Some((first, rest)) = columns.split_first() else {
+        return Ok(());
+    };
+    add_name(text, first)?;
+    add_more_names(text, rest)?;
+    Ok(())
+}
+
+/// Adds the line of the names of columns.
+pub fn add_name_line(text: &mut Vec<u8>, columns: &[Column]) -> Result<(), AllocError>
+    ensures { OnOk result (text.new.items ≡ text.old.items ++ csv_line (map name_of columns.now)) }
+{
+    add_names(text, columns)?;
+    text.extend_from_slice(b"\r\n")
+}

@@ -1,0 +1,71 @@
+//! The columns of a record that is described.
+ghost use Rattle.std.specs.Prelude.{◌≡◌, ◌++◌, ◌∷◌, [], map, option_map, OnOk, IfOk, if◌then◌else◌};
+ghost use Rattle.record_layout.specs.Layout.{item_of};
+ghost use Rattle.record_forms.specs.Parts.{part_of, name_or, item_part, is_group, item_parts, AreElementary};
+
+use crate::column::Column;
+use crate::numbered::numbered;
+use io_state::Name;
+use record_layout::{Layout, Placed};
+use std::alloc::{AllocError, Global};
+
+/// The name of the column of an item.
+fn name_or(name: &Option<Name>, offset: u16) -> Name
+    ensures { result.bytes ≡ name_or offset (option_map (λ name. name.bytes) name.now) }
+{
+    match name {
+        Some(name) => *name,
+        None => numbered("FILLER ", u32::from(offset)),
+    }
+}
+
+/// The column of an item.
+fn column_of(item: &Placed) -> Column
+    ensures { part_of result ≡ item_part (item_of item.now) }
+{
+    Column {
+        name: name_or(&item.name, item.field.offset),
+        offset: item.field.offset,
+        length: item.field.length,
+    }
+}
+
+/// Whether an item is a group, by the items behind it.
+fn is_group(item: &Placed, after: &[Placed]) -> bool
+    ensures { result ≡ is_group (item_of item.now) (map item_of after.now) }
+{
+    match after.first() {
+        Some(next) => next.field.offset == item.field.offset,
+        None => false,
+    }
+}
+
+/// Adds the column of an item that is no group.
+fn push_item(columns: &mut Vec<Column>, item: &Placed, after: &[Placed]) -> Result<(), AllocError>
+    ensures { OnOk result (map part_of columns.new.items ≡ map part_of columns.old.items
+        ++ (if is_group (item_of item.now) (map item_of after.now) then [] else item_part (item_of item.now) ∷ [])) }
+{
+    if is_group(item, after) {
+        return Ok(());
+    }
+    columns.push(column_of(item))?;
+    Ok(())
+}
+
+/// A column for each elementary item of a record, in the order of the entries: with its name, or FILLER and its offset where it has none.
+pub fn item_columns(alloc: Global, layout: &Layout) -> Result<Vec<Column>, AllocError>
+    ensures { IfOk result (λ columns. map part_of columns.items ≡ item_parts layout.now) }
+{
+    let mut columns = Vec::new(alloc);
+    let mut rest = layout.items();
+    'more: while let Some((item, after)) = rest.split_first() {
+        push_item(&mut columns, item, after)?;
+        rest = after;
+    }
+    Ok(columns)
+}
+
+/// The columns of a record that is described are its elementary items, at their places.
+pub fn elementary_items()
+    ensures { AreElementary }
+{}
