@@ -6,6 +6,7 @@ use Rattle.io_state.specs.declared.statement.FileStatement.TheVariants.{Write}
 use Rattle.io_state.specs.Status.{is_successful}
 use Rattle.indexed_file.specs.World.{World, FileUnit, Absent, Shut, OnlyAt}
 use Rattle.indexed_file.specs.Calls.{Keeps}
+use Rattle.indexed_file.specs.Moments.{JoinsStretches, EndsNow}
 use Rattle.indexed_file.specs.Shown.{Shown}
 use Rattle.verbs.specs.declared.answer.Answer.{Answer}
 use Rattle.verbs.specs.Held.{Held, silent}
@@ -16,6 +17,7 @@ use Rattle.record_listing.proofs.WorldLemmas.{keeps_self, keeps_both, still_true
 use Rattle.record_loading.specs.ReadLine.{ReadsRecord}
 use Rattle.record_loading.specs.Loading.{IsWrittenUpTo, IsRefusedAt}
 use Rattle.record_loading.specs.Going.{GoesOn}
+use Rattle.record_loading.proofs.RealLemmas.{real_goes, real_both}
 use Rattle.record_loading.proofs.WrittenLemmas.{written_here, refused_here}
 
 abbrev no_unit : FileUnit
@@ -36,6 +38,7 @@ module _ {S : Type 0} (shown : Shown S) where
     only = only_self (shown.world library);
     keeps = keeps_self shown library;
     standing = λ honest truly standing. standing;
+    real = λ honest truly standing name first. first;
   }
 
   -- a statement that was performed
@@ -47,6 +50,7 @@ module _ {S : Type 0} (shown : Shown S) where
     only = does.only;
     keeps = does.keeps;
     standing = does.standing;
+    real = λ honest truly standing. real_goes shown _ _ before.library after.library (does.images honest truly standing);
   }
 
   module _ (a b c : FileInMemory S) (some : 0 < length (shown.world a.library).units) (first : GoesOn shown a b) where
@@ -56,13 +60,15 @@ module _ {S : Type 0} (shown : Shown S) where
         let before = keeps.honest honest in
         believed honest (still_true shown a.library b.library some first.only first.keeps before truly) (first.standing before truly standing)
 
-    pub goes_both : GoesOn shown b c → GoesOn shown a c
-    goes_both second = record {
+    pub goes_both : JoinsStretches shown.Throughout → EndsNow shown.Throughout → GoesOn shown b c → GoesOn shown a c
+    goes_both joins ends second = record {
       fits = second.fits;
       schema = second.schema ∙ first.schema;
       only = only_twice 0 (shown.world a.library) (shown.world b.library) (shown.world c.library) some first.only second.only;
       keeps = keeps_both shown a.library b.library c.library first.keeps second.keeps;
       standing = trusted _ second.keeps second.standing;
+      real = λ honest truly standing.
+          real_both shown joins ends a.library b.library c.library (first.real (second.keeps.honest honest) truly standing) (trusted _ second.keeps second.real honest truly standing);
     }
 
   -- a record was read, and WRITE was answered so

@@ -8,6 +8,7 @@ use Rattle.io_state.specs.declared.statement.FileStatement.TheVariants.{Open, Cl
 use Rattle.io_state.specs.Status.{is_successful}
 use Rattle.record_layout.specs.Schema.{Schema}
 use Rattle.indexed_file.specs.Believed.{Believed}
+use Rattle.indexed_file.specs.Moments.{JoinsStretches, EndsNow}
 use Rattle.indexed_file.specs.Shown.{Shown}
 use Rattle.verbs.specs.Connector.{Outcome, answers}
 use Rattle.verbs.specs.Held.{Held, held_at_start, silent}
@@ -44,16 +45,16 @@ module _ {S : Type 0} (shown : Shown S) (schema : Schema) (mode : OpenMode) (tex
   goes_open = goes_performed shown (Open mode) 0 (in_memory (at_start schema) start []) (silent status) (in_memory opened begun []) (opens 0 [])
 
   -- the lines were written, and the file was closed
-  module _ (some : 0 < length (shown.world start).units) (success : is_successful status ≡ true) (between end : S) (written closed : Held) (lines : LinesEnd) (answer : Status)
+  module _ (joins : JoinsStretches shown.Throughout) (ends : EndsNow shown.Throughout) (some : 0 < length (shown.world start).units) (success : is_successful status ≡ true) (between end : S) (written closed : Held) (lines : LinesEnd) (answer : Status)
       (goes : GoesOn shown (in_memory opened begun []) (in_memory written between []))
       (does : Trusted shown 0 (in_memory opened begun []) (in_memory written between []) (LeavesLines shown text lines (in_memory opened begun area) (in_memory written between [])))
       (closes : IsPerformedWithoutRecord shown 0 (Close false) (in_memory written between []) answer (in_memory closed end [])) where
     goes_lines : GoesOn shown (in_memory (at_start schema) start []) (in_memory written between [])
-    goes_lines = goes_both shown (in_memory (at_start schema) start []) (in_memory opened begun []) (in_memory written between []) some goes_open goes
+    goes_lines = goes_both shown (in_memory (at_start schema) start []) (in_memory opened begun []) (in_memory written between []) some goes_open joins ends goes
 
     pub goes_all : GoesOn shown (in_memory (at_start schema) start []) (in_memory closed end [])
     goes_all =
-        goes_both shown (in_memory (at_start schema) start []) (in_memory written between []) (in_memory closed end []) some goes_lines
+        goes_both shown (in_memory (at_start schema) start []) (in_memory written between []) (in_memory closed end []) some goes_lines joins ends
         (goes_performed shown (Close false) 0 (in_memory written between []) (silent answer) (in_memory closed end []) (closes 0 []))
 
     pub loaded : Believed shown 0 start end (LoadsUnit shown schema mode text area start (Opened lines answer) end)

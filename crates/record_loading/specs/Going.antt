@@ -9,19 +9,21 @@ use Rattle.indexed_file.specs.Shown.{Shown}
 use Rattle.verbs.specs.Connector.{FileState}
 use Rattle.verbs.specs.Fits.{Fits}
 use Rattle.verbs.specs.Held.{state_of, held_at_start}
-use Rattle.verbs.specs.Performed.{FileInMemory, StaysStanding, in_memory, state_in}
+use Rattle.verbs.specs.Performed.{FileInMemory, StaysStanding, Trusted, in_memory, state_in}
 use Rattle.record_loading.specs.declared.end.LinesEnd.{LinesEnd}
 use Rattle.record_loading.specs.declared.end.LoadEnd.{LoadEnd}
 use Rattle.record_loading.specs.Loading.{LinesLeave, Loads}
+use Rattle.record_loading.specs.Real.{AllStayReal}
 
--- every part: the connector goes with its unit and keeps its schema, nothing else is changed, the library keeps what every call of it does, and what the connector keeps
--- stays true
+-- every part: the connector goes with its unit and keeps its schema, nothing else is changed, the library keeps what every call of it does, what the connector keeps
+-- stays true, and no image becomes a false one
 pub record GoesOn {S : Type 0} (shown : Shown S) (before after : FileInMemory S) : Type 0 where
   pub fits : Fits after.held (shown.world after.library) 0
   pub schema : after.held.connector.schema ≡ before.held.connector.schema
   pub only : OnlyAt 0 (shown.world before.library) (shown.world after.library)
   pub keeps : Keeps shown before.library after.library
   pub standing : StaysStanding shown 0 before after
+  pub real : Trusted shown 0 before after (AllStayReal shown before.library after.library)
 
 -- the lines of a text leave the file so, where some bytes stand in the record area
 abbrev pub LeavesLines : {S : Type 0} → Shown S → List ℕ → LinesEnd → FileInMemory S → FileInMemory S → Type 0

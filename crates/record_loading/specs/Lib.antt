@@ -1,3 +1,4 @@
 pub mod ReadLine
 pub mod Loading
+pub mod Real
 pub mod Going

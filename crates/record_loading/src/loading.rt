@@ -6,6 +6,7 @@ ghost use Rattle.indexed_file.specs.Calls.{Keeps};
 ghost use Rattle.deck_runner.specs.Beginning.{IsUntouched};
 ghost use Rattle.record_loading.specs.Loading.{mode_of, LoadsNamed};
 ghost use Rattle.record_loading.specs.Going.{LoadsUnit};
+ghost use Rattle.record_loading.specs.Real.{AllStayReal};
 
 use crate::end::{Load, LoadEnd, LoadFault, mode_of};
 use crate::writing::write_lines;
@@ -36,6 +37,7 @@ fn load_attached<L: Library>(
     requires closed { IsFalse (is_open (holding_at (L.shown.world lib.old) 0)) }
     requires area { length area.old ≡ schema.now.greatest }
     ensures loads { Believed L.shown 0 lib.old lib.new (LoadsUnit L.shown schema.now mode text.now area.old lib.old result lib.new) }
+    ensures real { Believed L.shown 0 lib.old lib.new (AllStayReal L.shown lib.old lib.new) }
     ensures only { OnlyAt 0 (L.shown.world lib.old) (L.shown.world lib.new) }
     ensures keeps { Keeps L.shown lib.old lib.new }
 {
@@ -51,7 +53,7 @@ fn load_attached<L: Library>(
 }
 
 /// Opens the file of a name, writes the record of each line of a text, and closes the file. The library has this name attached then, and no other. The first line that
-/// is the line of no record of the file, or whose WRITE is no success, ends it, and what was written before stays.
+/// is the line of no record of the file, or whose WRITE is no success, ends it, and what was written before stays. Where a crash could leave no false file before the load, it can leave none at any moment of it.
 ///
 /// `Memory`: nothing was done.
 pub fn load_records<L: Library>(
@@ -64,6 +66,7 @@ pub fn load_records<L: Library>(
 ) -> Result<LoadEnd, LoadFault>
     ensures loads { IfOk result (λ end. IsTrue (L.shown.is_honest lib.new) → L.shown.IsShownTruly lib.old name.bytes
         → LoadsNamed name.bytes schema.now (mode_of load) text.now (L.shown.world lib.old) end (L.shown.world lib.new)) }
+    ensures real { IsTrue (L.shown.is_honest lib.new) → L.shown.IsShownTruly lib.old name.bytes → AllStayReal L.shown lib.old lib.new }
     ensures others { (other : List ℕ) → bytes_eq name.bytes other ≡ false
         → named_in (L.shown.world lib.new) other ≡ named_in (L.shown.world lib.old) other }
     ensures memory { OnErr result (IsUntouched L.shown lib.old lib.new) }

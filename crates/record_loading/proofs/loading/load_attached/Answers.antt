@@ -1,5 +1,5 @@
 use Rattle.std.proofs.Common.{[], sym, ap, ◌∙◌}
-use Rattle.record_loading.proofs.LoadLemmas.{opens_at_start, not_opened, goes_all, loaded}
+use Rattle.record_loading.proofs.LoadLemmas.{opens_at_start, not_opened, goes_open, goes_all, loaded}
 use Rattle.record_loading.proofs.loading.load_attached.Goals as goal
 
 pub returns-then-not-is_success-clause-loads : goal.returns-then-not-is_success-clause-loads
@@ -8,6 +8,13 @@ returns-then-not-is_success-clause-loads g c =
     let schema = c.args.schema.now in
     let opens = opens_at_start shown schema c.copy.result c.args.mode c.args.lib.now c.open-opened.new.lib c.new-connector.result c.open-opened.new.self c.open-opened.result c.copy.ensures c.new-connector.ensures c.open-opened.ensures in
     not_opened shown schema c.args.mode c.args.text.now c.args.area.now c.args.lib.now c.open-opened.new.lib c.open-opened.new.self c.open-opened.result opens (sym c.is_success.ensures ∙ c.if-not-is_success.true)
+
+pub returns-then-not-is_success-clause-real : goal.returns-then-not-is_success-clause-real
+returns-then-not-is_success-clause-real g c honest truly =
+    let shown = g.L.Library.shown in
+    let schema = c.args.schema.now in
+    let opens = opens_at_start shown schema c.copy.result c.args.mode c.args.lib.now c.open-opened.new.lib c.new-connector.result c.open-opened.new.self c.open-opened.result c.copy.ensures c.new-connector.ensures c.open-opened.ensures in
+    (goes_open shown schema c.args.mode c.args.text.now c.args.area.now c.args.lib.now c.open-opened.new.lib c.open-opened.new.self c.open-opened.result opens).real honest truly tt
 
 pub returns-then-not-is_success-clause-only : goal.returns-then-not-is_success-clause-only
 returns-then-not-is_success-clause-only g c = (c.open-opened.ensures 0 []).only
@@ -32,7 +39,7 @@ returns-clause-loads g c =
     let schema = c.args.schema.now in
     let opens = opens_at_start shown schema c.copy.result c.args.mode c.args.lib.now c.open-opened.new.lib c.new-connector.result c.open-opened.new.self c.open-opened.result c.copy.ensures c.new-connector.ensures c.open-opened.ensures in
     loaded shown schema c.args.mode c.args.text.now c.args.area.now c.args.lib.now c.open-opened.new.lib c.open-opened.new.self c.open-opened.result opens
-    c.requires.attached (sym c.is_success.ensures ∙ c.if-not-is_success.false) c.write_lines-lines.new.lib c.close-closed.new.lib c.write_lines-lines.new.connector c.close-closed.new.self c.write_lines-lines.result c.close-closed.result
+    g.met.L.Library.joins g.met.L.Library.ends c.requires.attached (sym c.is_success.ensures ∙ c.if-not-is_success.false) c.write_lines-lines.new.lib c.close-closed.new.lib c.write_lines-lines.new.connector c.close-closed.new.self c.write_lines-lines.result c.close-closed.result
     c.write_lines-lines.ensures.goes c.write_lines-lines.ensures.lines c.close-closed.ensures.performed
 
 pub returns-clause-only : goal.returns-clause-only
@@ -41,8 +48,17 @@ returns-clause-only g c =
     let schema = c.args.schema.now in
     let opens = opens_at_start shown schema c.copy.result c.args.mode c.args.lib.now c.open-opened.new.lib c.new-connector.result c.open-opened.new.self c.open-opened.result c.copy.ensures c.new-connector.ensures c.open-opened.ensures in
     (goes_all shown schema c.args.mode c.args.text.now c.args.area.now c.args.lib.now c.open-opened.new.lib c.open-opened.new.self c.open-opened.result opens
-    c.requires.attached (sym c.is_success.ensures ∙ c.if-not-is_success.false) c.write_lines-lines.new.lib c.close-closed.new.lib c.write_lines-lines.new.connector c.close-closed.new.self c.write_lines-lines.result c.close-closed.result
+    g.met.L.Library.joins g.met.L.Library.ends c.requires.attached (sym c.is_success.ensures ∙ c.if-not-is_success.false) c.write_lines-lines.new.lib c.close-closed.new.lib c.write_lines-lines.new.connector c.close-closed.new.self c.write_lines-lines.result c.close-closed.result
     c.write_lines-lines.ensures.goes c.write_lines-lines.ensures.lines c.close-closed.ensures.performed).only
+
+pub returns-clause-real : goal.returns-clause-real
+returns-clause-real g c honest truly =
+    let shown = g.L.Library.shown in
+    let schema = c.args.schema.now in
+    let opens = opens_at_start shown schema c.copy.result c.args.mode c.args.lib.now c.open-opened.new.lib c.new-connector.result c.open-opened.new.self c.open-opened.result c.copy.ensures c.new-connector.ensures c.open-opened.ensures in
+    (goes_all shown schema c.args.mode c.args.text.now c.args.area.now c.args.lib.now c.open-opened.new.lib c.open-opened.new.self c.open-opened.result opens
+    g.met.L.Library.joins g.met.L.Library.ends c.requires.attached (sym c.is_success.ensures ∙ c.if-not-is_success.false) c.write_lines-lines.new.lib c.close-closed.new.lib c.write_lines-lines.new.connector c.close-closed.new.self c.write_lines-lines.result c.close-closed.result
+    c.write_lines-lines.ensures.goes c.write_lines-lines.ensures.lines c.close-closed.ensures.performed).real honest truly tt
 
 pub returns-clause-keeps : goal.returns-clause-keeps
 returns-clause-keeps g c =
@@ -50,5 +66,5 @@ returns-clause-keeps g c =
     let schema = c.args.schema.now in
     let opens = opens_at_start shown schema c.copy.result c.args.mode c.args.lib.now c.open-opened.new.lib c.new-connector.result c.open-opened.new.self c.open-opened.result c.copy.ensures c.new-connector.ensures c.open-opened.ensures in
     (goes_all shown schema c.args.mode c.args.text.now c.args.area.now c.args.lib.now c.open-opened.new.lib c.open-opened.new.self c.open-opened.result opens
-    c.requires.attached (sym c.is_success.ensures ∙ c.if-not-is_success.false) c.write_lines-lines.new.lib c.close-closed.new.lib c.write_lines-lines.new.connector c.close-closed.new.self c.write_lines-lines.result c.close-closed.result
+    g.met.L.Library.joins g.met.L.Library.ends c.requires.attached (sym c.is_success.ensures ∙ c.if-not-is_success.false) c.write_lines-lines.new.lib c.close-closed.new.lib c.write_lines-lines.new.connector c.close-closed.new.self c.write_lines-lines.result c.close-closed.result
     c.write_lines-lines.ensures.goes c.write_lines-lines.ensures.lines c.close-closed.ensures.performed).keeps

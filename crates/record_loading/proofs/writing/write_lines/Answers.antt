@@ -33,10 +33,17 @@ more-preserved g c =
     let reads = subst (λ (least : ℕ). ReadsRecord rest least c.more.area area line.length line.behind.now) c.requires.least c.in-Some.ensures.read in
     let fewer = shorter rest c.more.area area line.length line.behind.now reads.line in
     record {
-      goes = goes_both shown (in_memory c.args.connector.now c.args.lib.now []) (in_memory c.more.connector c.more.lib []) (in_memory c.write-status.new.self c.write-status.new.lib []) c.requires.fits.attached c.more.invariant.goes
+      goes = goes_both shown (in_memory c.args.connector.now c.args.lib.now []) (in_memory c.more.connector c.more.lib []) (in_memory c.write-status.new.self c.write-status.new.lib []) c.requires.fits.attached c.more.invariant.goes g.met.L.Library.joins g.met.L.Library.ends
           (goes_performed shown Write line.length (in_memory c.more.connector c.more.lib area) (silent c.write-status.result) (in_memory c.write-status.new.self c.write-status.new.lib area) c.write-status.ensures);
       few = (let before = c.more.invariant.few in omega (arith, fewer, before));
       so_far = written shown (in_memory c.args.connector.now c.args.lib.now c.args.area.now) c.more.connector c.write-status.new.self c.more.lib c.write-status.new.lib c.more.area area line.length c.write-status.result
           c.args.text.now rest line.behind.now c.more.records c.requires.fits.attached c.more.invariant.goes c.write-status.ensures c.more.invariant.so_far reads
           (c.more.auto.area ∙ c.requires.area) c.read_record.auto.area (sym c.is_success.ensures ∙ c.if-not-is_success.false);
     }
+
+pub returns-then-not-is_success-clause-goes : goal.returns-then-not-is_success-clause-goes
+returns-then-not-is_success-clause-goes g c =
+    let area = c.read_record.new.area in
+    goes_both g.L.Library.shown (in_memory c.args.connector.now c.args.lib.now []) (in_memory c.more.connector c.more.lib []) (in_memory c.write-status.new.self c.write-status.new.lib []) c.requires.fits.attached
+    c.more.invariant.goes g.met.L.Library.joins g.met.L.Library.ends
+    (goes_performed g.L.Library.shown Write c.in-Some.line.length (in_memory c.more.connector c.more.lib area) (silent c.write-status.result) (in_memory c.write-status.new.self c.write-status.new.lib area) c.write-status.ensures)
