@@ -1,0 +1,73 @@
+//! Texts that are loaded into a file on a shelf, and its records listed.
+
+use io_state::{Fault, FileName, Key};
+use page_store::{MemShelf, Shelf};
+use record_layout::Schema;
+use record_listing::{Asked, ListEnd, list_records};
+use record_loading::Load;
+use shelf_library::ShelfLibrary;
+use shelf_loading::{ShelfEnd, add_answer, load_on_shelf};
+use std::alloc::Global;
+use std::num::NonZeroUsize;
+use std::test::Fail;
+use unit_calls::{part, schema, two_names};
+
+/// The name of the file.
+fn name() -> FileName {
+    let [first, _] = two_names();
+    first
+}
+
+/// Records of 6 to 8 bytes: a key of four bytes, and a second one of two, which is unique.
+fn codes() -> Result<Schema, Fault> {
+    schema(6, 8, &[part(0, 4, false), part(4, 2, false)])
+}
+
+/// What is told of a load over a shelf, whose units are forgotten: its lines, or that the name has a file.
+pub fn loads(
+    alloc: Global,
+    shelf: MemShelf,
+    load: Load,
+    text: &str,
+) -> Result<(MemShelf, String), Fail> {
+    let mut shelf = shelf;
+    shelf.attach(&[])?;
+    let schema = codes()?;
+    let (shelf, end) = load_on_shelf(
+        alloc,
+        shelf,
+        name(),
+        &schema,
+        load,
+        text.as_bytes(),
+        100,
+        NonZeroUsize::MIN,
+    );
+    let told = match end? {
+        ShelfEnd::IsThere => "is there".to_string(alloc)?,
+        ShelfEnd::Loaded(end) => {
+            let mut answer = Vec::new(alloc);
+            add_answer(&mut answer, end)?;
+            String::from_utf8(answer)?
+        }
+    };
+    Ok((shelf, told))
+}
+
+/// The lines of the records of the file on a shelf, whose units are forgotten.
+pub fn lists(alloc: Global, shelf: MemShelf) -> Result<String, Fail> {
+    let mut shelf = shelf;
+    shelf.attach(&[])?;
+    let mut library = ShelfLibrary::new(alloc, shelf, 100, NonZeroUsize::MIN);
+    let asked = Asked {
+        key: 0,
+        from: Key::new(),
+        to: None,
+        first: 100,
+    };
+    let mut out: Vec<u8> = Vec::with_capacity(alloc, 1000)?;
+    match list_records(alloc, &mut library, name(), asked, &mut out)? {
+        ListEnd::Listed => Ok(String::from_utf8(out)?),
+        _ => Ok("not listed".to_string(alloc)?),
+    }
+}

@@ -1,0 +1,2 @@
+pub mod LoadedLemmas
+pub mod SameLemmas

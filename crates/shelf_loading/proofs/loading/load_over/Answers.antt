@@ -1,0 +1,85 @@
+use Rattle.std.proofs.Common.{◌≡◌, ℕ, List, [], length, Result, IfOk, OnErr, ap, sym, subst, ◌∙◌, IsTrue}
+use Rattle.std.specs.NonZero.{non_zero_usize_get}
+use Rattle.deck_runner.specs.Beginning.{IsUntouched}
+use Rattle.indexed_file.specs.Calls.{Keeps}
+use Rattle.page_store.specs.Images.{Leaves}
+use Rattle.shelf_library.specs.Library.{shown_by}
+use Rattle.shelf_library.specs.State.{LibraryState}
+use Rattle.shelf_library.specs.declared.library.ShelfLibrary.{ShelfLibrary}
+use Rattle.shelf_run.specs.ShelfRun.{LeavesFiles, shown_in}
+use Rattle.shelf_run.proofs.RunLemmas.{keeps_in, untouched_in, leaves_files}
+use Rattle.shelf_loading.specs.declared.end.ShelfEnd.{ShelfEnd}
+use Rattle.shelf_loading.specs.declared.end.ShelfFault.{ShelfFault}
+use Rattle.shelf_loading.specs.Loaded.{EndsAnyhow, KeepsOthers, IsSafe, end_of}
+use Rattle.shelf_loading.proofs.LoadedLemmas.{leaves, others, safe, ends_by, nothing_by}
+use Rattle.shelf_loading.proofs.loading.load_over.Goals as goal
+use Rattle.shelf_loading.proofs.loading.load_over.Given as given
+
+-- the library before the load and after it, and what is so of them
+module _ (g : given.Over) (c : goal.After-end_of g) where
+  state : ShelfLibrary g.row.S.Denot g.S.Shelf → LibraryState
+  state library = record { shelf = g.S.Shelf.state library.shelf; held = library.units.items; faults = g.S.Shelf.fault_count library.shelf; limit = library.limit; frames = non_zero_usize_get library.frames }
+
+  old : LibraryState
+  old = state c.new-library.result
+
+  new : LibraryState
+  new = state c.load_records-end.new.lib
+
+  -- what is so of the shelves of the libraries is so of those that were handed in and given back
+  carried : (P : g.row.S.Denot → g.row.S.Denot → Type 0) → P c.new-library.result.shelf c.load_records-end.new.lib.shelf → P c.args.shelf c.into_shelf.result
+  carried P is =
+      subst (λ (last : g.row.S.Denot). P c.args.shelf last) (sym c.into_shelf.ensures)
+      (subst (λ (first : g.row.S.Denot). P first c.load_records-end.new.lib.shelf) c.new-library.ensures.shelf is)
+
+  none : old.shelf.names ≡ []
+  unfolding state old
+  none = ap (λ (shelf : g.row.S.Denot). (g.S.Shelf.state shelf).names) c.new-library.ensures.shelf ∙ c.requires.names
+
+  empty : old.held ≡ []
+  unfolding state old
+  empty = c.new-library.ensures.units
+
+  many : length new.held ≡ length new.shelf.names
+  unfolding state new
+  many = c.load_records-end.new.lib.many
+
+  keeps : Keeps shown_in old new
+  unfolding state old new
+  keeps = keeps_in state c.new-library.result c.load_records-end.new.lib c.load_records-end.ensures.keeps
+
+  an_image : (name : List ℕ) → IsTrue old.shelf.is_honest → Leaves (old.shelf.file name) (old.shelf.file name).seen
+  unfolding state old
+  an_image = g.met.S.Shelf.reads_an_image c.new-library.result.shelf
+
+pub returns-clause-ends : goal.returns-clause-ends
+unfolding state old new
+returns-clause-ends g c =
+    let name = c.args.name.bytes in
+    subst (λ (r : Result ShelfEnd ShelfFault). IfOk r (λ end. EndsAnyhow name c.args.schema.now c.args.load c.args.text.now (g.S.Shelf.state c.args.shelf) end (g.S.Shelf.state c.into_shelf.result)))
+    (sym c.end_of.ensures)
+    (carried g c (λ first last. IfOk (end_of c.load_records-end.result) (λ end. EndsAnyhow name c.args.schema.now c.args.load c.args.text.now (g.S.Shelf.state first) end (g.S.Shelf.state last)))
+    (ends_by c.load_records-end.result _ _
+    (λ end. leaves (old g c) (new g c) (none g c) (empty g c) (many g c) (keeps g c) (an_image g c) name c.args.schema.now c.args.load c.args.text.now end)
+    c.load_records-end.ensures.loads))
+
+pub returns-clause-nothing : goal.returns-clause-nothing
+unfolding state old new
+returns-clause-nothing g c =
+    subst (λ (r : Result ShelfEnd ShelfFault). OnErr r (LeavesFiles (g.S.Shelf.state c.args.shelf) (g.S.Shelf.state c.into_shelf.result))) (sym c.end_of.ensures)
+    (carried g c (λ first last. OnErr (end_of c.load_records-end.result) (LeavesFiles (g.S.Shelf.state first) (g.S.Shelf.state last)))
+    (nothing_by c.load_records-end.result (IsUntouched (shown_by (state g c)) c.new-library.result c.load_records-end.new.lib) _
+    (λ is. leaves_files (old g c) (new g c) (none g c) (empty g c) (many g c) (keeps g c) (an_image g c) (untouched_in (state g c) c.new-library.result c.load_records-end.new.lib is))
+    c.load_records-end.ensures.memory))
+
+pub returns-clause-others : goal.returns-clause-others
+unfolding state old new
+returns-clause-others g c =
+    carried g c (λ first last. KeepsOthers c.args.name.bytes (g.S.Shelf.state first) (g.S.Shelf.state last))
+    (others (old g c) (new g c) (none g c) (empty g c) (many g c) (keeps g c) (an_image g c) c.args.name.bytes c.load_records-end.ensures.others)
+
+pub returns-clause-safe : goal.returns-clause-safe
+unfolding state old new
+returns-clause-safe g c =
+    carried g c (λ first last. IsSafe c.args.name.bytes (g.S.Shelf.state first) (g.S.Shelf.state last))
+    (safe (old g c) (new g c) (none g c) (empty g c) (many g c) (keeps g c) (an_image g c) c.args.name.bytes c.load_records-end.ensures.real)

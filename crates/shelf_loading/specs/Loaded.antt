@@ -1,0 +1,85 @@
+-- What a load over the files of a shelf leaves. All of this is ours.
+use Rattle.std.specs.Prelude.{◌≡◌, ℕ, List, Option, None, is_some, bytes_eq, false, replicate, IsTrue, Result, Ok, Err}
+use Rattle.io_state.specs.declared.fault.Fault.{Fault}
+use Rattle.io_state.specs.declared.fault.Fault.TheVariants.{Device, Memory as NoMemory, Full, Damage, Broken}
+use Rattle.io_state.specs.declared.modes.Access.TheVariants.{Dynamic}
+use Rattle.record_layout.specs.Schema.{Schema}
+use Rattle.indexed_file.specs.World.{Named, Absent, named_in}
+use Rattle.page_store.specs.ShelfState.{ShelfState}
+use Rattle.verbs.specs.Connector.{FileState, closed_connector}
+use Rattle.shelf_run.specs.Files.{files_of, reads_of, Represents, AllSound, AreSoundThroughout}
+use Rattle.shelf_run.specs.ShelfRun.{StaysSound}
+use Rattle.record_loading.specs.Loading.{Loads, mode_of}
+use Rattle.record_loading.specs.declared.end.Load.{Load}
+use Rattle.record_loading.specs.declared.end.Load.TheVariants.{New, Into}
+use Rattle.record_loading.specs.declared.end.LoadEnd.{LoadEnd}
+use Rattle.record_loading.specs.declared.end.LoadFault.{LoadFault}
+use Rattle.shelf_loading.specs.declared.end.ShelfEnd.{ShelfEnd}
+use Rattle.shelf_loading.specs.declared.end.ShelfEnd.TheVariants.{IsThere, Loaded}
+use Rattle.shelf_loading.specs.declared.end.ShelfFault.{ShelfFault}
+use Rattle.shelf_loading.specs.declared.end.ShelfFault.TheVariants.{Input, Memory}
+
+-- what became of a load over a library
+abbrev pub end_of : Result LoadEnd LoadFault → Result ShelfEnd ShelfFault
+end_of (Ok end) = Ok (Loaded end)
+end_of (Err fault) = Err Memory
+
+-- what a fault of the shelf makes of a load
+abbrev pub fault_by : Fault → ShelfFault
+fault_by Device = Input
+fault_by NoMemory = Memory
+fault_by Full = Input
+fault_by Damage = Input
+fault_by Broken = Input
+
+-- a file before a load whose name stands for this: its connector is closed, in dynamic access, and its record area all spaces
+abbrev pub file_at_first : Named → Schema → FileState
+file_at_first named schema = record {
+  connector = closed_connector Dynamic false schema;
+  named = named;
+  file = None;
+  area = replicate schema.greatest 32;
+}
+
+-- OPEN, the WRITEs and CLOSE of a load of the lines of a text, where the name stood for this, leave what a read then gives
+pub record LeavesFile (schema : Schema) (load : Load) (text : List ℕ) (named : Named) (end : LoadEnd) (seen : Option (List ℕ)) : Type 0 where
+  pub after : FileState
+  pub loads : Loads schema (mode_of load) text (file_at_first named schema) end after
+  pub represents : Represents seen after.named
+
+-- so it leaves the file of a name, whatever that represented, over a shelf that has not lied by then
+abbrev pub Leaves : (name : List ℕ) → Schema → Load → (text : List ℕ) → (old : ShelfState) → LoadEnd → (new : ShelfState) → Type 0
+Leaves name schema load text old end new =
+    IsTrue new.is_honest → (named : Named) → Represents (reads_of old name) named → LeavesFile schema load text named end (reads_of new name)
+
+-- a load that looked for no file before
+abbrev pub EndsAnyhow : (name : List ℕ) → Schema → Load → (text : List ℕ) → (old : ShelfState) → ShelfEnd → (new : ShelfState) → Type 0
+EndsAnyhow name schema load text old IsThere new = ⊥
+EndsAnyhow name schema load text old (Loaded end) new = Leaves name schema load text old end new
+
+-- a load into a new file: the name had none
+pub record LoadsAnew (name : List ℕ) (schema : Schema) (text : List ℕ) (old : ShelfState) (end : LoadEnd) (new : ShelfState) : Type 0 where
+  pub absent : reads_of old name ≡ None
+  pub leaves : LeavesFile schema New text Absent end (reads_of new name)
+
+-- a new file was not made, since the name has a file: each file is as it was
+pub record IsLeftThere (name : List ℕ) (old new : ShelfState) : Type 0 where
+  pub there : IsTrue new.is_honest → IsTrue (is_some (reads_of old name))
+  pub same : new.file ≡ old.file
+
+-- how a load ends
+abbrev pub Ends : (name : List ℕ) → Schema → Load → (text : List ℕ) → (old : ShelfState) → ShelfEnd → (new : ShelfState) → Type 0
+Ends name schema New text old IsThere new = IsLeftThere name old new
+Ends name schema New text old (Loaded end) new = IsTrue new.is_honest → LoadsAnew name schema text old end new
+Ends name schema Into text old end new = EndsAnyhow name schema Into text old end new
+
+-- every other name stands for what it stood for
+abbrev pub KeepsOthers : (name : List ℕ) → (old new : ShelfState) → Type 0
+KeepsOthers name old new = (other : List ℕ) → bytes_eq name other ≡ false → named_in (files_of new) other ≡ named_in (files_of old) other
+
+-- honesty may only fall; what is sound stays so; and where whatever a crash might leave of the file was sound at first, what it may leave of any file is so at each moment, if it was so
+-- at first
+pub record IsSafe (name : List ℕ) (old new : ShelfState) : Type 0 where
+  pub honest : IsTrue new.is_honest → IsTrue old.is_honest
+  pub sound : StaysSound old new
+  pub no_false_file : IsTrue new.is_honest → AllSound (old.file name) → AreSoundThroughout old new

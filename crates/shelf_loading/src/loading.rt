@@ -1,0 +1,104 @@
+//! The loading.
+ghost use Rattle.std.specs.Prelude.{◌≡◌, ◌≤◌, [], is_some, IsTrue, IfOk, OnOk, OnErr};
+ghost use Rattle.shelf_run.specs.ShelfRun.{LeavesFiles};
+ghost use Rattle.shelf_loading.specs.Loaded.{Ends, EndsAnyhow, KeepsOthers, IsSafe};
+
+use crate::end::{ShelfEnd, ShelfFault, end_of, fault_by};
+use io_state::{Fault, FileName};
+use page_store::Shelf;
+use record_layout::Schema;
+use record_loading::{Load, load_records};
+use shelf_library::ShelfLibrary;
+use std::alloc::Global;
+use std::num::NonZeroUsize;
+
+/// Whether a name has a file. No name is attached afterwards.
+fn is_there<S: Shelf>(shelf: &mut S, name: FileName) -> Result<bool, Fault>
+    ensures answer { IfOk result (λ there. IsTrue (S.state shelf.new).is_honest → there ≡ is_some ((S.state shelf.old).file name.bytes).seen) }
+    ensures names { OnOk result ((S.state shelf.new).names ≡ []) }
+    ensures file { (S.state shelf.new).file ≡ (S.state shelf.old).file }
+    ensures honest { IsTrue (S.state shelf.new).is_honest → IsTrue (S.state shelf.old).is_honest }
+{
+    shelf.attach(&[name])?;
+    let there = shelf.exists(0)?;
+    shelf.attach(&[])?;
+    Ok(there)
+}
+
+/// Loads records over a shelf to which no name is attached, whether or not the name has a file.
+fn load_over<S: Shelf>(
+    alloc: Global,
+    shelf: S,
+    name: FileName,
+    schema: &Schema,
+    load: Load,
+    text: &[u8],
+    limit: u32,
+    frames: NonZeroUsize,
+) -> (S, Result<ShelfEnd, ShelfFault>)
+    requires names { (S.state shelf).names ≡ [] }
+    requires limit { 16 ≤ limit }
+    ensures ends { IfOk result.1 (λ end. EndsAnyhow name.bytes schema.now load text.now (S.state shelf) end (S.state result.0)) }
+    ensures nothing { OnErr result.1 (LeavesFiles (S.state shelf) (S.state result.0)) }
+    ensures others { KeepsOthers name.bytes (S.state shelf) (S.state result.0) }
+    ensures safe { IsSafe name.bytes (S.state shelf) (S.state result.0) }
+{
+    let mut library = ShelfLibrary::new(alloc, shelf, limit, frames);
+    let end = load_records(alloc, &mut library, name, schema, load, text);
+    (library.into_shelf(), end_of(end))
+}
+
+/// Loads records into a new file, where the name has none.
+fn load_new<S: Shelf>(
+    alloc: Global,
+    shelf: S,
+    name: FileName,
+    schema: &Schema,
+    text: &[u8],
+    limit: u32,
+    frames: NonZeroUsize,
+) -> (S, Result<ShelfEnd, ShelfFault>)
+    requires limit { 16 ≤ limit }
+    ensures ends { IfOk result.1 (λ end. Ends name.bytes schema.now Load.New text.now (S.state shelf) end (S.state result.0)) }
+    ensures nothing { OnErr result.1 (LeavesFiles (S.state shelf) (S.state result.0)) }
+    ensures others { KeepsOthers name.bytes (S.state shelf) (S.state result.0) }
+    ensures safe { IsSafe name.bytes (S.state shelf) (S.state result.0) }
+{
+    let mut shelf = shelf;
+    match is_there(&mut shelf, name) {
+        Ok(true) => (shelf, Ok(ShelfEnd::IsThere)),
+        Ok(false) => load_over(alloc, shelf, name, schema, Load::New, text, limit, frames),
+        Err(fault) => (shelf, Err(fault_by(fault))),
+    }
+}
+
+/// Loads the record of each line of a text into the file of a name on a shelf to which no name is attached, and gives the shelf back. A file has at most `limit` pages
+/// of 4,096 bytes, of which at most `frames` are held in memory while it is open.
+///
+/// A new file is made only where the name has none: otherwise that is told, and each file is as it was. Where the shelf is honest, the file represents what OPEN, the
+/// WRITEs and CLOSE leave of what it represented. The first line that is the line of no record of the file, or whose WRITE is no success, ends a load, and what was
+/// written before stays. No crash leaves a false file, where none could be left before.
+///
+/// `Input`: the device failed when it was asked for the file. `Memory`. Nothing was changed then.
+pub fn load_on_shelf<S: Shelf>(
+    alloc: Global,
+    shelf: S,
+    name: FileName,
+    schema: &Schema,
+    load: Load,
+    text: &[u8],
+    limit: u32,
+    frames: NonZeroUsize,
+) -> (S, Result<ShelfEnd, ShelfFault>)
+    requires names { (S.state shelf).names ≡ [] }
+    requires limit { 16 ≤ limit }
+    ensures ends { IfOk result.1 (λ end. Ends name.bytes schema.now load text.now (S.state shelf) end (S.state result.0)) }
+    ensures nothing { OnErr result.1 (LeavesFiles (S.state shelf) (S.state result.0)) }
+    ensures others { KeepsOthers name.bytes (S.state shelf) (S.state result.0) }
+    ensures safe { IsSafe name.bytes (S.state shelf) (S.state result.0) }
+{
+    match load {
+        Load::New => load_new(alloc, shelf, name, schema, text, limit, frames),
+        Load::Into => load_over(alloc, shelf, name, schema, Load::Into, text, limit, frames),
+    }
+}
