@@ -8,3 +8,4 @@ pub mod AnyNightLemmas
 pub mod NightCases
 pub mod NightRowLemmas
 pub mod NightsByRowsLemmas
+pub mod PointLemmas

@@ -75,7 +75,7 @@ three_nights = refl
 abbrev watched_step : Deck → Statement → List Line → Run → Watched → Watched
 watched_step deck statement lines next point =
     let trace = trace_at deck (codes "cust.dat") statement point.run lines in
-    record { run = next; in_step = during trace point.ledger; ledger = behind trace point.ledger }
+    record { run = next; in_step = during trace point.ledger; ledger = behind trace point.ledger; begun = point.told; told = point.told ++ lines }
 
 -- statements as the definitions perform them
 abbrev watched_steps : Deck → List Statement → Watched → Watched

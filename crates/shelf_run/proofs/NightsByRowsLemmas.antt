@@ -12,15 +12,17 @@ use Rattle.deck_runner.specs.Beginning.{run_before, IsAttached}
 use Rattle.deck_runner.specs.Line.{Line}
 use Rattle.deck_runner.specs.NoFalseFile.{Judged, first_ledger, StandNow, RunsWhole, RunsInPart}
 use Rattle.shelf_library.specs.Crashes.{Passes}
+use Rattle.shelf_library.specs.Laws.{ends}
 use Rattle.shelf_library.specs.State.{LibraryState}
 use Rattle.shelf_library.specs.declared.held.Held.{Held}
 use Rattle.shelf_run.specs.AnyNights.{AnyNight, HasEnded, WasBrokenOff, CameToNothing}
 use Rattle.shelf_run.specs.Files.{files_of, reads_of, Represents}
-use Rattle.shelf_run.specs.NightRows.{Allowed, IsOfLedger, MayEndSo, MayBreakOffSo, WasTold, MayBeCutSo, Ending, Ended, BrokenOff, Nothing, Cut, EndedNight, HasEnding, crash_from, FollowAsEnded, allowed_behind, IsIn, as_in, StartAllowed, NightsByRows}
+use Rattle.shelf_run.specs.NightRows.{Allowed, IsOfLedger, MayEndSo, MayBreakOffSo, WasTold, MayBeCutSo, MayBeCutBehind, Ending, Ended, BrokenOff, Nothing, Cut, CutBehind, EndedNight, HasEnding, crash_from, FollowAsEnded, allowed_behind, IsIn, as_in, StartAllowed, NightsByRows}
+use Rattle.shelf_run.specs.NightPoints.{RunsThrough, HasEndedThrough}
 use Rattle.shelf_run.specs.ShelfRun.{shown_in, over}
 use Rattle.shelf_run.proofs.AnyNightLemmas.{moment}
 use Rattle.shelf_run.proofs.FilesLemmas.{named_is, sound_of, shown_truly, world_at_first}
-use Rattle.shelf_run.proofs.NightRowLemmas.{the_one, one_itself, represents_passes, Covers, cover_weaker, cover_found, watched, LeftInRun, cover_stands, cover_run, cover_broken_off, run_watched, broken_off_watched}
+use Rattle.shelf_run.proofs.NightRowLemmas.{the_one, one_itself, represents_passes, Covers, cover_weaker, cover_found, first_mark, watched, LeftInRun, LeftBehind, cover_through, stand_at_point, cover_stands, cover_run, cover_broken_off, run_watched, broken_off_watched}
 
 -- what a read gives of the name at the start of a night represents something that it may stand for
 abbrev pub ReadsAllowed : Allowed → ShelfState → List ℕ → Type 0
@@ -60,7 +62,7 @@ module _ (may : Allowed) (night : AnyNight) (honest : IsTrue night.new.is_honest
       -- a crash in the run, of which these lines would have been told
       module _ (lines : List Line) (told : (AreLines : List Line → Type 0) → AreLines lines → WasTold night AreLines) where
         abbrev LeftOf : LibraryState → List Line → Named → Type 0
-        LeftOf begun = LeftInRun start deck name (may name) now deck.statements (watched start deck name first_ledger (begins begun))
+        LeftOf begun = LeftInRun start deck name (may name) now deck.statements (watched start deck name first_mark (begins begun))
 
         cut_so : (begun : LibraryState) (named : Named) → LeftOf begun lines named → MayBeCutSo may night name named
         cut_so begun named left = inr (deck, is_deck, shown_in.world start, allowed, told (λ all. LeftOf begun all named) left)
@@ -71,16 +73,35 @@ module _ (may : Allowed) (night : AnyNight) (honest : IsTrue night.new.is_honest
         pub cut_whole : RunsWhole shown_in start end deck lines → Covers (MayBeCutSo may night name) night.old night.new name
         cut_whole runs =
             let is = runs.stretches honest truly in
-            let ran = cover_run start deck name (may name) now (MayBeCutSo may night name) night.old deck.statements (begins is.0) lines is.1 first_ledger is.2.names
+            let ran = cover_run start deck name (may name) now (MayBeCutSo may night name) night.old deck.statements (begins is.0) lines is.1 first_mark is.2.names
             (cut_so is.0) is.3 (attached is.0 is.2) in
             subst (λ (library : LibraryState). Covers (MayBeCutSo may night name) night.old library.shelf name) is.4 ran
 
         pub cut_in_part : RunsInPart shown_in start end deck lines → Covers (MayBeCutSo may night name) night.old night.new name
         cut_in_part runs =
             let is = runs.stretches honest truly in
-            let ran = cover_broken_off start deck name (may name) now (MayBeCutSo may night name) night.old deck.statements (begins is.0) lines is.1 first_ledger is.2.names
+            let ran = cover_broken_off start deck name (may name) now (MayBeCutSo may night name) night.old deck.statements (begins is.0) lines is.1 first_mark is.2.names
             (cut_so is.0) is.3 (attached is.0 is.2) in
             subst (λ (library : LibraryState). Covers (MayBeCutSo may night name) night.old library.shelf name) is.4 ran
+
+        -- behind a point of it
+        pub cut_behind : (seen : List Line) (shelf : ShelfState) → RunsThrough seen shelf start end deck lines → Covers (MayBeCutBehind seen may night name) shelf night.new name
+        cut_behind seen shelf runs =
+            let P = MayBeCutBehind seen may night name in
+            let is = runs.stretches honest truly in
+            let through = is.3 in
+            let point : Judged LibraryState = through.0 in
+            let later : List Line = through.1 in
+            let LeftHere : List Line → Named → Type 0 = LeftBehind start deck name (may name) now seen deck.statements (watched start deck name first_mark (begins is.0)) in
+            let gives : (named : Named) → LeftHere (seen ++ later) named → P named =
+            λ named left. (deck, is_deck, shown_in.world start, allowed, told (λ all. LeftHere all named) (subst (λ (all : List Line). LeftHere all named) (sym through.3) left)) in
+            let first : StandNow shown_in start (begins is.0) =
+            λ other test was all. ends test night.old is.0.shelf other ((is.2.images other).within test (was refl)) in
+            let stands = stand_at_point start deck.statements (begins is.0) seen point later is.1 through.4 first in
+            let ran = cover_through start deck name (may name) now P deck.statements (begins is.0) seen point later is.1 is.2.names gives (stands name) through.4 in
+            let to_end : Covers P point.point.library.shelf night.new name =
+            subst (λ (library : LibraryState). Covers P point.point.library.shelf library.shelf name) is.4 ran in
+            subst (λ (from : ShelfState). Covers P from night.new name) through.2 to_end
 
       -- the end of the run
       at_end : (P : Named → Type 0) (after : Judged LibraryState) → after.point.library ≡ end → StandNow shown_in start after
@@ -99,7 +120,7 @@ module _ (may : Allowed) (night : AnyNight) (honest : IsTrue night.new.is_honest
       let of_deck = reads deck run.1 in
       let is = told.3.run.stretches honest (truly deck run.1 of_deck) in
       let begun = begins deck run.1 of_deck held name now is.0 in
-      let ran = run_watched start deck name deck.statements begun told.0 is.1 first_ledger is.2.names is.3 in
+      let ran = run_watched start deck name deck.statements begun told.0 is.1 first_mark is.2.names is.3 in
       at_end deck run.1 of_deck held name now (MayEndSo may night name) is.1 is.4 is.5
       (λ named of. (deck, run.1, shown_in.world start, allowed deck run.1 of_deck, (has.0, (told.0, told.1, told.2, (watched start deck name ran.0 is.1, ran.1, of)))))
 
@@ -113,7 +134,7 @@ module _ (may : Allowed) (night : AnyNight) (honest : IsTrue night.new.is_honest
       let of_deck = reads deck run.1 in
       let is = told.9.run.stretches honest (truly deck run.1 of_deck) in
       let begun = begins deck run.1 of_deck held name now is.0 in
-      let ran = broken_off_watched start deck name deck.statements begun lines is.1 first_ledger is.2.names is.3 in
+      let ran = broken_off_watched start deck name deck.statements begun lines is.1 first_mark is.2.names is.3 in
       at_end deck run.1 of_deck held name now (MayBreakOffSo may night name) is.1 is.4 is.5
       (λ named of. (
         deck,
@@ -141,6 +162,14 @@ module _ (may : Allowed) (night : AnyNight) (honest : IsTrue night.new.is_honest
   was_cut name (inr (inr leaves)) reads now =
       cover_weaker (may name) (MayBeCutSo may night name) night.old night.new name (λ named is. inl is) (stayed name leaves now)
 
+  pub was_cut_behind : (seen : List Line) (shelf : ShelfState) (name : List ℕ) → HasEndedThrough night seen shelf
+      → ((deck : Deck) → IsDeck night.bytes deck → All (ReadsAllowed may night.old) (file_names deck.files))
+      → Covers (may name) night.old night.old name → Covers (MayBeCutBehind seen may night name) shelf night.new name
+  was_cut_behind seen shelf name has reads now =
+      let run = has.1 in
+      let told = run.3 in
+      cut_behind run.0 run.1 (reads run.0 run.1) told.3.held name now told.0 (λ AreLines are. inl (has.0, (told.0, told.1, told.2, are))) seen shelf told.3.run
+
   -- however it ended
   pub behind_night : (ending : Ending) (name : List ℕ) → HasEnding ending night
       → ((deck : Deck) → IsDeck night.bytes deck → All (ReadsAllowed may night.old) (file_names deck.files))
@@ -158,6 +187,7 @@ module _ (may : Allowed) (night : AnyNight) (honest : IsTrue night.new.is_honest
             (throughout_last (Passes (is_one_of a.these)) (night.old.file name) (night.new.file name) a.pass);
       }
   behind_night Cut name has reads now = was_cut name has reads now
+  behind_night (CutBehind seen shelf) name has reads now = was_cut_behind seen shelf name has reads now
 
 -- ---- all nights
 

@@ -3,4 +3,5 @@ pub mod WorldAfter
 pub mod ShelfRun
 pub mod Histories
 pub mod AnyNights
+pub mod NightPoints
 pub mod NightRows

@@ -19,18 +19,22 @@ use Rattle.deck_runner.specs.Steps.{IsStep, IsRunOf, IsRunInPart, closes_from}
 use Rattle.deck_runner.specs.Stretches.{trace_by}
 use Rattle.shelf_run.specs.AnyNights.{AnyNight, HasEnded, WasBrokenOff, CameToNothing, StartsAfter}
 use Rattle.shelf_run.specs.Files.{reads_of, Represents}
+use Rattle.shelf_run.specs.NightPoints.{HasEndedThrough}
 
 -- ---- a run in which one name is watched
 
--- a point of a run by the definitions, and what the images of a name may be: in the step before it, and from there on
+-- a point of a run by the definitions; what the images of a name may be, in the step before it and from there on; and the lines that the run has
+-- had, before that step and from there on
 pub record Watched : Type 0 where
   pub run : Run
   pub in_step : Ledger
   pub ledger : Ledger
+  pub begun : List Line
+  pub told : List Line
 
 -- before the first statement the images are as at the start
 abbrev pub watched_before : World → Deck → Watched
-watched_before world deck = record { run = run_before world deck; in_step = first_ledger; ledger = first_ledger }
+watched_before world deck = record { run = run_before world deck; in_step = first_ledger; ledger = first_ledger; begun = []; told = [] }
 
 -- the file name that a statement of the deck is about
 abbrev pub name_of : Deck → Statement → List ℕ
@@ -48,6 +52,8 @@ pub record IsWatchedStep (deck : Deck) (name : List ℕ) (statement : Statement)
   pub step : IsStep statement before.run lines after.run
   pub in_step : after.in_step ≡ during (trace_at deck name statement before.run lines) before.ledger
   pub ledger : after.ledger ≡ behind (trace_at deck name statement before.run lines) before.ledger
+  pub begun : after.begun ≡ before.told
+  pub told : after.told ≡ before.told ++ lines
 
 -- a whole run of the deck from this world on, with its lines; and one that was broken off
 abbrev pub RunsWatched : Deck → List ℕ → World → List Line → Watched → Type 0
@@ -92,14 +98,27 @@ MayBeCutSo may night name named = may name named ⊎ FromAllowed may night.bytes
     (lines more : List Line) × (all ≡ lines ++ more) × (after : Watched)
     × RunsWatchedInPart deck name world lines after × IsOfLedger (may name) after.in_step named))
 
+-- a crash behind these lines has left this: in a step that began behind them, or behind a step by which they were there
+abbrev pub IsLeftBehind : List Line → (Named → Type 0) → Watched → Named → Type 0
+IsLeftBehind seen before after named =
+    ((since : List Line) × (after.begun ≡ seen ++ since) × IsOfLedger before after.in_step named)
+    ⊎ ((since : List Line) × (after.told ≡ seen ++ since) × IsOfLedger before after.ledger named)
+
+abbrev pub MayBeCutBehind : List Line → Allowed → AnyNight → Allowed
+MayBeCutBehind seen may night name named = FromAllowed may night.bytes (λ deck world. WasTold night (λ all.
+    (lines more : List Line) × (all ≡ lines ++ more) × (after : Watched)
+    × RunsWatchedInPart deck name world lines after × IsLeftBehind seen (may name) after named))
+
 -- ---- nights
 
--- how a night ended: its run came to its end; its writer refused a line; nothing came of it; or a crash cut it
+-- how a night ended: its run came to its end; its writer refused a line; nothing came of it; a crash cut it; or a crash cut it behind these lines
+-- of the run, where the shelf was so
 pub data Ending : Type 0 where
   Ended : Ending
   BrokenOff : Ending
   Nothing : Ending
   Cut : Ending
+  CutBehind : (seen : List Line) → (shelf : ShelfState) → Ending
 
 pub record EndedNight : Type 0 where
   pub night : AnyNight
@@ -111,6 +130,7 @@ HasEnding Ended night = HasEnded night
 HasEnding BrokenOff night = WasBrokenOff night
 HasEnding Nothing night = CameToNothing night
 HasEnding Cut night = HasEnded night ⊎ (WasBrokenOff night ⊎ CameToNothing night)
+HasEnding (CutBehind seen shelf) night = HasEndedThrough night seen shelf
 
 -- its shelf has not lied, and no name was attached to it at the start
 pub record IsEndedNight (one : EndedNight) : Type 0 where
@@ -118,12 +138,14 @@ pub record IsEndedNight (one : EndedNight) : Type 0 where
   pub names : one.night.old.names ≡ []
   pub ends : HasEnding one.ending one.night
 
--- the shelf from which on a crash may have come before the next start: that of the start, if it has cut the night, or else that of the end
+-- the shelf from which on a crash may have come before the next start: that of the start or of the point, if it has cut the night, or else that of
+-- the end
 abbrev pub crash_from : Ending → AnyNight → ShelfState
 crash_from Ended night = night.new
 crash_from BrokenOff night = night.new
 crash_from Nothing night = night.new
 crash_from Cut night = night.old
+crash_from (CutBehind seen shelf) night = shelf
 
 -- the nights follow one another, the first one after this stretch of time
 abbrev pub FollowAsEnded : (old new : ShelfState) → List EndedNight → Type 0
@@ -137,6 +159,7 @@ allowed_behind Ended may night = MayEndSo may night
 allowed_behind BrokenOff may night = MayBreakOffSo may night
 allowed_behind Nothing may night = may
 allowed_behind Cut may night = MayBeCutSo may night
+allowed_behind (CutBehind seen shelf) may night = MayBeCutBehind seen may night
 
 -- ---- the law
 

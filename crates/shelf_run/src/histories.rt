@@ -1,6 +1,7 @@
 //! Runs that follow one another.
 ghost use Rattle.shelf_run.specs.Histories.{CleanNights, NightsFromNothing};
 ghost use Rattle.shelf_run.specs.AnyNights.{AnyNights};
+ghost use Rattle.shelf_run.specs.NightPoints.{NightsGoThrough};
 ghost use Rattle.shelf_run.specs.NightRows.{NightsByRows};
 
 use deck_reader::one_deck;
@@ -11,6 +12,7 @@ pub fn history_laws()
     ensures from_nothing { NightsFromNothing }
     ensures any { AnyNights }
     ensures rows { NightsByRows }
+    ensures points { NightsGoThrough }
 {
     one_deck();
 }
