@@ -1,0 +1,26 @@
+-- Counts over rows of nodes.
+use Rattle.std.proofs.Common.{◌≡◌, ℕ, zero, suc, ◌+◌, ◌<◌, List, [], ◌∷◌, ◌++◌, length, drop, refl, ap, sym, ◌∙◌, arith, slice_index_or}
+use Rattle.std.proofs.lemmas.List.{length-append}
+use Rattle.tree_node.specs.declared.shape.Shape.{Shape}
+use Rattle.tree_node.specs.Leaf.{leaf_entries}
+use Rattle.tree_node.specs.Inner.{separators, children}
+use Rattle.tree_node.proofs.InnerLemmas.{length_separators, length_children}
+use Rattle.page_counts.specs.Rows.{page_at, children_in, separators_in, entries_in}
+
+-- the nodes of a row have a child more than separators, each
+pub children_many : (shape : Shape) (list : List (List ℕ)) (row : List ℕ) → length (children_in shape list row) ≡ length (separators_in shape list row) + length row
+children_many shape list [] = refl
+children_many shape list (n ∷ row) =
+    let one = length_children shape (page_at list n) in
+    let none = length_separators shape (page_at list n) in
+    let rest = children_many shape list row in
+    let left = length-append (children shape (page_at list n)) (children_in shape list row) in
+    let right = length-append (separators shape (page_at list n)) (separators_in shape list row) in
+    omega (arith, one, none, rest, left, right)
+
+-- the entries from leaf k on are those of the leaf, and those behind it
+pub entries_behind : (shape : Shape) (list : List (List ℕ)) (row : List ℕ) (k m : ℕ) → m ≡ suc k → k < length row
+    → length (entries_in shape list (drop k row)) ≡ length (leaf_entries shape (page_at list (slice_index_or row k 0))) + length (entries_in shape list (drop m row))
+entries_behind shape list [] k m e inside = absurd (omega arith)
+entries_behind shape list (n ∷ row) zero m e inside = rw e (length-append (leaf_entries shape (page_at list n)) (entries_in shape list row))
+entries_behind shape list (n ∷ row) (suc k) m e inside = rw e (entries_behind shape list row k (suc k) refl (omega arith))

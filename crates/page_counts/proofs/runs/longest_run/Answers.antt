@@ -1,0 +1,15 @@
+use Rattle.std.proofs.Common.{◌+◌, refl, None, arith}
+use Rattle.page_counts.proofs.RunLemmas.{run_none, leaf_goes_on, leaf_adds}
+use Rattle.page_counts.proofs.runs.longest_run.Goals as goal
+
+pub loop-n-init : goal.loop-n-init
+loop-n-init c = run_none (record { last = None; length = 0; longest = 0 }) refl refl
+
+pub with_leaf-run-requires-clause-go : goal.with_leaf-run-requires-clause-go
+with_leaf-run-requires-clause-go c =
+    leaf_goes_on c.args.width c.args.shape c.args.pages.now c.args.leaves.now c.loop-n.n-index c.loop-n.run c.loop-n-test.true c.requires.few c.requires.together c.loop-n.invariant
+
+pub loop-n-preserved : goal.loop-n-preserved
+loop-n-preserved c =
+    leaf_adds c.args.width c.args.shape c.args.pages.now c.args.leaves.now c.loop-n.n-index (c.loop-n.n-index + 1) c.loop-n.run c.with_leaf-run.result (omega arith) c.loop-n-test.true
+    c.requires.together c.loop-n.invariant c.with_leaf-run.ensures
