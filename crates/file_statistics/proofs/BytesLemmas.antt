@@ -1,0 +1,112 @@
+-- The pages in the bytes of a sound file.
+use Rattle.std.proofs.Common.{◌≡◌, ℕ, zero, suc, ◌+◌, ◌*◌, ◌/◌, ◌<◌, ◌≤◌, nat_lt, List, [], length, take, drop, slice_index_or, Option, Some, None, IsSome, refl, ap, sym, ◌∙◌, arith, subst, inl, inr, Result, Ok, Err, IfOk}
+use Rattle.std.proofs.lemmas.Bool.{cases_Bool, ltb-false}
+use Rattle.std.specs.Simd.{first_chunks}
+use Rattle.page_store.specs.Pages.{page_of}
+use Rattle.page_alloc.specs.Chain.{chain}
+use Rattle.page_alloc.proofs.ChainLemmas.{in_use}
+use Rattle.file_header.specs.declared.header.Header.{Header}
+use Rattle.file_header.specs.Reading.{header_in}
+use Rattle.shelf_file.specs.declared.look.Look.TheVariants.{Accepted}
+use Rattle.shelf_file.specs.Named.{look_of, look_by, live_in}
+use Rattle.page_counts.specs.Levels.{AreShown}
+use Rattle.std.proofs.Math.Nat.{le-div_iff_mul-le}
+use Rattle.shelf_file.proofs.AcceptedLemmas.{accepted_page}
+use Rattle.file_checker.specs.Sound.{IsSound}
+use Rattle.indexed_file.specs.File.{File}
+use Rattle.open_file.specs.declared.open_file.OpenFile.{OpenFile}
+use Rattle.file_statistics.specs.declared.statistics.FileStatistics.{FileStatistics}
+use Rattle.file_statistics.specs.Statistics.{live_by, StandBy, HasFile, HasStatistics}
+use Rattle.file_statistics.specs.Lines.{text_of}
+use Rattle.file_statistics.specs.Listing.{IsTextFor}
+use Rattle.std.proofs.lemmas.List.{drop-drop}
+use Rattle.file_statistics.proofs.FileLemmas.{page_within}
+
+pub chunk_at : (bytes : List ℕ) (count n : ℕ) → n < count → slice_index_or (first_chunks 4096 count bytes) n [] ≡ page_of bytes n
+chunk_at bytes zero n inside = absurd (omega arith)
+chunk_at bytes (suc count) zero inside = refl
+chunk_at bytes (suc count) (suc n) inside =
+    let up : 4096 + 4096 * n ≡ 4096 * suc n = omega arith in
+    chunk_at (drop 4096 bytes) count n (omega arith) ∙ ap (take 4096) (drop-drop (4096 * n) 4096 bytes ∙ ap (λ (k : ℕ). drop k bytes) up)
+
+-- the bytes of a file that is accepted have its pages
+pub record AreLong (bytes : List ℕ) (header : Header) : Type 0 where
+  pub first : 4096 ≤ length bytes
+  pub counted : 4096 * header.pages ≤ length bytes
+
+by_header : (bytes : List ℕ) (there : Option Header) (header : Header) → look_by bytes there ≡ Accepted header → 4096 * header.pages ≤ length bytes
+by_header bytes None header refused = absurd (cc)
+by_header bytes (Some found) header looks = elim (cases_Bool (nat_lt (length bytes) (4096 * found.pages))) [
+  | inl short ↦ let h = rw short at looks in absurd (cc)
+  | inr long ↦ let h : Accepted found ≡ Accepted header = rw long at looks in
+      let same : found ≡ header = cc in
+      subst (λ (h : Header). 4096 * h.pages ≤ length bytes) same (omega (arith, ltb-false (length bytes) (4096 * found.pages) long))
+]
+
+pub are_long : (bytes : List ℕ) (header : Header) → look_of (Some bytes) ≡ Accepted header → AreLong bytes header
+are_long bytes header looks = elim (cases_Bool (nat_lt (length bytes) 4096)) [
+  | inl short ↦ let h = rw short at looks in absurd (cc)
+  | inr whole ↦ record {
+    first = omega (arith, ltb-false (length bytes) 4096 whole);
+    counted = by_header bytes (header_in (page_of bytes 0)) header (rw whole at looks);
+  }
+]
+
+-- the pages in use are chunks of the bytes
+pub live_shown : (bytes : List ℕ) (header : Header) (list : List (List ℕ)) (count : ℕ) → list ≡ first_chunks 4096 count bytes → length list ≡ count → header.pages ≤ count
+    → AreShown (live_in header bytes) list
+live_shown bytes header list count is many enough n page there =
+    let live : IsSome (live_in header bytes n) = rw there refl in
+    let found = in_use (page_of bytes) header.pages n (chain (page_of bytes) header.pages header.first_free header.free) live in
+    let within = page_within header.pages n found.2 in
+    let low = within.1 in
+    let same : Some (page_of bytes n) ≡ Some page = sym (rw (found.1, found.2, found.3) refl) ∙ there in
+    (omega (arith, many, enough, low), ap (λ (l : List (List ℕ)). slice_index_or l n []) is ∙ chunk_at bytes count n (omega (arith, enough, low)) ∙ (let e : page_of bytes n ≡ page = cc in e))
+
+pub if_ok : {X E : Type 0} (P Q : X → Type 0) (r : Result X E) → ((x : X) → P x → Q x) → IfOk r P → IfOk r Q
+if_ok P Q (Ok x) f h = f x h
+if_ok P Q (Err e) f h = tt
+
+module _ (bytes : List ℕ) (records pages : ℕ) (sound : IsSound bytes records pages) (header : Header) (list : List (List ℕ)) (count : ℕ) (is : list ≡ first_chunks 4096 count bytes)
+    (many : length list ≡ count) (counted : count ≡ length bytes / 4096) (first : Some header ≡ header_in (slice_index_or list 0 [])) where
+  long : AreLong bytes sound.header
+  long = are_long bytes sound.header sound.accepted
+
+  enough : sound.header.pages ≤ count
+  enough =
+      let l = long.counted in
+      let fits : sound.header.pages ≤ length bytes / 4096 = (le-div_iff_mul-le {k = 4096} {x = sound.header.pages} {y = length bytes} (omega arith)).1 (omega (arith, l)) in
+      omega (arith, fits, counted)
+
+  same : sound.header ≡ header
+  same =
+      let l = long.first in
+      let some : 1 ≤ length bytes / 4096 = (le-div_iff_mul-le {k = 4096} {x = 1} {y = length bytes} (omega arith)).1 (omega (arith, l)) in
+      let page : slice_index_or list 0 [] ≡ page_of bytes 0 = ap (λ (l : List (List ℕ)). slice_index_or l 0 []) is ∙ chunk_at bytes count 0 (omega (arith, some, counted)) in
+      let both : Some sound.header ≡ Some header = sym (accepted_page bytes sound.header sound.accepted) ∙ sym (ap header_in page) ∙ sym first in
+      cc
+
+  standing : StandBy (page_of bytes) sound.header sound.stands.opened sound.file
+  standing = record { by_header = sound.stands.by_header; stands = sound.stands.stands; sound = sound.stands.sound }
+
+  shown : AreShown (live_by (page_of bytes) sound.header) list
+  shown = live_shown bytes sound.header list count is many enough
+
+  pub has_file : HasFile header list
+  has_file = subst (λ (h : Header). HasFile h list) same
+      (record { page = page_of bytes; opened = sound.stands.opened; file = sound.file; standing = standing; shown = shown })
+
+  pub text_for : (counts : FileStatistics) (text : List ℕ)
+      → ((page : ℕ → List ℕ) (opened : OpenFile) (file : File) → StandBy page header opened file → AreShown (live_by page header) list → HasStatistics page header file counts)
+      → text ≡ text_of counts → IsTextFor bytes text
+  text_for counts text told text_is =
+      let back = subst (λ (h : Header). (page : ℕ → List ℕ) (opened : OpenFile) (file : File) → StandBy page h opened file → AreShown (live_by page h) list → HasStatistics page h file counts)
+      (sym same) told in
+      record {
+        schema = sound.header.schema;
+        file = sound.file;
+        closed = record { header = sound.header; accepted = sound.accepted; schema_is = refl; stands = sound.stands };
+        counts = counts;
+        counted = back (page_of bytes) sound.stands.opened sound.file standing shown;
+        text_is = text_is;
+      }

@@ -1,0 +1,101 @@
+-- What is counted of a file whose pages stand for it.
+use Rattle.std.specs.Prelude.{◌≡◌, ℕ, ◌+◌, ◌*◌, ◌<◌, ◌^◌, List, [], ◌∷◌, length, map, slice_index_or, IsSome}
+use Rattle.indexed_file.specs.File.{File}
+use Rattle.pages.specs.PageMap.{PageMap}
+use Rattle.page_alloc.specs.Chain.{chain, used}
+use Rattle.page_marks.specs.Parted.{own_at}
+use Rattle.file_header.specs.declared.header.Header.{Header}
+use Rattle.bplus_tree.specs.declared.tree.Tree.{Tree}
+use Rattle.bplus_tree.specs.Standing.{TreeStands}
+use Rattle.key_index.specs.declared.alt_index.AltIndex.{AltIndex}
+use Rattle.record_heap.specs.Slot.{room}
+use Rattle.key_index.specs.Stored.{prime_bytes, alt_bytes}
+use Rattle.open_file.specs.InOrder.{alt_entries, prime_entries}
+use Rattle.open_file.specs.declared.open_file.OpenFile.{OpenFile}
+use Rattle.open_file.specs.Headers.{IsOpenedBy}
+use Rattle.open_file.specs.Stands.{Stands}
+use Rattle.page_counts.specs.Levels.{levels_of, AreShown}
+use Rattle.file_statistics.specs.declared.statistics.KeyStatistics.{KeyStatistics}
+use Rattle.file_statistics.specs.declared.statistics.FileStatistics.{FileStatistics}
+
+-- the pages in use, by the header and what each page has
+abbrev pub live_by : (ℕ → List ℕ) → Header → PageMap
+live_by page header = used page header.pages (chain page header.pages header.first_free header.free)
+
+-- the pages, by the header, stand for a file
+pub record StandBy (page : ℕ → List ℕ) (header : Header) (opened : OpenFile) (file : File) : Type 0 where
+  pub by_header : IsOpenedBy header opened
+  pub stands : Stands opened (live_by page header) file
+  pub sound : IsSome (chain page header.pages header.first_free header.free)
+
+-- what is counted of a tree that stands: its levels, its pages and its entries
+pub record AreKeyCounts (tree : Tree) (pages : PageMap) (entries : List (List ℕ)) (own : List ℕ) (stands : TreeStands tree pages entries own) (key : KeyStatistics) : Type 0 where
+  pub levels : key.levels.items ≡ levels_of tree.shape tree.levels (stands.value ∷ [])
+  pub pages_are : key.pages ≡ length own
+  pub entries_are : key.entries ≡ length entries
+
+-- a tree that stands in pages in use which are those of the list, fewer than can be counted
+pub record HasTreeStanding (tree : Tree) (list : List (List ℕ)) : Type 0 where
+  pub pages : PageMap
+  pub entries : List (List ℕ)
+  pub own : List ℕ
+  pub stands : TreeStands tree pages entries own
+  pub shown : AreShown pages list
+  pub few : length own < 2 ^ 64
+  pub counted : length entries < 2 ^ 64
+
+-- the pages of these trees
+abbrev pub all_key_pages : List KeyStatistics → ℕ
+all_key_pages [] = 0
+all_key_pages (key ∷ keys) = key.pages + all_key_pages keys
+
+-- what is counted of the trees of a file that stands: the prime key's, and those of the first alternate keys, so many
+pub record AreKeys (opened : OpenFile) (pages : PageMap) (file : File) (stands : Stands opened pages file) (count : ℕ) (keys : List KeyStatistics) : Type 0 where
+  pub prime : (key : KeyStatistics) → key ≡ slice_index_or keys 0 key
+      → AreKeyCounts opened.prime.tree pages (map prime_bytes (prime_entries opened.schema stands.places file.rows)) (own_at stands.parts.owns 1) stands.parts.prime_stands.tree key
+  pub alternates : (j : ℕ) (index : AltIndex) (within : j < length opened.alternates.items) (is : index ≡ slice_index_or opened.alternates.items j index) (key : KeyStatistics)
+      → j < count → key ≡ slice_index_or keys (j + 1) key
+      → AreKeyCounts index.tree pages (map alt_bytes (alt_entries opened.schema (j + 1) file.rows)) (own_at stands.parts.owns (j + 2))
+      (stands.parts.alternates_stand j index within is).tree key
+
+-- a file that stands in pages in use which are those of the list, fewer than can be counted
+pub record HasFileStanding (opened : OpenFile) (list : List (List ℕ)) : Type 0 where
+  pub pages : PageMap
+  pub file : File
+  pub stands : Stands opened pages file
+  pub shown : AreShown pages list
+  pub few : (i : ℕ) → length (own_at stands.parts.owns i) < 2 ^ 64
+  pub prime_counted : opened.prime.tree.count < 2 ^ 64
+  pub counted : (j : ℕ) (index : AltIndex) → j < length opened.alternates.items → index ≡ slice_index_or opened.alternates.items j index → index.tree.count < 2 ^ 64
+
+-- so many keys are told of, and what is told is what is counted of the file, wherever it stands in the pages of the list
+pub record KeysCounted (opened : OpenFile) (list : List (List ℕ)) (count : ℕ) (keys : List KeyStatistics) : Type 0 where
+  pub many : length keys ≡ count + 1
+  pub are : (pages : PageMap) (file : File) (stands : Stands opened pages file) → AreShown pages list → AreKeys opened pages file stands count keys
+
+-- What is counted of a file that stands, by its header: its pages, as many as the header tells, each of which is the header, of the heap, of a tree, or free; the slots
+-- of the heap's pages; its records, each of which has a slot; and its trees.
+pub record AreStatistics (header : Header) (opened : OpenFile) (pages : PageMap) (file : File) (stands : Stands opened pages file) (counts : FileStatistics) : Type 0 where
+  pub pages_are : counts.pages ≡ header.pages
+  pub free_are : counts.free ≡ header.free
+  pub heap_are : counts.heap ≡ length (own_at stands.parts.owns 0)
+  pub trees_are : counts.trees ≡ all_key_pages counts.keys.items
+  pub whole : counts.pages ≡ 1 + counts.heap + counts.trees + counts.free
+  pub slots_are : counts.slots ≡ counts.heap * room opened.heap.shape
+  pub records_are : counts.records ≡ length file.rows
+  pub many : length counts.keys.items ≡ length opened.schema.keys
+  pub keys : AreKeys opened pages file stands (length opened.alternates.items) counts.keys.items
+
+-- the pages by the header stand for the file, and these are its counts
+pub record HasStatistics (page : ℕ → List ℕ) (header : Header) (file : File) (counts : FileStatistics) : Type 0 where
+  pub opened : OpenFile
+  pub standing : StandBy page header opened file
+  pub counted : AreStatistics header opened (live_by page header) file standing.stands counts
+
+-- the pages by the header stand for a file, and those in use are those of the list
+pub record HasFile (header : Header) (list : List (List ℕ)) : Type 0 where
+  pub page : ℕ → List ℕ
+  pub opened : OpenFile
+  pub file : File
+  pub standing : StandBy page header opened file
+  pub shown : AreShown (live_by page header) list

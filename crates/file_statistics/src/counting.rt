@@ -1,0 +1,119 @@
+//! What is counted of the pages of a file.
+
+ghost use Rattle.std.specs.Prelude.{◌≡◌, ◌<◌, ◌≤◌, ◌^◌, ◌++◌, ◌∷◌, [], ℕ, List, IfOk, OnOk, length, map, slice_index_or};
+ghost use Rattle.pages.specs.PageMap.{PageMap};
+ghost use Rattle.indexed_file.specs.File.{File};
+ghost use Rattle.bplus_tree.specs.Standing.{TreeStands};
+ghost use Rattle.open_file.specs.Stands.{Stands};
+ghost use Rattle.page_counts.specs.Levels.{AreShown, all_pages};
+ghost use Rattle.file_header.specs.Bounds.{IsHeader};
+ghost use Rattle.open_file.specs.declared.open_file.OpenFile.{OpenFile};
+ghost use Rattle.file_statistics.specs.Statistics.{AreKeyCounts, HasTreeStanding, HasFileStanding, KeysCounted, HasFile, HasStatistics, StandBy, live_by, all_key_pages};
+
+use crate::statistics::{FileStatistics, KeyStatistics};
+use bplus_tree::Tree;
+use file_header::Header;
+use open_file::OpenFile;
+use page_bytes::PAGE_SIZE;
+use page_counts::{Level, TreeCounts, count_tree, level_laws};
+use std::alloc::{AllocError, Global};
+
+/// The pages of these levels.
+fn pages_of(levels: &[Level]) -> u64
+    requires { all_pages levels.now < 2 ^ 64 }
+    ensures { result ≡ all_pages levels.now }
+{
+    let mut pages = 0;
+    for level in levels {
+        pages += level.pages;
+    }
+    pages
+}
+
+/// Counts the tree of a key.
+fn count_key(
+    alloc: Global,
+    pages: &[[u8; PAGE_SIZE]],
+    tree: &Tree,
+) -> Result<KeyStatistics, AllocError>
+    requires { HasTreeStanding tree.now pages.now }
+    ensures { (map : PageMap) (entries : List (List ℕ)) (own : List ℕ) (stands : TreeStands tree.now map entries own) → AreShown map pages.now
+        → IfOk result (AreKeyCounts tree.now map entries own stands) }
+{
+    level_laws();
+    let TreeCounts { levels, leaves: _ } = count_tree(
+        alloc,
+        pages,
+        tree.shape,
+        tree.levels,
+        tree.root,
+    )?;
+    Ok(KeyStatistics {
+        pages: pages_of(&levels),
+        entries: tree.count,
+        levels,
+    })
+}
+
+/// Adds what is counted of a key.
+fn push_key(keys: &mut Vec<KeyStatistics>, key: KeyStatistics) -> Result<(), AllocError>
+    ensures { OnOk result (keys.new.items ≡ keys.old.items ++ key ∷ []) }
+{
+    keys.push(key).map_err(|_| AllocError)
+}
+
+/// Counts the trees of all keys, the prime key's first.
+fn count_keys(
+    alloc: Global,
+    pages: &[[u8; PAGE_SIZE]],
+    file: &OpenFile,
+) -> Result<Vec<KeyStatistics>, AllocError>
+    requires { HasFileStanding file.now pages.now }
+    ensures { IfOk result (λ keys. KeysCounted file.now pages.now (length file.now.alternates.items) keys.items) }
+{
+    let mut keys = Vec::new(alloc);
+    push_key(&mut keys, count_key(alloc, pages, &file.prime.tree)?)?;
+    for &index in file.alternates.as_slice() {
+        push_key(&mut keys, count_key(alloc, pages, &index.tree)?)?;
+    }
+    Ok(keys)
+}
+
+/// The pages of the trees of these keys.
+fn tree_pages(keys: &[KeyStatistics]) -> u64
+    requires { all_key_pages keys.now < 2 ^ 64 }
+    ensures { result ≡ all_key_pages keys.now }
+{
+    let mut pages = 0;
+    for key in keys {
+        pages += key.pages;
+    }
+    pages
+}
+
+/// Counts the pages of a file, and what is in them, by its header.
+pub fn count_file(
+    alloc: Global,
+    pages: &[[u8; PAGE_SIZE]],
+    header: &Header,
+) -> Result<FileStatistics, AllocError>
+    requires header { IsHeader header.now }
+    requires stands { HasFile header.now pages.now }
+    ensures counted { (page : ℕ → List ℕ) (opened : OpenFile) (file : File) → StandBy page header.now opened file → AreShown (live_by page header.now) pages.now
+        → IfOk result (HasStatistics page header.now file) }
+{
+    let file = OpenFile::from_header(header);
+    let keys = count_keys(alloc, pages, &file)?;
+    let trees = tree_pages(&keys);
+    let heap = u64::from(header.pages) - 1 - trees - u64::from(header.free);
+    let room = file.heap.shape.room() as u64;
+    Ok(FileStatistics {
+        pages: u64::from(header.pages),
+        heap,
+        trees,
+        free: u64::from(header.free),
+        slots: heap * room,
+        records: header.records,
+        keys,
+    })
+}
