@@ -1,20 +1,19 @@
 -- Counting equal values that stand together.
-use Rattle.std.proofs.Common.{◌≡◌, ◌≢◌, ℕ, zero, suc, ◌+◌, ◌<◌, ◌≤◌, ◌^◌, Bool, true, false, List, [], ◌∷◌, ◌++◌, length, take, drop, map, flat_map, max, Option, Some, None, refl, ap, sym, ◌∙◌, arith, subst, slice_index_or, ◌⊎◌, inl, inr, ◌-◌}
-use Rattle.std.specs.Prelude.{filter, bytes_eq}
+use Rattle.std.proofs.Common.{◌≡◌, ℕ, zero, suc, ◌+◌, ◌<◌, ◌≤◌, ◌^◌, Bool, true, false, List, [], ◌∷◌, ◌++◌, length, take, drop, max, Some, None, refl, ap, sym, ◌∙◌, arith, subst, slice_index_or, ◌⊎◌, inl, inr, ◌-◌}
+use Rattle.std.specs.Prelude.{bytes_eq}
 use Rattle.std.specs.Option.{option_copied}
 use Rattle.std.proofs.Math.Nat.{le-max_left, le-max_right, max-eq_left, max-eq_right}
 use Rattle.std.proofs.Math.Seq.{take-suc}
 use Rattle.std.proofs.lemmas.List.{length-append, length-map, length-take-le, append_assoc, map-append, append-nil, take-append-drop, take_all}
 use Rattle.std.proofs.lemmas.Grind.{flat_map-append}
 use Rattle.std.proofs.lemmas.Slice.Eq.{bytes_eq-Decides}
-use Rattle.tree_node.proofs.OrderLemmas.{either}
 use Rattle.tree_node.specs.declared.shape.Shape.{Shape}
 use Rattle.tree_node.specs.Leaf.{leaf_entries}
 use Rattle.tree_search.specs.Calls.{last_of}
 use Rattle.tree_search.proofs.SearchLemmas.{last_index}
 use Rattle.page_counts.specs.declared.runs.Run.{Run}
 use Rattle.page_counts.specs.Rows.{page_at, entries_in}
-use Rattle.page_counts.specs.Runs.{values_of, count_of, AreTogether, IsGreatestCount, RunOf, CanGoOn}
+use Rattle.page_counts.specs.Runs.{values_of, count_of, AreTogether, RunOf, CanGoOn}
 
 abbrev one_if : Bool → ℕ
 one_if true = 1

@@ -1,13 +1,13 @@
 -- The rows of a tree that stands, and what its levels have.
-use Rattle.std.proofs.Common.{◌≡◌, ℕ, zero, suc, ◌+◌, ◌<◌, ◌^◌, List, [], ◌∷◌, ◌++◌, length, map, flat_map, Some, refl, ap, sym, ◌∙◌, arith, subst}
+use Rattle.std.proofs.Common.{◌≡◌, ℕ, zero, suc, ◌+◌, ◌<◌, ◌^◌, List, [], ◌∷◌, ◌++◌, length, map, flat_map, refl, ap, sym, ◌∙◌, arith, subst}
 use Rattle.std.proofs.lemmas.List.{length-append, length-map, map-append, append-nil}
 use Rattle.std.proofs.lemmas.Grind.{flat_map-append}
 use Rattle.page_bytes.specs.Each.{Each}
 use Rattle.page_marks.proofs.EachLemmas.{each_join}
 use Rattle.pages.specs.PageMap.{PageMap}
 use Rattle.tree_node.specs.declared.shape.Shape.{Shape}
-use Rattle.tree_node.specs.Leaf.{IsLeaf, leaf_entries, leaf_room}
-use Rattle.tree_node.specs.Inner.{IsInner, separators, children, inner_room}
+use Rattle.tree_node.specs.Leaf.{IsLeaf, leaf_entries}
+use Rattle.tree_node.specs.Inner.{IsInner, separators, children}
 use Rattle.tree_search.specs.Tree.{TreeOf, page_of, pages_of, entries_of}
 use Rattle.tree_search.specs.Stored.{Holds}
 use Rattle.page_counts.specs.declared.level.TreeCounts.{TreeCounts}

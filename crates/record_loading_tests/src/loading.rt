@@ -2,6 +2,7 @@
 
 use io_state::{Fault, FileName, Key};
 use page_store::{MemShelf, Shelf};
+use record_forms::Form;
 use record_layout::Schema;
 use record_listing::{Asked, ListEnd, list_records};
 use record_loading::Load;
@@ -66,7 +67,7 @@ pub fn lists(alloc: Global, shelf: MemShelf) -> Result<String, Fail> {
         first: 100,
     };
     let mut out: Vec<u8> = Vec::with_capacity(alloc, 1000)?;
-    match list_records(alloc, &mut library, name(), asked, &mut out)? {
+    match list_records(alloc, &mut library, name(), asked, &Form::Text, &mut out)? {
         ListEnd::Listed => Ok(String::from_utf8(out)?),
         _ => Ok("not listed".to_string(alloc)?),
     }

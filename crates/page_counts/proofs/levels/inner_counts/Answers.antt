@@ -1,5 +1,5 @@
-use Rattle.std.proofs.Common.{◌≡◌, ◌-◌, ap, ◌∙◌, sym, length, arith, refl}
-use Rattle.page_counts.specs.Rows.{separators_in, children_in}
+use Rattle.std.proofs.Common.{◌≡◌, ◌-◌, ap, length, arith, refl}
+use Rattle.page_counts.specs.Rows.{separators_in}
 use Rattle.page_counts.proofs.RowLemmas.{children_many}
 use Rattle.page_counts.proofs.levels.inner_counts.Goals as goal
 

@@ -1,4 +1,4 @@
-use Rattle.std.proofs.Common.{◌≡◌, ◌+◌, suc, arith, take, ap, slice_index_or, [], length}
+use Rattle.std.proofs.Common.{◌+◌, arith, take, ap}
 use Rattle.tree_node.specs.Leaf.{leaf_entries}
 use Rattle.page_counts.proofs.RunLemmas.{entry_goes_on, entry_more, leaf_done}
 use Rattle.page_counts.proofs.runs.with_leaf.Goals as goal

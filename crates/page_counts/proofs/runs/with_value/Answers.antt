@@ -1,4 +1,4 @@
-use Rattle.std.proofs.Common.{◌≡◌, ◌+◌, arith, refl, Some, ◌<◌, ◌^◌}
+use Rattle.std.proofs.Common.{arith, refl, Some}
 use Rattle.page_counts.proofs.RunLemmas.{run_same, run_other, run_short}
 use Rattle.page_counts.proofs.runs.with_value.Goals.{then-is_last, else-is_last}
 use Rattle.page_counts.proofs.runs.with_value.Goals as goal
