@@ -7,12 +7,14 @@ use Rattle.record_listing.specs.declared.end.ListFault.{ListFault}
 use Rattle.command_line.specs.declared.outcome.Outcome.{Outcome}
 use Rattle.command_line.specs.declared.outcome.Outcome.TheVariants.{Listed, Records}
 use Rattle.command_line.specs.declared.fault.Fault.{Fault}
-use Rattle.command_line.specs.declared.fault.Fault.TheVariants.{Deck, NotListed, Unexplained, LongValue, Usage, Input, Output, Memory}
+use Rattle.command_line.specs.declared.fault.Fault.TheVariants.{Deck, NotListed, NoSuchFile, Form as NoForm, Unexplained, LongValue, Usage, Input, Output, Memory}
 
 -- the input, the output or memory failed
 pub not_read : (fault : Fault) → status_of fault ≡ 4 → IsListFault fault
 not_read (Deck fault) is = absurd (cc)
 not_read (NotListed fault) is = tt
+not_read NoSuchFile is = absurd (cc)
+not_read (NoForm fault) is = absurd (cc)
 not_read Unexplained is = absurd (cc)
 not_read LongValue is = absurd (cc)
 not_read (Usage text) is = absurd (cc)
@@ -28,6 +30,11 @@ not_written fault is = not_read fault (let told : status_of fault ≡ 4 = cc in 
 pub if_ok : {A B : Type 0} (result : Result Outcome Fault) → (A → B) → IfOk result (λ _. A) → IfOk result (λ _. B)
 if_ok (Ok done) so known = so known
 if_ok (Err fault) so known = tt
+
+-- where something was done, what follows of it from what is known of it
+pub if_ok_of : {A B : Outcome → Type 0} (result : Result Outcome Fault) → ((outcome : Outcome) → A outcome → B outcome) → IfOk result A → IfOk result B
+if_ok_of (Ok done) so known = so done known
+if_ok_of (Err fault) so known = tt
 
 -- what became of the list of a file, by how it ended
 module _ {P : FileList → Type 0} where

@@ -10,7 +10,7 @@ use Rattle.cobol_program.specs.declared.form.Form.{Form}
 use Rattle.cobol_program.specs.declared.form.Form.TheVariants.{Free, Fixed}
 use Rattle.command_line.specs.declared.fault.Fault.{Fault}
 use Rattle.command_line.specs.declared.fault.RefusedDeck.{RefusedDeck}
-use Rattle.command_line.specs.declared.fault.Fault.TheVariants.{Deck as DeckRefused, NotListed, Unexplained, LongValue, Usage, Input, Output, Memory}
+use Rattle.command_line.specs.declared.fault.Fault.TheVariants.{Deck as DeckRefused, NotListed, NoSuchFile, Form as NoForm, Unexplained, LongValue, Usage, Input, Output, Memory}
 
 -- the list of the deck that the bytes are was written
 abbrev pub WritesList : List ℕ → (before behind : Option (List ℕ)) → Type 0
@@ -43,6 +43,8 @@ WritesText (Some text) before behind = Appends before behind text
 abbrev pub IsListFault : Fault → Type 0
 IsListFault (DeckRefused fault) = ⊥
 IsListFault (NotListed fault) = ⊤
+IsListFault NoSuchFile = ⊥
+IsListFault (NoForm fault) = ⊥
 IsListFault Unexplained = ⊥
 IsListFault LongValue = ⊥
 IsListFault (Usage text) = ⊥

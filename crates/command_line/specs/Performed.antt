@@ -10,13 +10,16 @@ use Rattle.deck_runner.specs.DeckRun.{IsNoDeck}
 use Rattle.deck_runner.specs.RunEnd.{Told, ToldInPart}
 use Rattle.deck_runner.specs.declared.run_end.RunEnd.{RunEnd}
 use Rattle.shelf_run.specs.ShelfRun.{OnShelf, IsExactRun, Runs, BreaksOff, LeavesFiles, StaysSound}
-use Rattle.command_words.specs.Asks.{AskRun, AskCheck, AskServe, AskSchema, AskExplain, AskDeck, AskList, AskCobol, AskHelp, AskNothing}
+use Rattle.command_words.specs.Asks.{FormText, AskRun, AskCheck, AskServe, AskSchema, AskExplain, AskDeck, AskList, AskCobol, AskLoad, AskStat, AskHelp, AskNothing}
 use Rattle.command_line.specs.Folder.{OverFolder}
+use Rattle.command_line.specs.Forms.{IsDeckAsked, IsHalf, HasFormFault}
 use Rattle.command_line.specs.Status.{status_of}
+use Rattle.command_line.specs.declared.forms.FormFault.{FormFault}
+use Rattle.command_line.specs.declared.forms.FormFault.TheVariants.{HalfDeck}
 use Rattle.command_line.specs.declared.fault.Fault.{Fault}
-use Rattle.command_line.specs.declared.fault.Fault.TheVariants.{Deck, NotListed, Unexplained, LongValue, Usage, Input, Output, Memory}
+use Rattle.command_line.specs.declared.fault.Fault.TheVariants.{Deck, NotListed, NoSuchFile, Form as NoForm, Unexplained, LongValue, Usage, Input, Output, Memory}
 use Rattle.command_line.specs.declared.outcome.Outcome.{Outcome}
-use Rattle.command_line.specs.declared.outcome.Outcome.TheVariants.{Helped, Checked, Ended, Served, SchemaTold, SchemaRefused, Explained, Listed, CheckedAll, Records, InCobol}
+use Rattle.command_line.specs.declared.outcome.Outcome.TheVariants.{Helped, Checked, Ended, Served, SchemaTold, SchemaCompared, SchemaRefused, Explained, Listed, CheckedAll, Records, InCobol, Loaded, Counted}
 
 -- a run that was begun: the bytes of its deck, and what the folder was asked and answered
 pub record Begun : Type 0 where
@@ -41,6 +44,7 @@ IsEnd Helped = ⊥
 IsEnd (Checked verdict) = ⊥
 IsEnd (Ended end) = ⊤
 IsEnd Served = ⊥
+IsEnd (SchemaCompared told) = ⊥
 IsEnd SchemaTold = ⊥
 IsEnd (SchemaRefused refusal) = ⊥
 IsEnd Explained = ⊥
@@ -48,6 +52,8 @@ IsEnd Listed = ⊥
 IsEnd (CheckedAll sound) = ⊥
 IsEnd (Records list) = ⊥
 IsEnd InCobol = ⊥
+IsEnd (Loaded end) = ⊥
+IsEnd (Counted end) = ⊥
 
 -- what was written before and after it
 pub record Written : Type 0 where
@@ -88,20 +94,64 @@ pub record RanAsAsked (words : List Text) (run : Begun) (out : Written) (outcome
 abbrev pub AskOfDeck : List Text → Type 0
 AskOfDeck words = ((deck : Text) × AskDeck words deck) ⊎ ((deck : Text) × (fixed : Bool) × AskCobol words deck fixed)
 
--- what was done for the words: help was written for those that ask for it, files checked for those that ask for that, records listed for those that ask for them, a program written for those that ask for one in COBOL, requests answered for those that ask for a session, a schema told or refused for those that ask for one, and a run came to its end or to a
+-- the words ask for a load
+pub record AskForLoad (words : List Text) : Type 0 where
+  pub deck : Text
+  pub folder : Text
+  pub file : Text
+  pub text : Text
+  pub into : Bool
+  pub pages : ℕ
+  pub frames : ℕ
+  pub asked : AskLoad words deck folder file text into pages frames
+
+-- the words ask for records of a file
+pub record AskForRecords (words : List Text) : Type 0 where
+  pub file : Text
+  pub key : ℕ
+  pub from : Option Text
+  pub to : Option Text
+  pub first : ℕ
+  pub form : FormText
+  pub asked : AskList words file key from to first form
+
+-- the words ask for a schema
+pub record AskForSchema (words : List Text) : Type 0 where
+  pub file : Text
+  pub deck : Option Text
+  pub name : Option Text
+  pub asked : AskSchema words file deck name
+
+-- the words ask for a file of a deck: to load a text into it, to have the columns of its record, or to hold its schema against that of a file
+abbrev pub AskOfFile : List Text → Type 0
+AskOfFile words =
+    AskForLoad words ⊎ ((list : AskForRecords words) × IsDeckAsked list.form.deck list.form.name) ⊎ ((schema : AskForSchema words) × IsDeckAsked schema.deck schema.name)
+
+-- the words ask for a form that has this fault, or for a schema beside half of what is to be held against it
+abbrev pub AskForNoForm : List Text → FormFault → Type 0
+AskForNoForm words fault =
+    ((list : AskForRecords words) × HasFormFault list.form fault) ⊎ ((schema : AskForSchema words) × IsHalf schema.deck schema.name × (fault ≡ HalfDeck))
+
+-- what was done for the words: help was written for those that ask for it, files checked for those that ask for that, records listed for those that ask for them, a program written for those that ask for one in COBOL, a text loaded for those that ask for that, the pages of a file counted for those that ask for that, requests answered for those that ask for a session, a schema told, compared or refused for those that ask for one, and a run came to its end or to a
 -- fault for those that ask for one; a fault that is told of the words is theirs. The input, the output or memory may fail for any words.
 abbrev pub Did : List Text → Option Begun → Written → Result Outcome Fault → Type 0
 Did words None out (Ok Helped) = (text : Error) × AskHelp words text
 Did words None out (Ok (Checked verdict)) = (file : Text) × AskCheck words (file ∷ [])
 Did words None out (Ok (CheckedAll sound)) = (files : List Text) × AskCheck words files
 Did words None out (Ok Served) = (folder : Text) × (pages : ℕ) × (frames : ℕ) × AskServe words folder pages frames
-Did words None out (Ok SchemaTold) = (file : Text) × AskSchema words file
-Did words None out (Ok (SchemaRefused refusal)) = (file : Text) × AskSchema words file
+Did words None out (Ok SchemaTold) = (file : Text) × AskSchema words file None None
+Did words None out (Ok (SchemaCompared told)) = (schema : AskForSchema words) × IsDeckAsked schema.deck schema.name
+Did words None out (Ok (SchemaRefused refusal)) = AskForSchema words
 Did words None out (Ok Explained) = (kind : Text) × (number : Text) × AskExplain words kind number
 Did words None out (Ok Listed) = (deck : Text) × AskDeck words deck
-Did words None out (Ok (Records list)) = (file : Text) × (key : ℕ) × (from : Option Text) × (to : Option Text) × (first : ℕ) × AskList words file key from to first
+Did words None out (Ok (Records list)) = AskForRecords words
 Did words None out (Ok InCobol) = (deck : Text) × (fixed : Bool) × AskCobol words deck fixed
-Did words None out (Err LongValue) = (file : Text) × (key : ℕ) × (from : Option Text) × (to : Option Text) × (first : ℕ) × AskList words file key from to first
+Did words None out (Ok (Loaded end)) = AskForLoad words
+Did words None out (Ok (Counted end)) = (file : Text) × AskStat words file
+Did words None out (Err (Deck fault)) = AskOfFile words
+Did words None out (Err NoSuchFile) = AskOfFile words
+Did words None out (Err (NoForm fault)) = AskForNoForm words fault
+Did words None out (Err LongValue) = AskForRecords words
 Did words None out (Err Unexplained) = (kind : Text) × (number : Text) × AskExplain words kind number
 Did words None out (Err (NotListed fault)) = AskOfDeck words
 Did words None out (Err (Usage text)) = AskNothing words text

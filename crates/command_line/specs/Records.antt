@@ -2,7 +2,8 @@
 use Rattle.std.specs.Prelude.{◌≡◌, ℕ, List, [], Option, option_map}
 use Rattle.std.specs.Option.{unwrap_or}
 use Rattle.record_listing.specs.declared.asked.Asked.{Asked}
-use Rattle.file_listing.specs.Listing.{EndsWith}
+use Rattle.record_forms.specs.declared.form.Form.{Form}
+use Rattle.file_listing.specs.Listing.{EndsWithIn}
 use Rattle.file_listing.specs.declared.listing.FileList.{FileList}
 
 -- this is asked for by the number of a key, the first and the last value, and how many records at most
@@ -12,6 +13,6 @@ pub record IsAskedFor (key : ℕ) (from to : Option (List ℕ)) (first : ℕ) (a
   pub to_is : option_map (λ value. value.items) asked.to ≡ to
   pub first_is : asked.first ≡ first
 
--- the list of these bytes ended so
-abbrev pub ListsRecords : List ℕ → (key : ℕ) (from to : Option (List ℕ)) (first : ℕ) → (before behind : Option (List ℕ)) → FileList → Type 0
-ListsRecords bytes key from to first before behind list = (asked : Asked) × IsAskedFor key from to first asked × EndsWith bytes asked before behind list
+-- the list of these bytes in a form ended so
+abbrev pub ListsRecords : Form → List ℕ → (key : ℕ) (from to : Option (List ℕ)) (first : ℕ) → (before behind : Option (List ℕ)) → FileList → Type 0
+ListsRecords form bytes key from to first before behind list = (asked : Asked) × IsAskedFor key from to first asked × EndsWithIn form bytes asked before behind list

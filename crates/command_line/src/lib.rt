@@ -1,5 +1,5 @@
 //! What the program does with the words of its command line: it runs a deck over the files of a folder, answers requests over them, checks a file, tells its
-//! schema or its records, explains what was told, lists a deck or writes it in COBOL, and answers the exit status.
+//! schema or its records, loads a text into one, explains what was told, lists a deck or writes it in COBOL, and answers the exit status.
 //!
 //! `program` does what the words ask for, writes the transcript, the answers, the verdicts, the lines or the help to standard output, and tells a fault on another writer. Its
 //! clauses say which words lead to what, what standard output took, and that the exit status is that of what happened. `write_transcript` carries the theorem of
@@ -10,11 +10,16 @@
 #![tactic(auto)]
 
 mod cobol;
+mod comparing;
+mod counting;
+mod cuts;
 mod deck_file;
 mod deck_list;
 mod explaining;
 mod fault;
+mod forms;
 mod listing;
+mod loading;
 mod outcome;
 mod performing;
 mod schema;

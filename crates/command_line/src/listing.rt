@@ -1,13 +1,17 @@
 //! The list of the records of the file of a path.
-ghost use Rattle.std.specs.Prelude.{◌≡◌, ◌⊎◌, ℕ, List, option_map, IfOk, IfErr};
+ghost use Rattle.std.specs.Prelude.{◌≡◌, ◌≢◌, ℕ, List, option_map, IfOk, IfErr};
+ghost use Rattle.command_words.specs.Asks.{form_text};
+ghost use Rattle.command_line.specs.Forms.{IsFormAsked, IsListRefused};
 ghost use Rattle.command_line.specs.Front.{IsFrontOfInput};
 ghost use Rattle.command_line.specs.Records.{IsAskedFor, ListsRecords};
 ghost use Rattle.command_line.specs.Status.{status_of};
 
 use crate::deck_file::read_file;
 use crate::fault::Fault;
+use crate::forms::form_of;
 use crate::outcome::Outcome;
-use file_listing::{FileList, list_file};
+use command_words::FormWords;
+use file_listing::{FileList, list_file_as};
 use io_state::Key;
 use record_listing::{Asked, ListFault};
 use std::alloc::Global;
@@ -76,30 +80,37 @@ fn ended(end: Result<FileList, ListFault>) -> Result<Outcome, Fault>
     }
 }
 
-/// Writes the lines of the records of the file of a path that are asked for. `LongValue`: nothing was read or written.
+/// Writes the lines of the records of the file of a path that are asked for, in the form that is asked for. `LongValue`: nothing was read or written. `Form`, `Deck`,
+/// `NoSuchFile`: there is no such form, and the file was not read.
 pub fn list_records<R: Files, W: Write>(
     rt: &R,
     alloc: Global,
     path: &str,
     bounds: Bounds<'_>,
+    form: FormWords<'_>,
     out: &mut W,
 ) -> Result<Outcome, Fault>
 where
     R::File: LockFile,
-    ensures records { IfOk result (λ outcome. (list : _) × (outcome ≡ Outcome.Records list) × ((file : R.File) × (bytes : List ℕ)
-        × IsFrontOfInput 18446744073709551615 (R.File.remaining file) bytes
-        × ListsRecords bytes bounds.entry.key (option_map (λ text. text.now) bounds.entry.from) (option_map (λ text. text.now) bounds.entry.to) bounds.entry.first
-        (W.contents out.old) (W.contents out.new) list)) }
-    ensures untouched { IfErr result (λ fault. fault ≡ Fault.LongValue → out.new ≡ out.old) }
-    ensures fault { IfErr result (λ fault. (fault ≡ Fault.LongValue) ⊎ (status_of fault ≡ 4)) }
+    ensures records { IfOk result (λ outcome. (list : _) × (outcome ≡ Outcome.Records list)
+        × ((written : _) × IsFormAsked (λ bytes. (file : R.File) × IsFrontOfInput 1048577 (R.File.remaining file) bytes) (form_text form.entry) written
+        × ((file : R.File) × (bytes : List ℕ) × IsFrontOfInput 18446744073709551615 (R.File.remaining file) bytes
+        × ListsRecords written bytes bounds.entry.key (option_map (λ text. text.now) bounds.entry.from) (option_map (λ text. text.now) bounds.entry.to) bounds.entry.first
+        (W.contents out.old) (W.contents out.new) list))) }
+    ensures untouched { IfErr result (λ fault. status_of fault ≢ 4 → out.new ≡ out.old) }
+    ensures fault { IfErr result (IsListRefused (form_text form.entry)) }
 {
     let asked = match asked_by(bounds) {
         Ok(asked) => asked,
+        Err(fault) => return Err(fault),
+    };
+    let form = match form_of(rt, alloc, form) {
+        Ok(form) => form,
         Err(fault) => return Err(fault),
     };
     let bytes = match read_file(rt, alloc, path) {
         Ok(bytes) => bytes,
         Err(fault) => return Err(fault),
     };
-    ended(list_file(alloc, bytes, asked, out))
+    ended(list_file_as(alloc, bytes, asked, &form, out))
 }

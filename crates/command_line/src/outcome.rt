@@ -1,13 +1,15 @@
 //! What became of the words of a command line.
 ghost use Rattle.std.specs.Prelude.{◌≡◌};
-ghost use Rattle.command_line.specs.Status.{status_of, status_by, status_of_list, status_where, status_for, exit_status};
+ghost use Rattle.command_line.specs.Status.{status_of, status_by, status_of_list, status_of_load, status_of_count, status_of_comparison, status_where, status_for, exit_status};
 
 use crate::fault::Fault;
 use deck_runner::RunEnd;
 use file_checker::Verdict;
 use file_listing::FileList;
+use file_statistics::FileStatisticsEnd;
 use folder_shelf::{Disk, FolderShelf};
-use schema_listing::Refusal;
+use schema_listing::{Comparison, Refusal};
+use shelf_loading::{ShelfEnd, is_loaded};
 use std::io::{self, Write};
 use std::rt::Files;
 
@@ -26,6 +28,8 @@ pub enum Outcome {
     Served,
     /// The schema of a file was written.
     SchemaTold,
+    /// The differences of the schema of a file from that of a deck were written, if there are any.
+    SchemaCompared(Comparison),
     /// A file has no schema: its first page is none.
     SchemaRefused(Refusal),
     /// What a number means was written.
@@ -36,6 +40,10 @@ pub enum Outcome {
     Records(FileList),
     /// A deck was written as a COBOL program.
     InCobol,
+    /// A text was loaded into a file, up to this end.
+    Loaded(ShelfEnd),
+    /// The pages of a file were counted, or it was found why not.
+    Counted(FileStatisticsEnd),
 }
 
 /// A run that was begun: the bytes of its deck, and the shelf, with what the folder was asked and answered.
@@ -55,7 +63,37 @@ pub fn status_by_list(list: FileList) -> u8
     }
 }
 
-/// The exit status that tells whether all files are sound.
+/// The exit status that tells whether the schema of a file is that of a deck.
+pub fn status_by_comparison(told: Comparison) -> u8
+    ensures { result ≡ status_of_comparison told }
+{
+    match told {
+        Comparison::Same => 0,
+        Comparison::Different => 1,
+    }
+}
+
+/// The exit status that tells what became of a load.
+pub fn status_by_load(end: ShelfEnd) -> u8
+    ensures { result ≡ status_of_load end }
+{
+    match end {
+        ShelfEnd::IsThere => 1,
+        ShelfEnd::Loaded(end) => status_if_all(is_loaded(end)),
+    }
+}
+
+/// The exit status that tells whether the pages of a file were counted.
+pub fn status_by_count(end: FileStatisticsEnd) -> u8
+    ensures { result ≡ status_of_count end }
+{
+    match end {
+        FileStatisticsEnd::Listed => 0,
+        FileStatisticsEnd::Unsound(_) => 1,
+    }
+}
+
+/// The exit status that tells whether all files are sound, or all lines loaded.
 pub fn status_if_all(sound: bool) -> u8
     ensures { result ≡ status_where sound }
 {
@@ -82,7 +120,7 @@ pub fn status_by_verdict(verdict: Verdict) -> u8
 }
 
 impl Outcome {
-    /// Tells why a file has no schema or no list on standard error, as far as that takes it, and answers the exit status.
+    /// Tells why a file has no schema or no list, or was not made, on standard error, as far as that takes it, and answers the exit status.
     fn tell<E: Write>(self, err: &mut E) -> u8
         ensures { result ≡ status_for self }
     {
@@ -91,6 +129,12 @@ impl Outcome {
         }
         if let Outcome::Records(list) = self {
             let _ = tell_list(list, err);
+        }
+        if let Outcome::Counted(FileStatisticsEnd::Unsound(reason)) = self {
+            let _ = writeln!(err, "unsound {}", reason.number());
+        }
+        if let Outcome::Loaded(ShelfEnd::IsThere) = self {
+            let _ = writeln!(err, "cobix: the file is there already");
         }
         self.status()
     }
@@ -101,9 +145,12 @@ impl Outcome {
         match self {
             Outcome::Helped | Outcome::Ended(_) | Outcome::Served => 0,
             Outcome::SchemaTold => 0,
+            Outcome::SchemaCompared(told) => status_by_comparison(told),
             Outcome::SchemaRefused(_) => 1,
             Outcome::Explained | Outcome::Listed | Outcome::InCobol => 0,
             Outcome::Records(list) => status_by_list(list),
+            Outcome::Loaded(end) => status_by_load(end),
+            Outcome::Counted(end) => status_by_count(end),
             Outcome::Checked(verdict) => status_by_verdict(verdict),
             Outcome::CheckedAll(sound) => status_if_all(sound),
         }

@@ -9,7 +9,7 @@ use Rattle.command_words.specs.Asks.{Ask, AskNothing, AreFaultless, IsMet, IsSho
 use Rattle.command_words.specs.declared.fault.WordsFault.{WordsFault}
 use Rattle.command_words.specs.declared.fault.WordsFault.TheVariants.{Usage}
 use Rattle.command_words.specs.declared.request.Request.{Request}
-use Rattle.command_words.specs.declared.request.Request.TheVariants.{Run, Check, Serve, Schema, Explain, Deck, List as ListRecords, Cobol, Help}
+use Rattle.command_words.specs.declared.request.Request.TheVariants.{Run, Check, Serve, Schema, Explain, Deck, List as ListRecords, Cobol, Load, Stat, Help}
 
 -- the matches of the program's command line, and its faults, are known
 is_known : is_simple program_app ≡ true
@@ -31,11 +31,13 @@ pub met_asked : (words : List Text) (met : Option (Text × List Row)) (request :
 met_asked words met (Run deck folder limits) faultless is h = (faultless, rw (← is) h)
 met_asked words met (Check files) faultless is h = (faultless, rw (← is) h)
 met_asked words met (Serve folder limits) faultless is h = (faultless, rw (← is) h)
-met_asked words met (Schema file) faultless is h = (faultless, rw (← is) h)
+met_asked words met (Schema file deck name) faultless is h = (faultless, rw (← is) h)
 met_asked words met (Explain kind number) faultless is h = (faultless, rw (← is) h)
 met_asked words met (Deck deck) faultless is h = (faultless, rw (← is) h)
-met_asked words met (ListRecords file key from to first) faultless is h = (faultless, rw (← is) h)
+met_asked words met (ListRecords file key from to first form) faultless is h = (faultless, rw (← is) h)
 met_asked words met (Cobol deck fixed) faultless is h = (faultless, rw (← is) h)
+met_asked words met (Load deck folder file text into limits) faultless is h = (faultless, rw (← is) h)
+met_asked words met (Stat file) faultless is h = (faultless, rw (← is) h)
 met_asked words met (Help text) faultless is h = absurd h
 
 -- of two things, the second

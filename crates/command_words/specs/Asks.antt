@@ -5,8 +5,9 @@ use Rattle.clap.specs.Words.{IsAmong, Row, Text, all_of, first_of, one_of, fault
 use Rattle.clap.specs.declared.error.Error.{Error}
 use Rattle.clap.specs.declared.error.ErrorKind.TheVariants.{DisplayHelp, DisplayVersion}
 use Rattle.command_words.specs.CommandLine.{program_app}
+use Rattle.command_words.specs.declared.form_words.FormWords.{FormWords}
 use Rattle.command_words.specs.declared.request.Request.{Request}
-use Rattle.command_words.specs.declared.request.Request.TheVariants.{Run, Check, Serve, Schema, Explain, Deck, List as ListRecords, Cobol, Help}
+use Rattle.command_words.specs.declared.request.Request.TheVariants.{Run, Check, Serve, Schema, Explain, Deck, List as ListRecords, Cobol, Load, Stat, Help}
 
 -- the text is this number
 abbrev pub IsNumber : ℕ → Text → ℕ → Type 0
@@ -46,11 +47,13 @@ pub record IsServe (met : Option (Text × List Row)) (folder : Text) (pages fram
   pub folder_given : first_of (codes "folder") rows ≡ Some folder
   pub limits : AreLimits rows pages frames
 
--- the subcommand that was met is to tell the schema of this file
-pub record IsSchema (met : Option (Text × List Row)) (file : Text) : Type 0 where
+-- the subcommand that was met is to tell the schema of this file, or to hold it against that of a file of a deck
+pub record IsSchema (met : Option (Text × List Row)) (file : Text) (deck name : Option Text) : Type 0 where
   pub rows : List Row
   pub is : met ≡ Some (codes "schema", rows)
   pub file_given : first_of (codes "file") rows ≡ Some file
+  pub deck_is : first_of (codes "deck") rows ≡ deck
+  pub name_is : first_of (codes "name") rows ≡ name
 
 -- the subcommand that was met is to explain the number of this kind
 pub record IsExplain (met : Option (Text × List Row)) (kind number : Text) : Type 0 where
@@ -65,8 +68,30 @@ pub record IsDeck (met : Option (Text × List Row)) (deck : Text) : Type 0 where
   pub is : met ≡ Some (codes "deck", rows)
   pub deck_given : first_of (codes "deck") rows ≡ Some deck
 
--- the subcommand that was met is to list records of this file in the order of a key, from a value on, to a value, and so many at most
-pub record IsList (met : Option (Text × List Row)) (file : Text) (key : ℕ) (from to : Option Text) (first : ℕ) : Type 0 where
+-- the words that ask for the form of a list: which it is, and what its columns are: those between cuts, or those of a file of a deck
+pub record FormText : Type 0 where
+  pub kind : Text
+  pub cut : Option Text
+  pub deck : Option Text
+  pub name : Option Text
+
+abbrev pub form_text : FormWords → FormText
+form_text form = record {
+  kind = form.kind.now;
+  cut = option_map (λ text. text.now) form.cut;
+  deck = option_map (λ text. text.now) form.deck;
+  name = option_map (λ text. text.now) form.name;
+}
+
+-- the values ask for a list in this form
+pub record IsForm (rows : List Row) (form : FormText) : Type 0 where
+  pub kind_given : first_of (codes "as") rows ≡ Some form.kind
+  pub cut_is : first_of (codes "cut") rows ≡ form.cut
+  pub deck_is : first_of (codes "deck") rows ≡ form.deck
+  pub name_is : first_of (codes "name") rows ≡ form.name
+
+-- the subcommand that was met is to list records of this file in the order of a key, from a value on, to a value, and so many at most, in a form
+pub record IsList (met : Option (Text × List Row)) (file : Text) (key : ℕ) (from to : Option Text) (first : ℕ) (form : FormText) : Type 0 where
   pub rows : List Row
   pub is : met ≡ Some (codes "list", rows)
   pub file_given : first_of (codes "file") rows ≡ Some file
@@ -78,6 +103,7 @@ pub record IsList (met : Option (Text × List Row)) (file : Text) (key : ℕ) (f
   pub first_is : IsNumber 64 first_text first
   pub from_is : first_of (codes "from") rows ≡ from
   pub to_is : first_of (codes "to") rows ≡ to
+  pub form_is : IsForm rows form
 
 -- the text is this truth value
 abbrev pub IsFlag : Text → Bool → Type 0
@@ -93,30 +119,53 @@ pub record IsCobol (met : Option (Text × List Row)) (deck : Text) (fixed : Bool
   pub fixed_given : one_of (codes "fixed") rows ≡ Some fixed_text
   pub fixed_is : IsFlag fixed_text fixed
 
+-- the subcommand that was met is to load the lines of this text into a file of this deck over this folder, into the one that is there or not, with these limits
+pub record IsLoad (met : Option (Text × List Row)) (deck folder file text : Text) (into : Bool) (pages frames : ℕ) : Type 0 where
+  pub rows : List Row
+  pub is : met ≡ Some (codes "load", rows)
+  pub deck_given : first_of (codes "deck") rows ≡ Some deck
+  pub folder_given : first_of (codes "folder") rows ≡ Some folder
+  pub file_given : first_of (codes "file") rows ≡ Some file
+  pub text_given : first_of (codes "text") rows ≡ Some text
+  pub into_text : Text
+  pub into_given : one_of (codes "into") rows ≡ Some into_text
+  pub into_is : IsFlag into_text into
+  pub limits : AreLimits rows pages frames
+
+-- the subcommand that was met is to count what this file has
+pub record IsStat (met : Option (Text × List Row)) (file : Text) : Type 0 where
+  pub rows : List Row
+  pub is : met ≡ Some (codes "stat", rows)
+  pub file_given : first_of (codes "file") rows ≡ Some file
+
 -- the subcommand that was met, with its values, is what is asked for
 abbrev pub IsMet : Option (Text × List Row) → Request → Type 0
 IsMet met (Run deck folder limits) = IsRun met deck.now folder.now limits.pages limits.frames.value
 IsMet met (Check files) = IsCheck met (map (λ file. file.now) files.items)
 IsMet met (Serve folder limits) = IsServe met folder.now limits.pages limits.frames.value
-IsMet met (Schema file) = IsSchema met file.now
+IsMet met (Schema file deck name) = IsSchema met file.now (option_map (λ text. text.now) deck) (option_map (λ text. text.now) name)
 IsMet met (Explain kind number) = IsExplain met kind.now number.now
 IsMet met (Deck deck) = IsDeck met deck.now
-IsMet met (ListRecords file key from to first) = IsList met file.now key (option_map (λ text. text.now) from) (option_map (λ text. text.now) to) first
+IsMet met (ListRecords file key from to first form) = IsList met file.now key (option_map (λ text. text.now) from) (option_map (λ text. text.now) to) first (form_text form)
 IsMet met (Cobol deck fixed) = IsCobol met deck.now fixed
+IsMet met (Load deck folder file text into limits) = IsLoad met deck.now folder.now file.now text.now into limits.pages limits.frames.value
+IsMet met (Stat file) = IsStat met file.now
 IsMet met (Help text) = ⊥
 
 -- the subcommand that was met is no run, session, schema, explanation or list of a deck, or its values are none that it can have
 pub record IsNoRunOrList (met : Option (Text × List Row)) : Type 0 where
   pub no_run : (deck folder : Text) (pages frames : ℕ) → ¬ (IsRun met deck folder pages frames)
   pub no_serve : (folder : Text) (pages frames : ℕ) → ¬ (IsServe met folder pages frames)
-  pub no_schema : (file : Text) → ¬ (IsSchema met file)
+  pub no_schema : (file : Text) (deck name : Option Text) → ¬ (IsSchema met file deck name)
   pub no_explain : (kind number : Text) → ¬ (IsExplain met kind number)
   pub no_deck : (deck : Text) → ¬ (IsDeck met deck)
 
--- and no list of records and no program in COBOL
+-- and no list of records, no program in COBOL, no load and no count
 pub record IsNoRecords (met : Option (Text × List Row)) : Type 0 where
-  pub no_list : (file : Text) (key : ℕ) (from to : Option Text) (first : ℕ) → ¬ (IsList met file key from to first)
+  pub no_list : (file : Text) (key : ℕ) (from to : Option Text) (first : ℕ) (form : FormText) → ¬ (IsList met file key from to first form)
   pub no_cobol : (deck : Text) (fixed : Bool) → ¬ (IsCobol met deck fixed)
+  pub no_load : (deck folder file text : Text) (into : Bool) (pages frames : ℕ) → ¬ (IsLoad met deck folder file text into pages frames)
+  pub no_stat : (file : Text) → ¬ (IsStat met file)
 
 -- it is none of these, and no check
 pub record IsNone (met : Option (Text × List Row)) : Type 0 where
@@ -148,9 +197,9 @@ AskCheck words files = AreFaultless words × IsCheck (subcommand_of program_app 
 abbrev pub AskServe : List Text → (folder : Text) (pages frames : ℕ) → Type 0
 AskServe words folder pages frames = AreFaultless words × IsServe (subcommand_of program_app words) folder pages frames
 
--- for the schema of this file
-abbrev pub AskSchema : List Text → (file : Text) → Type 0
-AskSchema words file = AreFaultless words × IsSchema (subcommand_of program_app words) file
+-- for the schema of this file, or to hold it against that of a file of a deck
+abbrev pub AskSchema : List Text → (file : Text) (deck name : Option Text) → Type 0
+AskSchema words file deck name = AreFaultless words × IsSchema (subcommand_of program_app words) file deck name
 
 -- to explain the number of this kind
 abbrev pub AskExplain : List Text → (kind number : Text) → Type 0
@@ -160,13 +209,22 @@ AskExplain words kind number = AreFaultless words × IsExplain (subcommand_of pr
 abbrev pub AskDeck : List Text → (deck : Text) → Type 0
 AskDeck words deck = AreFaultless words × IsDeck (subcommand_of program_app words) deck
 
--- to list records of this file
-abbrev pub AskList : List Text → (file : Text) (key : ℕ) (from to : Option Text) (first : ℕ) → Type 0
-AskList words file key from to first = AreFaultless words × IsList (subcommand_of program_app words) file key from to first
+-- to list records of this file in a form
+abbrev pub AskList : List Text → (file : Text) (key : ℕ) (from to : Option Text) (first : ℕ) (form : FormText) → Type 0
+AskList words file key from to first form = AreFaultless words × IsList (subcommand_of program_app words) file key from to first form
 
 -- to write this deck in COBOL
 abbrev pub AskCobol : List Text → (deck : Text) (fixed : Bool) → Type 0
 AskCobol words deck fixed = AreFaultless words × IsCobol (subcommand_of program_app words) deck fixed
+
+-- to load the lines of this text into a file of this deck
+abbrev pub AskLoad : List Text → (deck folder file text : Text) (into : Bool) (pages frames : ℕ) → Type 0
+AskLoad words deck folder file text into pages frames =
+    AreFaultless words × IsLoad (subcommand_of program_app words) deck folder file text into pages frames
+
+-- to count what this file has
+abbrev pub AskStat : List Text → (file : Text) → Type 0
+AskStat words file = AreFaultless words × IsStat (subcommand_of program_app words) file
 
 -- for help or the version, as the text shows it
 abbrev pub AskHelp : List Text → Error → Type 0
@@ -177,11 +235,13 @@ abbrev pub Ask : List Text → Request → Type 0
 Ask words (Run deck folder limits) = AskRun words deck.now folder.now limits.pages limits.frames.value
 Ask words (Check files) = AskCheck words (map (λ file. file.now) files.items)
 Ask words (Serve folder limits) = AskServe words folder.now limits.pages limits.frames.value
-Ask words (Schema file) = AskSchema words file.now
+Ask words (Schema file deck name) = AskSchema words file.now (option_map (λ text. text.now) deck) (option_map (λ text. text.now) name)
 Ask words (Explain kind number) = AskExplain words kind.now number.now
 Ask words (Deck deck) = AskDeck words deck.now
-Ask words (ListRecords file key from to first) = AskList words file.now key (option_map (λ text. text.now) from) (option_map (λ text. text.now) to) first
+Ask words (ListRecords file key from to first form) = AskList words file.now key (option_map (λ text. text.now) from) (option_map (λ text. text.now) to) first (form_text form)
 Ask words (Cobol deck fixed) = AskCobol words deck.now fixed
+Ask words (Load deck folder file text into limits) = AskLoad words deck.now folder.now file.now text.now into limits.pages limits.frames.value
+Ask words (Stat file) = AskStat words file.now
 Ask words (Help text) = AskHelp words text
 
 -- for nothing, and the text tells why

@@ -22,6 +22,14 @@ words_rule name = record (word_rule name) { range = Some (record { start_inclusi
 abbrev pub text_rule : Text → Rule
 text_rule name = record (new_rule name) { long = Some name; value_names = 1 }
 
+-- an option that is a text, and this one where it is not given
+abbrev pub usual_rule : Text → Text → Rule
+usual_rule name usual = record (text_rule name) { defaults = usual ∷ [] }
+
+-- the option `--file`, beside a word `file`
+abbrev pub name_rule : Rule
+name_rule = record (text_rule (codes "name")) { long = Some (codes "file") }
+
 -- an option without a value
 abbrev pub flag_rule : Text → Rule
 flag_rule name = record (new_rule name) { long = Some name; action = Some SetTrue }
@@ -55,9 +63,9 @@ serve_shape = record (new_shape (codes "serve")) {
       ∷ number_rule (codes "frames") 1 4096 (codes "64") ∷ [];
 }
 
--- `schema FILE`
+-- `schema FILE [--deck DECK --file NAME]`
 abbrev pub schema_shape : Shape
-schema_shape = record (new_shape (codes "schema")) { rules = word_rule (codes "file") ∷ [] }
+schema_shape = record (new_shape (codes "schema")) { rules = word_rule (codes "file") ∷ text_rule (codes "deck") ∷ name_rule ∷ [] }
 
 -- `explain KIND NUMBER`
 abbrev pub explain_shape : Shape
@@ -67,16 +75,29 @@ explain_shape = record (new_shape (codes "explain")) { rules = word_rule (codes 
 abbrev pub deck_shape : Shape
 deck_shape = record (new_shape (codes "deck")) { rules = word_rule (codes "deck") ∷ [] }
 
--- `list FILE [--key N] [--from V] [--to V] [--first N]`
+-- `list FILE [--key N] [--from V] [--to V] [--first N] [--as FORM] [--cut N,N..] [--deck DECK --file NAME]`
 abbrev pub list_shape : Shape
 list_shape = record (new_shape (codes "list")) {
   rules = word_rule (codes "file") ∷ number_rule (codes "key") 0 8 (codes "0") ∷ text_rule (codes "from") ∷ text_rule (codes "to")
-      ∷ number_rule (codes "first") 0 18446744073709551615 (codes "18446744073709551615") ∷ [];
+      ∷ number_rule (codes "first") 0 18446744073709551615 (codes "18446744073709551615")
+      ∷ usual_rule (codes "as") (codes "text") ∷ text_rule (codes "cut") ∷ text_rule (codes "deck") ∷ name_rule ∷ [];
 }
 
 -- `cobol DECK [--fixed]`
 abbrev pub cobol_shape : Shape
 cobol_shape = record (new_shape (codes "cobol")) { rules = word_rule (codes "deck") ∷ flag_rule (codes "fixed") ∷ [] }
+
+-- `load DECK --folder DIR --file NAME TEXT [--into] [--pages N] [--frames N]`
+abbrev pub load_shape : Shape
+load_shape = record (new_shape (codes "load")) {
+  rules = word_rule (codes "deck") ∷ option_rule (codes "folder") ∷ option_rule (codes "file") ∷ word_rule (codes "text") ∷ flag_rule (codes "into")
+      ∷ number_rule (codes "pages") 16 4294967295 (codes "1048576")
+      ∷ number_rule (codes "frames") 1 4096 (codes "64") ∷ [];
+}
+
+-- `stat FILE`
+abbrev pub stat_shape : Shape
+stat_shape = record (new_shape (codes "stat")) { rules = word_rule (codes "file") ∷ [] }
 
 -- the program, before its subcommands
 abbrev pub program_shape : Shape
@@ -100,9 +121,16 @@ lists_app = record {
   subs = run_shape ∷ check_shape ∷ serve_shape ∷ schema_shape ∷ explain_shape ∷ deck_shape ∷ [];
 }
 
--- one of these, to list records or to write a deck in COBOL, or help or the version
+-- and to list or load records, or to write a deck in COBOL
+abbrev pub records_app : App
+records_app = record {
+  top = record program_shape { is_leaf = false };
+  subs = run_shape ∷ check_shape ∷ serve_shape ∷ schema_shape ∷ explain_shape ∷ deck_shape ∷ list_shape ∷ cobol_shape ∷ load_shape ∷ [];
+}
+
+-- one of these, to list or load records, to write a deck in COBOL or to count what a file has, or help or the version
 abbrev pub program_app : App
 program_app = record {
   top = record program_shape { is_leaf = false };
-  subs = run_shape ∷ check_shape ∷ serve_shape ∷ schema_shape ∷ explain_shape ∷ deck_shape ∷ list_shape ∷ cobol_shape ∷ [];
+  subs = run_shape ∷ check_shape ∷ serve_shape ∷ schema_shape ∷ explain_shape ∷ deck_shape ∷ list_shape ∷ cobol_shape ∷ load_shape ∷ stat_shape ∷ [];
 }

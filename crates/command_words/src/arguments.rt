@@ -1,7 +1,7 @@
 //! The arguments of the subcommands.
 ghost use Rattle.std.specs.Prelude.{◌≡◌, false, codes};
 ghost use Rattle.clap.specs.Words.{rule_of};
-ghost use Rattle.command_words.specs.CommandLine.{word_rule, words_rule, option_rule, text_rule, flag_rule, number_rule};
+ghost use Rattle.command_words.specs.CommandLine.{word_rule, words_rule, option_rule, text_rule, usual_rule, name_rule, flag_rule, number_rule};
 
 use clap::builder::ValueParser;
 use clap::{Arg, ArgAction};
@@ -38,12 +38,20 @@ pub fn word<'a>(alloc: Global, name: &'a str, value: &'a str, help: &'a str) -> 
         .help(help)
 }
 
+/// An option that has to be given.
+pub fn option<'a>(alloc: Global, name: &'a str, value: &'a str, help: &'a str) -> Arg<'a>
+    ensures rule { rule_of result ≡ option_rule name.entry.now }
+    ensures local { result.global ≡ false }
+{
+    word(alloc, name, value, help).long(name)
+}
+
 /// The option of a folder.
 pub fn folder<'a>(alloc: Global, help: &'a str) -> Arg<'a>
     ensures rule { rule_of result ≡ option_rule (codes "folder") }
     ensures local { result.global ≡ false }
 {
-    word(alloc, "folder", "DIR", help).long("folder")
+    option(alloc, "folder", "DIR", help)
 }
 
 /// The word of a deck.
@@ -76,6 +84,34 @@ pub fn text<'a>(alloc: Global, name: &'a str, value: &'a str, help: &'a str) -> 
         .long(name)
         .value_name(value)
         .help(help)
+}
+
+/// An option that is a text, and this one where it is not given.
+pub fn usual<'a>(
+    alloc: Global,
+    name: &'a str,
+    value: &'a str,
+    usual: &'a str,
+    help: &'a str,
+) -> Arg<'a>
+    ensures rule { rule_of result ≡ usual_rule name.entry.now usual.entry.now }
+    ensures local { result.global ≡ false }
+{
+    text(alloc, name, value, help).default_value(usual)
+}
+
+/// The option `--file`, beside a word `file`.
+pub fn name<'a>(alloc: Global) -> Arg<'a>
+    ensures rule { rule_of result ≡ name_rule }
+    ensures local { result.global ≡ false }
+{
+    text(
+        alloc,
+        "name",
+        "NAME",
+        "The file, by its name in that deck: the one behind SELECT",
+    )
+    .long("file")
 }
 
 /// An option without a value.

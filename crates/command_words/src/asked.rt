@@ -2,14 +2,15 @@
 ghost use Rattle.std.specs.Prelude.{◌≡◌, ℕ, Bool, List, Option, None, IfOk};
 ghost use Rattle.std.specs.Option.{IfSome};
 ghost use Rattle.clap.specs.Words.{found_of, rows_of, subcommand_rows_of};
-ghost use Rattle.command_words.specs.Asks.{AreLimits, IsRun, IsCheck, IsServe, IsSchema, IsExplain, IsDeck, IsList, IsCobol, IsMet, IsNoRunOrList, IsNoRecords, IsNone};
+ghost use Rattle.command_words.specs.Asks.{AreLimits, IsRun, IsCheck, IsServe, IsSchema, IsExplain, IsDeck, FormText, form_text, IsForm, IsList, IsCobol, IsLoad, IsStat, IsMet, IsNoRunOrList, IsNoRecords, IsNone};
 
+use crate::form_words::FormWords;
 use crate::limits::Limits;
 use crate::request::Request;
 use clap::ArgMatches;
 use std::alloc::{AllocError, Global};
 
-/// The limits of a run, or of a session.
+/// The limits of a run, of a session or of a load.
 fn limits_of(files: &ArgMatches<'_>) -> Option<Limits>
     ensures some { IfSome result (λ limits. AreLimits (rows_of (found_of files.now)) limits.pages limits.frames.value) }
     ensures none { result ≡ None → (pages frames : ℕ) → AreLimits (rows_of (found_of files.now)) pages frames → ⊥ }
@@ -67,11 +68,15 @@ fn serve_of<'a>(matches: &ArgMatches<'a>) -> Option<Request<'a>>
 /// The schema that the matches ask for, if they ask for one.
 fn schema_of<'a>(matches: &ArgMatches<'a>) -> Option<Request<'a>>
     ensures some { IfSome result (IsMet (subcommand_rows_of matches.now)) }
-    ensures none { result ≡ None → (file : List ℕ) → IsSchema (subcommand_rows_of matches.now) file → ⊥ }
+    ensures none { result ≡ None → (file : List ℕ) (deck name : Option (List ℕ)) → IsSchema (subcommand_rows_of matches.now) file deck name → ⊥ }
 {
     let schema = matches.subcommand_matches("schema")?;
     let file = schema.get_str("file")?;
-    Some(Request::Schema { file })
+    Some(Request::Schema {
+        file,
+        deck: schema.get_str("deck"),
+        name: schema.get_str("name"),
+    })
 }
 
 /// The explanation that the matches ask for, if they ask for one.
@@ -95,22 +100,38 @@ fn deck_of<'a>(matches: &ArgMatches<'a>) -> Option<Request<'a>>
     Some(Request::Deck { deck })
 }
 
+/// The words that ask for the form of a list.
+fn form_of<'a>(list: &ArgMatches<'a>) -> Option<FormWords<'a>>
+    ensures some { IfSome result (λ form. IsForm (rows_of (found_of list.now)) (form_text form)) }
+    ensures none { result ≡ None → (form : FormText) → IsForm (rows_of (found_of list.now)) form → ⊥ }
+{
+    let kind = list.get_str("as")?;
+    Some(FormWords {
+        kind,
+        cut: list.get_str("cut"),
+        deck: list.get_str("deck"),
+        name: list.get_str("name"),
+    })
+}
+
 /// The list that the matches ask for, if they ask for one.
 fn list_of<'a>(matches: &ArgMatches<'a>) -> Option<Request<'a>>
     ensures some { IfSome result (IsMet (subcommand_rows_of matches.now)) }
-    ensures none { result ≡ None → (file : List ℕ) (key : ℕ) (from to : Option (List ℕ)) (first : ℕ)
-        → IsList (subcommand_rows_of matches.now) file key from to first → ⊥ }
+    ensures none { result ≡ None → (file : List ℕ) (key : ℕ) (from to : Option (List ℕ)) (first : ℕ) (form : FormText)
+        → IsList (subcommand_rows_of matches.now) file key from to first form → ⊥ }
 {
     let list = matches.subcommand_matches("list")?;
     let file = list.get_str("file")?;
     let key = list.get_one("key")?;
     let first = list.get_one("first")?;
+    let form = form_of(list)?;
     Some(Request::List {
         file,
         key,
         from: list.get_str("from"),
         to: list.get_str("to"),
         first,
+        form,
     })
 }
 
@@ -123,6 +144,39 @@ fn cobol_of<'a>(matches: &ArgMatches<'a>) -> Option<Request<'a>>
     let deck = cobol.get_str("deck")?;
     let fixed = cobol.get_one("fixed")?;
     Some(Request::Cobol { deck, fixed })
+}
+
+/// The load that the matches ask for, if they ask for one.
+fn load_of<'a>(matches: &ArgMatches<'a>) -> Option<Request<'a>>
+    ensures some { IfSome result (IsMet (subcommand_rows_of matches.now)) }
+    ensures none { result ≡ None → (deck folder file text : List ℕ) (into : Bool) (pages frames : ℕ)
+        → IsLoad (subcommand_rows_of matches.now) deck folder file text into pages frames → ⊥ }
+{
+    let load = matches.subcommand_matches("load")?;
+    let deck = load.get_str("deck")?;
+    let folder = load.get_str("folder")?;
+    let file = load.get_str("file")?;
+    let text = load.get_str("text")?;
+    let into = load.get_one("into")?;
+    let limits = limits_of(load)?;
+    Some(Request::Load {
+        deck,
+        folder,
+        file,
+        text,
+        into,
+        limits,
+    })
+}
+
+/// The count that the matches ask for, if they ask for one.
+fn stat_of<'a>(matches: &ArgMatches<'a>) -> Option<Request<'a>>
+    ensures some { IfSome result (IsMet (subcommand_rows_of matches.now)) }
+    ensures none { result ≡ None → (file : List ℕ) → IsStat (subcommand_rows_of matches.now) file → ⊥ }
+{
+    let stat = matches.subcommand_matches("stat")?;
+    let file = stat.get_str("file")?;
+    Some(Request::Stat { file })
 }
 
 /// A run, a session, a schema, an explanation or the list of a deck that the matches ask for, if they ask for one.
@@ -145,7 +199,7 @@ fn run_or_list_of<'a>(matches: &ArgMatches<'a>) -> Option<Request<'a>>
     deck_of(matches)
 }
 
-/// A list of records or a program in COBOL that the matches ask for, if they ask for one.
+/// A list of records, a program in COBOL, a load or a count that the matches ask for, if they ask for one.
 fn records_of<'a>(matches: &ArgMatches<'a>) -> Option<Request<'a>>
     ensures some { IfSome result (IsMet (subcommand_rows_of matches.now)) }
     ensures none { result ≡ None → IsNoRecords (subcommand_rows_of matches.now) }
@@ -153,7 +207,13 @@ fn records_of<'a>(matches: &ArgMatches<'a>) -> Option<Request<'a>>
     if let Some(list) = list_of(matches) {
         return Some(list);
     }
-    cobol_of(matches)
+    if let Some(cobol) = cobol_of(matches) {
+        return Some(cobol);
+    }
+    if let Some(load) = load_of(matches) {
+        return Some(load);
+    }
+    stat_of(matches)
 }
 
 /// What the matches ask for.

@@ -65,15 +65,18 @@ pub const SCHEMA: &str = "Lines on standard output:
   free pages N                                         the pages among them that hold nothing
   next stamp N                                         the stamp of the next duplicate
   bytes N                                              the bytes of the pages
+With '--deck' and '--file', which go together: a line for each difference of the lengths or the keys, and none where OPEN would find them the same.
 
 Exit status:
-  0   the lines were written; only 'cobix check' tells whether the rest of the file agrees with them
+  0   the lines were written; only 'cobix check' tells whether the rest of the file agrees with them. With '--deck': there is no difference
   1   'unsound N' on standard error, and why:
       1  short: fewer bytes than a page
       2  the gate is not closed: it was not closed after a change
       3  the first page is not that of a file
-  3   the command line is not understood
-  4   the file could not be read ('cobix: input'), the lines could not be written ('cobix: output'), or memory ran out ('cobix: memory')";
+      With '--deck' also: there are differences
+  2   the deck is refused: 'cobix: line L: fault C'
+  3   the command line is not understood, '--deck' or '--file' is alone, or the deck has no file NAME
+  4   the file or the deck could not be read ('cobix: input'), the lines could not be written ('cobix: output'), or memory ran out ('cobix: memory')";
 
 /// What is explained.
 pub const EXPLAINED: &str = "KIND and NUMBER are what a run or a check has written, for example:
@@ -101,11 +104,50 @@ pub const RECORDS: &str =
     "Each line is a record in brackets, as a transcript shows it. V is compared with the first bytes of each value.
 The file is checked first, and read once before the first line.
 
+Forms:
+  text  a record in brackets
+  csv   the names of the columns, and then the columns of each record: in quotes, with commas between, and CRLF at the end
+  json  an object on a line for each record, with a string for each column
+
+Columns of csv and json:
+  --cut N,N..               'column-1' up to the first N, 'column-2' up to the next, and so on; the last one is the rest
+  --deck DECK --file NAME   the elementary items of the record of that file, by their names
+  neither                   'record'
+
 Exit status:
   0   the lines were written
   1   'unsound N' on standard error, as of 'cobix check', or the file does not have the key; no line was written
-  3   the command line is not understood, or V is longer than 250 bytes
+  2   the deck is refused: 'cobix: line L: fault C'
+  3   the command line is not understood, V is longer than 250 bytes, there is no such form, text is to have columns, '--cut' is beside '--deck', '--deck' or '--file' is alone, the cuts are no rising numbers from 1 to 65,535, or the deck has no file NAME
+  4   the file or the deck could not be read ('cobix: input'), the lines could not be written ('cobix: output'), or memory ran out ('cobix: memory')";
+
+/// What is counted of a file.
+pub const COUNTED: &str =
+    "The file is checked first. Then there is a line for its pages, one for its slots, and one for each key, with its levels below it:
+  pages N: header 1, heap N, keys N, free N            the pages by what they are: of records, of the trees of keys, or free
+  slots N: used N, free N                              the places for records; each record has one
+  key N pages N entries N                              the pages of the tree of a key, and its entries
+    level N pages N entries N fill N% [####    ]       a level of it, from the root down to the leaves, level 0; how full its pages are, and a bar of 20 characters
+
+Exit status:
+  0   the lines were written
+  1   'unsound N' on standard error, as of 'cobix check'; no line was written
+  3   the command line is not understood
   4   the file could not be read ('cobix: input'), the lines could not be written ('cobix: output'), or memory ran out ('cobix: memory')";
+
+/// What a load answers.
+pub const LOADED: &str =
+    "Each line is a record in brackets, as 'cobix list' writes it. The lines are read first, and then written one after another, up to the first that is refused.
+Without '--into' a file that is there is left as it is, whatever it is.
+
+Exit status:
+  0   'loaded N': the records of all N lines were written
+  1   'line L: status S': the WRITE of line L answered S; or 'line L: no record of this file'. The lines before it were loaded
+      'open: status S' or 'close: status S': OPEN or CLOSE answered S
+      'cobix: the file is there already': nothing was done
+  2   the deck is refused: 'cobix: line L: fault C'
+  3   the command line is not understood, or the deck has no file NAME
+  4   the deck or TEXT could not be read or DIR is no folder ('cobix: input'), the answer could not be written ('cobix: output'), or memory ran out ('cobix: memory')";
 
 /// What a deck is in COBOL.
 pub const COBOL: &str =

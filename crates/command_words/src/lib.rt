@@ -1,5 +1,5 @@
 //! What the words of a command line ask the program for: a run, checks, a session, a schema, an explanation, the list of a deck, the records of a file, a
-//! program in COBOL, or help.
+//! program in COBOL, a load, a count, or help.
 //!
 //! The words are parsed by `clap`. What they ask for is a definition over its own of what an option's value is, so `read_words` says in both outcomes
 //! which words ask for what. The texts of help and usage are shown by tests.
@@ -10,11 +10,13 @@
 mod arguments;
 mod asked;
 mod fault;
+mod form_words;
 mod help;
 mod limits;
 mod request;
 mod subcommands;
 
 pub use fault::WordsFault;
+pub use form_words::FormWords;
 pub use limits::Limits;
 pub use request::{Request, read_words};

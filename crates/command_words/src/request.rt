@@ -5,6 +5,7 @@ ghost use Rattle.command_words.specs.Asks.{Ask, AskNothing, IsShown};
 
 use crate::asked::request_of;
 use crate::fault::WordsFault;
+use crate::form_words::FormWords;
 use crate::limits::Limits;
 use crate::subcommands::command;
 use clap::Error;
@@ -29,9 +30,11 @@ pub enum Request<'a> {
         folder: &'a str,
         limits: Limits,
     },
-    /// The schema of the file of this path, by its first page.
+    /// The schema of the file of this path, by its first page; or how it differs from that of the file of this name in a deck.
     Schema {
         file: &'a str,
+        deck: Option<&'a str>,
+        name: Option<&'a str>,
     },
     /// What the number of this kind means.
     Explain {
@@ -42,18 +45,33 @@ pub enum Request<'a> {
     Deck {
         deck: &'a str,
     },
-    /// The records of the file of this path, in the order of a key: from this value on, to that one, and so many at most.
+    /// The records of the file of this path, in the order of a key: from this value on, to that one, and so many at most, in this form.
     List {
         file: &'a str,
         key: u8,
         from: Option<&'a str>,
         to: Option<&'a str>,
         first: u64,
+        form: FormWords<'a>,
     },
     /// The deck in the file of this path as a program in COBOL: in fixed form, or in free form.
     Cobol {
         deck: &'a str,
         fixed: bool,
+    },
+    /// To write the lines of the text of this path, or of standard input where it is `-`, as records into the file of this name in the deck in the file of a path:
+    /// into the file that is there, or into a new one.
+    Load {
+        deck: &'a str,
+        folder: &'a str,
+        file: &'a str,
+        text: &'a str,
+        into: bool,
+        limits: Limits,
+    },
+    /// What the file of this path has: its pages, its slots, and the levels of its trees.
+    Stat {
+        file: &'a str,
     },
     /// This text: help, or the version.
     Help(Error),

@@ -2,14 +2,16 @@
 ghost use Rattle.std.specs.Prelude.{◌≡◌, [], false, codes, IfOk};
 ghost use Rattle.clap.specs.Words.{app_of, with_rule};
 ghost use Rattle.clap.specs.declared.builder.command.Command.TheViews.{out-Command};
-ghost use Rattle.command_words.specs.CommandLine.{word_rule, option_rule, text_rule, number_rule, run_shape, check_shape, serve_shape, schema_shape, explain_shape, deck_shape, list_shape, cobol_shape, program_shape, runs_app, lists_app, program_app};
+ghost use Rattle.command_words.specs.CommandLine.{word_rule, option_rule, text_rule, usual_rule, name_rule, flag_rule, number_rule, run_shape, check_shape, serve_shape, schema_shape, explain_shape, deck_shape, list_shape, cobol_shape, load_shape, stat_shape, program_shape, runs_app, lists_app, records_app, program_app};
 
-use crate::arguments::{deck, flag, folder, number, text, word, words};
-use crate::help::{ANSWERS, COBOL, EXPLAINED, LISTED, REASONS, RECORDS, SCHEMA, SERVING, VERSION};
+use crate::arguments::{deck, flag, folder, name, number, option, text, usual, word, words};
+use crate::help::{
+    ANSWERS, COBOL, COUNTED, EXPLAINED, LISTED, LOADED, REASONS, RECORDS, SCHEMA, SERVING, VERSION,
+};
 use clap::Command;
 use std::alloc::{AllocError, Global};
 
-/// `run` with its deck and its folder.
+/// `run` or `load` with its deck and its folder.
 fn with_files<'a>(alloc: Global, run: Command<'a>) -> Result<Command<'a>, AllocError>
     requires { (out-Command run).has_globals ≡ false }
     ensures shape { IfOk result (λ command. app_of command ≡ with_rule (with_rule (app_of run.entry) (word_rule (codes "deck"))) (option_rule (codes "folder"))) }
@@ -19,7 +21,7 @@ fn with_files<'a>(alloc: Global, run: Command<'a>) -> Result<Command<'a>, AllocE
         .arg(folder(alloc, "The folder in which the deck's files stay"))
 }
 
-/// `run` or `serve` with its limits.
+/// `run`, `serve` or `load` with its limits.
 fn with_limits<'a>(alloc: Global, files: Command<'a>) -> Result<Command<'a>, AllocError>
     requires { (out-Command files).has_globals ≡ false }
     ensures shape { IfOk result (λ command. app_of command ≡ with_rule (with_rule (app_of files.entry) (number_rule (codes "pages") 16 4294967295 (codes "1048576"))) (number_rule (codes "frames") 1 4096 (codes "64"))) }
@@ -84,6 +86,21 @@ fn serve_command<'a>(alloc: Global) -> Result<Command<'a>, AllocError>
     with_limits(alloc, with_folder)
 }
 
+/// `list` or `schema` with a deck, and a file of it.
+fn with_deck<'a>(
+    alloc: Global,
+    listed: Command<'a>,
+    help: &'a str,
+) -> Result<Command<'a>, AllocError>
+    requires { (out-Command listed).has_globals ≡ false }
+    ensures shape { IfOk result (λ command. app_of command ≡ with_rule (with_rule (app_of listed.entry) (text_rule (codes "deck"))) name_rule) }
+    ensures local { IfOk result (λ command. (out-Command command).has_globals ≡ false) }
+{
+    listed
+        .arg(text(alloc, "deck", "DECK", help))?
+        .arg(name(alloc))
+}
+
 /// `schema`.
 fn schema_command<'a>(alloc: Global) -> Result<Command<'a>, AllocError>
     ensures shape { IfOk result (λ command. app_of command ≡ record { top = schema_shape; subs = [] }) }
@@ -98,7 +115,11 @@ fn schema_command<'a>(alloc: Global) -> Result<Command<'a>, AllocError>
     let schema = Command::new(alloc, "schema")
         .about("Tells the lengths, the keys and the counts of a file, by its first page")
         .after_help(SCHEMA);
-    schema.arg(file)
+    with_deck(
+        alloc,
+        schema.arg(file)?,
+        "Tells how the schema differs from that of a file of the deck in this file",
+    )
 }
 
 /// `explain`.
@@ -145,6 +166,33 @@ fn with_bounds<'a>(alloc: Global, list: Command<'a>) -> Result<Command<'a>, Allo
     list.arg(key)?.arg(from)?.arg(to)
 }
 
+/// The form of a list.
+fn with_form<'a>(alloc: Global, list: Command<'a>) -> Result<Command<'a>, AllocError>
+    requires { (out-Command list).has_globals ≡ false }
+    ensures shape { IfOk result (λ command. app_of command ≡ with_rule (with_rule (with_rule (with_rule (app_of list.entry) (usual_rule (codes "as") (codes "text")))
+        (text_rule (codes "cut"))) (text_rule (codes "deck"))) name_rule) }
+    ensures local { IfOk result (λ command. (out-Command command).has_globals ≡ false) }
+{
+    let form = usual(
+        alloc,
+        "as",
+        "FORM",
+        "text",
+        "How they are written: 'text', 'csv' or 'json'",
+    );
+    let cut = text(
+        alloc,
+        "cut",
+        "N,N..",
+        "Begins a column at each of these offsets, and at 0",
+    );
+    with_deck(
+        alloc,
+        list.arg(form)?.arg(cut)?,
+        "Takes the columns from the record of a file of the deck in this file",
+    )
+}
+
 /// `list`.
 fn list_command<'a>(alloc: Global) -> Result<Command<'a>, AllocError>
     ensures shape { IfOk result (λ command. app_of command ≡ record { top = list_shape; subs = [] }) }
@@ -168,7 +216,7 @@ fn list_command<'a>(alloc: Global) -> Result<Command<'a>, AllocError>
         "18446744073709551615",
         "The most records that are listed; where it is not given, all of them",
     );
-    bounded.arg(first.hide_default_value(true))
+    with_form(alloc, bounded.arg(first.hide_default_value(true))?)
 }
 
 /// `cobol`.
@@ -185,6 +233,61 @@ fn cobol_command<'a>(alloc: Global) -> Result<Command<'a>, AllocError>
         .about("Writes a deck as a COBOL program that displays the same transcript")
         .after_help(COBOL);
     cobol.arg(deck(alloc))?.arg(fixed)
+}
+
+/// The options of a load, and its text.
+fn with_text<'a>(alloc: Global, load: Command<'a>) -> Result<Command<'a>, AllocError>
+    requires { (out-Command load).has_globals ≡ false }
+    ensures shape { IfOk result (λ command. app_of command ≡ with_rule (with_rule (with_rule (app_of load.entry) (option_rule (codes "file")))
+        (word_rule (codes "text"))) (flag_rule (codes "into"))) }
+    ensures local { IfOk result (λ command. (out-Command command).has_globals ≡ false) }
+{
+    let file = option(
+        alloc,
+        "file",
+        "NAME",
+        "The file, by its name in the deck: the one behind SELECT",
+    );
+    let text = word(
+        alloc,
+        "text",
+        "TEXT",
+        "The file of the lines, or '-' for standard input",
+    );
+    let into = flag(
+        alloc,
+        "into",
+        "Writes them into the file that is there; where it is not given, a new file is made",
+    );
+    load.arg(file)?.arg(text)?.arg(into)
+}
+
+/// `load`.
+fn load_command<'a>(alloc: Global) -> Result<Command<'a>, AllocError>
+    ensures shape { IfOk result (λ command. app_of command ≡ record { top = load_shape; subs = [] }) }
+    ensures local { IfOk result (λ command. (out-Command command).has_globals ≡ false) }
+{
+    let load = Command::new(alloc, "load")
+        .about("Writes the lines of a text as records into a file")
+        .after_help(LOADED);
+    with_limits(alloc, with_text(alloc, with_files(alloc, load)?)?)
+}
+
+/// `stat`.
+fn stat_command<'a>(alloc: Global) -> Result<Command<'a>, AllocError>
+    ensures shape { IfOk result (λ command. app_of command ≡ record { top = stat_shape; subs = [] }) }
+    ensures local { IfOk result (λ command. (out-Command command).has_globals ≡ false) }
+{
+    let file = word(
+        alloc,
+        "file",
+        "FILE",
+        "The file whose pages are counted; it is not changed",
+    );
+    let stat = Command::new(alloc, "stat")
+        .about("Counts the pages of a file, its slots, and the levels of its trees")
+        .after_help(COUNTED);
+    stat.arg(file)
 }
 
 /// The program, before its subcommands.
@@ -221,11 +324,20 @@ fn with_lists<'a>(alloc: Global) -> Result<Command<'a>, AllocError>
         .subcommand(deck_command(alloc)?)
 }
 
+/// The program with these, and those that list or load records or write a deck in COBOL.
+fn with_records<'a>(alloc: Global) -> Result<Command<'a>, AllocError>
+    ensures shape { IfOk result (λ command. app_of command ≡ records_app) }
+    ensures local { IfOk result (λ command. (out-Command command).has_globals ≡ false) }
+{
+    with_lists(alloc)?
+        .subcommand(list_command(alloc)?)?
+        .subcommand(cobol_command(alloc)?)?
+        .subcommand(load_command(alloc)?)
+}
+
 /// The program with all its subcommands.
 pub fn command<'a>(alloc: Global) -> Result<Command<'a>, AllocError>
     ensures { IfOk result (λ command. app_of command ≡ program_app) }
 {
-    with_lists(alloc)?
-        .subcommand(list_command(alloc)?)?
-        .subcommand(cobol_command(alloc)?)
+    with_records(alloc)?.subcommand(stat_command(alloc)?)
 }

@@ -1,7 +1,9 @@
-use Rattle.std.proofs.Common.{map, string_bytes, subst}
-use Rattle.command_words.specs.Asks.{Ask}
+use Rattle.std.proofs.Common.{map, option_map, string_bytes, subst}
+use Rattle.command_words.specs.Asks.{Ask, form_text}
 use Rattle.command_line.proofs.AskedSessionLemmas.{as_asked}
 use Rattle.command_line.proofs.ListLemmas.{of_no_deck}
+use Rattle.command_line.proofs.FormLemmas.{did_list, did_schema}
+use Rattle.command_line.proofs.PerformLemmas.{no_verdict, count_is_no_list, load_as}
 use Rattle.command_line.proofs.performing.perform.Goals as goal
 
 -- the session that was held is the one that the words ask for
@@ -14,3 +16,43 @@ returns-in-Serve-clause-session g c =
 -- the records of a file are not the list of a deck
 pub returns-in-List-clause-listed : goal.returns-in-List-clause-listed
 returns-in-List-clause-listed g c = of_no_deck _ _ c.list_records.result c.list_records.ensures.records
+
+-- a count is not the list of a deck, and a run has no verdict
+pub returns-in-Stat-clause-listed : goal.returns-in-Stat-clause-listed
+returns-in-Stat-clause-listed g c = count_is_no_list _ _ c.count_path.result c.count_path.ensures.counted
+
+pub returns-in-Run-clause-verdict : goal.returns-in-Run-clause-verdict
+returns-in-Run-clause-verdict g c = no_verdict _ _ _ _ _ _ c.run.result.1 c.run.ensures.came
+
+-- what was done for words that ask for a schema, a list or a load
+pub returns-in-Schema-clause-did : goal.returns-in-Schema-clause-did
+returns-in-Schema-clause-did g c =
+    let words = map string_bytes c.args.words.now in
+    let asked = subst (Ask words) c.in-Schema.is c.in-Ok.ensures.asked in
+    did_schema words (record { before = g.W.Write.contents c.args.out.now; behind = g.W.Write.contents c.schema.new.out })
+    (record { file = c.in-Schema.file.now; deck = option_map (λ text. text.now) c.in-Schema.deck; name = option_map (λ text. text.now) c.in-Schema.name; asked = asked })
+    c.schema.result c.schema.ensures.done c.schema.ensures.fault
+
+pub returns-in-List-clause-did : goal.returns-in-List-clause-did
+returns-in-List-clause-did g c =
+    let words = map string_bytes c.args.words.now in
+    let asked = subst (Ask words) c.in-List.is c.in-Ok.ensures.asked in
+    did_list words (record { before = g.W.Write.contents c.args.out.now; behind = g.W.Write.contents c.list_records.new.out })
+    (record {
+      file = c.in-List.file.now;
+      key = c.in-List.key;
+      from = option_map (λ text. text.now) c.in-List.from;
+      to = option_map (λ text. text.now) c.in-List.to;
+      first = c.in-List.first;
+      form = form_text c.in-List.form;
+      asked = asked;
+    })
+    _ c.list_records.result c.list_records.ensures.records c.list_records.ensures.fault
+
+pub returns-clause-loaded : goal.returns-clause-loaded
+returns-clause-loaded g c =
+    let words = map string_bytes c.args.words.now in
+    let asked = subst (Ask words) c.in-Load.is c.in-Ok.ensures.asked in
+    load_as _ _ c.load-loaded.result
+    (λ end loads. (c.in-Load.deck.now, c.in-Load.folder.now, c.in-Load.file.now, c.in-Load.text.now, c.in-Load.into, c.in-Load.limits.pages, c.in-Load.limits.frames.value, asked, loads))
+    c.load-loaded.ensures.loaded

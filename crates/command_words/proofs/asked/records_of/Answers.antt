@@ -4,5 +4,7 @@ pub returns-clause-none : goal.returns-clause-none
 returns-clause-none c =
     λ none. record {
       no_list = c.list_of.ensures.none c.in_default.is;
-      no_cobol = c.cobol_of.ensures.none none;
+      no_cobol = c.cobol_of.ensures.none c.in_default-cobol_of.is;
+      no_load = c.load_of.ensures.none c.in_default-load_of.is;
+      no_stat = c.stat_of.ensures.none none;
     }

@@ -1,0 +1,46 @@
+use Rattle.std.proofs.Common.{◌≡◌, ◌≢◌, ℕ, List, find, Some, Ok, string_bytes, sym, subst}
+use Rattle.std.proofs.lemmas.Result.{IfOk-weaker, IfErr-weaker}
+use Rattle.file_control.specs.Description.{FileDesc}
+use Rattle.record_loading.specs.declared.end.Load.{Load}
+use Rattle.shelf_loading.specs.declared.end.ShelfEnd.{ShelfEnd}
+use Rattle.command_line.specs.Front.{IsFrontOfInput}
+use Rattle.command_line.specs.Loaded.{is_named, IsText, IsFileOf, LoadsFolder, LoadsDeck, WritesAnswer, load_of}
+use Rattle.command_line.specs.Status.{status_of}
+use Rattle.command_line.specs.declared.outcome.Outcome.TheVariants.{Loaded}
+use Rattle.command_line.proofs.loading.load_deck.Goals as goal
+
+pub returns-in-Ok-end-clause-loaded : goal.returns-in-Ok-end-clause-loaded
+returns-in-Ok-end-clause-loaded g c =
+    let end = c.in-Ok-end.end in
+    let file = c.in-Some.file.now in
+    let before = g.W.Write.contents c.args.out.now in
+    let behind = g.W.Write.contents c.write_answer.new.out in
+    let named : IsFileOf c.in-Ok.deck.files c.args.asked.file.now file =
+    sym (subst (λ (files : List FileDesc). Some file ≡ find (is_named c.args.asked.file.now) files) c.as_slice.ensures c.in-Some.ensures) in
+    let loads_as : Load → List ℕ → Type 0 = λ load text. LoadsFolder g.D.Disk.unseen (string_bytes c.args.folder) file.file file.schema load text (Ok end) in
+    let loads : loads_as (load_of c.args.asked.into) c.in-Ok-text_of.text.items =
+    subst (loads_as (load_of c.args.asked.into)) c.as_slice-2.ensures.value (subst (λ (load : Load). loads_as load c.as_slice-2.result.now) c.load_of.ensures c.in-Ok-end.ensures.loads) in
+    IfOk-weaker c.write_answer.result (λ outcome. (outcome ≡ Loaded end) × WritesAnswer end before behind)
+    (λ outcome. (e : ShelfEnd) × (outcome ≡ Loaded e) × LoadsDeck g.D.Disk.unseen
+    (IsText (λ text. (file : g.row.R-File.Denot) × IsFrontOfInput 18446744073709551615 (g.R.File.Read.remaining file) text) (g.I.Read.remaining c.args.input.now.reader) c.args.asked.text.now)
+    c.args.bytes.now (string_bytes c.args.folder) c.args.asked.file.now c.args.asked.into before behind e)
+    (λ outcome done. (
+      end,
+      done.0,
+      record {
+        deck = c.in-Ok.deck;
+        is_deck = c.in-Ok.ensures.deck;
+        file = file;
+        named = named;
+        text = c.in-Ok-text_of.text.items;
+        is_text = c.in-Ok-text_of.ensures.text;
+        loads = loads;
+        told = done.1;
+      },
+    ))
+    c.write_answer.ensures.done
+
+-- where the answer is not written, the status is 4
+pub returns-in-Ok-end-clause-untouched : goal.returns-in-Ok-end-clause-untouched
+returns-in-Ok-end-clause-untouched g c =
+    IfErr-weaker c.write_answer.result (λ fault. status_of fault ≡ 4) (λ fault. status_of fault ≢ 4 → c.write_answer.new.out ≡ c.args.out.now) (λ fault is other. absurd (other is)) c.write_answer.ensures.fault

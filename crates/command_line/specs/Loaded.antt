@@ -1,0 +1,80 @@
+-- What is loaded into a file of a deck over a folder. All of this is ours.
+use Rattle.std.specs.Prelude.{◌≡◌, ℕ, Bool, true, false, List, map, find, bytes_eq, Option, Some, Result, Ok, IfOk, OnErr, codes, ⊤}
+use Rattle.std.specs.Char.{to_ascii_lowercase}
+use Rattle.std.specs.Io.KnownBytes.{Appends}
+use Rattle.arrayvec.specs.ArrayString.{ArrayString}
+use Rattle.folder_shelf.specs.Events.{Event}
+use Rattle.folder_shelf.specs.Replay.{Unseen}
+use Rattle.record_layout.specs.Schema.{Schema}
+use Rattle.file_control.specs.Description.{FileDesc}
+use Rattle.deck_reader.specs.declared.deck.Deck.{Deck}
+use Rattle.deck_reader.specs.Deck.{IsDeck}
+use Rattle.shelf_run.specs.ShelfRun.{LeavesFiles}
+use Rattle.record_loading.specs.declared.end.Load.{Load}
+use Rattle.record_loading.specs.declared.end.Load.TheVariants.{New, Into}
+use Rattle.shelf_loading.specs.Answer.{answer_of}
+use Rattle.shelf_loading.specs.Loaded.{Ends, KeepsOthers, IsSafe}
+use Rattle.shelf_loading.specs.declared.end.ShelfEnd.{ShelfEnd}
+use Rattle.shelf_loading.specs.declared.end.ShelfEnd.TheVariants.{IsThere, Loaded}
+use Rattle.command_line.specs.Folder.{OverFolder}
+use Rattle.command_line.specs.Front.{IsFrontOfInput}
+use Rattle.command_line.specs.declared.fault.Fault.{Fault}
+use Rattle.command_line.specs.declared.fault.Fault.TheVariants.{Deck as DeckRefused, NotListed, NoSuchFile, Form as NoForm, Unexplained, LongValue, Usage, Input, Output, Memory}
+
+-- the name is that of the file in its deck, in capitals or small letters
+abbrev pub is_named : (name : List ℕ) → FileDesc → Bool
+is_named name file = bytes_eq (map to_ascii_lowercase name) (map to_ascii_lowercase file.name)
+
+-- the file is the one of these that has the name
+abbrev pub IsFileOf : List FileDesc → (name : List ℕ) → FileDesc → Type 0
+IsFileOf files name file = find (is_named name) files ≡ Some file
+
+-- into what a flag says that records are loaded
+abbrev pub load_of : Bool → Load
+load_of true = Into
+load_of false = New
+
+-- the text of this path: where it is a hyphen, all that the input had left, and otherwise the bytes of a file
+abbrev pub IsText : (IsOfFile : List ℕ → Type 0) → (input : Option (List ℕ)) → (path text : List ℕ) → Type 0
+IsText IsOfFile input path text =
+    (path ≡ codes "-" → IsFrontOfInput 18446744073709551615 input text) × ((path ≡ codes "-" → ⊥) → IsOfFile text)
+
+-- a load of a text into the file of a name in the folder of this path: how it ended, and what it left where it came to nothing; all other names stand for what they
+-- stood for; and no crash leaves a false file
+pub record LoadsFolder (disk : List ℕ → Unseen) (folder name : List ℕ) (schema : Schema) (load : Load) (text : List ℕ) (result : Result ShelfEnd Fault) : Type 0 where
+  pub names : List ArrayString
+  pub calls : List Event
+  pub ends : OverFolder disk folder names calls (λ first last. IfOk result (λ end. Ends name schema load text first end last))
+  pub nothing : OverFolder disk folder names calls (λ first last. OnErr result (LeavesFiles first last))
+  pub others : OverFolder disk folder names calls (KeepsOthers name)
+  pub safe : OverFolder disk folder names calls (IsSafe name)
+
+-- the lines that tell of a load were written; or nothing was, where the name has a file already
+abbrev pub WritesAnswer : ShelfEnd → (before behind : Option (List ℕ)) → Type 0
+WritesAnswer IsThere before behind = behind ≡ before
+WritesAnswer (Loaded end) before behind = Appends before behind (answer_of end)
+
+-- the bytes are a deck that has a file of this name, a text was loaded into that file in this folder, and it was told how that ended
+pub record LoadsDeck
+    (disk : List ℕ → Unseen) (IsTheText : List ℕ → Type 0) (bytes folder name : List ℕ) (into : Bool) (before behind : Option (List ℕ)) (end : ShelfEnd) : Type 0 where
+  pub deck : Deck
+  pub is_deck : IsDeck bytes deck
+  pub file : FileDesc
+  pub named : IsFileOf deck.files name file
+  pub text : List ℕ
+  pub is_text : IsTheText text
+  pub loads : LoadsFolder disk folder file.file file.schema (load_of into) text (Ok end)
+  pub told : WritesAnswer end before behind
+
+-- why a text is not loaded: the deck is refused or has no such file, or the input, the output or memory failed
+abbrev pub IsLoadFault : Fault → Type 0
+IsLoadFault (DeckRefused fault) = ⊤
+IsLoadFault (NotListed fault) = ⊥
+IsLoadFault NoSuchFile = ⊤
+IsLoadFault (NoForm fault) = ⊥
+IsLoadFault Unexplained = ⊥
+IsLoadFault LongValue = ⊥
+IsLoadFault (Usage text) = ⊥
+IsLoadFault Input = ⊤
+IsLoadFault Output = ⊤
+IsLoadFault Memory = ⊤

@@ -1,0 +1,200 @@
+//! The loading of a text into a file of a deck over a folder.
+ghost use Rattle.std.specs.Prelude.{◌≡◌, ◌≢◌, ℕ, List, [], find, option_map, string_bytes, codes, IfOk, IfErr};
+ghost use Rattle.deck_reader.specs.Deck.{IsDeck};
+ghost use Rattle.deck_runner.specs.DeckRun.{IsNoDeck};
+ghost use Rattle.deck_words.specs.declared.fault.DeckFault.{DeckFault as ToldFault};
+ghost use Rattle.command_line.specs.Front.{IsFrontOfInput};
+ghost use Rattle.command_line.specs.Loaded.{is_named, IsText, load_of, LoadsFolder, WritesAnswer, LoadsDeck, IsLoadFault};
+ghost use Rattle.command_line.specs.Status.{status_of};
+
+use crate::deck_file::read_whole;
+use crate::fault::Fault;
+use crate::outcome::Outcome;
+use crate::transcript::told;
+use command_words::Limits;
+use deck_runner::{Deck, RunFault, read_deck};
+use file_control::FileDesc;
+use folder_shelf::{Disk, FolderShelf};
+use record_loading::Load;
+use shelf_loading::{ShelfEnd, ShelfFault, add_answer, load_on_shelf};
+use standard_input::StandardInput;
+use std::alloc::Global;
+use std::fs;
+use std::io::{Read, Write};
+use std::os::unix::fs::FileExt;
+use std::rt::Files;
+use system_files::LockFile;
+
+/// The most bytes of an answer: two lines, with a number and two statuses.
+const MOST_BYTES: usize = 64;
+
+/// What is asked of a load: the name of a file in the deck, the path of a text, whether the file is there, and the limits of its pages.
+#[derive(Clone, Copy)]
+pub struct Loading<'a> {
+    pub file: &'a str,
+    pub text: &'a str,
+    pub into: bool,
+    pub limits: Limits,
+}
+
+#[tactic(auto, using(crate::proofs::LoadingLemmas::of_a_load))]
+/// The deck that the bytes are.
+pub fn deck_of(alloc: Global, bytes: &[u8]) -> Result<Deck, Fault>
+    ensures deck { IfOk result (IsDeck bytes.now) }
+    ensures refused { IfErr result (λ fault. (told : ToldFault) → fault ≡ Fault.Deck told → IsNoDeck bytes.now told) }
+    ensures fault { IfErr result IsLoadFault }
+{
+    match read_deck(alloc, bytes) {
+        Ok(deck) => Ok(deck),
+        Err(fault) => Err(told(RunFault::of(fault))),
+    }
+}
+
+#[tactic(auto, using(crate::proofs::LoadingLemmas::same_test))]
+/// Whether a file has a name, in capitals or small letters.
+fn is_named(file: &FileDesc, name: &str) -> bool
+    ensures { result ≡ is_named name.now file.now }
+{
+    name.eq_ignore_ascii_case(file.name.as_str())
+}
+
+/// The file of a name, if one has it.
+pub fn file_named<'a>(files: &'a [FileDesc], name: &str) -> Option<&'a FileDesc>
+    ensures { option_map (λ file. file.now) result ≡ find (is_named name.now) files.now }
+{
+    files.iter().find(|file| is_named(file, name))
+}
+
+/// Into what a flag says that records are loaded.
+fn load_of(into: bool) -> Load
+    ensures { result ≡ load_of into }
+{
+    if into { Load::Into } else { Load::New }
+}
+
+/// The bytes of the text of a path, or of the input where it is a hyphen.
+fn text_of<R: Files, I: Read>(
+    rt: &R,
+    alloc: Global,
+    path: &str,
+    input: &mut StandardInput<I>,
+) -> Result<Vec<u8>, Fault>
+    ensures text { IfOk result (λ text. IsText (λ bytes. (file : R.File) × IsFrontOfInput 18446744073709551615 (R.File.remaining file) bytes)
+        (I.remaining input.old.reader) path.now text.items) }
+    ensures unread { (path.now ≡ codes "-" → ⊥) → input.new ≡ input.old }
+    ensures fault { IfErr result (λ fault. status_of fault ≡ 4) }
+{
+    if path == "-" {
+        return read_whole(alloc, input);
+    }
+    let mut file = fs::open(rt, path).map_err(Fault::of_input)?;
+    read_whole(alloc, &mut file)
+}
+
+/// Why nothing was loaded, as the program tells it.
+fn told_fault(fault: ShelfFault) -> Fault
+    ensures { status_of result ≡ 4 }
+{
+    match fault {
+        ShelfFault::Input => Fault::Input,
+        ShelfFault::Memory => Fault::Memory,
+    }
+}
+
+/// Loads a text into a file over a folder.
+fn load_over_folder<R: Files, D: Disk>(
+    rt: &R,
+    alloc: Global,
+    folder: String,
+    file: &FileDesc,
+    load: Load,
+    text: &[u8],
+    limits: Limits,
+) -> Result<ShelfEnd, Fault>
+where
+    R::File: FileExt + LockFile,
+    ensures loads { LoadsFolder D.Disk.unseen (string_bytes folder) file.now.file file.now.schema load text.now result }
+    ensures fault { IfErr result (λ fault. status_of fault ≡ 4) }
+{
+    let shelf: FolderShelf<&R, D> = FolderShelf::new(rt, alloc, folder);
+    let (_shelf, end) = load_on_shelf(
+        alloc,
+        shelf,
+        file.file,
+        &file.schema,
+        load,
+        text,
+        limits.pages,
+        limits.frames,
+    );
+    match end {
+        Ok(end) => Ok(end),
+        Err(fault) => Err(told_fault(fault)),
+    }
+}
+
+/// Writes the lines that tell of a load, for which there is room; or nothing, where the name has a file already.
+fn write_answer<W: Write>(room: Vec<u8>, end: ShelfEnd, out: &mut W) -> Result<Outcome, Fault>
+    requires { room.items ≡ [] }
+    ensures done { IfOk result (λ outcome. (outcome ≡ Outcome.Loaded end) × WritesAnswer end (W.contents out.old) (W.contents out.new)) }
+    ensures fault { IfErr result (λ fault. status_of fault ≡ 4) }
+{
+    let mut answer = room;
+    if let ShelfEnd::Loaded(loaded) = end {
+        add_answer(&mut answer, loaded)?;
+        if out.write_all(&answer).is_err() {
+            return Err(Fault::Output);
+        }
+    }
+    Ok(Outcome::Loaded(end))
+}
+
+#[tactic(auto, using(crate::proofs::LoadingLemmas::not_loaded))]
+/// Loads a text into a file of the deck that the bytes are, over the files of a folder, and tells how that ended. `Deck`, `NoSuchFile`: nothing was read, written or
+/// changed.
+pub fn load_deck<R: Files, D: Disk, I: Read, W: Write>(
+    rt: &R,
+    alloc: Global,
+    bytes: &[u8],
+    folder: String,
+    asked: Loading<'_>,
+    input: &mut StandardInput<I>,
+    out: &mut W,
+) -> Result<Outcome, Fault>
+where
+    R::File: FileExt + LockFile,
+    ensures loaded { IfOk result (λ outcome. (end : _) × (outcome ≡ Outcome.Loaded end)
+        × LoadsDeck D.Disk.unseen (IsText (λ text. (file : R.File) × IsFrontOfInput 18446744073709551615 (R.File.remaining file) text) (I.remaining input.old.reader) asked.entry.text.now)
+        bytes.now (string_bytes folder) asked.entry.file.now asked.entry.into (W.contents out.old) (W.contents out.new) end) }
+    ensures untouched { IfErr result (λ fault. status_of fault ≢ 4 → out.new ≡ out.old) }
+    ensures fault { IfErr result IsLoadFault }
+{
+    let deck = match deck_of(alloc, bytes) {
+        Ok(deck) => deck,
+        Err(fault) => return Err(fault),
+    };
+    let Some(file) = file_named(deck.files.as_slice(), asked.file) else {
+        return Err(Fault::NoSuchFile);
+    };
+    let text = match text_of(rt, alloc, asked.text, input) {
+        Ok(text) => text,
+        Err(fault) => return Err(fault),
+    };
+    let room = match Vec::with_capacity(alloc, MOST_BYTES) {
+        Ok(room) => room,
+        Err(_) => return Err(Fault::Memory),
+    };
+    let end = load_over_folder::<R, D>(
+        rt,
+        alloc,
+        folder,
+        file,
+        load_of(asked.into),
+        text.as_slice(),
+        asked.limits,
+    );
+    match end {
+        Ok(end) => write_answer(room, end, out),
+        Err(fault) => Err(fault),
+    }
+}

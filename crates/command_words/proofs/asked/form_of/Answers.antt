@@ -1,0 +1,21 @@
+use Rattle.std.proofs.Common.{refl}
+use Rattle.std.specs.Prelude.{codes}
+use Rattle.clap.specs.Words.{found_of, rows_of}
+use Rattle.command_words.proofs.MetLemmas.{no_text, text_read}
+use Rattle.command_words.proofs.asked.form_of.Goals as goal
+
+pub returns-in_err-kind-clause-none : goal.returns-in_err-kind-clause-none
+returns-in_err-kind-clause-none c =
+    λ none form given.
+    let f = found_of c.args.list.now in
+    no_text f (codes "as") c.get_str.result c.get_str.ensures c.in_err-kind.was (rows_of f) refl form.kind given.kind_given
+
+pub returns-clause-some : goal.returns-clause-some
+returns-clause-some c =
+    let f = found_of c.args.list.now in
+    record {
+      kind_given = text_read f (codes "as") _ c.in_ok-kind.ensures;
+      cut_is = text_read f (codes "cut") _ c.get_str-2.ensures;
+      deck_is = text_read f (codes "deck") _ c.get_str-3.ensures;
+      name_is = text_read f (codes "name") _ c.get_str-4.ensures;
+    }
