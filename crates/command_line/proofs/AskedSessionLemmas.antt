@@ -8,9 +8,9 @@ use Rattle.serve.specs.Serving.{Streams, Served as ServedRequests}
 use Rattle.serve.specs.declared.fault.ServeFault.{ServeFault}
 use Rattle.command_line.specs.Session.{session_end_as}
 use Rattle.command_line.specs.AskedSession.{outcome_of_end, CameToServe, ServedAsAsked}
-use Rattle.command_line.specs.declared.fault.Fault.{Fault}
-use Rattle.command_line.specs.declared.fault.Fault.TheVariants.{Deck, NotListed, NoSuchFile, Form as NoForm, Unexplained, LongValue, Usage, Input, Output, Memory}
-use Rattle.command_line.specs.declared.outcome.Outcome.{Outcome}
+use Rattle.command_outcomes.specs.declared.fault.Fault.{Fault}
+use Rattle.command_outcomes.specs.declared.fault.Fault.TheVariants.{Deck, NotListed, NoSuchFile, Form as NoForm, Unexplained, LongValue, Usage, Input, Output, Memory}
+use Rattle.command_outcomes.specs.declared.outcome.Outcome.{Outcome}
 
 -- ---- what is met is one subcommand
 

@@ -1,7 +1,5 @@
--- Why a text is not loaded, and which file it is loaded into.
-use Rattle.std.proofs.Common.{◌≡◌, ℕ, Bool, List, [], ◌∷◌, Ok, Err, IsTrue, bytes_eq, subst}
-use Rattle.std.proofs.lemmas.Slice.Eq.{bytes_eq-Decides}
-use Rattle.std.proofs.lemmas.Bool.Decides.{same_from_decides}
+-- What a load leaves of the folder that it is over.
+use Rattle.std.proofs.Common.{◌≡◌, ℕ, List, [], ◌∷◌, Ok, Err, subst}
 use Rattle.arrayvec.specs.ArrayString.{ArrayString}
 use Rattle.folder_shelf.specs.Events.{Event, in_folder}
 use Rattle.folder_shelf.specs.Replay.{Unseen}
@@ -11,38 +9,10 @@ use Rattle.shelf_run.specs.ShelfRun.{LeavesFiles}
 use Rattle.record_loading.specs.declared.end.Load.{Load}
 use Rattle.shelf_loading.specs.Loaded.{Ends, KeepsOthers, IsSafe}
 use Rattle.shelf_loading.specs.declared.end.ShelfEnd.{ShelfEnd}
-use Rattle.deck_runner.specs.declared.fault.RunFault.{RunFault}
-use Rattle.deck_runner.specs.declared.fault.RunFault.TheVariants.{Deck as DeckRefused, Output as LineRefused, Memory as NoMemory}
 use Rattle.command_line.specs.Folder.{folder_at_first, folder_after}
-use Rattle.command_line.specs.Loaded.{IsLoadFault, LoadsFolder}
-use Rattle.command_line.specs.Status.{status_of}
-use Rattle.command_line.specs.Told.{told_as}
+use Rattle.command_line.specs.Loaded.{LoadsFolder}
 use Rattle.command_line.proofs.FolderLemmas.{untouched}
-use Rattle.command_line.specs.declared.fault.Fault.{Fault}
-use Rattle.command_line.specs.declared.fault.Fault.TheVariants.{Deck, NotListed, NoSuchFile, Form as NoForm, Unexplained, LongValue, Usage, Input, Output, Memory}
-
--- two texts are compared by their bytes
-pub same_test : (r : Bool) (a b : List ℕ) → (IsTrue r → a ≡ b) × (a ≡ b → IsTrue r) → r ≡ bytes_eq a b
-same_test r a b both = same_from_decides r (bytes_eq a b) both (bytes_eq-Decides a b)
-
--- a refused deck and want of memory are faults of a load
-pub of_a_load : (fault : RunFault) → IsLoadFault (told_as fault)
-of_a_load (DeckRefused fault) = tt
-of_a_load LineRefused = tt
-of_a_load NoMemory = tt
-
--- and so are those of the input, the output and memory
-pub not_loaded : (fault : Fault) → status_of fault ≡ 4 → IsLoadFault fault
-not_loaded (Deck fault) is = tt
-not_loaded (NotListed fault) is = absurd (cc)
-not_loaded NoSuchFile is = tt
-not_loaded (NoForm fault) is = absurd (cc)
-not_loaded Unexplained is = absurd (cc)
-not_loaded LongValue is = absurd (cc)
-not_loaded (Usage text) is = absurd (cc)
-not_loaded Input is = tt
-not_loaded Output is = tt
-not_loaded Memory is = tt
+use Rattle.command_outcomes.specs.declared.fault.Fault.{Fault}
 
 -- a load over the folder of a path, before whose first call no name was attached, with the names and the calls behind it
 module _ (disk : List ℕ → Unseen) (path : List ℕ) (names : List ArrayString) (calls : List Event) (no_names : names ≡ []) (no_calls : calls ≡ in_folder path ∷ [])

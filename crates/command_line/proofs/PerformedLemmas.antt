@@ -10,8 +10,8 @@ use Rattle.deck_runner.specs.declared.run_end.RunEnd.{RunEnd}
 use Rattle.shelf_run.specs.ShelfRun.{OnShelf, IsExactRun, Runs, BreaksOff, LeavesFiles, StaysSound}
 use Rattle.command_line.specs.Folder.{OverFolder}
 use Rattle.command_line.specs.Performed.{Begun, Written, CameToEnd, begun, outcome_of}
-use Rattle.command_line.specs.declared.fault.Fault.{Fault}
-use Rattle.command_line.specs.declared.fault.Fault.TheVariants.{Deck, Output}
+use Rattle.command_outcomes.specs.declared.fault.Fault.{Fault}
+use Rattle.command_outcomes.specs.declared.fault.Fault.TheVariants.{Deck, Output}
 
 module _ (folder : List ℕ) (limit frames : ℕ) (disk : List ℕ → Unseen) (names : List ArrayString) (calls : List Event) (faults : ℕ) (bytes : List ℕ) (before behind : Option (List ℕ)) where
   abbrev run : Begun

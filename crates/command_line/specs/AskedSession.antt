@@ -6,9 +6,9 @@ use Rattle.command_words.specs.Asks.{AskServe}
 use Rattle.serve.specs.Serving.{Streams, Served as ServedRequests}
 use Rattle.serve.specs.declared.fault.ServeFault.{ServeFault}
 use Rattle.command_line.specs.Session.{session_end_as}
-use Rattle.command_line.specs.declared.fault.Fault.{Fault}
-use Rattle.command_line.specs.declared.outcome.Outcome.{Outcome}
-use Rattle.command_line.specs.declared.outcome.Outcome.TheVariants.{Served}
+use Rattle.command_outcomes.specs.declared.fault.Fault.{Fault}
+use Rattle.command_outcomes.specs.declared.outcome.Outcome.{Outcome}
+use Rattle.command_outcomes.specs.declared.outcome.Outcome.TheVariants.{Served}
 
 -- how a session ended, as what was done
 abbrev pub outcome_of_end : Result Unit Fault → Result Outcome Fault

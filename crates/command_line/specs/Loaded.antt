@@ -1,6 +1,5 @@
 -- What is loaded into a file of a deck over a folder. All of this is ours.
-use Rattle.std.specs.Prelude.{◌≡◌, ℕ, Bool, true, false, List, map, find, bytes_eq, Option, Some, Result, Ok, IfOk, OnErr, codes, ⊤}
-use Rattle.std.specs.Char.{to_ascii_lowercase}
+use Rattle.std.specs.Prelude.{◌≡◌, ℕ, Bool, true, false, List, Option, Result, Ok, IfOk, OnErr, codes}
 use Rattle.std.specs.Io.KnownBytes.{Appends}
 use Rattle.arrayvec.specs.ArrayString.{ArrayString}
 use Rattle.folder_shelf.specs.Events.{Event}
@@ -17,17 +16,9 @@ use Rattle.shelf_loading.specs.Loaded.{Ends, KeepsOthers, IsSafe}
 use Rattle.shelf_loading.specs.declared.end.ShelfEnd.{ShelfEnd}
 use Rattle.shelf_loading.specs.declared.end.ShelfEnd.TheVariants.{IsThere, Loaded}
 use Rattle.command_line.specs.Folder.{OverFolder}
-use Rattle.command_line.specs.Front.{IsFrontOfInput}
-use Rattle.command_line.specs.declared.fault.Fault.{Fault}
-use Rattle.command_line.specs.declared.fault.Fault.TheVariants.{Deck as DeckRefused, NotListed, NoSuchFile, Form as NoForm, Unexplained, LongValue, Usage, Input, Output, Memory}
-
--- the name is that of the file in its deck, in capitals or small letters
-abbrev pub is_named : (name : List ℕ) → FileDesc → Bool
-is_named name file = bytes_eq (map to_ascii_lowercase name) (map to_ascii_lowercase file.name)
-
--- the file is the one of these that has the name
-abbrev pub IsFileOf : List FileDesc → (name : List ℕ) → FileDesc → Type 0
-IsFileOf files name file = find (is_named name) files ≡ Some file
+use Rattle.file_commands.specs.Front.{IsFrontOfInput}
+use Rattle.file_commands.specs.DeckFile.{IsFileOf}
+use Rattle.command_outcomes.specs.declared.fault.Fault.{Fault}
 
 -- into what a flag says that records are loaded
 abbrev pub load_of : Bool → Load
@@ -65,16 +56,3 @@ pub record LoadsDeck
   pub is_text : IsTheText text
   pub loads : LoadsFolder disk folder file.file file.schema (load_of into) text (Ok end)
   pub told : WritesAnswer end before behind
-
--- why a text is not loaded: the deck is refused or has no such file, or the input, the output or memory failed
-abbrev pub IsLoadFault : Fault → Type 0
-IsLoadFault (DeckRefused fault) = ⊤
-IsLoadFault (NotListed fault) = ⊥
-IsLoadFault NoSuchFile = ⊤
-IsLoadFault (NoForm fault) = ⊥
-IsLoadFault Unexplained = ⊥
-IsLoadFault LongValue = ⊥
-IsLoadFault (Usage text) = ⊥
-IsLoadFault Input = ⊤
-IsLoadFault Output = ⊤
-IsLoadFault Memory = ⊤

@@ -12,14 +12,15 @@ use Rattle.deck_runner.specs.declared.run_end.RunEnd.{RunEnd}
 use Rattle.shelf_run.specs.ShelfRun.{OnShelf, IsExactRun, Runs, BreaksOff, LeavesFiles, StaysSound}
 use Rattle.command_words.specs.Asks.{FormText, AskRun, AskCheck, AskServe, AskSchema, AskExplain, AskDeck, AskList, AskCobol, AskLoad, AskStat, AskHelp, AskNothing}
 use Rattle.command_line.specs.Folder.{OverFolder}
-use Rattle.command_line.specs.Forms.{IsDeckAsked, IsHalf, HasFormFault}
-use Rattle.command_line.specs.Status.{status_of}
-use Rattle.command_line.specs.declared.forms.FormFault.{FormFault}
-use Rattle.command_line.specs.declared.forms.FormFault.TheVariants.{HalfDeck}
-use Rattle.command_line.specs.declared.fault.Fault.{Fault}
-use Rattle.command_line.specs.declared.fault.Fault.TheVariants.{Deck, NotListed, NoSuchFile, Form as NoForm, Unexplained, LongValue, Usage, Input, Output, Memory}
-use Rattle.command_line.specs.declared.outcome.Outcome.{Outcome}
-use Rattle.command_line.specs.declared.outcome.Outcome.TheVariants.{Helped, Checked, Ended, Served, SchemaTold, SchemaCompared, SchemaRefused, Explained, Listed, CheckedAll, Records, InCobol, Loaded, Counted}
+use Rattle.file_commands.specs.DeckFile.{IsDeckAsked, IsHalf}
+use Rattle.file_commands.specs.Forms.{HasFormFault}
+use Rattle.command_outcomes.specs.Status.{status_of}
+use Rattle.command_outcomes.specs.declared.form_fault.FormFault.{FormFault}
+use Rattle.command_outcomes.specs.declared.form_fault.FormFault.TheVariants.{HalfDeck}
+use Rattle.command_outcomes.specs.declared.fault.Fault.{Fault}
+use Rattle.command_outcomes.specs.declared.fault.Fault.TheVariants.{Deck, NotListed, NoSuchFile, Form as NoForm, Unexplained, LongValue, Usage, Input, Output, Memory}
+use Rattle.command_outcomes.specs.declared.outcome.Outcome.{Outcome}
+use Rattle.command_outcomes.specs.declared.outcome.Outcome.TheVariants.{Helped, Checked, Ended, Served, SchemaTold, SchemaCompared, SchemaRefused, Explained, Listed, CheckedAll, Records, InCobol, Loaded, Counted}
 
 -- a run that was begun: the bytes of its deck, and what the folder was asked and answered
 pub record Begun : Type 0 where

@@ -9,8 +9,8 @@ use Rattle.shelf_run.specs.ShelfRun.{over}
 use Rattle.serve.specs.declared.fault.ServeFault.{ServeFault}
 use Rattle.serve.specs.declared.fault.ServeFault.TheVariants.{Input as NotRead, Output as NotWritten, Memory as NoMemory}
 use Rattle.command_line.specs.Folder.{folder_at_first, folder_after}
-use Rattle.command_line.specs.declared.fault.Fault.{Fault}
-use Rattle.command_line.specs.declared.fault.Fault.TheVariants.{Input, Output, Memory}
+use Rattle.command_outcomes.specs.declared.fault.Fault.{Fault}
+use Rattle.command_outcomes.specs.declared.fault.Fault.TheVariants.{Input, Output, Memory}
 
 -- a library over a folder that was asked this and answered so
 abbrev pub over_folder : (limit frames : ℕ) → (List ℕ → Unseen) → List ArrayString → List Event → List Held → (faults : ℕ) → LibraryState

@@ -3,10 +3,9 @@ ghost use Rattle.std.specs.Prelude.{◌≡◌, ◌⊎◌, map, None, IsSome, IfO
 ghost use Rattle.file_checker.specs.declared.verdict.Reason.{Reason as ToldReason};
 ghost use Rattle.file_checker.specs.Numbers.{number_of};
 ghost use Rattle.explanations.specs.Explained.{text_in, explained, digit_of};
-ghost use Rattle.command_line.specs.Listed.{WritesText};
+ghost use Rattle.command_line.specs.Explained.{WritesText};
 
-use crate::fault::Fault;
-use crate::outcome::Outcome;
+use command_outcomes::{Fault, Outcome};
 use explanations::{FAULTS, REASONS, STATUSES, explanation_of};
 use std::io::Write;
 

@@ -1,18 +1,13 @@
 //! The loading of a text into a file of a deck over a folder.
-ghost use Rattle.std.specs.Prelude.{◌≡◌, ◌≢◌, ℕ, List, [], find, option_map, string_bytes, codes, IfOk, IfErr};
-ghost use Rattle.deck_reader.specs.Deck.{IsDeck};
-ghost use Rattle.deck_runner.specs.DeckRun.{IsNoDeck};
-ghost use Rattle.deck_words.specs.declared.fault.DeckFault.{DeckFault as ToldFault};
-ghost use Rattle.command_line.specs.Front.{IsFrontOfInput};
-ghost use Rattle.command_line.specs.Loaded.{is_named, IsText, load_of, LoadsFolder, WritesAnswer, LoadsDeck, IsLoadFault};
-ghost use Rattle.command_line.specs.Status.{status_of};
+ghost use Rattle.std.specs.Prelude.{◌≡◌, ◌≢◌, [], string_bytes, codes, IfOk, IfErr};
+ghost use Rattle.file_commands.specs.Front.{IsFrontOfInput};
+ghost use Rattle.file_commands.specs.DeckFile.{IsDeckFault};
+ghost use Rattle.command_line.specs.Loaded.{IsText, load_of, LoadsFolder, WritesAnswer, LoadsDeck};
+ghost use Rattle.command_outcomes.specs.Status.{status_of};
 
-use crate::deck_file::read_whole;
-use crate::fault::Fault;
-use crate::outcome::Outcome;
-use crate::transcript::told;
+use command_outcomes::{Fault, Outcome};
 use command_words::Limits;
-use deck_runner::{Deck, RunFault, read_deck};
+use file_commands::{deck_of, file_named, read_whole};
 use file_control::FileDesc;
 use folder_shelf::{Disk, FolderShelf};
 use record_loading::Load;
@@ -35,34 +30,6 @@ pub struct Loading<'a> {
     pub text: &'a str,
     pub into: bool,
     pub limits: Limits,
-}
-
-#[tactic(auto, using(crate::proofs::LoadingLemmas::of_a_load))]
-/// The deck that the bytes are.
-pub fn deck_of(alloc: Global, bytes: &[u8]) -> Result<Deck, Fault>
-    ensures deck { IfOk result (IsDeck bytes.now) }
-    ensures refused { IfErr result (λ fault. (told : ToldFault) → fault ≡ Fault.Deck told → IsNoDeck bytes.now told) }
-    ensures fault { IfErr result IsLoadFault }
-{
-    match read_deck(alloc, bytes) {
-        Ok(deck) => Ok(deck),
-        Err(fault) => Err(told(RunFault::of(fault))),
-    }
-}
-
-#[tactic(auto, using(crate::proofs::LoadingLemmas::same_test))]
-/// Whether a file has a name, in capitals or small letters.
-fn is_named(file: &FileDesc, name: &str) -> bool
-    ensures { result ≡ is_named name.now file.now }
-{
-    name.eq_ignore_ascii_case(file.name.as_str())
-}
-
-/// The file of a name, if one has it.
-pub fn file_named<'a>(files: &'a [FileDesc], name: &str) -> Option<&'a FileDesc>
-    ensures { option_map (λ file. file.now) result ≡ find (is_named name.now) files.now }
-{
-    files.iter().find(|file| is_named(file, name))
 }
 
 /// Into what a flag says that records are loaded.
@@ -149,7 +116,7 @@ fn write_answer<W: Write>(room: Vec<u8>, end: ShelfEnd, out: &mut W) -> Result<O
     Ok(Outcome::Loaded(end))
 }
 
-#[tactic(auto, using(crate::proofs::LoadingLemmas::not_loaded))]
+#[tactic(auto, using(file_commands::proofs::DeckLemmas::not_there))]
 /// Loads a text into a file of the deck that the bytes are, over the files of a folder, and tells how that ended. `Deck`, `NoSuchFile`: nothing was read, written or
 /// changed.
 pub fn load_deck<R: Files, D: Disk, I: Read, W: Write>(
@@ -167,7 +134,7 @@ where
         × LoadsDeck D.Disk.unseen (IsText (λ text. (file : R.File) × IsFrontOfInput 18446744073709551615 (R.File.remaining file) text) (I.remaining input.old.reader) asked.entry.text.now)
         bytes.now (string_bytes folder) asked.entry.file.now asked.entry.into (W.contents out.old) (W.contents out.new) end) }
     ensures untouched { IfErr result (λ fault. status_of fault ≢ 4 → out.new ≡ out.old) }
-    ensures fault { IfErr result IsLoadFault }
+    ensures fault { IfErr result IsDeckFault }
 {
     let deck = match deck_of(alloc, bytes) {
         Ok(deck) => deck,

@@ -4,12 +4,11 @@ ghost use Rattle.std.specs.NonZero.{non_zero_usize_get};
 ghost use Rattle.standard_input.specs.Source.{source_of};
 ghost use Rattle.serve.specs.Serving.{streams, Served};
 ghost use Rattle.serve.specs.declared.fault.ServeFault.{ServeFault as ToldFault};
-ghost use Rattle.command_line.specs.Status.{status_of};
+ghost use Rattle.command_outcomes.specs.Status.{status_of};
 ghost use Rattle.command_line.specs.AskedSession.{outcome_of_end};
 ghost use Rattle.command_line.specs.Session.{over_folder, IsNewOver, session_told_as, session_end_as};
 
-use crate::fault::Fault;
-use crate::outcome::Outcome;
+use command_outcomes::{Fault, Outcome};
 use command_words::Limits;
 use folder_shelf::{Disk, FolderShelf};
 use indexed_file::Library;

@@ -1,8 +1,8 @@
 //! The standard streams of the process.
 ghost use Rattle.std.specs.Prelude.{◌≡◌, IfErr};
-ghost use Rattle.command_line.specs.Status.{status_of};
+ghost use Rattle.command_outcomes.specs.Status.{status_of};
 
-use crate::fault::Fault;
+use command_outcomes::Fault;
 use std::alloc::Global;
 use std::fs;
 use std::os::fd::AsRawFd;

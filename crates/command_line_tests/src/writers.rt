@@ -1,6 +1,7 @@
 //! The program, run over writers that refuse a byte.
 
-use command_line::{Fault, program};
+use command_line::program;
+use command_outcomes::Fault;
 use folder_shelf::EmptyDisk;
 use standard_input::StandardInput;
 use standard_output::StandardOutput;

@@ -3,10 +3,11 @@ use Rattle.std.proofs.lemmas.Result.{IfOk-weaker, IfErr-weaker}
 use Rattle.file_control.specs.Description.{FileDesc}
 use Rattle.record_loading.specs.declared.end.Load.{Load}
 use Rattle.shelf_loading.specs.declared.end.ShelfEnd.{ShelfEnd}
-use Rattle.command_line.specs.Front.{IsFrontOfInput}
-use Rattle.command_line.specs.Loaded.{is_named, IsText, IsFileOf, LoadsFolder, LoadsDeck, WritesAnswer, load_of}
-use Rattle.command_line.specs.Status.{status_of}
-use Rattle.command_line.specs.declared.outcome.Outcome.TheVariants.{Loaded}
+use Rattle.file_commands.specs.Front.{IsFrontOfInput}
+use Rattle.file_commands.specs.DeckFile.{is_named, IsFileOf}
+use Rattle.command_line.specs.Loaded.{IsText, LoadsFolder, LoadsDeck, WritesAnswer, load_of}
+use Rattle.command_outcomes.specs.Status.{status_of}
+use Rattle.command_outcomes.specs.declared.outcome.Outcome.TheVariants.{Loaded}
 use Rattle.command_line.proofs.loading.load_deck.Goals as goal
 
 pub returns-in-Ok-end-clause-loaded : goal.returns-in-Ok-end-clause-loaded

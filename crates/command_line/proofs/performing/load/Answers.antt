@@ -1,9 +1,9 @@
 use Rattle.std.proofs.Common.{◌≡◌, ℕ, List, string_bytes, subst}
 use Rattle.std.proofs.lemmas.Result.{IfOk-weaker}
 use Rattle.shelf_loading.specs.declared.end.ShelfEnd.{ShelfEnd}
-use Rattle.command_line.specs.Front.{IsFrontOfInput}
+use Rattle.file_commands.specs.Front.{IsFrontOfInput}
 use Rattle.command_line.specs.Loaded.{IsText, LoadsDeck}
-use Rattle.command_line.specs.declared.outcome.Outcome.TheVariants.{Loaded}
+use Rattle.command_outcomes.specs.declared.outcome.Outcome.TheVariants.{Loaded}
 use Rattle.command_line.proofs.performing.load.Goals as goal
 
 pub returns-clause-loaded : goal.returns-clause-loaded

@@ -1,9 +1,8 @@
 use Rattle.std.proofs.Common.{map, option_map, string_bytes, subst}
 use Rattle.command_words.specs.Asks.{Ask, form_text}
 use Rattle.command_line.proofs.AskedSessionLemmas.{as_asked}
-use Rattle.command_line.proofs.ListLemmas.{of_no_deck}
-use Rattle.command_line.proofs.FormLemmas.{did_list, did_schema}
-use Rattle.command_line.proofs.PerformLemmas.{no_verdict, count_is_no_list, load_as}
+use Rattle.command_line.proofs.DidLemmas.{did_list, did_schema}
+use Rattle.command_line.proofs.PerformLemmas.{no_verdict, of_no_deck, count_is_no_list, load_as}
 use Rattle.command_line.proofs.performing.perform.Goals as goal
 
 -- the session that was held is the one that the words ask for

@@ -5,8 +5,8 @@ use Rattle.deck_runner.specs.RunEnd.{Told, ToldInPart}
 use Rattle.page_store.specs.ShelfState.{ShelfState}
 use Rattle.shelf_run.specs.ShelfRun.{OnShelf, IsExactRun, Runs, BreaksOff}
 use Rattle.command_line.specs.Folder.{folder_at_first, folder_after}
-use Rattle.command_line.specs.Told.{told_as}
-use Rattle.command_line.proofs.ToldLemmas.{line_refused, no_deck}
+use Rattle.command_outcomes.specs.Told.{told_as}
+use Rattle.command_outcomes.proofs.ToldLemmas.{line_refused, no_deck}
 use Rattle.command_line.proofs.FolderLemmas.{untouched, left_from_first, sound_from_first}
 use Rattle.command_line.proofs.transcript.write_transcript.Goals as goal
 
@@ -44,7 +44,7 @@ returns-in-Err-clause-output g c =
     let written = g.W.Write.contents c.args.out.now in
     let written_after = g.W.Write.contents c.run_on_shelf-shelf.new.out in
     λ is.
-    let runs = IfErr-at_err _ c.in-Err.is c.run_on_shelf-shelf.ensures.output (line_refused c.in-Err.fault (sym c.told.ensures ∙ is)) in
+    let runs = IfErr-at_err _ c.in-Err.is c.run_on_shelf-shelf.ensures.output (line_refused c.in-Err.fault (sym c.of_run.ensures ∙ is)) in
     subst (λ (faults : ℕ). OnShelf c.args.bytes.now at_first last (λ deck. ToldInPart written written_after (BreaksOff c.args.limits.pages (non_zero_usize_get c.args.limits.frames) at_first last faults shelf.faults deck))) c.new-shelf.ensures.faults
     (subst (λ (first : ShelfState). OnShelf c.args.bytes.now first last (λ deck. ToldInPart written written_after (BreaksOff c.args.limits.pages (non_zero_usize_get c.args.limits.frames) first last c.new-shelf.result.faults shelf.faults deck)))
     (untouched g.D.Disk.unseen (string_bytes c.args.folder) c.new-shelf.result.units.items c.new-shelf.result.folder.calls.events c.new-shelf.ensures.units c.new-shelf.ensures.calls) runs)
@@ -53,7 +53,7 @@ pub returns-in-Err-clause-nothing : goal.returns-in-Err-clause-nothing
 returns-in-Err-clause-nothing g c =
     let shelf = c.run_on_shelf-shelf.result.0 in
     λ other.
-    let nothing = IfErr-at_err _ c.in-Err.is c.run_on_shelf-shelf.ensures.nothing (λ is. other (c.told.ensures ∙ ap told_as is)) in (
+    let nothing = IfErr-at_err _ c.in-Err.is c.run_on_shelf-shelf.ensures.nothing (λ is. other (c.of_run.ensures ∙ ap told_as is)) in (
       nothing.0,
       left_from_first g.D.Disk.unseen (string_bytes c.args.folder) c.new-shelf.result.units.items c.new-shelf.result.folder.calls.events c.new-shelf.ensures.units c.new-shelf.ensures.calls
           (folder_after g.D.Disk.unseen shelf.units.items shelf.folder.calls.events) nothing.1,
@@ -61,7 +61,7 @@ returns-in-Err-clause-nothing g c =
 
 pub returns-in-Err-clause-refused : goal.returns-in-Err-clause-refused
 returns-in-Err-clause-refused g c =
-    λ fault is. no_deck c.args.bytes.now c.in-Err.fault (IfErr-at_err _ c.in-Err.is c.run_on_shelf-shelf.ensures.refused) fault (sym c.told.ensures ∙ is)
+    λ fault is. no_deck c.args.bytes.now c.in-Err.fault (IfErr-at_err _ c.in-Err.is c.run_on_shelf-shelf.ensures.refused) fault (sym c.of_run.ensures ∙ is)
 
 pub returns-in-Err-clause-sound : goal.returns-in-Err-clause-sound
 returns-in-Err-clause-sound g c =

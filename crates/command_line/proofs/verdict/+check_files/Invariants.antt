@@ -1,5 +1,0 @@
-use Rattle.std.proofs.Common.{length}
-use Rattle.command_line.proofs.verdict.+check_files.Given as goal
-
-abbrev pub decreases-check_files : goal.decreases-check_files
-decreases-check_files g l = length l.paths.now

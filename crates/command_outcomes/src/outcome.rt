@@ -1,0 +1,159 @@
+//! What became of the words of a command line.
+ghost use Rattle.std.specs.Prelude.{◌≡◌};
+ghost use Rattle.command_outcomes.specs.Status.{status_by, status_of_list, status_of_load, status_of_count, status_of_comparison, status_where, status_for, exit_status};
+
+use crate::fault::Fault;
+use deck_runner::RunEnd;
+use file_checker::Verdict;
+use file_listing::FileList;
+use file_statistics::FileStatisticsEnd;
+use schema_listing::{Comparison, Refusal};
+use shelf_loading::{ShelfEnd, is_loaded};
+use std::io::{self, Write};
+
+/// What was done, whole.
+#[derive(Clone, Copy, Debug, PartialEq, Eq)]
+pub enum Outcome {
+    /// Help or the version was written.
+    Helped,
+    /// A file was checked, and this verdict written.
+    Checked(Verdict),
+    /// Files were checked, and their verdicts written: whether all of them are sound.
+    CheckedAll(bool),
+    /// A run ended.
+    Ended(RunEnd),
+    /// Requests were answered to the end of the input.
+    Served,
+    /// The schema of a file was written.
+    SchemaTold,
+    /// The differences of the schema of a file from that of a deck were written, if there are any.
+    SchemaCompared(Comparison),
+    /// A file has no schema: its first page is none.
+    SchemaRefused(Refusal),
+    /// What a number means was written.
+    Explained,
+    /// The list of a deck was written.
+    Listed,
+    /// The records of a file were listed, or it was found why not.
+    Records(FileList),
+    /// A deck was written as a COBOL program.
+    InCobol,
+    /// A text was loaded into a file, up to this end.
+    Loaded(ShelfEnd),
+    /// The pages of a file were counted, or it was found why not.
+    Counted(FileStatisticsEnd),
+}
+
+/// The exit status that tells what became of the list of a file.
+pub fn status_by_list(list: FileList) -> u8
+    ensures { result ≡ status_of_list list }
+{
+    match list {
+        FileList::Listed => 0,
+        FileList::NoKey | FileList::Unsound(_) => 1,
+    }
+}
+
+/// The exit status that tells whether the schema of a file is that of a deck.
+pub fn status_by_comparison(told: Comparison) -> u8
+    ensures { result ≡ status_of_comparison told }
+{
+    match told {
+        Comparison::Same => 0,
+        Comparison::Different => 1,
+    }
+}
+
+/// The exit status that tells what became of a load.
+pub fn status_by_load(end: ShelfEnd) -> u8
+    ensures { result ≡ status_of_load end }
+{
+    match end {
+        ShelfEnd::IsThere => 1,
+        ShelfEnd::Loaded(end) => status_if_all(is_loaded(end)),
+    }
+}
+
+/// The exit status that tells whether the pages of a file were counted.
+pub fn status_by_count(end: FileStatisticsEnd) -> u8
+    ensures { result ≡ status_of_count end }
+{
+    match end {
+        FileStatisticsEnd::Listed => 0,
+        FileStatisticsEnd::Unsound(_) => 1,
+    }
+}
+
+/// The exit status that tells whether all files are sound, or all lines loaded.
+pub fn status_if_all(sound: bool) -> u8
+    ensures { result ≡ status_where sound }
+{
+    if sound { 0 } else { 1 }
+}
+
+/// Tells why the records of a file were not listed, if they were not.
+fn tell_list<E: Write>(list: FileList, err: &mut E) -> io::Result<()> {
+    match list {
+        FileList::Listed => Ok(()),
+        FileList::NoKey => writeln!(err, "cobix: the file has no such key"),
+        FileList::Unsound(reason) => writeln!(err, "unsound {}", reason.number()),
+    }
+}
+
+/// The exit status that tells a verdict.
+pub fn status_by_verdict(verdict: Verdict) -> u8
+    ensures { result ≡ status_by verdict }
+{
+    match verdict {
+        Verdict::Sound { .. } => 0,
+        Verdict::Unsound(_) => 1,
+    }
+}
+
+impl Outcome {
+    /// Tells why a file has no schema or no list, or was not made, on standard error, as far as that takes it, and answers the exit status.
+    fn tell<E: Write>(self, err: &mut E) -> u8
+        ensures { result ≡ status_for self }
+    {
+        if let Outcome::SchemaRefused(refusal) = self {
+            let _ = writeln!(err, "unsound {}", refusal.number());
+        }
+        if let Outcome::Records(list) = self {
+            let _ = tell_list(list, err);
+        }
+        if let Outcome::Counted(FileStatisticsEnd::Unsound(reason)) = self {
+            let _ = writeln!(err, "unsound {}", reason.number());
+        }
+        if let Outcome::Loaded(ShelfEnd::IsThere) = self {
+            let _ = writeln!(err, "cobix: the file is there already");
+        }
+        self.status()
+    }
+
+    fn status(self) -> u8
+        ensures { result ≡ status_for self }
+    {
+        match self {
+            Outcome::Helped | Outcome::Ended(_) | Outcome::Served => 0,
+            Outcome::SchemaTold => 0,
+            Outcome::SchemaCompared(told) => status_by_comparison(told),
+            Outcome::SchemaRefused(_) => 1,
+            Outcome::Explained | Outcome::Listed | Outcome::InCobol => 0,
+            Outcome::Records(list) => status_by_list(list),
+            Outcome::Loaded(end) => status_by_load(end),
+            Outcome::Counted(end) => status_by_count(end),
+            Outcome::Checked(verdict) => status_by_verdict(verdict),
+            Outcome::CheckedAll(sound) => status_if_all(sound),
+        }
+    }
+}
+
+/// The exit status of what happened. A fault, and why a file has no schema or no list, is told as far as the writer takes it.
+pub fn tell<E: Write>(outcome: Result<Outcome, Fault>, err: &mut E) -> u8
+    ensures { result ≡ exit_status outcome }
+{
+    match outcome {
+        Ok(outcome) => outcome.tell(err),
+        Err(fault) => fault.tell(err),
+    }
+}

@@ -1,0 +1,5 @@
+pub mod FrontLemmas
+pub mod DeckLemmas
+pub mod CutLemmas
+pub mod FormLemmas
+pub mod ListLemmas

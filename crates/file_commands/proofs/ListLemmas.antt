@@ -1,0 +1,47 @@
+-- Why a deck is not listed, and what follows where it is.
+use Rattle.std.proofs.Common.{◌≡◌, Result, Ok, Err, IfOk, IfErr, refl}
+use Rattle.command_outcomes.specs.Status.{status_of}
+use Rattle.file_commands.specs.Listed.{IsListFault}
+use Rattle.file_listing.specs.declared.listing.FileList.{FileList}
+use Rattle.record_listing.specs.declared.end.ListFault.{ListFault}
+use Rattle.command_outcomes.specs.declared.outcome.Outcome.{Outcome}
+use Rattle.command_outcomes.specs.declared.outcome.Outcome.TheVariants.{Listed, Records}
+use Rattle.command_outcomes.specs.declared.fault.Fault.{Fault}
+use Rattle.command_outcomes.specs.declared.fault.Fault.TheVariants.{Deck, NotListed, NoSuchFile, Form as NoForm, Unexplained, LongValue, Usage, Input, Output, Memory}
+
+-- the input, the output or memory failed
+pub not_read : (fault : Fault) → status_of fault ≡ 4 → IsListFault fault
+not_read (Deck fault) is = absurd (cc)
+not_read (NotListed fault) is = tt
+not_read NoSuchFile is = absurd (cc)
+not_read (NoForm fault) is = absurd (cc)
+not_read Unexplained is = absurd (cc)
+not_read LongValue is = absurd (cc)
+not_read (Usage text) is = absurd (cc)
+not_read Input is = tt
+not_read Output is = tt
+not_read Memory is = tt
+
+-- the output failed
+pub not_written : (fault : Fault) → fault ≡ Output → IsListFault fault
+not_written fault is = not_read fault (let told : status_of fault ≡ 4 = cc in told)
+
+-- where something was done, what follows from what is known of it
+pub if_ok : {A B : Type 0} (result : Result Outcome Fault) → (A → B) → IfOk result (λ _. A) → IfOk result (λ _. B)
+if_ok (Ok done) so known = so known
+if_ok (Err fault) so known = tt
+
+-- where something was done, what follows of it from what is known of it
+pub if_ok_of : {A B : Outcome → Type 0} (result : Result Outcome Fault) → ((outcome : Outcome) → A outcome → B outcome) → IfOk result A → IfOk result B
+if_ok_of (Ok done) so known = so done known
+if_ok_of (Err fault) so known = tt
+
+-- what became of the list of a file, by how it ended
+module _ {P : FileList → Type 0} where
+  pub listed_as : (end : Result FileList ListFault) (result : Result Outcome Fault) → ((list : FileList) → end ≡ Ok list → P list)
+      → IfOk result (λ outcome. IfOk end (λ list. outcome ≡ Records list)) → IfErr end (λ _. IfOk result (λ _. ⊥))
+      → IfOk result (λ outcome. (list : FileList) × (outcome ≡ Records list) × P list)
+  listed_as (Ok list) (Ok outcome) known done there = (list, done, known list refl)
+  listed_as (Ok list) (Err fault) known done there = tt
+  listed_as (Err why) (Ok outcome) known done there = absurd there
+  listed_as (Err why) (Err fault) known done there = tt

@@ -1,0 +1,9 @@
+use Rattle.std.proofs.Common.{sym, ◌∙◌}
+use Rattle.deck_runner.proofs.DeckRunLemmas.{refused}
+use Rattle.command_outcomes.proofs.ToldLemmas.{no_deck}
+use Rattle.file_commands.proofs.deck.deck_of.Goals as goal
+
+pub returns-in-Err-clause-refused : goal.returns-in-Err-clause-refused
+returns-in-Err-clause-refused c =
+    λ told is. no_deck c.args.bytes.now c.of.result
+    (refused c.args.bytes.now c.in-Err.fault c.of.result c.in-Err.ensures.told c.of.ensures.memory c.of.ensures.deck c.in-Err.ensures.none) told (sym c.of_run.ensures ∙ is)

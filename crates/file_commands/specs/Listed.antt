@@ -1,0 +1,48 @@
+-- What is told of a deck that is listed, or written in COBOL. All of this is ours.
+use Rattle.std.specs.Prelude.{◌≢◌, ℕ, Bool, true, false, List, Option, ⊤}
+use Rattle.std.specs.Io.KnownBytes.{Appends}
+use Rattle.deck_reader.specs.declared.deck.Deck.{Deck}
+use Rattle.deck_reader.specs.Deck.{IsDeck}
+use Rattle.deck_listing.specs.Listing.{Lists}
+use Rattle.deck_diagnosis.specs.Told.{TellsOf}
+use Rattle.cobol_program.specs.Layout.{IsLaidOut}
+use Rattle.cobol_program.specs.declared.form.Form.{Form}
+use Rattle.cobol_program.specs.declared.form.Form.TheVariants.{Free, Fixed}
+use Rattle.command_outcomes.specs.declared.fault.Fault.{Fault}
+use Rattle.command_outcomes.specs.declared.fault.RefusedDeck.{RefusedDeck}
+use Rattle.command_outcomes.specs.declared.fault.Fault.TheVariants.{Deck as DeckRefused, NotListed, NoSuchFile, Form as NoForm, Unexplained, LongValue, Usage, Input, Output, Memory}
+
+-- the list of the deck that the bytes are was written
+abbrev pub WritesList : List ℕ → (before behind : Option (List ℕ)) → Type 0
+WritesList bytes before behind = (text : List ℕ) × Lists bytes text × Appends before behind text
+
+-- the bytes are no deck, the fault is not want of memory, and the word that is told stands in them, at the line that is told
+abbrev pub AreRefused : List ℕ → RefusedDeck → Type 0
+AreRefused bytes refused =
+    (refused.fault.code ≢ 8) × ((deck : Deck) → IsDeck bytes deck → ⊥) × TellsOf bytes refused.diagnosis
+
+-- the form that a flag asks for
+abbrev pub form_of : Bool → Form
+form_of true = Fixed
+form_of false = Free
+
+-- the bytes are a deck, and the text is laid out in this form
+abbrev pub IsInCobol : List ℕ → Form → (text : List ℕ) → Type 0
+IsInCobol bytes form text = ((deck : Deck) × IsDeck bytes deck) × IsLaidOut form text
+
+-- a program of the deck that the bytes are was written, in fixed form or in free form
+abbrev pub WritesCobol : List ℕ → (fixed : Bool) → (before behind : Option (List ℕ)) → Type 0
+WritesCobol bytes fixed before behind = (text : List ℕ) × IsInCobol bytes (form_of fixed) text × Appends before behind text
+
+-- why a deck is not listed: it is refused, or the input, the output or memory failed
+abbrev pub IsListFault : Fault → Type 0
+IsListFault (DeckRefused fault) = ⊥
+IsListFault (NotListed fault) = ⊤
+IsListFault NoSuchFile = ⊥
+IsListFault (NoForm fault) = ⊥
+IsListFault Unexplained = ⊥
+IsListFault LongValue = ⊥
+IsListFault (Usage text) = ⊥
+IsListFault Input = ⊤
+IsListFault Output = ⊤
+IsListFault Memory = ⊤

@@ -1,0 +1,61 @@
+//! The deck in a file as a COBOL program.
+ghost use Rattle.std.specs.Prelude.{◌≡◌, ◌≢◌, ℕ, List, string_bytes, IfOk, IfErr};
+ghost use Rattle.file_commands.specs.Front.{IsFrontOfInput};
+ghost use Rattle.file_commands.specs.Listed.{form_of, IsInCobol, WritesCobol, AreRefused, IsListFault};
+ghost use Rattle.command_outcomes.specs.Status.{status_of};
+
+use crate::deck_list::refused;
+use crate::file_bytes::read_deck_file;
+use crate::text::write_text;
+use cobol_program::{Form, write_program};
+use command_outcomes::{Fault, Outcome};
+use std::alloc::Global;
+use std::io::Write;
+use std::rt::Files;
+
+/// The program of the deck that the bytes are.
+fn program_of(alloc: Global, bytes: &[u8], form: Form) -> Result<String, Fault>
+    ensures text { IfOk result (λ text. IsInCobol bytes.now form (string_bytes text)) }
+    ensures refused { IfErr result (λ fault. (told : _) → fault ≡ Fault.NotListed told → AreRefused bytes.now told) }
+    ensures fault { IfErr result IsListFault }
+{
+    match write_program(alloc, bytes, form) {
+        Ok(text) => Ok(text),
+        Err(fault) => Err(refused(alloc, bytes, fault)),
+    }
+}
+
+/// The form that a flag asks for.
+fn form_of(fixed: bool) -> Form
+    ensures { result ≡ form_of fixed }
+{
+    if fixed { Form::Fixed } else { Form::Free }
+}
+
+#[tactic(auto, using(crate::proofs::ListLemmas::not_read, crate::proofs::ListLemmas::not_written))]
+/// Writes the deck in the file of a path as a COBOL program. `NotListed`: it is refused, and nothing was written.
+pub fn write_cobol<R: Files, W: Write>(
+    rt: &R,
+    alloc: Global,
+    path: &str,
+    fixed: bool,
+    out: &mut W,
+) -> Result<Outcome, Fault>
+    ensures done { IfOk result (λ outcome. outcome ≡ Outcome.InCobol) }
+    ensures written { IfOk result (λ _. (file : R.File) × (bytes : List ℕ) × IsFrontOfInput 1048577 (R.File.remaining file) bytes
+        × WritesCobol bytes fixed (W.contents out.old) (W.contents out.new)) }
+    ensures refused { IfErr result (λ fault. (told : _) → fault ≡ Fault.NotListed told
+        → (file : R.File) × (bytes : List ℕ) × IsFrontOfInput 1048577 (R.File.remaining file) bytes × AreRefused bytes told) }
+    ensures untouched { IfErr result (λ fault. status_of fault ≢ 4 → out.new ≡ out.old) }
+    ensures fault { IfErr result IsListFault }
+{
+    let bytes = match read_deck_file(rt, alloc, path) {
+        Ok(bytes) => bytes,
+        Err(fault) => return Err(fault),
+    };
+    let text = match program_of(alloc, bytes.as_slice(), form_of(fixed)) {
+        Ok(text) => text,
+        Err(fault) => return Err(fault),
+    };
+    write_text(&text, Outcome::InCobol, out)
+}

@@ -1,0 +1,86 @@
+//! The schema of a file, held against that of a file of a deck.
+ghost use Rattle.std.specs.Prelude.{◌≡◌, ◌≢◌, IfOk, IfErr};
+ghost use Rattle.std.specs.Option.{IfSome};
+ghost use Rattle.file_control.specs.Description.{FileDesc as ToldFile};
+ghost use Rattle.schema_listing.specs.Listing.{read_in};
+ghost use Rattle.file_commands.specs.DeckFile.{IsOfDeck, IsDeckFault};
+ghost use Rattle.file_commands.specs.Front.{IsFrontOfInput};
+ghost use Rattle.file_commands.specs.Schema.{ComparesAs, IsOfComparison};
+ghost use Rattle.command_outcomes.specs.Status.{status_of};
+
+use crate::deck::{deck_at, file_in};
+use crate::file_bytes::open_shared;
+use crate::first_page::fault_of;
+use command_outcomes::{Fault, Outcome};
+use record_layout::Schema;
+use schema_listing::compare_schema;
+use std::alloc::Global;
+use std::io::{Read, Write};
+use std::rt::Files;
+use system_files::LockFile;
+
+/// Writes how the schema of the file that a reader has differs from that of a deck, by its first page alone; or nothing, where that page is none.
+fn write_differences<R: Read + Drop, W: Write>(
+    alloc: Global,
+    reader: R,
+    deck: &Schema,
+    out: &mut W,
+) -> Result<Outcome, Fault>
+    ensures told { IfSome (R.remaining reader) (λ bytes. IfOk result (ComparesAs deck.now (W.contents out.old) (W.contents out.new) (read_in bytes))) }
+    ensures kind { IfOk result IsOfComparison }
+    ensures fault { IfErr result (λ fault. status_of fault ≡ 4) }
+{
+    match compare_schema(alloc, reader, deck, out) {
+        Ok(Ok(told)) => Ok(Outcome::SchemaCompared(told)),
+        Ok(Err(refusal)) => Ok(Outcome::SchemaRefused(refusal)),
+        Err(fault) => Err(fault_of(fault)),
+    }
+}
+
+/// Writes how the schema of the file of a path, as long as no run changes it, differs from that of a deck.
+fn compare_file<R: Files, W: Write>(
+    rt: &R,
+    alloc: Global,
+    path: &str,
+    deck: &Schema,
+    out: &mut W,
+) -> Result<Outcome, Fault>
+where
+    R::File: LockFile,
+    ensures told { IfOk result (λ outcome. (file : R.File) × IfSome (R.File.remaining file)
+        (λ bytes. ComparesAs deck.now (W.contents out.old) (W.contents out.new) (read_in bytes) outcome)) }
+    ensures kind { IfOk result IsOfComparison }
+    ensures fault { IfErr result (λ fault. status_of fault ≡ 4) }
+{
+    let file = open_shared(rt, path)?;
+    write_differences(alloc, file, deck, out)
+}
+
+/// Writes how the schema of the file of a path, as long as no run changes it, differs from that of a file of the deck in the file of another path. `Deck`, `NoSuchFile`: the
+/// deck is refused, or does not have the file. Nothing was written.
+pub fn compare_path<R: Files, W: Write>(
+    rt: &R,
+    alloc: Global,
+    path: &str,
+    deck: &str,
+    name: &str,
+    out: &mut W,
+) -> Result<Outcome, Fault>
+where
+    R::File: LockFile,
+    ensures told { IfOk result (λ outcome. (described : ToldFile) × IsOfDeck (λ bytes. (file : R.File) × IsFrontOfInput 1048577 (R.File.remaining file) bytes) name.now described
+        × ((file : R.File) × IfSome (R.File.remaining file) (λ bytes. ComparesAs described.schema (W.contents out.old) (W.contents out.new) (read_in bytes) outcome))) }
+    ensures kind { IfOk result IsOfComparison }
+    ensures untouched { IfErr result (λ fault. status_of fault ≢ 4 → out.new ≡ out.old) }
+    ensures fault { IfErr result IsDeckFault }
+{
+    let deck = match deck_at(rt, alloc, deck) {
+        Ok(deck) => deck,
+        Err(fault) => return Err(fault),
+    };
+    let described = match file_in(&deck, name) {
+        Ok(described) => described,
+        Err(fault) => return Err(fault),
+    };
+    compare_file(rt, alloc, path, &described.schema, out)
+}

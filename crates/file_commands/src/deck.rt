@@ -1,0 +1,65 @@
+//! The deck in a file, and a file of it.
+ghost use Rattle.std.specs.Prelude.{◌≡◌, ℕ, List, find, option_map, IfOk, IfErr};
+ghost use Rattle.deck_reader.specs.Deck.{IsDeck};
+ghost use Rattle.deck_runner.specs.DeckRun.{IsNoDeck};
+ghost use Rattle.deck_words.specs.declared.fault.DeckFault.{DeckFault as ToldFault};
+ghost use Rattle.file_commands.specs.DeckFile.{is_named, IsFileOf, IsDeckFault};
+ghost use Rattle.file_commands.specs.Front.{IsFrontOfInput};
+
+use crate::file_bytes::read_deck_file;
+use command_outcomes::Fault;
+use deck_runner::{Deck, RunFault, read_deck};
+use file_control::FileDesc;
+use std::alloc::Global;
+use std::rt::Files;
+
+#[tactic(auto, using(crate::proofs::DeckLemmas::of_a_deck))]
+/// The deck that the bytes are.
+pub fn deck_of(alloc: Global, bytes: &[u8]) -> Result<Deck, Fault>
+    ensures deck { IfOk result (IsDeck bytes.now) }
+    ensures refused { IfErr result (λ fault. (told : ToldFault) → fault ≡ Fault.Deck told → IsNoDeck bytes.now told) }
+    ensures fault { IfErr result IsDeckFault }
+{
+    match read_deck(alloc, bytes) {
+        Ok(deck) => Ok(deck),
+        Err(fault) => Err(Fault::of_run(RunFault::of(fault))),
+    }
+}
+
+#[tactic(auto, using(crate::proofs::DeckLemmas::same_test))]
+/// Whether a file has a name, in capitals or small letters.
+fn is_named(file: &FileDesc, name: &str) -> bool
+    ensures { result ≡ is_named name.now file.now }
+{
+    name.eq_ignore_ascii_case(file.name.as_str())
+}
+
+/// The file of a name, if one has it.
+pub fn file_named<'a>(files: &'a [FileDesc], name: &str) -> Option<&'a FileDesc>
+    ensures { option_map (λ file. file.now) result ≡ find (is_named name.now) files.now }
+{
+    files.iter().find(|file| is_named(file, name))
+}
+
+/// The deck in the file of a path.
+pub fn deck_at<R: Files>(rt: &R, alloc: Global, path: &str) -> Result<Deck, Fault>
+    ensures deck { IfOk result (λ deck. (file : R.File) × (bytes : List ℕ) × IsFrontOfInput 1048577 (R.File.remaining file) bytes × IsDeck bytes deck) }
+    ensures fault { IfErr result IsDeckFault }
+{
+    let bytes = match read_deck_file(rt, alloc, path) {
+        Ok(bytes) => bytes,
+        Err(fault) => return Err(fault),
+    };
+    deck_of(alloc, bytes.as_slice())
+}
+
+/// The file of a name in a deck.
+pub fn file_in<'a>(deck: &'a Deck, name: &str) -> Result<&'a FileDesc, Fault>
+    ensures file { IfOk result (λ file. IsFileOf deck.now.files name.now file.now) }
+    ensures fault { IfErr result (λ fault. fault ≡ Fault.NoSuchFile) }
+{
+    match file_named(deck.files.as_slice(), name) {
+        Some(file) => Ok(file),
+        None => Err(Fault::NoSuchFile),
+    }
+}

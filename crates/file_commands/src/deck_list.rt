@@ -1,0 +1,75 @@
+//! The list of the deck in a file.
+ghost use Rattle.std.specs.Prelude.{◌≡◌, ◌≢◌, ℕ, List, string_bytes, IfOk, IfErr};
+ghost use Rattle.deck_reader.specs.declared.deck.Deck.{Deck as ToldDeck};
+ghost use Rattle.deck_reader.specs.Deck.{IsDeck};
+ghost use Rattle.deck_listing.specs.Listing.{Lists};
+ghost use Rattle.file_commands.specs.Front.{IsFrontOfInput};
+ghost use Rattle.file_commands.specs.Listed.{WritesList, AreRefused, IsListFault};
+ghost use Rattle.command_outcomes.specs.Status.{status_of};
+
+use crate::file_bytes::read_deck_file;
+use crate::text::write_text;
+use command_outcomes::{Fault, Outcome, RefusedDeck};
+use deck_diagnosis::diagnose;
+use deck_listing::list_deck;
+use file_control::DeckFault;
+use std::alloc::Global;
+use std::io::Write;
+use std::rt::Files;
+
+/// The code of a deck's fault that is want of memory.
+const MEMORY_CODE: u8 = 8;
+
+/// The fault of bytes that are no deck, with the words for it; or want of memory.
+pub fn refused(alloc: Global, bytes: &[u8], fault: DeckFault) -> Fault
+    requires none { fault.code ≢ 8 → (deck : ToldDeck) → IsDeck bytes.now deck → ⊥ }
+    ensures refused { (told : _) → result ≡ Fault.NotListed told → AreRefused bytes.now told }
+    ensures fault { IsListFault result }
+{
+    if fault.code == MEMORY_CODE {
+        return Fault::Memory;
+    }
+    match diagnose(alloc, bytes, fault) {
+        Ok(diagnosis) => Fault::NotListed(RefusedDeck { fault, diagnosis }),
+        Err(_) => Fault::Memory,
+    }
+}
+
+/// The list of the deck that the bytes are.
+fn list(alloc: Global, bytes: &[u8]) -> Result<String, Fault>
+    ensures list { IfOk result (λ text. Lists bytes.now (string_bytes text)) }
+    ensures refused { IfErr result (λ fault. (told : _) → fault ≡ Fault.NotListed told → AreRefused bytes.now told) }
+    ensures fault { IfErr result IsListFault }
+{
+    match list_deck(alloc, bytes) {
+        Ok(text) => Ok(text),
+        Err(fault) => Err(refused(alloc, bytes, fault)),
+    }
+}
+
+#[tactic(auto, using(crate::proofs::ListLemmas::not_read, crate::proofs::ListLemmas::not_written))]
+/// Writes the list of the deck in the file of a path. `NotListed`: it is refused, and nothing was written.
+pub fn list_path<R: Files, W: Write>(
+    rt: &R,
+    alloc: Global,
+    path: &str,
+    out: &mut W,
+) -> Result<Outcome, Fault>
+    ensures done { IfOk result (λ outcome. outcome ≡ Outcome.Listed) }
+    ensures listed { IfOk result (λ _. (file : R.File) × (bytes : List ℕ) × IsFrontOfInput 1048577 (R.File.remaining file) bytes
+        × WritesList bytes (W.contents out.old) (W.contents out.new)) }
+    ensures refused { IfErr result (λ fault. (told : _) → fault ≡ Fault.NotListed told
+        → (file : R.File) × (bytes : List ℕ) × IsFrontOfInput 1048577 (R.File.remaining file) bytes × AreRefused bytes told) }
+    ensures untouched { IfErr result (λ fault. status_of fault ≢ 4 → out.new ≡ out.old) }
+    ensures fault { IfErr result IsListFault }
+{
+    let bytes = match read_deck_file(rt, alloc, path) {
+        Ok(bytes) => bytes,
+        Err(fault) => return Err(fault),
+    };
+    let text = match list(alloc, bytes.as_slice()) {
+        Ok(text) => text,
+        Err(fault) => return Err(fault),
+    };
+    write_text(&text, Outcome::Listed, out)
+}

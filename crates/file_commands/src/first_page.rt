@@ -1,0 +1,91 @@
+//! The schema of a file, by its first page, told or held against that of a file of a deck.
+ghost use Rattle.std.specs.Prelude.{◌≡◌, ◌≢◌, option_map, IfOk, IfErr};
+ghost use Rattle.std.specs.Option.{IfSome};
+ghost use Rattle.file_control.specs.Description.{FileDesc as ToldFile};
+ghost use Rattle.schema_listing.specs.Listing.{read_in};
+ghost use Rattle.file_commands.specs.DeckFile.{IsDeckFile};
+ghost use Rattle.file_commands.specs.Front.{IsFrontOfInput};
+ghost use Rattle.file_commands.specs.Schema.{TellsAs, ComparesAs, IsOfSchema, IsSchemaDone, IsSchemaFault};
+ghost use Rattle.command_outcomes.specs.Status.{status_of};
+
+use crate::comparing::compare_path;
+use crate::file_bytes::open_shared;
+use command_outcomes::{Fault, FormFault, Outcome};
+use schema_listing::{ListingFault, list_schema};
+use std::alloc::Global;
+use std::io::{Read, Write};
+use std::rt::Files;
+use system_files::LockFile;
+
+/// Why nothing is told of a file, or not all.
+pub fn fault_of(fault: ListingFault) -> Fault
+    ensures { status_of result ≡ 4 }
+{
+    match fault {
+        ListingFault::Input => Fault::Input,
+        ListingFault::Output => Fault::Output,
+        ListingFault::Memory => Fault::Memory,
+    }
+}
+
+/// Writes the lines that tell of the file that a reader has, by its first page alone; or nothing, where that page is none.
+fn write_schema<R: Read + Drop, W: Write>(
+    alloc: Global,
+    reader: R,
+    out: &mut W,
+) -> Result<Outcome, Fault>
+    ensures told { IfSome (R.remaining reader) (λ bytes. IfOk result (TellsAs (W.contents out.old) (W.contents out.new) (read_in bytes))) }
+    ensures kind { IfOk result IsOfSchema }
+    ensures fault { IfErr result (λ fault. status_of fault ≡ 4) }
+{
+    match list_schema(alloc, reader, out) {
+        Ok(Ok(())) => Ok(Outcome::SchemaTold),
+        Ok(Err(refusal)) => Ok(Outcome::SchemaRefused(refusal)),
+        Err(fault) => Err(fault_of(fault)),
+    }
+}
+
+/// Writes the schema of the file of a path, as long as no run changes it.
+fn schema_path<R: Files, W: Write>(
+    rt: &R,
+    alloc: Global,
+    path: &str,
+    out: &mut W,
+) -> Result<Outcome, Fault>
+where
+    R::File: LockFile,
+    ensures told { IfOk result (λ outcome. (file : R.File) × IfSome (R.File.remaining file)
+        (λ bytes. TellsAs (W.contents out.old) (W.contents out.new) (read_in bytes) outcome)) }
+    ensures kind { IfOk result IsOfSchema }
+    ensures fault { IfErr result (λ fault. status_of fault ≡ 4) }
+{
+    let file = open_shared(rt, path)?;
+    write_schema(alloc, file, out)
+}
+
+/// Writes the schema of the file of a path, or how it differs from that of a file of a deck.
+pub fn schema<R: Files, W: Write>(
+    rt: &R,
+    alloc: Global,
+    path: &str,
+    deck: Option<&str>,
+    name: Option<&str>,
+    out: &mut W,
+) -> Result<Outcome, Fault>
+where
+    R::File: LockFile,
+    ensures told { IfOk result (λ outcome. IsOfSchema outcome → (file : R.File) × IfSome (R.File.remaining file)
+        (λ bytes. TellsAs (W.contents out.old) (W.contents out.new) (read_in bytes) outcome)) }
+    ensures compared { IfOk result (λ outcome. (told : _) → outcome ≡ Outcome.SchemaCompared told → (described : ToldFile)
+        × IsDeckFile (λ bytes. (file : R.File) × IsFrontOfInput 1048577 (R.File.remaining file) bytes) (option_map (λ text. text.now) deck.entry) (option_map (λ text. text.now) name.entry) described
+        × ((file : R.File) × IfSome (R.File.remaining file) (λ bytes. ComparesAs described.schema (W.contents out.old) (W.contents out.new) (read_in bytes) outcome))) }
+    ensures done { IfOk result (IsSchemaDone (option_map (λ text. text.now) deck.entry) (option_map (λ text. text.now) name.entry)) }
+    ensures untouched { IfErr result (λ fault. status_of fault ≢ 4 → out.new ≡ out.old) }
+    ensures fault { IfErr result (IsSchemaFault (option_map (λ text. text.now) deck.entry) (option_map (λ text. text.now) name.entry)) }
+{
+    match (deck, name) {
+        (None, None) => schema_path(rt, alloc, path, out),
+        (Some(deck), Some(name)) => compare_path(rt, alloc, path, deck, name, out),
+        (Some(_), None) | (None, Some(_)) => Err(Fault::Form(FormFault::HalfDeck)),
+    }
+}

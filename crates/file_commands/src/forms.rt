@@ -1,0 +1,113 @@
+//! The form in which records are listed, as the words ask for it.
+ghost use Rattle.std.specs.Prelude.{◌≡◌, ◌⊎◌, ◌∷◌, [], ℕ, true, List, map, codes, IfOk, IfErr};
+ghost use Rattle.record_forms.specs.Parts.{part_of, do_rise, whole_part};
+ghost use Rattle.command_words.specs.Asks.{form_text};
+ghost use Rattle.file_commands.specs.Cuts.{AreCuts};
+ghost use Rattle.file_commands.specs.DeckFile.{IsDeckFault};
+ghost use Rattle.file_commands.specs.Forms.{IsCutInto, AreItemsOf, AreColumns, IsFormAsked, IsFormRefused};
+ghost use Rattle.file_commands.specs.Front.{IsFrontOfInput};
+
+use crate::cuts::read_cuts;
+use crate::deck::{deck_at, file_in};
+use command_outcomes::{Fault, FormFault};
+use command_words::FormWords;
+use record_forms::{Column, CutFault, Form, cut_columns, item_columns, whole_column};
+use std::alloc::Global;
+use std::rt::Files;
+
+/// The columns between the cuts of a text.
+fn columns_between(alloc: Global, text: &str) -> Result<Vec<Column>, Fault>
+    ensures columns { IfOk result (λ columns. IsCutInto text.now columns.items) }
+    ensures none { result ≡ Err (Fault.Form FormFault.Cuts) → (cuts : List ℕ) → AreCuts text.now cuts → do_rise 0 cuts ≡ true → ⊥ }
+    ensures fault { IfErr result (λ fault. (fault ≡ Fault.Form FormFault.Cuts) ⊎ (fault ≡ Fault.Memory)) }
+{
+    let cuts = match read_cuts(alloc, text) {
+        Ok(cuts) => cuts,
+        Err(fault) => return Err(fault),
+    };
+    match cut_columns(alloc, cuts.as_slice()) {
+        Ok(columns) => Ok(columns),
+        Err(CutFault::Order) => Err(Fault::Form(FormFault::Cuts)),
+        Err(CutFault::Memory) => Err(Fault::Memory),
+    }
+}
+
+/// The columns of the record of a file of the deck in the file of a path.
+fn columns_in<R: Files>(rt: &R, alloc: Global, deck: &str, name: &str) -> Result<Vec<Column>, Fault>
+    ensures columns { IfOk result (λ columns. AreItemsOf (λ bytes. (file : R.File) × IsFrontOfInput 1048577 (R.File.remaining file) bytes) name.now columns.items) }
+    ensures fault { IfErr result IsDeckFault }
+{
+    let deck = match deck_at(rt, alloc, deck) {
+        Ok(deck) => deck,
+        Err(fault) => return Err(fault),
+    };
+    let file = match file_in(&deck, name) {
+        Ok(file) => file,
+        Err(fault) => return Err(fault),
+    };
+    match item_columns(alloc, &file.layout) {
+        Ok(columns) => Ok(columns),
+        Err(_) => Err(Fault::Memory),
+    }
+}
+
+/// The record as one column.
+fn whole(alloc: Global) -> Result<Vec<Column>, Fault>
+    ensures column { IfOk result (λ columns. map part_of columns.items ≡ whole_part ∷ []) }
+    ensures fault { IfErr result (λ fault. fault ≡ Fault.Memory) }
+{
+    match whole_column(alloc) {
+        Ok(columns) => Ok(columns),
+        Err(_) => Err(Fault::Memory),
+    }
+}
+
+/// The columns that words ask for.
+fn columns_of<R: Files>(rt: &R, alloc: Global, asked: FormWords<'_>) -> Result<Vec<Column>, Fault>
+    ensures columns { IfOk result (λ columns. AreColumns (λ bytes. (file : R.File) × IsFrontOfInput 1048577 (R.File.remaining file) bytes)
+        (form_text asked.entry).cut (form_text asked.entry).deck (form_text asked.entry).name columns.items) }
+    ensures refused { IfErr result (IsFormRefused (form_text asked.entry)) }
+{
+    match (asked.cut, asked.deck, asked.name) {
+        (None, None, None) => whole(alloc),
+        (Some(text), None, None) => columns_between(alloc, text),
+        (None, Some(deck), Some(name)) => columns_in(rt, alloc, deck, name),
+        (Some(_), Some(_), Some(_)) => Err(Fault::Form(FormFault::CutAndDeck)),
+        (_, Some(_), None) | (_, None, Some(_)) => Err(Fault::Form(FormFault::HalfDeck)),
+    }
+}
+
+/// Text, where no columns are asked for.
+fn text_form(asked: FormWords<'_>) -> Result<Form, Fault>
+    requires { asked.kind.now ≡ codes "text" }
+    ensures form { IfOk result (IsFormAsked (λ bytes. ⊥) (form_text asked.entry)) }
+    ensures refused { IfErr result (IsFormRefused (form_text asked.entry)) }
+{
+    match (asked.cut, asked.deck, asked.name) {
+        (None, None, None) => Ok(Form::Text),
+        _ => Err(Fault::Form(FormFault::TextColumns)),
+    }
+}
+
+/// The form that words ask for, with its columns. `Form`: they ask for none. `Deck`, `NoSuchFile`: the deck is refused, or does not have the file.
+pub fn form_of<R: Files>(rt: &R, alloc: Global, asked: FormWords<'_>) -> Result<Form, Fault>
+    ensures form { IfOk result (IsFormAsked (λ bytes. (file : R.File) × IsFrontOfInput 1048577 (R.File.remaining file) bytes) (form_text asked.entry)) }
+    ensures refused { IfErr result (IsFormRefused (form_text asked.entry)) }
+{
+    if asked.kind == "text" {
+        return text_form(asked);
+    }
+    if asked.kind == "csv" {
+        return match columns_of(rt, alloc, asked) {
+            Ok(columns) => Ok(Form::Csv(columns)),
+            Err(fault) => Err(fault),
+        };
+    }
+    if asked.kind == "json" {
+        return match columns_of(rt, alloc, asked) {
+            Ok(columns) => Ok(Form::Json(columns)),
+            Err(fault) => Err(fault),
+        };
+    }
+    Err(Fault::Form(FormFault::Kind))
+}

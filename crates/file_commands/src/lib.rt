@@ -1,0 +1,31 @@
+//! Commands that look into a file and change none: the check of files, the list of records, the
+//! schema, the count of pages, and the list of a deck and its program in COBOL.
+//!
+//! Each is given the words that ask for it, opens its file, writes to the output, and answers the
+//! `Outcome` or the `Fault`. Its clauses say what was written of which bytes. A file of records is
+//! read as long as no run changes it. That the system opens the file that a path names is trusted.
+//!
+//! Read `file_bytes` first, then `verdict` and `listing`; `deck` finds a file in a deck.
+#![tactic(auto)]
+
+mod cobol;
+mod comparing;
+mod counting;
+mod cuts;
+mod deck;
+mod deck_list;
+mod file_bytes;
+mod first_page;
+mod forms;
+mod listing;
+mod text;
+mod verdict;
+
+pub use cobol::write_cobol;
+pub use counting::count_path;
+pub use deck::{deck_of, file_named};
+pub use deck_list::list_path;
+pub use file_bytes::{read_bytes, read_deck_file, read_whole};
+pub use first_page::schema;
+pub use listing::{Bounds, list_records};
+pub use verdict::{check_path, check_paths};

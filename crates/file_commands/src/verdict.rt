@@ -1,0 +1,124 @@
+//! The check of files, and what is written of them.
+ghost use Rattle.std.specs.Prelude.{◌≡◌, ◌&&◌, length, IfOk, IfErr};
+ghost use Rattle.std.specs.Option.{IfSome};
+ghost use Rattle.file_checker.specs.Sound.{IsRight};
+ghost use Rattle.command_outcomes.specs.Status.{status_of};
+ghost use Rattle.file_commands.specs.Verdicts.{is_sound, AreVerdicts};
+
+use crate::file_bytes::open_shared;
+use command_outcomes::{Fault, Outcome};
+use file_checker::{CheckFault, Verdict, check_file};
+use std::alloc::Global;
+use std::io::{self, Read, Write};
+use std::rt::Files;
+use system_files::LockFile;
+
+/// Checks the file that a reader has.
+pub fn check<R: Read>(alloc: Global, reader: &mut R) -> Result<Verdict, Fault>
+    ensures right { IfSome (R.remaining reader.old) (λ bytes. IfOk result (IsRight bytes)) }
+    ensures fault { IfErr result (λ fault. status_of fault ≡ 4) }
+{
+    match check_file(alloc, reader) {
+        Ok(verdict) => Ok(verdict),
+        Err(CheckFault::Input) => Err(Fault::Input),
+        Err(CheckFault::Memory) => Err(Fault::Memory),
+    }
+}
+
+/// Writes the line of a verdict.
+fn write_line<W: Write>(verdict: Verdict, out: &mut W) -> io::Result<()> {
+    match verdict {
+        Verdict::Sound { records, pages } => {
+            writeln!(out, "sound records {records} pages {pages}")
+        }
+        Verdict::Unsound(reason) => writeln!(out, "unsound {}", reason.number()),
+    }
+}
+
+/// Writes the line of a verdict, behind the path of its file.
+fn write_named<W: Write>(path: &str, verdict: Verdict, out: &mut W) -> io::Result<()> {
+    write!(out, "{path}: ")?;
+    write_line(verdict, out)
+}
+
+/// The verdict on the file of a path, as long as no run changes it.
+fn verdict_of<R: Files>(rt: &R, alloc: Global, path: &str) -> Result<Verdict, Fault>
+where
+    R::File: LockFile,
+    ensures right { IfOk result (λ verdict. (file : R.File) × IfSome (R.File.remaining file) (λ bytes. IsRight bytes verdict)) }
+    ensures fault { IfErr result (λ fault. status_of fault ≡ 4) }
+{
+    let mut file = open_shared(rt, path)?;
+    check(alloc, &mut file)
+}
+
+/// Checks the file of a path, as long as no run changes it, and writes the verdict.
+pub fn check_path<R: Files, W: Write>(
+    rt: &R,
+    alloc: Global,
+    path: &str,
+    out: &mut W,
+) -> Result<Outcome, Fault>
+where
+    R::File: LockFile,
+    ensures right { IfOk result (λ outcome. (verdict : _) × (outcome ≡ Outcome.Checked verdict)
+        × ((file : R.File) × IfSome (R.File.remaining file) (λ bytes. IsRight bytes verdict))) }
+    ensures fault { IfErr result (λ fault. status_of fault ≡ 4) }
+{
+    let verdict = verdict_of(rt, alloc, path)?;
+    match write_line(verdict, out) {
+        Ok(()) => Ok(Outcome::Checked(verdict)),
+        Err(_) => Err(Fault::Output),
+    }
+}
+
+/// Whether a verdict is that of a sound file, and the other ones are too.
+fn all_sound(verdict: Verdict, others: bool) -> bool
+    ensures { result ≡ (is_sound verdict && others) }
+{
+    matches!(verdict, Verdict::Sound { .. }) && others
+}
+
+/// Checks the files of paths one after another, and writes each verdict behind the path: whether all of them are sound. A file that cannot be read ends it.
+fn check_files<R: Files, W: Write>(
+    rt: &R,
+    alloc: Global,
+    paths: &[&str],
+    out: &mut W,
+) -> Result<bool, Fault>
+where
+    R::File: LockFile,
+    ensures right { IfOk result (AreVerdicts (λ verdict. (file : R.File) × IfSome (R.File.remaining file) (λ bytes. IsRight bytes verdict)) (length paths.now)) }
+    ensures fault { IfErr result (λ fault. status_of fault ≡ 4) }
+{
+    match paths {
+        [] => Ok(true),
+        [first, rest @ ..] => {
+            let verdict = verdict_of(rt, alloc, first)?;
+            if write_named(first, verdict, out).is_err() {
+                return Err(Fault::Output);
+            }
+            let others = check_files(rt, alloc, rest, out)?;
+            Ok(all_sound(verdict, others))
+        }
+    }
+}
+
+/// Checks the files of several paths.
+pub fn check_paths<R: Files, W: Write>(
+    rt: &R,
+    alloc: Global,
+    paths: &[&str],
+    out: &mut W,
+) -> Result<Outcome, Fault>
+where
+    R::File: LockFile,
+    ensures right { IfOk result (λ outcome. (sound : _) × (outcome ≡ Outcome.CheckedAll sound)
+        × AreVerdicts (λ verdict. (file : R.File) × IfSome (R.File.remaining file) (λ bytes. IsRight bytes verdict)) (length paths.now) sound) }
+    ensures fault { IfErr result (λ fault. status_of fault ≡ 4) }
+{
+    match check_files(rt, alloc, paths, out) {
+        Ok(sound) => Ok(Outcome::CheckedAll(sound)),
+        Err(fault) => Err(fault),
+    }
+}
