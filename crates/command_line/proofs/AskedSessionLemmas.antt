@@ -9,7 +9,7 @@ use Rattle.serve.specs.declared.fault.ServeFault.{ServeFault}
 use Rattle.command_line.specs.Session.{session_end_as}
 use Rattle.command_line.specs.AskedSession.{outcome_of_end, CameToServe, ServedAsAsked}
 use Rattle.command_outcomes.specs.declared.fault.Fault.{Fault}
-use Rattle.command_outcomes.specs.declared.fault.Fault.TheVariants.{Deck, NotListed, NoSuchFile, Form as NoForm, Unexplained, LongValue, Usage, Input, Output, Memory}
+use Rattle.command_outcomes.specs.declared.fault.Fault.TheVariants.{Memory}
 use Rattle.command_outcomes.specs.declared.outcome.Outcome.{Outcome}
 
 -- ---- what is met is one subcommand
@@ -64,15 +64,7 @@ module _ {S : Type 0} (shown : Shown S) (IsNew : S → Type 0) (s : Streams) whe
       → (result ≡ Err Memory → (s.input_after ≡ s.input) × (s.output_after ≡ s.output)) → CameToServe shown IsNew s (outcome_of_end result)
   served_or_not (Ok done) served unbegun = let so = served (λ is. absurd (cc)) in inr (record { end = so.0; served = so.2; told = ap outcome_of_end so.1 })
   served_or_not (Err Memory) served unbegun = let no = unbegun refl in inl (record { unread = no.0; unwritten = no.1; fault = Memory; told = refl })
-  served_or_not (Err Input) served unbegun = let so = served (λ is. absurd (cc)) in inr (record { end = so.0; served = so.2; told = ap outcome_of_end so.1 })
-  served_or_not (Err Output) served unbegun = let so = served (λ is. absurd (cc)) in inr (record { end = so.0; served = so.2; told = ap outcome_of_end so.1 })
-  served_or_not (Err (Deck fault)) served unbegun = let so = served (λ is. absurd (cc)) in inr (record { end = so.0; served = so.2; told = ap outcome_of_end so.1 })
-  served_or_not (Err (NotListed fault)) served unbegun = let so = served (λ is. absurd (cc)) in inr (record { end = so.0; served = so.2; told = ap outcome_of_end so.1 })
-  served_or_not (Err NoSuchFile) served unbegun = let so = served (λ is. absurd (cc)) in inr (record { end = so.0; served = so.2; told = ap outcome_of_end so.1 })
-  served_or_not (Err (NoForm fault)) served unbegun = let so = served (λ is. absurd (cc)) in inr (record { end = so.0; served = so.2; told = ap outcome_of_end so.1 })
-  served_or_not (Err Unexplained) served unbegun = let so = served (λ is. absurd (cc)) in inr (record { end = so.0; served = so.2; told = ap outcome_of_end so.1 })
-  served_or_not (Err LongValue) served unbegun = let so = served (λ is. absurd (cc)) in inr (record { end = so.0; served = so.2; told = ap outcome_of_end so.1 })
-  served_or_not (Err (Usage text)) served unbegun = let so = served (λ is. absurd (cc)) in inr (record { end = so.0; served = so.2; told = ap outcome_of_end so.1 })
+  served_or_not (Err fault) served unbegun = let so = served (λ is. absurd (cc)) in inr (record { end = so.0; served = so.2; told = ap outcome_of_end so.1 })
 
   pub came_to_serve : (result : Result Unit Fault) (outcome : Result Outcome Fault) → outcome ≡ outcome_of_end result
       → (result ≢ Err Memory → (end : Result Unit ServeFault) × (result ≡ session_end_as end) × ServedRequests shown IsNew s end)

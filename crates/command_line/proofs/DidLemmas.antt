@@ -7,23 +7,20 @@ use Rattle.file_commands.specs.Forms.{IsFormRefused, IsListRefused}
 use Rattle.file_commands.specs.Schema.{IsSchemaDone, IsSchemaFault}
 use Rattle.command_line.specs.Performed.{Written, AskForRecords, AskForSchema, Did}
 use Rattle.command_outcomes.specs.declared.fault.Fault.{Fault}
-use Rattle.command_outcomes.specs.declared.fault.Fault.TheVariants.{Deck, NotListed, NoSuchFile, Form as NoForm, Unexplained, LongValue, Usage, Input, Output, Memory}
+use Rattle.command_outcomes.specs.declared.fault.Fault.TheVariants.{Deck, NoSuchFile, Form as NoForm, Input, Output, Memory}
 use Rattle.command_outcomes.specs.declared.outcome.Outcome.{Outcome}
-use Rattle.command_outcomes.specs.declared.outcome.Outcome.TheVariants.{Helped, Checked, Ended, Served, SchemaTold, SchemaCompared, SchemaRefused, Explained, Listed, CheckedAll, Records, InCobol, Loaded, Counted}
+use Rattle.command_outcomes.specs.declared.outcome.Outcome.TheVariants.{SchemaTold, SchemaCompared, SchemaRefused, Records}
 
 -- the words ask for a list
 module _ (words : List Text) (out : Written) (list : AskForRecords words) where
   did_refused : (fault : Fault) → IsFormRefused list.form fault → Did words None out (Err fault)
   did_refused (Deck fault) h = inr (inl (list, h))
-  did_refused (NotListed fault) h = absurd h
   did_refused NoSuchFile h = inr (inl (list, h))
   did_refused (NoForm fault) h = inl (list, h)
-  did_refused Unexplained h = absurd h
-  did_refused LongValue h = absurd h
-  did_refused (Usage text) h = absurd h
   did_refused Input h = tt
   did_refused Output h = tt
   did_refused Memory h = tt
+  did_refused fault h = absurd h
 
   pub did_list : (P : FileList → Type 0) (result : Result Outcome Fault) → IfOk result (λ outcome. (end : FileList) × (outcome ≡ Records end) × P end) → IfErr result (IsListRefused list.form) → Did words None out result
   did_list P (Ok outcome) done fault = subst (λ (o : Outcome). Did words None out (Ok o)) (sym done.1) list
@@ -33,28 +30,15 @@ module _ (words : List Text) (out : Written) (list : AskForRecords words) where
 -- the words ask for a schema
 module _ (words : List Text) (out : Written) (schema : AskForSchema words) where
   pub did_schema : (result : Result Outcome Fault) → IfOk result (IsSchemaDone schema.deck schema.name) → IfErr result (IsSchemaFault schema.deck schema.name) → Did words None out result
-  did_schema (Ok Helped) done fault = absurd done
-  did_schema (Ok (Checked verdict)) done fault = absurd done
-  did_schema (Ok (Ended end)) done fault = absurd done
-  did_schema (Ok Served) done fault = absurd done
   did_schema (Ok SchemaTold) done fault =
       (schema.file, subst (λ (deck : Option Text). AskSchema words schema.file deck None) done.0 (subst (λ (name : Option Text). AskSchema words schema.file schema.deck name) done.1 schema.asked))
   did_schema (Ok (SchemaCompared told)) done fault = (schema, done)
   did_schema (Ok (SchemaRefused refusal)) done fault = schema
-  did_schema (Ok Explained) done fault = absurd done
-  did_schema (Ok Listed) done fault = absurd done
-  did_schema (Ok (CheckedAll sound)) done fault = absurd done
-  did_schema (Ok (Records list)) done fault = absurd done
-  did_schema (Ok InCobol) done fault = absurd done
-  did_schema (Ok (Loaded end)) done fault = absurd done
-  did_schema (Ok (Counted end)) done fault = absurd done
+  did_schema (Ok outcome) done fault = absurd done
   did_schema (Err (Deck fault)) done h = inr (inr (schema, h))
-  did_schema (Err (NotListed fault)) done h = absurd h
   did_schema (Err NoSuchFile) done h = inr (inr (schema, h))
   did_schema (Err (NoForm fault)) done h = inr (schema, h.0, h.1)
-  did_schema (Err Unexplained) done h = absurd h
-  did_schema (Err LongValue) done h = absurd h
-  did_schema (Err (Usage text)) done h = absurd h
   did_schema (Err Input) done h = tt
   did_schema (Err Output) done h = tt
   did_schema (Err Memory) done h = tt
+  did_schema (Err fault) done h = absurd h

@@ -41,20 +41,8 @@ outcome_of (Err fault) = Err fault
 
 -- the end of a run
 abbrev pub IsEnd : Outcome → Type 0
-IsEnd Helped = ⊥
-IsEnd (Checked verdict) = ⊥
 IsEnd (Ended end) = ⊤
-IsEnd Served = ⊥
-IsEnd (SchemaCompared told) = ⊥
-IsEnd SchemaTold = ⊥
-IsEnd (SchemaRefused refusal) = ⊥
-IsEnd Explained = ⊥
-IsEnd Listed = ⊥
-IsEnd (CheckedAll sound) = ⊥
-IsEnd (Records list) = ⊥
-IsEnd InCobol = ⊥
-IsEnd (Loaded end) = ⊥
-IsEnd (Counted end) = ⊥
+IsEnd outcome = ⊥
 
 -- what was written before and after it
 pub record Written : Type 0 where

@@ -8,7 +8,7 @@ use Rattle.file_commands.specs.DeckFile.{IsDeckFault}
 use Rattle.command_outcomes.specs.Status.{status_of}
 use Rattle.command_outcomes.specs.Told.{told_as}
 use Rattle.command_outcomes.specs.declared.fault.Fault.{Fault}
-use Rattle.command_outcomes.specs.declared.fault.Fault.TheVariants.{Deck, NotListed, NoSuchFile, Form as NoForm, Unexplained, LongValue, Usage, Input, Output, Memory}
+use Rattle.command_outcomes.specs.declared.fault.Fault.TheVariants.{Input, Output, Memory}
 
 -- two texts are compared by their bytes
 pub same_test : (r : Bool) (a b : List ℕ) → (IsTrue r → a ≡ b) × (a ≡ b → IsTrue r) → r ≡ bytes_eq a b
@@ -22,13 +22,7 @@ of_a_deck NoMemory = tt
 
 -- and so are those of the input, the output and memory
 pub not_there : (fault : Fault) → status_of fault ≡ 4 → IsDeckFault fault
-not_there (Deck fault) is = tt
-not_there (NotListed fault) is = absurd (cc)
-not_there NoSuchFile is = tt
-not_there (NoForm fault) is = absurd (cc)
-not_there Unexplained is = absurd (cc)
-not_there LongValue is = absurd (cc)
-not_there (Usage text) is = absurd (cc)
 not_there Input is = tt
 not_there Output is = tt
 not_there Memory is = tt
+not_there fault is = absurd (cc)

@@ -7,20 +7,14 @@ use Rattle.record_listing.specs.declared.end.ListFault.{ListFault}
 use Rattle.command_outcomes.specs.declared.outcome.Outcome.{Outcome}
 use Rattle.command_outcomes.specs.declared.outcome.Outcome.TheVariants.{Listed, Records}
 use Rattle.command_outcomes.specs.declared.fault.Fault.{Fault}
-use Rattle.command_outcomes.specs.declared.fault.Fault.TheVariants.{Deck, NotListed, NoSuchFile, Form as NoForm, Unexplained, LongValue, Usage, Input, Output, Memory}
+use Rattle.command_outcomes.specs.declared.fault.Fault.TheVariants.{Input, Output, Memory}
 
 -- the input, the output or memory failed
 pub not_read : (fault : Fault) → status_of fault ≡ 4 → IsListFault fault
-not_read (Deck fault) is = absurd (cc)
-not_read (NotListed fault) is = tt
-not_read NoSuchFile is = absurd (cc)
-not_read (NoForm fault) is = absurd (cc)
-not_read Unexplained is = absurd (cc)
-not_read LongValue is = absurd (cc)
-not_read (Usage text) is = absurd (cc)
 not_read Input is = tt
 not_read Output is = tt
 not_read Memory is = tt
+not_read fault is = absurd (cc)
 
 -- the output failed
 pub not_written : (fault : Fault) → fault ≡ Output → IsListFault fault

@@ -6,7 +6,7 @@ use Rattle.file_control.specs.Description.{FileDesc}
 use Rattle.deck_reader.specs.declared.deck.Deck.{Deck}
 use Rattle.deck_reader.specs.Deck.{IsDeck}
 use Rattle.command_outcomes.specs.declared.fault.Fault.{Fault}
-use Rattle.command_outcomes.specs.declared.fault.Fault.TheVariants.{Deck as DeckRefused, NotListed, NoSuchFile, Form as NoForm, Unexplained, LongValue, Usage, Input, Output, Memory}
+use Rattle.command_outcomes.specs.declared.fault.Fault.TheVariants.{Deck as DeckRefused, NoSuchFile, Input, Output, Memory}
 
 -- the name is that of the file in its deck, in capitals or small letters
 abbrev pub is_named : (name : List ℕ) → FileDesc → Bool
@@ -45,12 +45,8 @@ IsDeckFile IsRead (Some deck) (Some name) file = IsOfDeck IsRead name file
 -- why nothing came of a file of a deck: the deck is refused or has no such file, or the input, the output or memory failed
 abbrev pub IsDeckFault : Fault → Type 0
 IsDeckFault (DeckRefused fault) = ⊤
-IsDeckFault (NotListed fault) = ⊥
 IsDeckFault NoSuchFile = ⊤
-IsDeckFault (NoForm fault) = ⊥
-IsDeckFault Unexplained = ⊥
-IsDeckFault LongValue = ⊥
-IsDeckFault (Usage text) = ⊥
 IsDeckFault Input = ⊤
 IsDeckFault Output = ⊤
 IsDeckFault Memory = ⊤
+IsDeckFault fault = ⊥

@@ -12,7 +12,7 @@ use Rattle.file_commands.specs.DeckFile.{IsOfDeck, IsHalf, IsDeckAsked}
 use Rattle.command_outcomes.specs.declared.form_fault.FormFault.{FormFault}
 use Rattle.command_outcomes.specs.declared.form_fault.FormFault.TheVariants.{Kind, TextColumns, CutAndDeck, HalfDeck, Cuts}
 use Rattle.command_outcomes.specs.declared.fault.Fault.{Fault}
-use Rattle.command_outcomes.specs.declared.fault.Fault.TheVariants.{Deck as DeckRefused, NotListed, NoSuchFile, Form as NoForm, Unexplained, LongValue, Usage, Input, Output, Memory}
+use Rattle.command_outcomes.specs.declared.fault.Fault.TheVariants.{Deck as DeckRefused, NoSuchFile, Form as NoForm, LongValue, Input, Output, Memory}
 
 -- the columns are those between the cuts of a text, which rise from 1 on
 abbrev pub IsCutInto : Word → List Column → Type 0
@@ -53,15 +53,12 @@ HasFormFault asked Cuts = (text : Word) × (asked.cut ≡ Some text) × ((cuts :
 -- why the columns of a form are not there: its texts have a fault, the deck is refused or does not have the file, or the input or memory failed
 abbrev pub IsFormRefused : FormText → Fault → Type 0
 IsFormRefused asked (DeckRefused fault) = IsDeckAsked asked.deck asked.name
-IsFormRefused asked (NotListed fault) = ⊥
 IsFormRefused asked NoSuchFile = IsDeckAsked asked.deck asked.name
 IsFormRefused asked (NoForm fault) = HasFormFault asked fault
-IsFormRefused asked Unexplained = ⊥
-IsFormRefused asked LongValue = ⊥
-IsFormRefused asked (Usage text) = ⊥
 IsFormRefused asked Input = ⊤
 IsFormRefused asked Output = ⊤
 IsFormRefused asked Memory = ⊤
+IsFormRefused asked fault = ⊥
 
 -- why records are not listed: a value is too long, or the form is refused
 abbrev pub IsListRefused : FormText → Fault → Type 0

@@ -10,7 +10,7 @@ use Rattle.cobol_program.specs.declared.form.Form.{Form}
 use Rattle.cobol_program.specs.declared.form.Form.TheVariants.{Free, Fixed}
 use Rattle.command_outcomes.specs.declared.fault.Fault.{Fault}
 use Rattle.command_outcomes.specs.declared.fault.RefusedDeck.{RefusedDeck}
-use Rattle.command_outcomes.specs.declared.fault.Fault.TheVariants.{Deck as DeckRefused, NotListed, NoSuchFile, Form as NoForm, Unexplained, LongValue, Usage, Input, Output, Memory}
+use Rattle.command_outcomes.specs.declared.fault.Fault.TheVariants.{NotListed, Input, Output, Memory}
 
 -- the list of the deck that the bytes are was written
 abbrev pub WritesList : List ℕ → (before behind : Option (List ℕ)) → Type 0
@@ -36,13 +36,8 @@ WritesCobol bytes fixed before behind = (text : List ℕ) × IsInCobol bytes (fo
 
 -- why a deck is not listed: it is refused, or the input, the output or memory failed
 abbrev pub IsListFault : Fault → Type 0
-IsListFault (DeckRefused fault) = ⊥
 IsListFault (NotListed fault) = ⊤
-IsListFault NoSuchFile = ⊥
-IsListFault (NoForm fault) = ⊥
-IsListFault Unexplained = ⊥
-IsListFault LongValue = ⊥
-IsListFault (Usage text) = ⊥
 IsListFault Input = ⊤
 IsListFault Output = ⊤
 IsListFault Memory = ⊤
+IsListFault fault = ⊥

@@ -9,104 +9,47 @@ use Rattle.schema_listing.specs.Comparing.{TellsDifferences}
 use Rattle.file_commands.specs.DeckFile.{IsDeckAsked, IsHalf}
 use Rattle.command_outcomes.specs.declared.form_fault.FormFault.TheVariants.{HalfDeck}
 use Rattle.command_outcomes.specs.declared.fault.Fault.{Fault}
-use Rattle.command_outcomes.specs.declared.fault.Fault.TheVariants.{Deck as DeckRefused, NotListed, NoSuchFile, Form as NoForm, Unexplained, LongValue, Usage, Input, Output, Memory}
+use Rattle.command_outcomes.specs.declared.fault.Fault.TheVariants.{Deck as DeckRefused, NoSuchFile, Form as NoForm, Input, Output, Memory}
 use Rattle.command_outcomes.specs.declared.outcome.Outcome.{Outcome}
-use Rattle.command_outcomes.specs.declared.outcome.Outcome.TheVariants.{Helped, Checked, Ended, Served, SchemaTold, SchemaCompared, SchemaRefused, Explained, Listed, CheckedAll, Records, InCobol, Loaded, Counted}
+use Rattle.command_outcomes.specs.declared.outcome.Outcome.TheVariants.{SchemaTold, SchemaCompared, SchemaRefused}
 
 -- its lines were written, or it was told why the page is none
 abbrev pub TellsAs : (before after : Option (List ℕ)) → Result Header Refusal → Outcome → Type 0
-TellsAs before after read Helped = ⊥
-TellsAs before after read (Checked verdict) = ⊥
-TellsAs before after read (Ended end) = ⊥
-TellsAs before after read Served = ⊥
-TellsAs before after read (SchemaCompared told) = ⊥
-TellsAs before after read Explained = ⊥
-TellsAs before after read Listed = ⊥
-TellsAs before after read (CheckedAll sound) = ⊥
-TellsAs before after read (Records list) = ⊥
-TellsAs before after read InCobol = ⊥
-TellsAs before after read (Loaded end) = ⊥
-TellsAs before after read (Counted end) = ⊥
 TellsAs before after read SchemaTold = Tells before after read (Ok tt)
 TellsAs before after read (SchemaRefused refusal) = Tells before after read (Err refusal)
+TellsAs before after read outcome = ⊥
 
 -- this was done for the schema of a file
 abbrev pub IsOfSchema : Outcome → Type 0
-IsOfSchema Helped = ⊥
-IsOfSchema (Checked verdict) = ⊥
-IsOfSchema (Ended end) = ⊥
-IsOfSchema Served = ⊥
-IsOfSchema (SchemaCompared told) = ⊥
-IsOfSchema Explained = ⊥
-IsOfSchema Listed = ⊥
-IsOfSchema (CheckedAll sound) = ⊥
-IsOfSchema (Records list) = ⊥
-IsOfSchema InCobol = ⊥
-IsOfSchema (Loaded end) = ⊥
-IsOfSchema (Counted end) = ⊥
 IsOfSchema SchemaTold = ⊤
 IsOfSchema (SchemaRefused refusal) = ⊤
+IsOfSchema outcome = ⊥
 
 -- its differences from the schema of a deck were written, or it was told why the page is none
 abbrev pub ComparesAs : Schema → (before after : Option (List ℕ)) → Result Header Refusal → Outcome → Type 0
-ComparesAs deck before after read Helped = ⊥
-ComparesAs deck before after read (Checked verdict) = ⊥
-ComparesAs deck before after read (Ended end) = ⊥
-ComparesAs deck before after read Served = ⊥
-ComparesAs deck before after read SchemaTold = ⊥
-ComparesAs deck before after read Explained = ⊥
-ComparesAs deck before after read Listed = ⊥
-ComparesAs deck before after read (CheckedAll sound) = ⊥
-ComparesAs deck before after read (Records list) = ⊥
-ComparesAs deck before after read InCobol = ⊥
-ComparesAs deck before after read (Loaded end) = ⊥
-ComparesAs deck before after read (Counted end) = ⊥
 ComparesAs deck before after read (SchemaCompared told) = TellsDifferences deck before after read (Ok told)
 ComparesAs deck before after read (SchemaRefused refusal) = TellsDifferences deck before after read (Err refusal)
+ComparesAs deck before after read outcome = ⊥
 
 -- this was done for the schema of a file that was held against that of a deck
 abbrev pub IsOfComparison : Outcome → Type 0
-IsOfComparison Helped = ⊥
-IsOfComparison (Checked verdict) = ⊥
-IsOfComparison (Ended end) = ⊥
-IsOfComparison Served = ⊥
-IsOfComparison SchemaTold = ⊥
-IsOfComparison Explained = ⊥
-IsOfComparison Listed = ⊥
-IsOfComparison (CheckedAll sound) = ⊥
-IsOfComparison (Records list) = ⊥
-IsOfComparison InCobol = ⊥
-IsOfComparison (Loaded end) = ⊥
-IsOfComparison (Counted end) = ⊥
 IsOfComparison (SchemaCompared told) = ⊤
 IsOfComparison (SchemaRefused refusal) = ⊤
+IsOfComparison outcome = ⊥
 
 -- this was done for a schema beside a deck and a name, which may be given: without them it is told, and with both of them compared
 abbrev pub IsSchemaDone : (deck name : Option Text) → Outcome → Type 0
-IsSchemaDone deck name Helped = ⊥
-IsSchemaDone deck name (Checked verdict) = ⊥
-IsSchemaDone deck name (Ended end) = ⊥
-IsSchemaDone deck name Served = ⊥
-IsSchemaDone deck name Explained = ⊥
-IsSchemaDone deck name Listed = ⊥
-IsSchemaDone deck name (CheckedAll sound) = ⊥
-IsSchemaDone deck name (Records list) = ⊥
-IsSchemaDone deck name InCobol = ⊥
-IsSchemaDone deck name (Loaded end) = ⊥
-IsSchemaDone deck name (Counted end) = ⊥
 IsSchemaDone deck name SchemaTold = (deck ≡ None) × (name ≡ None)
 IsSchemaDone deck name (SchemaCompared told) = IsDeckAsked deck name
 IsSchemaDone deck name (SchemaRefused refusal) = ⊤
+IsSchemaDone deck name outcome = ⊥
 
 -- why a schema is not told or compared: half of what is to be held against it is given, the deck is refused or does not have the file, or the input, the output or memory failed
 abbrev pub IsSchemaFault : (deck name : Option Text) → Fault → Type 0
 IsSchemaFault deck name (DeckRefused fault) = IsDeckAsked deck name
-IsSchemaFault deck name (NotListed fault) = ⊥
 IsSchemaFault deck name NoSuchFile = IsDeckAsked deck name
 IsSchemaFault deck name (NoForm fault) = IsHalf deck name × (fault ≡ HalfDeck)
-IsSchemaFault deck name Unexplained = ⊥
-IsSchemaFault deck name LongValue = ⊥
-IsSchemaFault deck name (Usage text) = ⊥
 IsSchemaFault deck name Input = ⊤
 IsSchemaFault deck name Output = ⊤
 IsSchemaFault deck name Memory = ⊤
+IsSchemaFault deck name fault = ⊥

@@ -2,7 +2,8 @@ use Rattle.std.proofs.Common.{map, option_map, string_bytes, subst}
 use Rattle.command_words.specs.Asks.{Ask, form_text}
 use Rattle.command_line.proofs.AskedSessionLemmas.{as_asked}
 use Rattle.command_line.proofs.DidLemmas.{did_list, did_schema}
-use Rattle.command_line.proofs.PerformLemmas.{no_verdict, of_no_deck, count_is_no_list, load_as}
+use Rattle.command_line.proofs.PerformLemmas.{no_verdict, of_no_deck, load_as}
+use Rattle.command_outcomes.specs.declared.outcome.Outcome.TheVariants.{Records, Counted}
 use Rattle.command_line.proofs.performing.perform.Goals as goal
 
 -- the session that was held is the one that the words ask for
@@ -14,11 +15,11 @@ returns-in-Serve-clause-session g c =
 
 -- the records of a file are not the list of a deck
 pub returns-in-List-clause-listed : goal.returns-in-List-clause-listed
-returns-in-List-clause-listed g c = of_no_deck _ _ c.list_records.result c.list_records.ensures.records
+returns-in-List-clause-listed g c = of_no_deck Records _ _ c.list_records.result (λ end is. absurd (cc)) c.list_records.ensures.records
 
 -- a count is not the list of a deck, and a run has no verdict
 pub returns-in-Stat-clause-listed : goal.returns-in-Stat-clause-listed
-returns-in-Stat-clause-listed g c = count_is_no_list _ _ c.count_path.result c.count_path.ensures.counted
+returns-in-Stat-clause-listed g c = of_no_deck Counted _ _ c.count_path.result (λ end is. absurd (cc)) c.count_path.ensures.counted
 
 pub returns-in-Run-clause-verdict : goal.returns-in-Run-clause-verdict
 returns-in-Run-clause-verdict g c = no_verdict _ _ _ _ _ _ c.run.result.1 c.run.ensures.came
