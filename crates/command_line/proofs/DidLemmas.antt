@@ -1,15 +1,15 @@
--- What was done for words that ask for a list or a schema.
-use Rattle.std.proofs.Common.{◌≡◌, List, Option, None, Result, Ok, Err, IfOk, IfErr, inl, inr, sym, subst}
+-- What was done for words that ask for a list, a schema or a run.
+use Rattle.std.proofs.Common.{◌≡◌, ℕ, List, Option, Some, None, Result, Ok, Err, IfOk, IfErr, inl, inr, sym, subst}
 use Rattle.clap.specs.Words.{Text}
 use Rattle.file_listing.specs.declared.listing.FileList.{FileList}
-use Rattle.command_words.specs.Asks.{AskSchema}
+use Rattle.command_words.specs.Asks.{AskSchema, AskRun}
 use Rattle.file_commands.specs.Forms.{IsFormRefused, IsListRefused}
 use Rattle.file_commands.specs.Schema.{IsSchemaDone, IsSchemaFault}
-use Rattle.command_line.specs.Performed.{Written, AskForRecords, AskForSchema, Did}
+use Rattle.command_line.specs.Performed.{Begun, Written, CameToEnd, AskForRecords, AskForSchema, Did}
 use Rattle.command_outcomes.specs.declared.fault.Fault.{Fault}
 use Rattle.command_outcomes.specs.declared.fault.Fault.TheVariants.{Deck, NoSuchFile, Form as NoForm, Input, Output, Memory}
 use Rattle.command_outcomes.specs.declared.outcome.Outcome.{Outcome}
-use Rattle.command_outcomes.specs.declared.outcome.Outcome.TheVariants.{SchemaTold, SchemaCompared, SchemaRefused, Records}
+use Rattle.command_outcomes.specs.declared.outcome.Outcome.TheVariants.{Ended, SchemaTold, SchemaCompared, SchemaRefused, Records}
 
 -- the words ask for a list
 module _ (words : List Text) (out : Written) (list : AskForRecords words) where
@@ -42,3 +42,15 @@ module _ (words : List Text) (out : Written) (schema : AskForSchema words) where
   did_schema (Err Output) done h = tt
   did_schema (Err Memory) done h = tt
   did_schema (Err fault) done h = absurd h
+
+-- the words ask for a run
+module _ (words : List Text) (deck folder : Text) (pages frames : ℕ) (asked : AskRun words deck folder pages frames) where
+  pub did_run : (run : Option Begun) (out : Written) (result : Result Outcome Fault) → CameToEnd folder pages frames run out result → Did words run out result
+  did_run (Some run) out (Ok (Ended end)) came = record { deck = deck; folder = folder; pages = pages; frames = frames; asked = asked; came = came.0 }
+  did_run (Some run) out (Ok outcome) came = absurd came.1
+  did_run (Some run) out (Err fault) came = record { deck = deck; folder = folder; pages = pages; frames = frames; asked = asked; came = came.0 }
+  did_run None out (Ok outcome) came = absurd came
+  did_run None out (Err Input) came = tt
+  did_run None out (Err Output) came = tt
+  did_run None out (Err Memory) came = tt
+  did_run None out (Err fault) came = absurd (cc)

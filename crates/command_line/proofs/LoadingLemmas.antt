@@ -1,5 +1,5 @@
--- What a load leaves of the folder that it is over.
-use Rattle.std.proofs.Common.{◌≡◌, ℕ, List, [], ◌∷◌, Ok, Err, subst}
+-- What a load leaves of the folder that it is over, and what it reads.
+use Rattle.std.proofs.Common.{◌≡◌, ℕ, Bool, List, [], ◌∷◌, Option, Ok, Err, codes, subst}
 use Rattle.arrayvec.specs.ArrayString.{ArrayString}
 use Rattle.folder_shelf.specs.Events.{Event, in_folder}
 use Rattle.folder_shelf.specs.Replay.{Unseen}
@@ -10,7 +10,8 @@ use Rattle.record_loading.specs.declared.end.Load.{Load}
 use Rattle.shelf_loading.specs.Loaded.{Ends, KeepsOthers, IsSafe}
 use Rattle.shelf_loading.specs.declared.end.ShelfEnd.{ShelfEnd}
 use Rattle.command_line.specs.Folder.{folder_at_first, folder_after}
-use Rattle.command_line.specs.Loaded.{LoadsFolder}
+use Rattle.file_commands.specs.Front.{IsFrontOfInput, IsTextNamed}
+use Rattle.command_line.specs.Loaded.{LoadsFolder, LoadsDeck}
 use Rattle.command_line.proofs.FolderLemmas.{untouched}
 use Rattle.command_outcomes.specs.declared.fault.Fault.{Fault}
 
@@ -46,3 +47,29 @@ module _ (disk : List ℕ → Unseen) (path : List ℕ) (names : List ArrayStrin
     others = from_first (KeepsOthers name) others;
     safe = from_first (IsSafe name) safe;
   }
+
+-- ---- the text of a load
+
+-- what is read of the input behind the deck is what it had at first, where it is not both the deck and the text
+pub text_at_first : {F : Type 0} (remaining : F → Option (List ℕ)) (old new : Option (List ℕ)) (deck path text : List ℕ)
+    → ((deck ≡ codes "-" → ⊥) → new ≡ old) → (deck ≡ codes "-" → path ≡ codes "-" → ⊥) → IsTextNamed remaining new path text → IsTextNamed remaining old path text
+text_at_first remaining old new deck path text unread other is = record {
+  of_input = λ hyphen.
+      subst (λ (input : Option (List ℕ)). IsFrontOfInput 18446744073709551615 input text)
+      (unread (λ both. other both hyphen)) (is.of_input hyphen);
+  of_file = is.of_file;
+}
+
+-- what else is known of the text of a load
+pub loads_as : {A B : List ℕ → Type 0} {disk : List ℕ → Unseen} {bytes folder name : List ℕ} {into : Bool} {before behind : Option (List ℕ)} {end : ShelfEnd}
+    → ((text : List ℕ) → A text → B text) → LoadsDeck disk A bytes folder name into before behind end → LoadsDeck disk B bytes folder name into before behind end
+loads_as so known = record {
+  deck = known.deck;
+  is_deck = known.is_deck;
+  file = known.file;
+  named = known.named;
+  text = known.text;
+  is_text = so known.text known.is_text;
+  loads = known.loads;
+  told = known.told;
+}

@@ -1,5 +1,5 @@
 -- What a run of a deck came to, by what is told of it.
-use Rattle.std.proofs.Common.{◌≡◌, ◌≢◌, ℕ, true, List, Option, Some, Result, Ok, Err, IfOk, IfErr, sym, subst}
+use Rattle.std.proofs.Common.{◌≡◌, ◌≢◌, ℕ, true, List, Option, Some, Result, Ok, Err, IfOk, IfErr, sym, ap, subst}
 use Rattle.arrayvec.specs.ArrayString.{ArrayString}
 use Rattle.folder_shelf.specs.Events.{Event}
 use Rattle.folder_shelf.specs.Replay.{Unseen}
@@ -10,8 +10,10 @@ use Rattle.deck_runner.specs.declared.run_end.RunEnd.{RunEnd}
 use Rattle.shelf_run.specs.ShelfRun.{OnShelf, IsExactRun, Runs, BreaksOff, LeavesFiles, StaysSound}
 use Rattle.command_line.specs.Folder.{OverFolder}
 use Rattle.command_line.specs.Performed.{Begun, Written, CameToEnd, begun, outcome_of}
+use Rattle.command_outcomes.specs.Status.{status_of}
 use Rattle.command_outcomes.specs.declared.fault.Fault.{Fault}
 use Rattle.command_outcomes.specs.declared.fault.Fault.TheVariants.{Deck, Output}
+use Rattle.command_outcomes.specs.declared.outcome.Outcome.{Outcome}
 
 module _ (folder : List ℕ) (limit frames : ℕ) (disk : List ℕ → Unseen) (names : List ArrayString) (calls : List Event) (faults : ℕ) (bytes : List ℕ) (before behind : Option (List ℕ)) where
   abbrev run : Begun
@@ -51,3 +53,10 @@ module _ (folder : List ℕ) (limit frames : ℕ) (disk : List ℕ → Unseen) (
     },
     tt,
   )
+
+-- what is so of a run that failed otherwise than by its output is so where the status is not 4
+pub unwritten : (A : Type 0) (end : Result RunEnd Fault) (outcome : Result Outcome Fault) → outcome ≡ outcome_of end → IfErr end (λ fault. fault ≢ Output → A)
+    → IfErr outcome (λ fault. status_of fault ≢ 4 → A)
+unwritten A (Ok e) outcome is known = subst (λ (o : Result Outcome Fault). IfErr o (λ fault. status_of fault ≢ 4 → A)) (sym is) tt
+unwritten A (Err f) outcome is known =
+    subst (λ (o : Result Outcome Fault). IfErr o (λ fault. status_of fault ≢ 4 → A)) (sym is) (λ other. known (λ same. other (ap status_of same)))

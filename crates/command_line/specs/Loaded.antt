@@ -1,5 +1,5 @@
 -- What is loaded into a file of a deck over a folder. All of this is ours.
-use Rattle.std.specs.Prelude.{◌≡◌, ℕ, Bool, true, false, List, Option, Result, Ok, IfOk, OnErr, codes}
+use Rattle.std.specs.Prelude.{◌≡◌, ℕ, Bool, true, false, List, Option, Result, Ok, IfOk, OnErr}
 use Rattle.std.specs.Io.KnownBytes.{Appends}
 use Rattle.arrayvec.specs.ArrayString.{ArrayString}
 use Rattle.folder_shelf.specs.Events.{Event}
@@ -16,7 +16,6 @@ use Rattle.shelf_loading.specs.Loaded.{Ends, KeepsOthers, IsSafe}
 use Rattle.shelf_loading.specs.declared.end.ShelfEnd.{ShelfEnd}
 use Rattle.shelf_loading.specs.declared.end.ShelfEnd.TheVariants.{IsThere, Loaded}
 use Rattle.command_line.specs.Folder.{OverFolder}
-use Rattle.file_commands.specs.Front.{IsFrontOfInput}
 use Rattle.file_commands.specs.DeckFile.{IsFileOf}
 use Rattle.command_outcomes.specs.declared.fault.Fault.{Fault}
 
@@ -24,11 +23,6 @@ use Rattle.command_outcomes.specs.declared.fault.Fault.{Fault}
 abbrev pub load_of : Bool → Load
 load_of true = Into
 load_of false = New
-
--- the text of this path: where it is a hyphen, all that the input had left, and otherwise the bytes of a file
-abbrev pub IsText : (IsOfFile : List ℕ → Type 0) → (input : Option (List ℕ)) → (path text : List ℕ) → Type 0
-IsText IsOfFile input path text =
-    (path ≡ codes "-" → IsFrontOfInput 18446744073709551615 input text) × ((path ≡ codes "-" → ⊥) → IsOfFile text)
 
 -- a load of a text into the file of a name in the folder of this path: how it ended, and what it left where it came to nothing; all other names stand for what they
 -- stood for; and no crash leaves a false file

@@ -1,20 +1,19 @@
 //! The loading of a text into a file of a deck over a folder.
-ghost use Rattle.std.specs.Prelude.{◌≡◌, ◌≢◌, [], string_bytes, codes, IfOk, IfErr};
-ghost use Rattle.file_commands.specs.Front.{IsFrontOfInput};
+ghost use Rattle.std.specs.Prelude.{◌≡◌, ◌≢◌, [], true, false, string_bytes, codes, IfOk, IfErr};
+ghost use Rattle.file_commands.specs.Front.{IsTextNamed};
 ghost use Rattle.file_commands.specs.DeckFile.{IsDeckFault};
-ghost use Rattle.command_line.specs.Loaded.{IsText, load_of, LoadsFolder, WritesAnswer, LoadsDeck};
+ghost use Rattle.command_line.specs.Loaded.{load_of, LoadsFolder, WritesAnswer, LoadsDeck};
 ghost use Rattle.command_outcomes.specs.Status.{status_of};
 
 use command_outcomes::{Fault, Outcome};
 use command_words::Limits;
-use file_commands::{deck_of, file_named, read_whole};
+use file_commands::{deck_of, file_named, read_text};
 use file_control::FileDesc;
 use folder_shelf::{Disk, FolderShelf};
 use record_loading::Load;
 use shelf_loading::{ShelfEnd, ShelfFault, add_answer, load_on_shelf};
 use standard_input::StandardInput;
 use std::alloc::Global;
-use std::fs;
 use std::io::{Read, Write};
 use std::os::unix::fs::FileExt;
 use std::rt::Files;
@@ -32,30 +31,19 @@ pub struct Loading<'a> {
     pub limits: Limits,
 }
 
+/// Whether the input is asked to be the deck and the text.
+pub fn are_both_input(deck: &str, text: &str) -> bool
+    ensures both { result ≡ true → (deck.now ≡ codes "-") × (text.now ≡ codes "-") }
+    ensures other { result ≡ false → deck.now ≡ codes "-" → text.now ≡ codes "-" → ⊥ }
+{
+    deck == "-" && text == "-"
+}
+
 /// Into what a flag says that records are loaded.
 fn load_of(into: bool) -> Load
     ensures { result ≡ load_of into }
 {
     if into { Load::Into } else { Load::New }
-}
-
-/// The bytes of the text of a path, or of the input where it is a hyphen.
-fn text_of<R: Files, I: Read>(
-    rt: &R,
-    alloc: Global,
-    path: &str,
-    input: &mut StandardInput<I>,
-) -> Result<Vec<u8>, Fault>
-    ensures text { IfOk result (λ text. IsText (λ bytes. (file : R.File) × IsFrontOfInput 18446744073709551615 (R.File.remaining file) bytes)
-        (I.remaining input.old.reader) path.now text.items) }
-    ensures unread { (path.now ≡ codes "-" → ⊥) → input.new ≡ input.old }
-    ensures fault { IfErr result (λ fault. status_of fault ≡ 4) }
-{
-    if path == "-" {
-        return read_whole(alloc, input);
-    }
-    let mut file = fs::open(rt, path).map_err(Fault::of_input)?;
-    read_whole(alloc, &mut file)
 }
 
 /// Why nothing was loaded, as the program tells it.
@@ -131,7 +119,7 @@ pub fn load_deck<R: Files, D: Disk, I: Read, W: Write>(
 where
     R::File: FileExt + LockFile,
     ensures loaded { IfOk result (λ outcome. (end : _) × (outcome ≡ Outcome.Loaded end)
-        × LoadsDeck D.Disk.unseen (IsText (λ text. (file : R.File) × IsFrontOfInput 18446744073709551615 (R.File.remaining file) text) (I.remaining input.old.reader) asked.entry.text.now)
+        × LoadsDeck D.Disk.unseen (IsTextNamed R.File.remaining (I.remaining input.old.reader) asked.entry.text.now)
         bytes.now (string_bytes folder) asked.entry.file.now asked.entry.into (W.contents out.old) (W.contents out.new) end) }
     ensures untouched { IfErr result (λ fault. status_of fault ≢ 4 → out.new ≡ out.old) }
     ensures fault { IfErr result IsDeckFault }
@@ -143,7 +131,7 @@ where
     let Some(file) = file_named(deck.files.as_slice(), asked.file) else {
         return Err(Fault::NoSuchFile);
     };
-    let text = match text_of(rt, alloc, asked.text, input) {
+    let text = match read_text(rt, alloc, asked.text, input) {
         Ok(text) => text,
         Err(fault) => return Err(fault),
     };

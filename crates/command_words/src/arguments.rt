@@ -63,7 +63,7 @@ pub fn deck<'a>(alloc: Global) -> Arg<'a>
         alloc,
         "deck",
         "DECK",
-        "The file of the deck, of at most 1,048,576 bytes",
+        "The file of the deck, of at most 1,048,576 bytes, or '-' for standard input",
     )
 }
 

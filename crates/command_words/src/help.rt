@@ -147,7 +147,7 @@ Exit status:
       'cobix: the file is there already': nothing was done
   2   the deck is refused: 'cobix: line L: fault C'
   3   the command line is not understood, or the deck has no file NAME
-  4   the deck or TEXT could not be read or DIR is no folder ('cobix: input'), the answer could not be written ('cobix: output'), or memory ran out ('cobix: memory')";
+  4   the deck or TEXT could not be read, both are '-', or DIR is no folder ('cobix: input'), the answer could not be written ('cobix: output'), or memory ran out ('cobix: memory')";
 
 /// What a deck is in COBOL.
 pub const COBOL: &str =

@@ -118,7 +118,7 @@ fn schema_command<'a>(alloc: Global) -> Result<Command<'a>, AllocError>
     with_deck(
         alloc,
         schema.arg(file)?,
-        "Tells how the schema differs from that of a file of the deck in this file",
+        "Tells how the schema differs from that of a file of the deck in this file, or '-' for standard input",
     )
 }
 
@@ -189,7 +189,7 @@ fn with_form<'a>(alloc: Global, list: Command<'a>) -> Result<Command<'a>, AllocE
     with_deck(
         alloc,
         list.arg(form)?.arg(cut)?,
-        "Takes the columns from the record of a file of the deck in this file",
+        "Takes the columns from the record of a file of the deck in this file, or '-' for standard input",
     )
 }
 

@@ -1,13 +1,14 @@
 -- Why a deck is not listed, and what follows where it is.
-use Rattle.std.proofs.Common.{◌≡◌, Result, Ok, Err, IfOk, IfErr, refl}
+use Rattle.std.proofs.Common.{◌≡◌, Result, Ok, Err, IfOk, IfErr, refl, subst}
 use Rattle.command_outcomes.specs.Status.{status_of}
 use Rattle.file_commands.specs.Listed.{IsListFault}
 use Rattle.file_listing.specs.declared.listing.FileList.{FileList}
 use Rattle.record_listing.specs.declared.end.ListFault.{ListFault}
 use Rattle.command_outcomes.specs.declared.outcome.Outcome.{Outcome}
-use Rattle.command_outcomes.specs.declared.outcome.Outcome.TheVariants.{Listed, Records}
+use Rattle.command_outcomes.specs.declared.outcome.Outcome.TheVariants.{Records}
 use Rattle.command_outcomes.specs.declared.fault.Fault.{Fault}
-use Rattle.command_outcomes.specs.declared.fault.Fault.TheVariants.{Input, Output, Memory}
+use Rattle.command_outcomes.specs.declared.fault.RefusedDeck.{RefusedDeck}
+use Rattle.command_outcomes.specs.declared.fault.Fault.TheVariants.{NotListed, Input, Output, Memory}
 
 -- the input, the output or memory failed
 pub not_read : (fault : Fault) → status_of fault ≡ 4 → IsListFault fault
@@ -15,6 +16,12 @@ not_read Input is = tt
 not_read Output is = tt
 not_read Memory is = tt
 not_read fault is = absurd (cc)
+
+-- and no deck was refused
+pub not_refused : {A : Type 0} (fault : Fault) (told : RefusedDeck) → status_of fault ≡ 4 → fault ≡ NotListed told → A
+not_refused fault told four is =
+    let two : status_of (NotListed told) ≡ 4 = subst (λ (f : Fault). status_of f ≡ 4) is four in
+    absurd (cc)
 
 -- the output failed
 pub not_written : (fault : Fault) → fault ≡ Output → IsListFault fault

@@ -36,11 +36,11 @@ abbrev pub IsDeckAsked : (deck name : Option Word) → Type 0
 IsDeckAsked deck name = IsSome deck × IsSome name
 
 -- the file is that of this name in a deck, where both are given
-abbrev pub IsDeckFile : (IsRead : List ℕ → Type 0) → (deck name : Option Word) → FileDesc → Type 0
+abbrev pub IsDeckFile : (IsRead : Word → List ℕ → Type 0) → (deck name : Option Word) → FileDesc → Type 0
 IsDeckFile IsRead None None file = ⊥
 IsDeckFile IsRead None (Some name) file = ⊥
 IsDeckFile IsRead (Some deck) None file = ⊥
-IsDeckFile IsRead (Some deck) (Some name) file = IsOfDeck IsRead name file
+IsDeckFile IsRead (Some deck) (Some name) file = IsOfDeck (IsRead deck) name file
 
 -- why nothing came of a file of a deck: the deck is refused or has no such file, or the input, the output or memory failed
 abbrev pub IsDeckFault : Fault → Type 0

@@ -23,10 +23,10 @@ abbrev pub AreItemsOf : (IsRead : List ℕ → Type 0) → (name : Word) → Lis
 AreItemsOf IsRead name columns = (file : FileDesc) × IsOfDeck IsRead name file × (map part_of columns ≡ item_parts file.layout)
 
 -- the columns are those that are asked for: by cuts, by a deck and the name of a file in it, or by nothing
-abbrev pub AreColumns : (IsRead : List ℕ → Type 0) → (cut deck name : Option Word) → List Column → Type 0
+abbrev pub AreColumns : (IsRead : Word → List ℕ → Type 0) → (cut deck name : Option Word) → List Column → Type 0
 AreColumns IsRead None None None columns = map part_of columns ≡ whole_part ∷ []
 AreColumns IsRead (Some text) None None columns = IsCutInto text columns
-AreColumns IsRead None (Some deck) (Some name) columns = AreItemsOf IsRead name columns
+AreColumns IsRead None (Some deck) (Some name) columns = AreItemsOf (IsRead deck) name columns
 AreColumns IsRead None None (Some name) columns = ⊥
 AreColumns IsRead None (Some deck) None columns = ⊥
 AreColumns IsRead (Some text) None (Some name) columns = ⊥
@@ -37,7 +37,7 @@ abbrev pub HasNoColumns : FormText → Type 0
 HasNoColumns asked = (asked.cut ≡ None) × (asked.deck ≡ None) × (asked.name ≡ None)
 
 -- the form is the one that is asked for, with its columns: text has none
-abbrev pub IsFormAsked : (IsRead : List ℕ → Type 0) → FormText → Form → Type 0
+abbrev pub IsFormAsked : (IsRead : Word → List ℕ → Type 0) → FormText → Form → Type 0
 IsFormAsked IsRead asked Text = (asked.kind ≡ codes "text") × HasNoColumns asked
 IsFormAsked IsRead asked (Csv columns) = (asked.kind ≡ codes "csv") × AreColumns IsRead asked.cut asked.deck asked.name columns.items
 IsFormAsked IsRead asked (Json columns) = (asked.kind ≡ codes "json") × AreColumns IsRead asked.cut asked.deck asked.name columns.items

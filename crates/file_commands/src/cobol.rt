@@ -1,16 +1,16 @@
 //! The deck in a file as a COBOL program.
 ghost use Rattle.std.specs.Prelude.{◌≡◌, ◌≢◌, ℕ, List, string_bytes, IfOk, IfErr};
-ghost use Rattle.file_commands.specs.Front.{IsFrontOfInput};
+ghost use Rattle.file_commands.specs.Front.{IsDeckNamed};
 ghost use Rattle.file_commands.specs.Listed.{form_of, IsInCobol, WritesCobol, AreRefused, IsListFault};
 ghost use Rattle.command_outcomes.specs.Status.{status_of};
 
 use crate::deck_list::refused;
-use crate::file_bytes::read_deck_file;
+use crate::file_bytes::read_deck_bytes;
 use crate::text::write_text;
 use cobol_program::{Form, write_program};
 use command_outcomes::{Fault, Outcome};
 use std::alloc::Global;
-use std::io::Write;
+use std::io::{Read, Write};
 use std::rt::Files;
 
 /// The program of the deck that the bytes are.
@@ -33,23 +33,27 @@ fn form_of(fixed: bool) -> Form
 }
 
 #[tactic(auto, using(crate::proofs::ListLemmas::not_read, crate::proofs::ListLemmas::not_written))]
-/// Writes the deck in the file of a path as a COBOL program. `NotListed`: it is refused, and nothing was written.
-pub fn write_cobol<R: Files, W: Write>(
+/// Writes the deck in the file of a path, or in the input where the path is a hyphen, as a COBOL
+/// program. `NotListed`: it is refused, and nothing was written.
+pub fn write_cobol<R: Files, I: Read, W: Write>(
     rt: &R,
     alloc: Global,
     path: &str,
     fixed: bool,
+    input: &mut I,
     out: &mut W,
 ) -> Result<Outcome, Fault>
     ensures done { IfOk result (λ outcome. outcome ≡ Outcome.InCobol) }
-    ensures written { IfOk result (λ _. (file : R.File) × (bytes : List ℕ) × IsFrontOfInput 1048577 (R.File.remaining file) bytes
+    ensures written { IfOk result (λ _. (bytes : List ℕ)
+        × IsDeckNamed R.File.remaining (I.remaining input.old) path.now bytes
         × WritesCobol bytes fixed (W.contents out.old) (W.contents out.new)) }
     ensures refused { IfErr result (λ fault. (told : _) → fault ≡ Fault.NotListed told
-        → (file : R.File) × (bytes : List ℕ) × IsFrontOfInput 1048577 (R.File.remaining file) bytes × AreRefused bytes told) }
+        → (bytes : List ℕ) × IsDeckNamed R.File.remaining (I.remaining input.old) path.now bytes
+        × AreRefused bytes told) }
     ensures untouched { IfErr result (λ fault. status_of fault ≢ 4 → out.new ≡ out.old) }
     ensures fault { IfErr result IsListFault }
 {
-    let bytes = match read_deck_file(rt, alloc, path) {
+    let bytes = match read_deck_bytes(rt, alloc, path, input) {
         Ok(bytes) => bytes,
         Err(fault) => return Err(fault),
     };

@@ -4,7 +4,7 @@ ghost use Rattle.std.specs.Option.{IfSome};
 ghost use Rattle.file_control.specs.Description.{FileDesc as ToldFile};
 ghost use Rattle.schema_listing.specs.Listing.{read_in};
 ghost use Rattle.file_commands.specs.DeckFile.{IsOfDeck, IsDeckFault};
-ghost use Rattle.file_commands.specs.Front.{IsFrontOfInput};
+ghost use Rattle.file_commands.specs.Front.{IsDeckNamed};
 ghost use Rattle.file_commands.specs.Schema.{ComparesAs, IsOfComparison};
 ghost use Rattle.command_outcomes.specs.Status.{status_of};
 
@@ -58,23 +58,25 @@ where
 
 /// Writes how the schema of the file of a path, as long as no run changes it, differs from that of a file of the deck in the file of another path. `Deck`, `NoSuchFile`: the
 /// deck is refused, or does not have the file. Nothing was written.
-pub fn compare_path<R: Files, W: Write>(
+pub fn compare_path<R: Files, I: Read, W: Write>(
     rt: &R,
     alloc: Global,
     path: &str,
     deck: &str,
     name: &str,
+    input: &mut I,
     out: &mut W,
 ) -> Result<Outcome, Fault>
 where
     R::File: LockFile,
-    ensures told { IfOk result (λ outcome. (described : ToldFile) × IsOfDeck (λ bytes. (file : R.File) × IsFrontOfInput 1048577 (R.File.remaining file) bytes) name.now described
+    ensures told { IfOk result (λ outcome. (described : ToldFile)
+        × IsOfDeck (IsDeckNamed R.File.remaining (I.remaining input.old) deck.now) name.now described
         × ((file : R.File) × IfSome (R.File.remaining file) (λ bytes. ComparesAs described.schema (W.contents out.old) (W.contents out.new) (read_in bytes) outcome))) }
     ensures kind { IfOk result IsOfComparison }
     ensures untouched { IfErr result (λ fault. status_of fault ≢ 4 → out.new ≡ out.old) }
     ensures fault { IfErr result IsDeckFault }
 {
-    let deck = match deck_at(rt, alloc, deck) {
+    let deck = match deck_at(rt, alloc, deck, input) {
         Ok(deck) => deck,
         Err(fault) => return Err(fault),
     };

@@ -4,13 +4,14 @@ ghost use Rattle.deck_reader.specs.Deck.{IsDeck};
 ghost use Rattle.deck_runner.specs.DeckRun.{IsNoDeck};
 ghost use Rattle.deck_words.specs.declared.fault.DeckFault.{DeckFault as ToldFault};
 ghost use Rattle.file_commands.specs.DeckFile.{is_named, IsFileOf, IsDeckFault};
-ghost use Rattle.file_commands.specs.Front.{IsFrontOfInput};
+ghost use Rattle.file_commands.specs.Front.{IsDeckNamed};
 
-use crate::file_bytes::read_deck_file;
+use crate::file_bytes::read_deck_bytes;
 use command_outcomes::Fault;
 use deck_runner::{Deck, RunFault, read_deck};
 use file_control::FileDesc;
 use std::alloc::Global;
+use std::io::Read;
 use std::rt::Files;
 
 #[tactic(auto, using(crate::proofs::DeckLemmas::of_a_deck))]
@@ -41,12 +42,18 @@ pub fn file_named<'a>(files: &'a [FileDesc], name: &str) -> Option<&'a FileDesc>
     files.iter().find(|file| is_named(file, name))
 }
 
-/// The deck in the file of a path.
-pub fn deck_at<R: Files>(rt: &R, alloc: Global, path: &str) -> Result<Deck, Fault>
-    ensures deck { IfOk result (λ deck. (file : R.File) × (bytes : List ℕ) × IsFrontOfInput 1048577 (R.File.remaining file) bytes × IsDeck bytes deck) }
+/// The deck in the file of a path, or in the input where the path is a hyphen.
+pub fn deck_at<R: Files, I: Read>(
+    rt: &R,
+    alloc: Global,
+    path: &str,
+    input: &mut I,
+) -> Result<Deck, Fault>
+    ensures deck { IfOk result (λ deck. (bytes : List ℕ)
+        × IsDeckNamed R.File.remaining (I.remaining input.old) path.now bytes × IsDeck bytes deck) }
     ensures fault { IfErr result IsDeckFault }
 {
-    let bytes = match read_deck_file(rt, alloc, path) {
+    let bytes = match read_deck_bytes(rt, alloc, path, input) {
         Ok(bytes) => bytes,
         Err(fault) => return Err(fault),
     };

@@ -3,18 +3,18 @@ ghost use Rattle.std.specs.Prelude.{◌≡◌, ◌≢◌, ℕ, List, string_byte
 ghost use Rattle.deck_reader.specs.declared.deck.Deck.{Deck as ToldDeck};
 ghost use Rattle.deck_reader.specs.Deck.{IsDeck};
 ghost use Rattle.deck_listing.specs.Listing.{Lists};
-ghost use Rattle.file_commands.specs.Front.{IsFrontOfInput};
+ghost use Rattle.file_commands.specs.Front.{IsDeckNamed};
 ghost use Rattle.file_commands.specs.Listed.{WritesList, AreRefused, IsListFault};
 ghost use Rattle.command_outcomes.specs.Status.{status_of};
 
-use crate::file_bytes::read_deck_file;
+use crate::file_bytes::read_deck_bytes;
 use crate::text::write_text;
 use command_outcomes::{Fault, Outcome, RefusedDeck};
 use deck_diagnosis::diagnose;
 use deck_listing::list_deck;
 use file_control::DeckFault;
 use std::alloc::Global;
-use std::io::Write;
+use std::io::{Read, Write};
 use std::rt::Files;
 
 /// The code of a deck's fault that is want of memory.
@@ -48,22 +48,26 @@ fn list(alloc: Global, bytes: &[u8]) -> Result<String, Fault>
 }
 
 #[tactic(auto, using(crate::proofs::ListLemmas::not_read, crate::proofs::ListLemmas::not_written))]
-/// Writes the list of the deck in the file of a path. `NotListed`: it is refused, and nothing was written.
-pub fn list_path<R: Files, W: Write>(
+/// Writes the list of the deck in the file of a path, or in the input where the path is a hyphen.
+/// `NotListed`: it is refused, and nothing was written.
+pub fn list_path<R: Files, I: Read, W: Write>(
     rt: &R,
     alloc: Global,
     path: &str,
+    input: &mut I,
     out: &mut W,
 ) -> Result<Outcome, Fault>
     ensures done { IfOk result (λ outcome. outcome ≡ Outcome.Listed) }
-    ensures listed { IfOk result (λ _. (file : R.File) × (bytes : List ℕ) × IsFrontOfInput 1048577 (R.File.remaining file) bytes
+    ensures listed { IfOk result (λ _. (bytes : List ℕ)
+        × IsDeckNamed R.File.remaining (I.remaining input.old) path.now bytes
         × WritesList bytes (W.contents out.old) (W.contents out.new)) }
     ensures refused { IfErr result (λ fault. (told : _) → fault ≡ Fault.NotListed told
-        → (file : R.File) × (bytes : List ℕ) × IsFrontOfInput 1048577 (R.File.remaining file) bytes × AreRefused bytes told) }
+        → (bytes : List ℕ) × IsDeckNamed R.File.remaining (I.remaining input.old) path.now bytes
+        × AreRefused bytes told) }
     ensures untouched { IfErr result (λ fault. status_of fault ≢ 4 → out.new ≡ out.old) }
     ensures fault { IfErr result IsListFault }
 {
-    let bytes = match read_deck_file(rt, alloc, path) {
+    let bytes = match read_deck_bytes(rt, alloc, path, input) {
         Ok(bytes) => bytes,
         Err(fault) => return Err(fault),
     };

@@ -1,7 +1,7 @@
 //! The bytes of a file: of a deck, of records, or of a text.
-ghost use Rattle.std.specs.Prelude.{◌≡◌, ◌≤◌, ◌<◌, IfOk, IfErr, length, take};
+ghost use Rattle.std.specs.Prelude.{◌≡◌, ◌≤◌, ◌<◌, IfOk, IfErr, length, take, codes};
 ghost use Rattle.std.specs.Io.KnownBytes.{Consumes, IsAtEnd};
-ghost use Rattle.file_commands.specs.Front.{IsFrontOfInput};
+ghost use Rattle.file_commands.specs.Front.{IsFrontOfInput, IsFrontOfNamed, IsDeckNamed, IsTextNamed};
 ghost use Rattle.command_outcomes.specs.Status.{status_of};
 
 use command_outcomes::Fault;
@@ -43,7 +43,7 @@ fn read_part<R: Read>(reader: &mut R, part: &mut [u8]) -> Result<usize, Fault>
 }
 
 /// The bytes of a reader to its end, or so many of the first ones.
-fn read_front<R: Read>(alloc: Global, reader: &mut R, most: usize) -> Result<Vec<u8>, Fault>
+pub fn read_front<R: Read>(alloc: Global, reader: &mut R, most: usize) -> Result<Vec<u8>, Fault>
     ensures bytes { IfOk result (λ bytes. IsFrontOfInput most (R.remaining reader.old) bytes.items) }
     ensures fault { IfErr result (λ fault. status_of fault ≡ 4) }
 {
@@ -60,20 +60,56 @@ fn read_front<R: Read>(alloc: Global, reader: &mut R, most: usize) -> Result<Vec
     Ok(bytes)
 }
 
-/// The bytes of a reader to its end, or the first 1,048,577.
-pub fn read_bytes<R: Read>(alloc: Global, reader: &mut R) -> Result<Vec<u8>, Fault>
-    ensures bytes { IfOk result (λ bytes. IsFrontOfInput 1048577 (R.remaining reader.old) bytes.items) }
+/// The bytes of the file of a path, or of the input where the path is a hyphen: to the end, or so
+/// many of the first ones.
+fn read_named<R: Files, I: Read>(
+    rt: &R,
+    alloc: Global,
+    path: &str,
+    input: &mut I,
+    most: usize,
+) -> Result<Vec<u8>, Fault>
+    ensures bytes { IfOk result (λ bytes.
+        IsFrontOfNamed most R.File.remaining (I.remaining input.old) path.now bytes.items) }
+    ensures unread { (path.now ≡ codes "-" → ⊥) → input.new ≡ input.old }
     ensures fault { IfErr result (λ fault. status_of fault ≡ 4) }
 {
-    read_front(alloc, reader, MOST_BYTES)
+    if path == "-" {
+        return read_front(alloc, input, most);
+    }
+    let mut file = fs::open(rt, path).map_err(Fault::of_input)?;
+    read_front(alloc, &mut file, most)
 }
 
-/// The bytes of a reader to its end, or as many as memory could ever hold.
-pub fn read_whole<R: Read>(alloc: Global, reader: &mut R) -> Result<Vec<u8>, Fault>
-    ensures bytes { IfOk result (λ bytes. IsFrontOfInput 18446744073709551615 (R.remaining reader.old) bytes.items) }
+/// The bytes of a deck: those of a file that was opened, or of the input where the path is a hyphen,
+/// to the end, or the first 1,048,577.
+pub fn read_deck_bytes<R: Files, I: Read>(
+    rt: &R,
+    alloc: Global,
+    path: &str,
+    input: &mut I,
+) -> Result<Vec<u8>, Fault>
+    ensures bytes { IfOk result (λ bytes.
+        IsDeckNamed R.File.remaining (I.remaining input.old) path.now bytes.items) }
+    ensures unread { (path.now ≡ codes "-" → ⊥) → input.new ≡ input.old }
     ensures fault { IfErr result (λ fault. status_of fault ≡ 4) }
 {
-    read_front(alloc, reader, usize::MAX)
+    read_named(rt, alloc, path, input, MOST_BYTES)
+}
+
+/// The bytes of a text: those of a file that was opened, or of the input where the path is a hyphen;
+/// all of them, or as many as memory could ever hold.
+pub fn read_text<R: Files, I: Read>(
+    rt: &R,
+    alloc: Global,
+    path: &str,
+    input: &mut I,
+) -> Result<Vec<u8>, Fault>
+    ensures bytes { IfOk result (λ bytes.
+        IsTextNamed R.File.remaining (I.remaining input.old) path.now bytes.items) }
+    ensures fault { IfErr result (λ fault. status_of fault ≡ 4) }
+{
+    read_named(rt, alloc, path, input, usize::MAX)
 }
 
 /// Opens the file of a path, as long as no run changes it.
@@ -97,14 +133,5 @@ where
     ensures fault { IfErr result (λ fault. status_of fault ≡ 4) }
 {
     let mut file = open_shared(rt, path)?;
-    read_whole(alloc, &mut file)
-}
-
-/// The bytes of the deck in the file of a path: those of a file that was opened, to its end, or the first 1,048,577.
-pub fn read_deck_file<R: Files>(rt: &R, alloc: Global, path: &str) -> Result<Vec<u8>, Fault>
-    ensures bytes { IfOk result (λ bytes. (file : R.File) × IsFrontOfInput 1048577 (R.File.remaining file) bytes.items) }
-    ensures fault { IfErr result (λ fault. status_of fault ≡ 4) }
-{
-    let mut file = fs::open(rt, path).map_err(Fault::of_input)?;
-    read_bytes(alloc, &mut file)
+    read_front(alloc, &mut file, usize::MAX)
 }

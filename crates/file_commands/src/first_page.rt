@@ -4,7 +4,7 @@ ghost use Rattle.std.specs.Option.{IfSome};
 ghost use Rattle.file_control.specs.Description.{FileDesc as ToldFile};
 ghost use Rattle.schema_listing.specs.Listing.{read_in};
 ghost use Rattle.file_commands.specs.DeckFile.{IsDeckFile};
-ghost use Rattle.file_commands.specs.Front.{IsFrontOfInput};
+ghost use Rattle.file_commands.specs.Front.{IsDeckNamed};
 ghost use Rattle.file_commands.specs.Schema.{TellsAs, ComparesAs, IsOfSchema, IsSchemaDone, IsSchemaFault};
 ghost use Rattle.command_outcomes.specs.Status.{status_of};
 
@@ -64,12 +64,13 @@ where
 }
 
 /// Writes the schema of the file of a path, or how it differs from that of a file of a deck.
-pub fn schema<R: Files, W: Write>(
+pub fn schema<R: Files, I: Read, W: Write>(
     rt: &R,
     alloc: Global,
     path: &str,
     deck: Option<&str>,
     name: Option<&str>,
+    input: &mut I,
     out: &mut W,
 ) -> Result<Outcome, Fault>
 where
@@ -77,7 +78,8 @@ where
     ensures told { IfOk result (λ outcome. IsOfSchema outcome → (file : R.File) × IfSome (R.File.remaining file)
         (λ bytes. TellsAs (W.contents out.old) (W.contents out.new) (read_in bytes) outcome)) }
     ensures compared { IfOk result (λ outcome. (told : _) → outcome ≡ Outcome.SchemaCompared told → (described : ToldFile)
-        × IsDeckFile (λ bytes. (file : R.File) × IsFrontOfInput 1048577 (R.File.remaining file) bytes) (option_map (λ text. text.now) deck.entry) (option_map (λ text. text.now) name.entry) described
+        × IsDeckFile (IsDeckNamed R.File.remaining (I.remaining input.old))
+        (option_map (λ text. text.now) deck.entry) (option_map (λ text. text.now) name.entry) described
         × ((file : R.File) × IfSome (R.File.remaining file) (λ bytes. ComparesAs described.schema (W.contents out.old) (W.contents out.new) (read_in bytes) outcome))) }
     ensures done { IfOk result (IsSchemaDone (option_map (λ text. text.now) deck.entry) (option_map (λ text. text.now) name.entry)) }
     ensures untouched { IfErr result (λ fault. status_of fault ≢ 4 → out.new ≡ out.old) }
@@ -85,7 +87,7 @@ where
 {
     match (deck, name) {
         (None, None) => schema_path(rt, alloc, path, out),
-        (Some(deck), Some(name)) => compare_path(rt, alloc, path, deck, name, out),
+        (Some(deck), Some(name)) => compare_path(rt, alloc, path, deck, name, input, out),
         (Some(_), None) | (None, Some(_)) => Err(Fault::Form(FormFault::HalfDeck)),
     }
 }

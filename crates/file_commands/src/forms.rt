@@ -5,7 +5,7 @@ ghost use Rattle.command_words.specs.Asks.{form_text};
 ghost use Rattle.file_commands.specs.Cuts.{AreCuts};
 ghost use Rattle.file_commands.specs.DeckFile.{IsDeckFault};
 ghost use Rattle.file_commands.specs.Forms.{IsCutInto, AreItemsOf, AreColumns, IsFormAsked, IsFormRefused};
-ghost use Rattle.file_commands.specs.Front.{IsFrontOfInput};
+ghost use Rattle.file_commands.specs.Front.{IsDeckNamed};
 
 use crate::cuts::read_cuts;
 use crate::deck::{deck_at, file_in};
@@ -13,6 +13,7 @@ use command_outcomes::{Fault, FormFault};
 use command_words::FormWords;
 use record_forms::{Column, CutFault, Form, cut_columns, item_columns, whole_column};
 use std::alloc::Global;
+use std::io::Read;
 use std::rt::Files;
 
 /// The columns between the cuts of a text.
@@ -33,11 +34,18 @@ fn columns_between(alloc: Global, text: &str) -> Result<Vec<Column>, Fault>
 }
 
 /// The columns of the record of a file of the deck in the file of a path.
-fn columns_in<R: Files>(rt: &R, alloc: Global, deck: &str, name: &str) -> Result<Vec<Column>, Fault>
-    ensures columns { IfOk result (λ columns. AreItemsOf (λ bytes. (file : R.File) × IsFrontOfInput 1048577 (R.File.remaining file) bytes) name.now columns.items) }
+fn columns_in<R: Files, I: Read>(
+    rt: &R,
+    alloc: Global,
+    deck: &str,
+    name: &str,
+    input: &mut I,
+) -> Result<Vec<Column>, Fault>
+    ensures columns { IfOk result (λ columns.
+        AreItemsOf (IsDeckNamed R.File.remaining (I.remaining input.old) deck.now) name.now columns.items) }
     ensures fault { IfErr result IsDeckFault }
 {
-    let deck = match deck_at(rt, alloc, deck) {
+    let deck = match deck_at(rt, alloc, deck, input) {
         Ok(deck) => deck,
         Err(fault) => return Err(fault),
     };
@@ -63,15 +71,21 @@ fn whole(alloc: Global) -> Result<Vec<Column>, Fault>
 }
 
 /// The columns that words ask for.
-fn columns_of<R: Files>(rt: &R, alloc: Global, asked: FormWords<'_>) -> Result<Vec<Column>, Fault>
-    ensures columns { IfOk result (λ columns. AreColumns (λ bytes. (file : R.File) × IsFrontOfInput 1048577 (R.File.remaining file) bytes)
+fn columns_of<R: Files, I: Read>(
+    rt: &R,
+    alloc: Global,
+    asked: FormWords<'_>,
+    input: &mut I,
+) -> Result<Vec<Column>, Fault>
+    ensures columns { IfOk result (λ columns.
+        AreColumns (IsDeckNamed R.File.remaining (I.remaining input.old))
         (form_text asked.entry).cut (form_text asked.entry).deck (form_text asked.entry).name columns.items) }
     ensures refused { IfErr result (IsFormRefused (form_text asked.entry)) }
 {
     match (asked.cut, asked.deck, asked.name) {
         (None, None, None) => whole(alloc),
         (Some(text), None, None) => columns_between(alloc, text),
-        (None, Some(deck), Some(name)) => columns_in(rt, alloc, deck, name),
+        (None, Some(deck), Some(name)) => columns_in(rt, alloc, deck, name, input),
         (Some(_), Some(_), Some(_)) => Err(Fault::Form(FormFault::CutAndDeck)),
         (_, Some(_), None) | (_, None, Some(_)) => Err(Fault::Form(FormFault::HalfDeck)),
     }
@@ -80,7 +94,7 @@ fn columns_of<R: Files>(rt: &R, alloc: Global, asked: FormWords<'_>) -> Result<V
 /// Text, where no columns are asked for.
 fn text_form(asked: FormWords<'_>) -> Result<Form, Fault>
     requires { asked.kind.now ≡ codes "text" }
-    ensures form { IfOk result (IsFormAsked (λ bytes. ⊥) (form_text asked.entry)) }
+    ensures form { IfOk result (IsFormAsked (λ deck bytes. ⊥) (form_text asked.entry)) }
     ensures refused { IfErr result (IsFormRefused (form_text asked.entry)) }
 {
     match (asked.cut, asked.deck, asked.name) {
@@ -90,21 +104,27 @@ fn text_form(asked: FormWords<'_>) -> Result<Form, Fault>
 }
 
 /// The form that words ask for, with its columns. `Form`: they ask for none. `Deck`, `NoSuchFile`: the deck is refused, or does not have the file.
-pub fn form_of<R: Files>(rt: &R, alloc: Global, asked: FormWords<'_>) -> Result<Form, Fault>
-    ensures form { IfOk result (IsFormAsked (λ bytes. (file : R.File) × IsFrontOfInput 1048577 (R.File.remaining file) bytes) (form_text asked.entry)) }
+pub fn form_of<R: Files, I: Read>(
+    rt: &R,
+    alloc: Global,
+    asked: FormWords<'_>,
+    input: &mut I,
+) -> Result<Form, Fault>
+    ensures form { IfOk result (
+        IsFormAsked (IsDeckNamed R.File.remaining (I.remaining input.old)) (form_text asked.entry)) }
     ensures refused { IfErr result (IsFormRefused (form_text asked.entry)) }
 {
     if asked.kind == "text" {
         return text_form(asked);
     }
     if asked.kind == "csv" {
-        return match columns_of(rt, alloc, asked) {
+        return match columns_of(rt, alloc, asked, input) {
             Ok(columns) => Ok(Form::Csv(columns)),
             Err(fault) => Err(fault),
         };
     }
     if asked.kind == "json" {
-        return match columns_of(rt, alloc, asked) {
+        return match columns_of(rt, alloc, asked, input) {
             Ok(columns) => Ok(Form::Json(columns)),
             Err(fault) => Err(fault),
         };

@@ -25,7 +25,7 @@ pub use cobol::write_cobol;
 pub use counting::count_path;
 pub use deck::{deck_of, file_named};
 pub use deck_list::list_path;
-pub use file_bytes::{read_bytes, read_deck_file, read_whole};
+pub use file_bytes::{read_deck_bytes, read_front, read_text};
 pub use first_page::schema;
 pub use listing::{Bounds, list_records};
 pub use verdict::{check_path, check_paths};

@@ -2,7 +2,7 @@
 ghost use Rattle.std.specs.Prelude.{◌≡◌, ◌≢◌, ℕ, List, option_map, IfOk, IfErr};
 ghost use Rattle.command_words.specs.Asks.{form_text};
 ghost use Rattle.file_commands.specs.Forms.{IsFormAsked, IsListRefused};
-ghost use Rattle.file_commands.specs.Front.{IsFrontOfInput};
+ghost use Rattle.file_commands.specs.Front.{IsFrontOfInput, IsDeckNamed};
 ghost use Rattle.file_commands.specs.Records.{IsAskedFor, ListsRecords};
 ghost use Rattle.command_outcomes.specs.Status.{status_of};
 
@@ -14,7 +14,7 @@ use file_listing::{FileList, list_file_as};
 use io_state::Key;
 use record_listing::{Asked, ListFault};
 use std::alloc::Global;
-use std::io::Write;
+use std::io::{Read, Write};
 use std::rt::Files;
 use system_files::LockFile;
 
@@ -81,18 +81,20 @@ fn ended(end: Result<FileList, ListFault>) -> Result<Outcome, Fault>
 
 /// Writes the lines of the records of the file of a path that are asked for, in the form that is asked for. `LongValue`: nothing was read or written. `Form`, `Deck`,
 /// `NoSuchFile`: there is no such form, and the file was not read.
-pub fn list_records<R: Files, W: Write>(
+pub fn list_records<R: Files, I: Read, W: Write>(
     rt: &R,
     alloc: Global,
     path: &str,
     bounds: Bounds<'_>,
     form: FormWords<'_>,
+    input: &mut I,
     out: &mut W,
 ) -> Result<Outcome, Fault>
 where
     R::File: LockFile,
     ensures records { IfOk result (λ outcome. (list : _) × (outcome ≡ Outcome.Records list)
-        × ((written : _) × IsFormAsked (λ bytes. (file : R.File) × IsFrontOfInput 1048577 (R.File.remaining file) bytes) (form_text form.entry) written
+        × ((written : _)
+        × IsFormAsked (IsDeckNamed R.File.remaining (I.remaining input.old)) (form_text form.entry) written
         × ((file : R.File) × (bytes : List ℕ) × IsFrontOfInput 18446744073709551615 (R.File.remaining file) bytes
         × ListsRecords written bytes bounds.entry.key (option_map (λ text. text.now) bounds.entry.from) (option_map (λ text. text.now) bounds.entry.to) bounds.entry.first
         (W.contents out.old) (W.contents out.new) list))) }
@@ -103,7 +105,7 @@ where
         Ok(asked) => asked,
         Err(fault) => return Err(fault),
     };
-    let form = match form_of(rt, alloc, form) {
+    let form = match form_of(rt, alloc, form, input) {
         Ok(form) => form,
         Err(fault) => return Err(fault),
     };

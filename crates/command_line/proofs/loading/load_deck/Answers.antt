@@ -3,9 +3,9 @@ use Rattle.std.proofs.lemmas.Result.{IfOk-weaker, IfErr-weaker}
 use Rattle.file_control.specs.Description.{FileDesc}
 use Rattle.record_loading.specs.declared.end.Load.{Load}
 use Rattle.shelf_loading.specs.declared.end.ShelfEnd.{ShelfEnd}
-use Rattle.file_commands.specs.Front.{IsFrontOfInput}
+use Rattle.file_commands.specs.Front.{IsTextNamed}
 use Rattle.file_commands.specs.DeckFile.{is_named, IsFileOf}
-use Rattle.command_line.specs.Loaded.{IsText, LoadsFolder, LoadsDeck, WritesAnswer, load_of}
+use Rattle.command_line.specs.Loaded.{LoadsFolder, LoadsDeck, WritesAnswer, load_of}
 use Rattle.command_outcomes.specs.Status.{status_of}
 use Rattle.command_outcomes.specs.declared.outcome.Outcome.TheVariants.{Loaded}
 use Rattle.command_line.proofs.loading.load_deck.Goals as goal
@@ -19,11 +19,11 @@ returns-in-Ok-end-clause-loaded g c =
     let named : IsFileOf c.in-Ok.deck.files c.args.asked.file.now file =
     sym (subst (λ (files : List FileDesc). Some file ≡ find (is_named c.args.asked.file.now) files) c.as_slice.ensures c.in-Some.ensures) in
     let loads_as : Load → List ℕ → Type 0 = λ load text. LoadsFolder g.D.Disk.unseen (string_bytes c.args.folder) file.file file.schema load text (Ok end) in
-    let loads : loads_as (load_of c.args.asked.into) c.in-Ok-text_of.text.items =
+    let loads : loads_as (load_of c.args.asked.into) c.in-Ok-read_text.text.items =
     subst (loads_as (load_of c.args.asked.into)) c.as_slice-2.ensures.value (subst (λ (load : Load). loads_as load c.as_slice-2.result.now) c.load_of.ensures c.in-Ok-end.ensures.loads) in
     IfOk-weaker c.write_answer.result (λ outcome. (outcome ≡ Loaded end) × WritesAnswer end before behind)
     (λ outcome. (e : ShelfEnd) × (outcome ≡ Loaded e) × LoadsDeck g.D.Disk.unseen
-    (IsText (λ text. (file : g.row.R-File.Denot) × IsFrontOfInput 18446744073709551615 (g.R.File.Read.remaining file) text) (g.I.Read.remaining c.args.input.now.reader) c.args.asked.text.now)
+    (IsTextNamed g.R.File.Read.remaining (g.I.Read.remaining c.args.input.now.reader) c.args.asked.text.now)
     c.args.bytes.now (string_bytes c.args.folder) c.args.asked.file.now c.args.asked.into before behind e)
     (λ outcome done. (
       end,
@@ -33,8 +33,8 @@ returns-in-Ok-end-clause-loaded g c =
         is_deck = c.in-Ok.ensures.deck;
         file = file;
         named = named;
-        text = c.in-Ok-text_of.text.items;
-        is_text = c.in-Ok-text_of.ensures.text;
+        text = c.in-Ok-read_text.text.items;
+        is_text = c.in-Ok-read_text.ensures.bytes;
         loads = loads;
         told = done.1;
       },

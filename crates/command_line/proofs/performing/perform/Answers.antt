@@ -1,7 +1,7 @@
 use Rattle.std.proofs.Common.{map, option_map, string_bytes, subst}
 use Rattle.command_words.specs.Asks.{Ask, form_text}
 use Rattle.command_line.proofs.AskedSessionLemmas.{as_asked}
-use Rattle.command_line.proofs.DidLemmas.{did_list, did_schema}
+use Rattle.command_line.proofs.DidLemmas.{did_list, did_schema, did_run}
 use Rattle.command_line.proofs.PerformLemmas.{no_verdict, of_no_deck, load_as}
 use Rattle.command_outcomes.specs.declared.outcome.Outcome.TheVariants.{Records, Counted}
 use Rattle.command_line.proofs.performing.perform.Goals as goal
@@ -24,7 +24,13 @@ returns-in-Stat-clause-listed g c = of_no_deck Counted _ _ c.count_path.result (
 pub returns-in-Run-clause-verdict : goal.returns-in-Run-clause-verdict
 returns-in-Run-clause-verdict g c = no_verdict _ _ _ _ _ _ c.run.result.1 c.run.ensures.came
 
--- what was done for words that ask for a schema, a list or a load
+-- what was done for words that ask for a run, a schema, a list or a load
+pub returns-in-Run-clause-did : goal.returns-in-Run-clause-did
+returns-in-Run-clause-did g c =
+    let words = map string_bytes c.args.words.now in
+    let asked = subst (Ask words) c.in-Run.is c.in-Ok.ensures.asked in
+    did_run words c.in-Run.deck.now c.in-Run.folder.now c.in-Run.limits.pages c.in-Run.limits.frames.value asked _ _ c.run.result.1 c.run.ensures.came
+
 pub returns-in-Schema-clause-did : goal.returns-in-Schema-clause-did
 returns-in-Schema-clause-did g c =
     let words = map string_bytes c.args.words.now in

@@ -1,7 +1,8 @@
-use Rattle.std.proofs.Common.{ℕ, List, Some, ap, string_bytes, subst}
+use Rattle.std.proofs.Common.{◌≡◌, ◌≢◌, ℕ, List, Some, ap, string_bytes, subst}
 use Rattle.std.proofs.lemmas.Result.{IfErr-weaker}
 use Rattle.command_line.specs.Performed.{CameToEnd, begun, outcome_of}
-use Rattle.command_line.proofs.PerformedLemmas.{came_to}
+use Rattle.command_line.proofs.PerformedLemmas.{came_to, unwritten}
+use Rattle.command_outcomes.specs.declared.fault.Fault.TheVariants.{Output}
 use Rattle.command_line.proofs.performing.run.Goals as goal
 
 pub returns-clause-came : goal.returns-clause-came
@@ -18,3 +19,9 @@ returns-clause-came g c =
     (record { before = before; behind = behind }) (outcome_of done.result.1) in
     rw c.ended.ensures
     (subst (λ (folder : List ℕ). came_of folder inputs.0.items) c.in-Ok.ensures.folder (subst (came_of (string_bytes inputs.1)) c.as_slice.ensures.value came))
+
+pub returns-clause-untouched : goal.returns-clause-untouched
+returns-clause-untouched g c =
+    let done = c.write_transcript-shelf in
+    unwritten (done.new.out ≡ c.args.out.now) done.result.1 c.ended.result c.ended.ensures
+    (IfErr-weaker done.result.1 _ (λ fault. fault ≢ Output → done.new.out ≡ c.args.out.now) (λ fault h other. (h other).0) done.ensures.nothing)

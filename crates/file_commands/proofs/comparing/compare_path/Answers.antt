@@ -3,7 +3,7 @@ use Rattle.std.specs.Option.{IfSome}
 use Rattle.file_control.specs.Description.{FileDesc}
 use Rattle.schema_listing.specs.Listing.{read_in}
 use Rattle.file_commands.specs.DeckFile.{IsOfDeck}
-use Rattle.file_commands.specs.Front.{IsFrontOfInput}
+use Rattle.file_commands.specs.Front.{IsDeckNamed}
 use Rattle.file_commands.specs.Schema.{ComparesAs}
 use Rattle.file_commands.proofs.ListLemmas.{if_ok_of}
 use Rattle.file_commands.proofs.comparing.compare_path.Goals as goal
@@ -16,12 +16,12 @@ returns-clause-told g c =
     let behind = g.W.Write.contents c.compare_file.new.out in
     if_ok_of
     {A = λ outcome. (file : g.row.R-File.Denot) × IfSome (g.R.File.Read.remaining file) (λ bytes. ComparesAs c.described.inside.schema before behind (read_in bytes) outcome)}
-    {B = λ outcome. (x : FileDesc) × IsOfDeck (λ bytes. (file : g.row.R-File.Denot) × IsFrontOfInput 1048577 (g.R.File.Read.remaining file) bytes) c.args.name.now x
+    {B = λ outcome. (x : FileDesc) × IsOfDeck (IsDeckNamed g.R.File.Read.remaining (g.I.Read.remaining c.args.input.now) c.args.deck.now) c.args.name.now x
     × ((file : g.row.R-File.Denot) × IfSome (g.R.File.Read.remaining file) (λ bytes. ComparesAs x.schema before behind (read_in bytes) outcome))}
     c.compare_file.result
     (λ outcome told. (
       described,
-      record { bytes = front.1; is_read = (front.0, front.2); deck = c.in-Ok.deck; is_deck = front.3; named = c.in-Ok-file_in.ensures.file },
+      record { bytes = front.0; is_read = front.1; deck = c.in-Ok.deck; is_deck = front.2; named = c.in-Ok-file_in.ensures.file },
       subst
           (λ (x : FileDesc). (file : g.row.R-File.Denot) × IfSome (g.R.File.Read.remaining file) (λ bytes. ComparesAs x.schema before behind (read_in bytes) outcome))
           c.described.view_is told,

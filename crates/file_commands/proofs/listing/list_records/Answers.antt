@@ -3,7 +3,7 @@ use Rattle.record_forms.specs.declared.form.Form.{Form}
 use Rattle.file_listing.specs.Listing.{EndsIn}
 use Rattle.command_words.specs.Asks.{form_text}
 use Rattle.file_commands.specs.Forms.{IsFormAsked}
-use Rattle.file_commands.specs.Front.{IsFrontOfInput}
+use Rattle.file_commands.specs.Front.{IsFrontOfInput, IsDeckNamed}
 use Rattle.file_commands.specs.Records.{ListsRecords}
 use Rattle.file_commands.proofs.ListLemmas.{listed_as}
 use Rattle.file_commands.proofs.listing.list_records.Goals as goal
@@ -16,7 +16,7 @@ returns-clause-records g c =
     let before = g.W.Write.contents c.args.out.now in
     let behind = g.W.Write.contents c.list_file_as.new.out in
     listed_as
-    {P = λ list. (form : Form) × IsFormAsked (λ deck. (file : g.row.R-File.Denot) × IsFrontOfInput 1048577 (g.R.File.Read.remaining file) deck) (form_text c.args.form) form
+    {P = λ list. (form : Form) × IsFormAsked (IsDeckNamed g.R.File.Read.remaining (g.I.Read.remaining c.args.input.now)) (form_text c.args.form) form
     × ((file : g.row.R-File.Denot) × (all : List ℕ) × IsFrontOfInput 18446744073709551615 (g.R.File.Read.remaining file) all
     × ListsRecords form all c.args.bounds.key (option_map (λ text. text.now) c.args.bounds.from) (option_map (λ text. text.now) c.args.bounds.to) c.args.bounds.first before behind list)}
     c.list_file_as.result c.ended.result
