@@ -1,3 +1,4 @@
 pub mod RowLemmas
 pub mod TreeLemmas
 pub mod RunLemmas
+pub mod TogetherLemmas

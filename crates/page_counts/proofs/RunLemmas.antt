@@ -15,11 +15,11 @@ use Rattle.page_counts.specs.declared.runs.Run.{Run}
 use Rattle.page_counts.specs.Rows.{page_at, entries_in}
 use Rattle.page_counts.specs.Runs.{values_of, count_of, AreTogether, RunOf, CanGoOn}
 
-abbrev one_if : Bool → ℕ
+abbrev pub one_if : Bool → ℕ
 one_if true = 1
 one_if false = 0
 
-count_step : (v y : List ℕ) (ys : List (List ℕ)) → count_of v (y ∷ ys) ≡ one_if (bytes_eq v y) + count_of v ys
+pub count_step : (v y : List ℕ) (ys : List (List ℕ)) → count_of v (y ∷ ys) ≡ one_if (bytes_eq v y) + count_of v ys
 count_step v y ys = by_test (bytes_eq v y) refl
   where
     by_test : (b : Bool) → bytes_eq v y ≡ b → count_of v (y ∷ ys) ≡ one_if (bytes_eq v y) + count_of v ys

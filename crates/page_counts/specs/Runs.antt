@@ -2,6 +2,7 @@
 use Rattle.std.specs.Prelude.{◌≡◌, ℕ, ◌≤◌, ◌<◌, ◌^◌, List, [], ◌++◌, length, map, take, filter, bytes_eq, slice_index_or, Some}
 use Rattle.std.specs.Option.{option_copied}
 use Rattle.tree_search.specs.Calls.{last_of}
+use Rattle.tree_search.specs.Tree.{TreeOf, Bound, IsOrdered, entries_of}
 use Rattle.page_counts.specs.declared.runs.Run.{Run}
 
 -- the values of entries: so many bytes, with which each begins
@@ -34,3 +35,8 @@ pub record CanGoOn (run : Run) (more : List (List ℕ)) : Type 0 where
   pub so_far : RunOf values run
   pub together : AreTogether (values ++ more)
   pub few : length (values ++ more) < 2 ^ 64
+
+-- a tree whose keys rise keeps equal values together, where its keys begin with the values
+abbrev pub TreesKeepTogether : Type 0
+TreesKeepTogether = (key width h : ℕ) (low high : Bound) (tree : TreeOf h) → width ≤ key
+    → IsOrdered key h low high tree → AreTogether (values_of width (entries_of h tree))

@@ -11,4 +11,4 @@ mod runs;
 
 pub use level::{Level, TreeCounts};
 pub use levels::{count_tree, level_laws};
-pub use runs::longest_run;
+pub use runs::{longest_run, run_laws};

@@ -5,7 +5,7 @@ ghost use Rattle.std.specs.Option.{option_copied};
 ghost use Rattle.page_bytes.specs.Each.{Each};
 ghost use Rattle.tree_node.specs.Leaf.{IsLeaf, leaf_entries};
 ghost use Rattle.page_counts.specs.Rows.{IsLeafIn, entries_in};
-ghost use Rattle.page_counts.specs.Runs.{values_of, AreTogether, IsGreatestCount, RunOf, CanGoOn};
+ghost use Rattle.page_counts.specs.Runs.{values_of, AreTogether, IsGreatestCount, RunOf, CanGoOn, TreesKeepTogether};
 
 use page_bytes::PAGE_SIZE;
 use tree_node::{LeafView, Shape};
@@ -81,3 +81,8 @@ pub fn longest_run(pages: &[[u8; PAGE_SIZE]], shape: Shape, width: u16, leaves: 
     }
     run.longest
 }
+
+/// The law of runs: a tree keeps equal values together. It does nothing.
+pub fn run_laws()
+    ensures { TreesKeepTogether }
+{}
