@@ -126,7 +126,7 @@ pub const COUNTED: &str =
     "The file is checked first. Then there is a line for its pages, one for its slots, and one for each key, with its levels below it:
   pages N: header 1, heap N, keys N, free N            the pages by what they are: of records, of the trees of keys, or free
   slots N: used N, free N                              the places for records; each record has one
-  key N pages N entries N                              the pages of the tree of a key, and its entries
+  key N pages N entries N longest run N                the pages of the tree of a key, its entries, and how many of them have one value at most
     level N pages N entries N fill N% [####    ]       a level of it, from the root down to the leaves, level 0; how full its pages are, and a bar of 20 characters
 
 Exit status:

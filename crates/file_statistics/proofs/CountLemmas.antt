@@ -1,10 +1,16 @@
 -- The counts of a tree that stands.
-use Rattle.std.proofs.Common.{◌≡◌, ℕ, ◌<◌, ◌^◌, List, [], ◌∷◌, length, ap, ◌∙◌, arith}
+use Rattle.std.proofs.Common.{◌≡◌, ℕ, ◌<◌, ◌≤◌, ◌^◌, List, [], ◌∷◌, length, None}
+use Rattle.std.proofs.Common.{ap, sym, subst, ◌∙◌, arith}
 use Rattle.pages.specs.PageMap.{PageMap}
+use Rattle.page_bytes.specs.Each.{Each}
+use Rattle.tree_search.specs.Tree.{TreeOf}
 use Rattle.bplus_tree.specs.declared.tree.Tree.{Tree}
 use Rattle.bplus_tree.specs.Standing.{TreeStands}
 use Rattle.page_counts.specs.declared.level.TreeCounts.{TreeCounts}
-use Rattle.page_counts.specs.Levels.{IsTreeIn, AreShown, AreCounts, LevelsHaveAllPages, levels_of, all_pages}
+use Rattle.page_counts.specs.Rows.{IsLeafIn, entries_in}
+use Rattle.page_counts.specs.Levels.{IsTreeIn, AreShown, AreCounts, LevelsHaveAllPages}
+use Rattle.page_counts.specs.Levels.{levels_of, all_pages}
+use Rattle.page_counts.specs.Runs.{values_of, AreTogether, IsGreatestCount, TreesKeepTogether}
 use Rattle.file_statistics.specs.declared.statistics.KeyStatistics.{KeyStatistics}
 use Rattle.file_statistics.specs.Statistics.{AreKeyCounts, HasTreeStanding}
 
@@ -23,18 +29,61 @@ pub level_pages : (tree : Tree) (pages : PageMap) (entries : List (List ℕ)) (o
     → all_pages (levels_of tree.shape tree.levels (stands.value ∷ [])) ≡ length own
 level_pages tree pages entries own stands law = law tree.shape tree.levels stands.value ∙ ap length stands.pages_are
 
-pub key_counts : (tree : Tree) (list : List (List ℕ)) (pages : PageMap) (entries : List (List ℕ)) (own : List ℕ) (stands : TreeStands tree pages entries own) → LevelsHaveAllPages
-    → (counts : TreeCounts) (key : KeyStatistics) → AreCounts tree.shape list tree.levels stands.value counts → key.levels.items ≡ counts.levels.items
-    → key.pages ≡ all_pages counts.levels.items → key.entries ≡ tree.count → AreKeyCounts tree pages entries own stands key
-key_counts tree list pages entries own stands law counts key are levels many count = record {
-  levels = levels ∙ are.levels;
-  pages_are = many ∙ ap all_pages are.levels ∙ level_pages tree pages entries own stands law;
-  entries_are = count ∙ stands.count;
-}
+-- these are the counts of the tree, whatever its value is
+abbrev CountsAll : Tree → List (List ℕ) → TreeCounts → Type 0
+CountsAll tree list counts =
+    (value : TreeOf tree.levels) → IsTreeIn tree.shape list tree.levels tree.root value
+    → AreCounts tree.shape list tree.levels value counts
 
-pub few_pages : (tree : Tree) (list : List (List ℕ)) (counts : TreeCounts) → LevelsHaveAllPages → (known : HasTreeStanding tree list)
-    → AreCounts tree.shape list tree.levels known.stands.value counts → all_pages counts.levels.items < 2 ^ 64
-few_pages tree list counts law known are =
-    let same = ap all_pages are.levels ∙ level_pages tree known.pages known.entries known.own known.stands law in
-    let few = known.few in
-    omega (arith, same, few)
+module _ (tree : Tree) (list : List (List ℕ)) (known : HasTreeStanding tree list)
+    (counts : TreeCounts) (told : CountsAll tree list counts) where
+  -- the counts of the tree as it stands
+  are : (pages : PageMap) (entries : List (List ℕ)) (own : List ℕ)
+      (stands : TreeStands tree pages entries own) → AreShown pages list
+      → AreCounts tree.shape list tree.levels stands.value counts
+  are pages entries own stands shown =
+      told stands.value (tree_in tree list pages entries own stands shown known)
+
+  known_are : AreCounts tree.shape list tree.levels known.stands.value counts
+  known_are = are known.pages known.entries known.own known.stands known.shown
+
+  pub few_pages : LevelsHaveAllPages → all_pages counts.levels.items < 2 ^ 64
+  few_pages law =
+      let same = ap all_pages known_are.levels
+      ∙ level_pages tree known.pages known.entries known.own known.stands law in
+      let few = known.few in
+      omega (arith, same, few)
+
+  pub leaves_are : Each (IsLeafIn tree.shape list) counts.leaves.items
+  leaves_are = known_are.leaves
+
+  -- the entries of the leaves can be counted
+  pub few_entries : length (entries_in tree.shape list counts.leaves.items) < 2 ^ 64
+  few_entries =
+      let same = ap length (known_are.entries ∙ known.stands.has) in
+      let few = known.counted in
+      omega (arith, same, few)
+
+  -- and their values stand together
+  pub values_together : (width : ℕ) → width ≤ tree.shape.width → TreesKeepTogether
+      → AreTogether (values_of width (entries_in tree.shape list counts.leaves.items))
+  values_together width narrow law =
+      let ordered = known.stands.whole.stands.ordered in
+      subst (λ (es : List (List ℕ)). AreTogether (values_of width es)) (sym known_are.entries)
+      (law tree.shape.width width tree.levels None None known.stands.value narrow ordered)
+
+  pub key_counts : (width : ℕ) (pages : PageMap) (entries : List (List ℕ)) (own : List ℕ)
+      (stands : TreeStands tree pages entries own) → AreShown pages list → LevelsHaveAllPages
+      → (key : KeyStatistics) → key.levels.items ≡ counts.levels.items
+      → key.pages ≡ all_pages counts.levels.items → key.entries ≡ tree.count
+      → IsGreatestCount (values_of width (entries_in tree.shape list counts.leaves.items)) key.longest
+      → AreKeyCounts tree width pages entries own stands key
+  key_counts width pages entries own stands shown law key levels many count longest =
+      let here = are pages entries own stands shown in
+      record {
+        levels = levels ∙ here.levels;
+        pages_are = many ∙ ap all_pages here.levels ∙ level_pages tree pages entries own stands law;
+        entries_are = count ∙ stands.count;
+        longest_is = subst (λ (es : List (List ℕ)). IsGreatestCount (values_of width es) key.longest)
+            (here.entries ∙ stands.has) longest;
+      }

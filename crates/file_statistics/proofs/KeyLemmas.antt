@@ -32,27 +32,33 @@ module _ {X : Type 0} where
   same_at (z ∷ zs) (suc n) zero x y e inside is is' = absurd (omega arith)
   same_at (z ∷ zs) (suc n) (suc m) x y e inside is is' = same_at zs n m x y (omega arith) (omega arith) is is'
 
--- these are the counts of the tree, wherever it stands in the pages of the list
-abbrev pub CountsTree : Tree → List (List ℕ) → KeyStatistics → Type 0
-CountsTree tree list key =
-    (map : PageMap) (entries : List (List ℕ)) (own : List ℕ) (stands : TreeStands tree map entries own) → AreShown map list → AreKeyCounts tree map entries own stands key
+-- these are the counts of the tree, whose values have so many bytes, wherever it stands in the
+-- pages of the list
+abbrev pub CountsTree : Tree → ℕ → List (List ℕ) → KeyStatistics → Type 0
+CountsTree tree width list key =
+    (map : PageMap) (entries : List (List ℕ)) (own : List ℕ)
+    (stands : TreeStands tree map entries own) → AreShown map list
+    → AreKeyCounts tree width map entries own stands key
 
 pub keys_first : (opened : OpenFile) (list : List (List ℕ)) (key : KeyStatistics) (none keys : List KeyStatistics) → none ≡ [] → keys ≡ none ++ key ∷ []
-    → CountsTree opened.prime.tree list key → KeysCounted opened list 0 keys
+    → CountsTree opened.prime.tree opened.prime.width list key → KeysCounted opened list 0 keys
 keys_first opened list key none keys empty is counts =
     let one : keys ≡ key ∷ [] = is ∙ ap (λ (l : List KeyStatistics). l ++ key ∷ []) empty in
     subst (KeysCounted opened list 0) (sym one)
     (record {
       many = omega arith;
       are = λ map file stands shown. record {
-        prime = λ other at. subst (AreKeyCounts opened.prime.tree map _ _ stands.parts.prime_stands.tree) (sym at) (counts map _ _ stands.parts.prime_stands.tree shown);
+        prime = λ other at.
+            (let tree = stands.parts.prime_stands.tree in
+            subst (AreKeyCounts opened.prime.tree opened.prime.width map _ _ tree) (sym at)
+            (counts map _ _ tree shown));
         alternates = λ j index within at other low. absurd (omega (arith, low));
       };
     })
 
 pub keys_more : (opened : OpenFile) (list : List (List ℕ)) (n m : ℕ) (keys new : List KeyStatistics) (key : KeyStatistics) (index : AltIndex) → m ≡ suc n
     → KeysCounted opened list n keys → new ≡ keys ++ key ∷ [] → n < length opened.alternates.items → index ≡ slice_index_or opened.alternates.items n index
-    → CountsTree index.tree list key → KeysCounted opened list m new
+    → CountsTree index.tree index.width list key → KeysCounted opened list m new
 keys_more opened list n m keys new key index e before is inside at counts =
     let old = before.many in
     subst (KeysCounted opened list m) (sym is)
@@ -66,7 +72,7 @@ keys_more opened list n m keys new key index e before is inside at counts =
   where
     by_place : (map : PageMap) (file : File) (stands : Stands opened map file) (shown : AreShown map list) (j : ℕ) (index' : AltIndex) (within : j < length opened.alternates.items)
         (at' : index' ≡ slice_index_or opened.alternates.items j index') (other : KeyStatistics) → other ≡ slice_index_or (keys ++ key ∷ []) (j + 1) other → (j < n) ⊎ (n ≤ j) → j < m
-        → AreKeyCounts index'.tree map _ _ (stands.parts.alternates_stand j index' within at').tree other
+        → AreKeyCounts index'.tree index'.width map _ _ (stands.parts.alternates_stand j index' within at').tree other
     by_place map file stands shown j index' within at' other has (inl front) low =
         let old = before.many in
         (before.are map file stands shown).alternates j index' within at' other front (has ∙ front_at keys key (j + 1) other (omega (arith, old, front)))
@@ -74,5 +80,5 @@ keys_more opened list n m keys new key index e before is inside at counts =
         let old = before.many in
         let same : index ≡ index' = same_at opened.alternates.items n j index index' (omega (arith, past, low, e)) inside at at' in
         let told : key ≡ other = sym (end_at keys key (j + 1) other (omega (arith, past, low, e, old))) ∙ sym has in
-        subst (AreKeyCounts index'.tree map _ _ (stands.parts.alternates_stand j index' within at').tree) told
-        ((subst (λ (i : AltIndex). CountsTree i.tree list key) same counts) map _ _ (stands.parts.alternates_stand j index' within at').tree shown)
+        subst (AreKeyCounts index'.tree index'.width map _ _ (stands.parts.alternates_stand j index' within at').tree) told
+        ((subst (λ (i : AltIndex). CountsTree i.tree i.width list key) same counts) map _ _ (stands.parts.alternates_stand j index' within at').tree shown)

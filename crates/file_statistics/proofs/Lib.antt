@@ -1,6 +1,7 @@
 pub mod LineLemmas
 pub mod PartLemmas
 pub mod CountLemmas
+pub mod RowLemmas
 pub mod FileLemmas
 pub mod KeyLemmas
 pub mod WholeLemmas

@@ -11,10 +11,13 @@ use Rattle.open_file.proofs.HeaderLemmas.{read_back}
 use Rattle.open_file.proofs.FilledLemmas.{counted}
 use Rattle.open_file.proofs.PartsLemmas.{found_at}
 use Rattle.page_counts.specs.Levels.{AreShown}
+use Rattle.page_counts.specs.Runs.{IsGreatestCount}
 use Rattle.file_statistics.specs.declared.statistics.KeyStatistics.{KeyStatistics}
 use Rattle.file_statistics.specs.declared.statistics.FileStatistics.{FileStatistics}
-use Rattle.file_statistics.specs.Statistics.{live_by, all_key_pages, StandBy, HasFile, HasFileStanding, KeysCounted, HasStatistics}
+use Rattle.file_statistics.specs.Statistics.{live_by, all_key_pages, StandBy, HasFile}
+use Rattle.file_statistics.specs.Statistics.{HasFileStanding, KeysCounted, HasStatistics, values_in}
 use Rattle.file_statistics.proofs.FileLemmas.{parts_count, part_few, keys_count}
+use Rattle.file_statistics.proofs.RowLemmas.{prime_greatest, alt_greatest}
 
 module _ (header : Header) (list : List (List ℕ)) (opened : OpenFile) (is_header : IsHeader header) (by : IsOpenedBy header opened) where
   -- what stands by the header stands as it is opened now
@@ -59,6 +62,30 @@ module _ (header : Header) (list : List (List ℕ)) (opened : OpenFile) (is_head
         (subst (λ (n : ℕ). key ≡ slice_index_or keys n key) up at) in
         told.pages_are ∙ ap (λ (n : ℕ). length (own_at standing.stands.parts.owns n)) down
 
+    -- how many rows have one value of a key at most
+    key_longest : (page : ℕ → List ℕ) (file : File) → (standing : StandBy page header opened file)
+        → AreShown (live_by page header) list → (k : ℕ) (key : KeyStatistics) → k < length keys
+        → key ≡ slice_index_or keys k key
+        → IsGreatestCount (values_in opened.schema k file.rows) key.longest
+    key_longest page file standing shown zero key inside at =
+        let stands = standing.stands in
+        let told = (counts.are (live_by page header) file stands shown).prime key at in
+        prime_greatest opened.schema stands.slots opened.prime.width stands.places file.rows
+        key.longest stands.placed.rows_at stands.parts.prime_stands.each told.longest_is
+    key_longest page file standing shown (suc j) key inside at =
+        let many = counts.many in
+        let within : j < length opened.alternates.items = omega (arith, many, inside) in
+        let index = found_at opened.alternates.items j within in
+        let up : suc j ≡ j + 1 = omega arith in
+        let are = counts.are (live_by page header) file standing.stands shown in
+        let told = are.alternates j index.0 within index.1 key within
+        (subst (λ (n : ℕ). key ≡ slice_index_or keys n key) up at) in
+        let each = (standing.stands.parts.alternates_stand j index.0 within index.1).each in
+        subst (λ (n : ℕ). IsGreatestCount (values_in opened.schema n file.rows) key.longest)
+        (sym up)
+        (alt_greatest opened.schema (j + 1) index.0.width index.0.prime file.rows key.longest each
+        told.longest_is)
+
     pub pages_whole : (page : ℕ → List ℕ) (file : File) → (standing : StandBy page header opened file) → AreShown (live_by page header) list
         → all_key_pages keys + length (own_at standing.stands.parts.owns 0) + header.free + 1 ≡ header.pages
     pages_whole page file standing shown =
@@ -96,5 +123,6 @@ module _ (header : Header) (list : List (List ℕ)) (opened : OpenFile) (is_head
             records_are = records ∙ sym recorded ∙ rows;
             many = omega (arith, listed, many, parts);
             keys = rw items (counts.are (live_by page header) file now.stands shown);
+            longest = rw items (key_longest page file now shown);
           };
         }

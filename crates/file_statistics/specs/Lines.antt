@@ -33,10 +33,16 @@ abbrev pub level_lines : List Level → List ℕ
 level_lines [] = []
 level_lines (level ∷ levels) = level_line (length levels) level ++ level_lines levels
 
+-- how many entries of a key there are, and how many of them have one value at most
+abbrev pub key_entries : KeyStatistics → List ℕ
+key_entries key =
+    count_text (codes " entries ") key.entries
+    ++ (count_text (codes " longest run ") key.longest ++ codes "\n")
+
 -- key k, with the pages and the entries of its tree
 abbrev pub key_start : ℕ → KeyStatistics → List ℕ
 key_start k key =
-    count_text (codes "key ") k ++ (count_text (codes " pages ") key.pages ++ (count_text (codes " entries ") key.entries ++ codes "\n"))
+    count_text (codes "key ") k ++ (count_text (codes " pages ") key.pages ++ key_entries key)
 
 abbrev pub key_text : ℕ → KeyStatistics → List ℕ
 key_text k key = key_start k key ++ level_lines key.levels.items

@@ -1,6 +1,7 @@
 -- What is counted of a file whose pages stand for it.
 use Rattle.std.specs.Prelude.{◌≡◌, ℕ, ◌+◌, ◌*◌, ◌<◌, ◌^◌, List, [], ◌∷◌, length, map, slice_index_or, IsSome}
-use Rattle.indexed_file.specs.File.{File}
+use Rattle.record_layout.specs.Schema.{Schema, value_of}
+use Rattle.indexed_file.specs.File.{Row, File}
 use Rattle.pages.specs.PageMap.{PageMap}
 use Rattle.page_alloc.specs.Chain.{chain, used}
 use Rattle.page_marks.specs.Parted.{own_at}
@@ -15,6 +16,7 @@ use Rattle.open_file.specs.declared.open_file.OpenFile.{OpenFile}
 use Rattle.open_file.specs.Headers.{IsOpenedBy}
 use Rattle.open_file.specs.Stands.{Stands}
 use Rattle.page_counts.specs.Levels.{levels_of, AreShown}
+use Rattle.page_counts.specs.Runs.{values_of, IsGreatestCount}
 use Rattle.file_statistics.specs.declared.statistics.KeyStatistics.{KeyStatistics}
 use Rattle.file_statistics.specs.declared.statistics.FileStatistics.{FileStatistics}
 
@@ -28,11 +30,14 @@ pub record StandBy (page : ℕ → List ℕ) (header : Header) (opened : OpenFil
   pub stands : Stands opened (live_by page header) file
   pub sound : IsSome (chain page header.pages header.first_free header.free)
 
--- what is counted of a tree that stands: its levels, its pages and its entries
-pub record AreKeyCounts (tree : Tree) (pages : PageMap) (entries : List (List ℕ)) (own : List ℕ) (stands : TreeStands tree pages entries own) (key : KeyStatistics) : Type 0 where
+-- what is counted of a tree that stands: its levels, its pages and its entries, and how many of
+-- these have one value at most, with so many bytes of which each begins
+pub record AreKeyCounts (tree : Tree) (width : ℕ) (pages : PageMap) (entries : List (List ℕ))
+    (own : List ℕ) (stands : TreeStands tree pages entries own) (key : KeyStatistics) : Type 0 where
   pub levels : key.levels.items ≡ levels_of tree.shape tree.levels (stands.value ∷ [])
   pub pages_are : key.pages ≡ length own
   pub entries_are : key.entries ≡ length entries
+  pub longest_is : IsGreatestCount (values_of width entries) key.longest
 
 -- a tree that stands in pages in use which are those of the list, fewer than can be counted
 pub record HasTreeStanding (tree : Tree) (list : List (List ℕ)) : Type 0 where
@@ -52,10 +57,13 @@ all_key_pages (key ∷ keys) = key.pages + all_key_pages keys
 -- what is counted of the trees of a file that stands: the prime key's, and those of the first alternate keys, so many
 pub record AreKeys (opened : OpenFile) (pages : PageMap) (file : File) (stands : Stands opened pages file) (count : ℕ) (keys : List KeyStatistics) : Type 0 where
   pub prime : (key : KeyStatistics) → key ≡ slice_index_or keys 0 key
-      → AreKeyCounts opened.prime.tree pages (map prime_bytes (prime_entries opened.schema stands.places file.rows)) (own_at stands.parts.owns 1) stands.parts.prime_stands.tree key
+      → AreKeyCounts opened.prime.tree opened.prime.width pages
+      (map prime_bytes (prime_entries opened.schema stands.places file.rows))
+      (own_at stands.parts.owns 1) stands.parts.prime_stands.tree key
   pub alternates : (j : ℕ) (index : AltIndex) (within : j < length opened.alternates.items) (is : index ≡ slice_index_or opened.alternates.items j index) (key : KeyStatistics)
       → j < count → key ≡ slice_index_or keys (j + 1) key
-      → AreKeyCounts index.tree pages (map alt_bytes (alt_entries opened.schema (j + 1) file.rows)) (own_at stands.parts.owns (j + 2))
+      → AreKeyCounts index.tree index.width pages
+      (map alt_bytes (alt_entries opened.schema (j + 1) file.rows)) (own_at stands.parts.owns (j + 2))
       (stands.parts.alternates_stand j index within is).tree key
 
 -- a file that stands in pages in use which are those of the list, fewer than can be counted
@@ -73,8 +81,13 @@ pub record KeysCounted (opened : OpenFile) (list : List (List ℕ)) (count : ℕ
   pub many : length keys ≡ count + 1
   pub are : (pages : PageMap) (file : File) (stands : Stands opened pages file) → AreShown pages list → AreKeys opened pages file stands count keys
 
+-- the values of key k that these rows have
+abbrev pub values_in : Schema → ℕ → List Row → List (List ℕ)
+values_in schema k rows = map (λ (row : Row). value_of schema k row.bytes) rows
+
 -- What is counted of a file that stands, by its header: its pages, as many as the header tells, each of which is the header, of the heap, of a tree, or free; the slots
--- of the heap's pages; its records, each of which has a slot; and its trees.
+-- of the heap's pages; its records, each of which has a slot; its trees; and how many rows have
+-- one value of a key at most.
 pub record AreStatistics (header : Header) (opened : OpenFile) (pages : PageMap) (file : File) (stands : Stands opened pages file) (counts : FileStatistics) : Type 0 where
   pub pages_are : counts.pages ≡ header.pages
   pub free_are : counts.free ≡ header.free
@@ -85,6 +98,9 @@ pub record AreStatistics (header : Header) (opened : OpenFile) (pages : PageMap)
   pub records_are : counts.records ≡ length file.rows
   pub many : length counts.keys.items ≡ length opened.schema.keys
   pub keys : AreKeys opened pages file stands (length opened.alternates.items) counts.keys.items
+  pub longest : (k : ℕ) (key : KeyStatistics) → k < length counts.keys.items
+      → key ≡ slice_index_or counts.keys.items k key
+      → IsGreatestCount (values_in opened.schema k file.rows) key.longest
 
 -- the pages by the header stand for the file, and these are its counts
 pub record HasStatistics (page : ℕ → List ℕ) (header : Header) (file : File) (counts : FileStatistics) : Type 0 where

@@ -15,7 +15,7 @@ use bplus_tree::Tree;
 use file_header::Header;
 use open_file::OpenFile;
 use page_bytes::PAGE_SIZE;
-use page_counts::{Level, TreeCounts, count_tree, level_laws};
+use page_counts::{Level, TreeCounts, count_tree, level_laws, longest_run, run_laws};
 use std::alloc::{AllocError, Global};
 
 /// The pages of these levels.
@@ -30,18 +30,21 @@ fn pages_of(levels: &[Level]) -> u64
     pages
 }
 
-/// Counts the tree of a key.
+/// Counts the tree of a key, whose values have so many bytes.
 fn count_key(
     alloc: Global,
     pages: &[[u8; PAGE_SIZE]],
     tree: &Tree,
+    width: u16,
 ) -> Result<KeyStatistics, AllocError>
-    requires { HasTreeStanding tree.now pages.now }
+    requires stands { HasTreeStanding tree.now pages.now }
+    requires narrow { width ≤ tree.now.shape.width }
     ensures { (map : PageMap) (entries : List (List ℕ)) (own : List ℕ) (stands : TreeStands tree.now map entries own) → AreShown map pages.now
-        → IfOk result (AreKeyCounts tree.now map entries own stands) }
+        → IfOk result (AreKeyCounts tree.now width map entries own stands) }
 {
     level_laws();
-    let TreeCounts { levels, leaves: _ } = count_tree(
+    run_laws();
+    let TreeCounts { levels, leaves } = count_tree(
         alloc,
         pages,
         tree.shape,
@@ -51,6 +54,7 @@ fn count_key(
     Ok(KeyStatistics {
         pages: pages_of(&levels),
         entries: tree.count,
+        longest: longest_run(pages, tree.shape, width, &leaves),
         levels,
     })
 }
@@ -72,9 +76,15 @@ fn count_keys(
     ensures { IfOk result (λ keys. KeysCounted file.now pages.now (length file.now.alternates.items) keys.items) }
 {
     let mut keys = Vec::new(alloc);
-    push_key(&mut keys, count_key(alloc, pages, &file.prime.tree)?)?;
+    push_key(
+        &mut keys,
+        count_key(alloc, pages, &file.prime.tree, file.prime.width)?,
+    )?;
     for &index in file.alternates.as_slice() {
-        push_key(&mut keys, count_key(alloc, pages, &index.tree)?)?;
+        push_key(
+            &mut keys,
+            count_key(alloc, pages, &index.tree, index.width)?,
+        )?;
     }
     Ok(keys)
 }

@@ -1,7 +1,7 @@
 //! The lines.
 ghost use Rattle.std.specs.Prelude.{◌≡◌, ◌++◌, ◌+◌, ◌<◌, ◌≤◌, ◌^◌, length, replicate, decimal, OnOk, IfOk};
 ghost use Rattle.page_counts.specs.declared.level.Level.{Level};
-ghost use Rattle.file_statistics.specs.Lines.{bar_of, level_place, level_fill, level_line, level_lines, key_start, key_text, keys_text, number_behind, count_text, other_pages, kinds_text, page_line, slot_line, text_of};
+ghost use Rattle.file_statistics.specs.Lines.{bar_of, level_place, level_fill, level_line, level_lines, key_entries, key_start, key_text, keys_text, number_behind, count_text, other_pages, kinds_text, page_line, slot_line, text_of};
 
 use crate::statistics::{FileStatistics, KeyStatistics};
 use itoa::Buffer;
@@ -87,14 +87,22 @@ fn add_levels(lines: &mut Vec<u8>, levels: &[Level]) -> Result<(), AllocError>
     add_levels(lines, below)
 }
 
+/// Adds the entries of a key, and how many of them have one value at most, and ends the line.
+fn add_key_entries(lines: &mut Vec<u8>, key: &KeyStatistics) -> Result<(), AllocError>
+    ensures { OnOk result (lines.new.items ≡ lines.old.items ++ key_entries key.now) }
+{
+    add_count(lines, b" entries ", key.entries)?;
+    add_count(lines, b" longest run ", key.longest)?;
+    add(lines, b"\n")
+}
+
 /// Adds the first line of key k.
 fn add_key_start(lines: &mut Vec<u8>, k: u64, key: &KeyStatistics) -> Result<(), AllocError>
     ensures { OnOk result (lines.new.items ≡ lines.old.items ++ key_start k key.now) }
 {
     add_count(lines, b"key ", k)?;
     add_count(lines, b" pages ", key.pages)?;
-    add_count(lines, b" entries ", key.entries)?;
-    add(lines, b"\n")
+    add_key_entries(lines, key)
 }
 
 /// Adds the lines of key k.

@@ -2,11 +2,13 @@
 
 use page_counts::Level;
 
-/// What is counted of the tree of a key: its pages, its entries, and its levels, the root's first.
+/// What is counted of the tree of a key: its pages, its entries, how many of these have one value
+/// at most, and its levels, the root's first.
 #[derive(Drop)]
 pub struct KeyStatistics {
     pub pages: u64,
     pub entries: u64,
+    pub longest: u64,
     pub levels: Vec<Level>,
 }
 
