@@ -31,7 +31,7 @@ pub record StandBy (page : ℕ → List ℕ) (header : Header) (opened : OpenFil
   pub sound : IsSome (chain page header.pages header.first_free header.free)
 
 -- what is counted of a tree that stands: its levels, its pages and its entries, and how many of
--- these have one value at most, with so many bytes of which each begins
+-- these have one value at most, where a value has so many bytes
 pub record AreKeyCounts (tree : Tree) (width : ℕ) (pages : PageMap) (entries : List (List ℕ))
     (own : List ℕ) (stands : TreeStands tree pages entries own) (key : KeyStatistics) : Type 0 where
   pub levels : key.levels.items ≡ levels_of tree.shape tree.levels (stands.value ∷ [])
