@@ -13,9 +13,9 @@ use std::time::Instant;
 
 // Takes so many pages, and writes the number of each into it.
 fn fill<P: Pages>(pages: &mut P, count: u32) -> Result<(), Fault>
-    requires ready { P.IsReady pages.old }
-    requires open { P.CanChange pages.old }
-    ensures goes { P.Goes pages.old pages.new }
+    requires ready { P.shown.IsReady pages.old }
+    requires open { P.shown.CanChange pages.old }
+    ensures goes { P.shown.Writes pages.old pages.new }
 {
     for _ in 0..count {
         let n = pages.take()?;
@@ -25,9 +25,9 @@ fn fill<P: Pages>(pages: &mut P, count: u32) -> Result<(), Fault>
 }
 
 fn write<P: Pages>(pages: &mut P, n: u32) -> Result<(), Fault>
-    requires ready { P.IsReady pages.old }
-    requires open { P.CanChange pages.old }
-    ensures goes { P.Goes pages.old pages.new }
+    requires ready { P.shown.IsReady pages.old }
+    requires open { P.shown.CanChange pages.old }
+    ensures goes { P.shown.Writes pages.old pages.new }
 {
     let page = pages.page_mut(n)?;
     page[100] = page[100].wrapping_add((n % 251) as u8);
@@ -35,8 +35,8 @@ fn write<P: Pages>(pages: &mut P, n: u32) -> Result<(), Fault>
 }
 
 fn read<P: Pages>(pages: &mut P, n: u32) -> Result<u64, Fault>
-    requires ready { P.IsReady pages.old }
-    ensures goes { P.Goes pages.old pages.new }
+    requires ready { P.shown.IsReady pages.old }
+    ensures goes { P.shown.Writes pages.old pages.new }
 {
     let page = pages.page(n)?;
     Ok(page[100] as u64)
@@ -52,8 +52,8 @@ fn order(count: u32, i: u32, round: u32) -> u32 {
 
 // Lends each page once for reading. A sum of what was read.
 fn read_all<P: Pages>(pages: &mut P, count: u32, round: u32) -> Result<u64, Fault>
-    requires ready { P.IsReady pages.old }
-    ensures goes { P.Goes pages.old pages.new }
+    requires ready { P.shown.IsReady pages.old }
+    ensures goes { P.shown.Writes pages.old pages.new }
 {
     let mut sum = 0u64;
     for i in 0..count {
@@ -65,9 +65,9 @@ fn read_all<P: Pages>(pages: &mut P, count: u32, round: u32) -> Result<u64, Faul
 
 // Lends each page once for writing.
 fn write_all<P: Pages>(pages: &mut P, count: u32, round: u32) -> Result<(), Fault>
-    requires ready { P.IsReady pages.old }
-    requires open { P.CanChange pages.old }
-    ensures goes { P.Goes pages.old pages.new }
+    requires ready { P.shown.IsReady pages.old }
+    requires open { P.shown.CanChange pages.old }
+    ensures goes { P.shown.Writes pages.old pages.new }
 {
     for i in 0..count {
         write(pages, order(count, i, round))?;
@@ -82,8 +82,8 @@ fn read_rounds<P: Pages>(
     count: u32,
     rounds: u32,
 ) -> anyhow::Result<(u64, u128)>
-    requires ready { P.IsReady pages.old }
-    ensures goes { P.Goes pages.old pages.new }
+    requires ready { P.shown.IsReady pages.old }
+    ensures goes { P.shown.Writes pages.old pages.new }
 {
     let mut sum = 0u64;
     let mut fastest = u128::MAX;
@@ -102,9 +102,9 @@ fn write_rounds<P: Pages>(
     count: u32,
     rounds: u32,
 ) -> anyhow::Result<u128>
-    requires ready { P.IsReady pages.old }
-    requires open { P.CanChange pages.old }
-    ensures goes { P.Goes pages.old pages.new }
+    requires ready { P.shown.IsReady pages.old }
+    requires open { P.shown.CanChange pages.old }
+    ensures goes { P.shown.Writes pages.old pages.new }
 {
     let mut fastest = u128::MAX;
     for round in 0..rounds {

@@ -51,9 +51,9 @@ fn round<P: Pages>(
     before: Figures,
 ) -> anyhow::Result<Figures>
     requires shape { tree.old.shape.entry ≡ 24 }
-    requires ready { P.IsReady pages.old }
-    requires open { P.CanChange pages.old }
-    ensures goes { P.Goes pages.old pages.new }
+    requires ready { P.shown.IsReady pages.old }
+    requires open { P.shown.CanChange pages.old }
+    ensures goes { P.shown.Writes pages.old pages.new }
     ensures shape { tree.new.shape ≡ tree.old.shape }
 {
     let start = Instant::now(rt)?;
@@ -90,9 +90,9 @@ fn rounds<P: Pages>(
     count: usize,
 ) -> anyhow::Result<Figures>
     requires shape { tree.old.shape.entry ≡ 24 }
-    requires ready { P.IsReady pages.old }
-    requires open { P.CanChange pages.old }
-    ensures goes { P.Goes pages.old pages.new }
+    requires ready { P.shown.IsReady pages.old }
+    requires open { P.shown.CanChange pages.old }
+    ensures goes { P.shown.Writes pages.old pages.new }
     ensures shape { tree.new.shape ≡ tree.old.shape }
 {
     let tenth = (entries.len() / 10).max(1);

@@ -1,8 +1,6 @@
 -- One entry or separator more in a node: from its bytes to its pages.
 use Rattle.std.proofs.Common.{◌≡◌, ℕ, ◌+◌, ◌-◌, ◌<◌, List, [], ◌∷◌, ◌++◌, length, take, drop, get_or, Option, Some, None, Ok, Err, Result, refl, ap, sym, subst, ◌∙◌, arith, add-one}
-use Rattle.std.specs.Prelude.{IfOk, IfErr, IsErrAnd, option_map, insert}
-use Rattle.std.proofs.lemmas.Result.{err_from_is_err_and}
-use Rattle.pages.specs.Cause.{IsCaused}
+use Rattle.std.specs.Prelude.{IfOk, option_map, insert}
 use Rattle.std.proofs.Math.Seq.{drop-cons}
 use Rattle.std.proofs.lemmas.List.{take-append-drop, length-drop}
 use Rattle.arrayvec.specs.ArrayVec.{ArrayVec}
@@ -110,14 +108,3 @@ module _ (shape : Shape) (before mid after : PageMap) (is_sound : Type 0) (page 
       both_ok result (λ up. IsSplitOrWhole before after page lower upper key up × is_sound) (λ up. option_map (λ (s : Separator). s.key) up ≡ key)
       (λ up. HasAddedToInner shape before after page (insert seps place new.key.items) (insert below (place + 1) new.child) up × is_sound)
       (λ up parts k. (inner_parts shape before after page lower upper (insert seps place new.key.items) (insert below (place + 1) new.child) key up put' parts.0 k, parts.1)) wrote keyed
-
--- a fault, seen from an earlier state
-pub caused_since : {X : Type 0} (r : Result X Fault) (failed failed' lacks lacks' : Type 0) → (failed → failed') → (lacks → lacks') → IfErr r (IsCaused failed lacks) → IfErr r (IsCaused failed' lacks')
-caused_since (Ok x) failed failed' lacks lacks' f g h = tt
-caused_since (Err e) failed failed' lacks lacks' f g h = record { device = λ k. f (h.device k); full = λ k. g (h.full k); not_broken = h.not_broken }
-
-pub caused_on : {X : Type 0} (r : Result X Fault) (fault : Fault) (failed failed' lacks lacks' : Type 0) → IsErrAnd r (λ e. e ≡ fault) → (failed → failed') → (lacks → lacks') → IsCaused failed lacks fault
-    → IfErr r (IsCaused failed' lacks')
-caused_on r fault failed failed' lacks lacks' was f g h =
-    let p = err_from_is_err_and r was in
-    rw (p.1, p.2) (record { device = λ k. f (h.device k); full = λ k. g (h.full k); not_broken = h.not_broken })

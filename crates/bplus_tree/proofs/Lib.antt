@@ -4,7 +4,6 @@ pub mod SpreadLemmas
 pub mod ShareLemmas
 pub mod MendLemmas
 pub mod RemoveLemmas
-pub mod ExitLemmas
 pub mod CrownLemmas
 pub mod TreeLemmas
 pub mod ReadOffLemmas

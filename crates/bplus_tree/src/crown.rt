@@ -1,7 +1,7 @@
 //! The root after a removal.
 
-ghost use Rattle.std.specs.Prelude.{◌≡◌, ◌+◌, ◌<◌, ◌≤◌, ℕ, IsTrue, IfErr, IfOk};
-ghost use Rattle.pages.specs.Cause.{IsCaused};
+ghost use Rattle.std.specs.Prelude.{◌≡◌, ◌<◌, ◌≤◌, IsTrue, IfOk};
+ghost use Rattle.pages.specs.PageCalls.{ReadsPages, WritesPages};
 ghost use Rattle.bplus_tree.specs.Crown.{Sees, Crowns, Settles};
 
 use io_state::Fault;
@@ -17,15 +17,13 @@ pub struct Base {
 
 /// Gives the root back where it has one child only, which is the root then.
 pub fn settle<P: Pages>(pages: &mut P, shape: Shape, root: u32, levels: u8) -> Result<Base, Fault>
-    requires ready { P.IsReady pages.old }
-    requires open { P.CanChange pages.old }
-    ensures settled { IsTrue (P.state pages.new).is_honest → IsTrue (P.state pages.old).is_sound
-        → Settles shape (P.state pages.old).live (P.state pages.new).live (IsTrue (P.state pages.new).is_sound) levels root result }
+    requires ready { P.shown.IsReady pages.old }
+    requires open { P.shown.CanChange pages.old }
+    ensures settled { IsTrue (P.shown.state pages.new).is_honest → IsTrue (P.shown.state pages.old).is_sound
+        → Settles shape (P.shown.state pages.old).live (P.shown.state pages.new).live (IsTrue (P.shown.state pages.new).is_sound) levels root result }
     ensures height { IfOk result (λ base. base.levels ≤ levels) }
-    ensures few { (P.state pages.old).available ≤ (P.state pages.new).available }
-    ensures cause { IfErr result (IsCaused (P.HasFailed pages.old pages.new) ⊥) }
-    ensures asked { (P.state pages.new).asked ≤ (P.state pages.old).asked + 2 }
-    ensures goes { P.Goes pages.old pages.new }
+    ensures few { (P.shown.state pages.old).available ≤ (P.shown.state pages.new).available }
+    ensures writes { WritesPages P.shown 2 ⊥ pages.old pages.new result }
 {
     if levels == 0 {
         return Ok(Base { root, levels });
@@ -41,14 +39,12 @@ pub fn settle<P: Pages>(pages: &mut P, shape: Shape, root: u32, levels: u8) -> R
 
 /// Gives an inner node back that has one child only, and answers the child.
 fn crown<P: Pages>(pages: &mut P, shape: Shape, page: u32) -> Result<Option<u32>, Fault>
-    requires ready { P.IsReady pages.old }
-    requires open { P.CanChange pages.old }
-    ensures crowned { IsTrue (P.state pages.new).is_honest → IsTrue (P.state pages.old).is_sound
-        → Crowns shape (P.state pages.old).live (P.state pages.new).live (IsTrue (P.state pages.new).is_sound) page result }
-    ensures few { (P.state pages.old).available ≤ (P.state pages.new).available }
-    ensures cause { IfErr result (IsCaused (P.HasFailed pages.old pages.new) ⊥) }
-    ensures asked { (P.state pages.new).asked ≤ (P.state pages.old).asked + 2 }
-    ensures goes { P.Goes pages.old pages.new }
+    requires ready { P.shown.IsReady pages.old }
+    requires open { P.shown.CanChange pages.old }
+    ensures crowned { IsTrue (P.shown.state pages.new).is_honest → IsTrue (P.shown.state pages.old).is_sound
+        → Crowns shape (P.shown.state pages.old).live (P.shown.state pages.new).live (IsTrue (P.shown.state pages.new).is_sound) page result }
+    ensures few { (P.shown.state pages.old).available ≤ (P.shown.state pages.new).available }
+    ensures writes { WritesPages P.shown 2 ⊥ pages.old pages.new result }
 {
     match only_child(pages, shape, page)? {
         None => Ok(None),
@@ -61,11 +57,9 @@ fn crown<P: Pages>(pages: &mut P, shape: Shape, page: u32) -> Result<Option<u32>
 
 /// The child of an inner node that has no separator.
 fn only_child<P: Pages>(pages: &mut P, shape: Shape, page: u32) -> Result<Option<u32>, Fault>
-    requires ready { P.IsReady pages.old }
-    ensures child { IsTrue (P.state pages.new).is_honest → Sees shape (P.state pages.old).live page result }
-    ensures cause { IfErr result (IsCaused (P.HasFailed pages.old pages.new) ⊥) }
-    ensures asked { (P.state pages.new).asked ≤ (P.state pages.old).asked + 1 }
-    ensures reads { P.Reads pages.old pages.new }
+    requires ready { P.shown.IsReady pages.old }
+    ensures child { IsTrue (P.shown.state pages.new).is_honest → Sees shape (P.shown.state pages.old).live page result }
+    ensures reads { ReadsPages P.shown 1 pages.old pages.new result }
 {
     let bytes = pages.page(page)?;
     if !is_inner(bytes, shape) {

@@ -1,8 +1,8 @@
 //! A cursor: a place among the entries of a tree that is kept from one call to the next.
 
-ghost use Rattle.std.specs.Prelude.{◌≡◌, ◌+◌, ◌*◌, ◌≤◌, ◌↔◌, ℕ, List, IsTrue, IfErr, IfOk, OnErr, length, take};
+ghost use Rattle.std.specs.Prelude.{◌≡◌, ◌+◌, ◌*◌, ◌≤◌, ◌↔◌, ℕ, List, IsTrue, IfOk, OnErr, length, take};
 ghost use Rattle.pages.specs.PageMap.{PageMap};
-ghost use Rattle.pages.specs.Cause.{IsCaused};
+ghost use Rattle.pages.specs.PageCalls.{ReadsPages};
 
 use crate::tree::Tree;
 use io_state::Fault;
@@ -45,15 +45,13 @@ impl Cursor {
     /// The next entry: the first one whose key is above that of the entry given last. Where there is none the cursor stays where it is, and
     /// at a fault. It asks one page mostly, and never more than twice the height.
     pub fn next<P: Pages>(&mut self, tree: &Tree, pages: &mut P) -> Result<Option<Entry>, Fault>
-        requires ready { P.IsReady pages.old }
-        ensures moved { IsTrue (P.state pages.new).is_honest
-            → CursorMoves self.old self.new tree.now (P.state pages.old).live result }
+        requires ready { P.shown.IsReady pages.old }
+        ensures moved { IsTrue (P.shown.state pages.new).is_honest
+            → CursorMoves self.old self.new tree.now (P.shown.state pages.old).live result }
         ensures key { IfOk result (λ found. self.new.key.items
             ≡ key_after tree.now.shape.width self.old.key.items found) }
-        ensures cause { IfErr result (IsCaused (P.HasFailed pages.old pages.new) ⊥) }
-        ensures asked { (P.state pages.new).asked ≤ (P.state pages.old).asked + 2 * (tree.now.levels + 1) }
-        ensures near { HasNeighbour self.old tree.now → (P.state pages.new).asked ≤ (P.state pages.old).asked + 1 }
-        ensures reads { P.Reads pages.old pages.new }
+        ensures near { HasNeighbour self.old tree.now → (P.shown.state pages.new).asked ≤ (P.shown.state pages.old).asked + 1 }
+        ensures reads { ReadsPages P.shown (2 * (tree.now.levels + 1)) pages.old pages.new result }
         ensures err { OnErr result (self.new ≡ self.old) }
     {
         if self.has_neighbour(tree) {
@@ -81,12 +79,10 @@ impl Cursor {
         pages: &mut P,
         start: &[u8],
     ) -> Result<bool, Fault>
-        requires ready { P.IsReady pages.old }
-        ensures told { IsTrue (P.state pages.new).is_honest
-            → TellsNext self.now tree.now (P.state pages.old).live start.now result }
-        ensures cause { IfErr result (IsCaused (P.HasFailed pages.old pages.new) ⊥) }
-        ensures asked { (P.state pages.new).asked ≤ (P.state pages.old).asked + 2 * (tree.now.levels + 1) }
-        ensures reads { P.Reads pages.old pages.new }
+        requires ready { P.shown.IsReady pages.old }
+        ensures told { IsTrue (P.shown.state pages.new).is_honest
+            → TellsNext self.now tree.now (P.shown.state pages.old).live start.now result }
+        ensures reads { ReadsPages P.shown (2 * (tree.now.levels + 1)) pages.old pages.new result }
     {
         if self.has_neighbour(tree) {
             let Spot {
@@ -106,14 +102,12 @@ impl Cursor {
     /// The next entry where it stands in the same leaf.
     fn step<P: Pages>(&mut self, tree: &Tree, pages: &mut P) -> Result<Option<Entry>, Fault>
         requires near { HasNeighbour self.old tree.now }
-        requires ready { P.IsReady pages.old }
-        ensures moved { IsTrue (P.state pages.new).is_honest
-            → CursorMoves self.old self.new tree.now (P.state pages.old).live result }
+        requires ready { P.shown.IsReady pages.old }
+        ensures moved { IsTrue (P.shown.state pages.new).is_honest
+            → CursorMoves self.old self.new tree.now (P.shown.state pages.old).live result }
         ensures key { IfOk result (λ found. self.new.key.items
             ≡ key_after tree.now.shape.width self.old.key.items found) }
-        ensures cause { IfErr result (IsCaused (P.HasFailed pages.old pages.new) ⊥) }
-        ensures asked { (P.state pages.new).asked ≤ (P.state pages.old).asked + 1 }
-        ensures reads { P.Reads pages.old pages.new }
+        ensures reads { ReadsPages P.shown 1 pages.old pages.new result }
         ensures err { OnErr result (self.new ≡ self.old) }
     {
         let Spot { leaf, place, count } = self.spot;
@@ -134,12 +128,10 @@ impl Cursor {
         pages: &mut P,
         spot: &mut Spot,
     ) -> Result<Option<Entry>, Fault>
-        requires ready { P.IsReady pages.old }
-        ensures found { IsTrue (P.state pages.new).is_honest
-            → LooksBehind self.now tree.now (P.state pages.old).live spot.new result }
-        ensures cause { IfErr result (IsCaused (P.HasFailed pages.old pages.new) ⊥) }
-        ensures asked { (P.state pages.new).asked ≤ (P.state pages.old).asked + 2 * (tree.now.levels + 1) }
-        ensures reads { P.Reads pages.old pages.new }
+        requires ready { P.shown.IsReady pages.old }
+        ensures found { IsTrue (P.shown.state pages.new).is_honest
+            → LooksBehind self.now tree.now (P.shown.state pages.old).live spot.new result }
+        ensures reads { ReadsPages P.shown (2 * (tree.now.levels + 1)) pages.old pages.new result }
     {
         let key = self.key.as_slice();
         next_below(pages, tree.shape, tree.root, tree.levels, key, true, spot)

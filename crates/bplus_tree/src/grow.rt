@@ -1,9 +1,9 @@
 //! One entry more in a leaf, one separator more in an inner node, one level more above a root.
 
-ghost use Rattle.std.specs.Prelude.{◌≡◌, ◌≢◌, ◌+◌, ◌<◌, ◌≤◌, ◌↔◌, ℕ, IsTrue, IfErr, IfOk, length, insert, ◌∷◌, []};
+ghost use Rattle.std.specs.Prelude.{◌≡◌, ◌≢◌, ◌+◌, ◌<◌, ◌≤◌, ◌↔◌, IsTrue, IfOk, length, insert, ◌∷◌, []};
 ghost use Rattle.tree_node.specs.Leaf.{IsLeaf, leaf_entries, leaf_room};
 ghost use Rattle.tree_node.specs.Inner.{IsInner, separators};
-ghost use Rattle.pages.specs.Cause.{IsCaused};
+ghost use Rattle.pages.specs.PageCalls.{WritesPages};
 ghost use Rattle.bplus_tree.specs.Split.{HasWidth};
 ghost use Rattle.bplus_tree.specs.Grow.{AddsToLeaf, AddsToInner, IsRootOver, AddsRoot};
 
@@ -26,17 +26,14 @@ pub fn add_to_leaf<P: Pages>(
     entry: &[u8],
 ) -> Result<Option<Separator>, Fault>
     requires size { length entry.now ≡ shape.entry }
-    requires ready { P.IsReady pages.old }
-    requires open { P.CanChange pages.old }
-    ensures added { IsTrue (P.state pages.new).is_honest → IsTrue (P.state pages.old).is_sound
-        → AddsToLeaf shape (P.state pages.old).live (P.state pages.new).live
-        (IsTrue (P.state pages.new).is_sound) page place entry.now result }
+    requires ready { P.shown.IsReady pages.old }
+    requires open { P.shown.CanChange pages.old }
+    ensures added { IsTrue (P.shown.state pages.new).is_honest → IsTrue (P.shown.state pages.old).is_sound
+        → AddsToLeaf shape (P.shown.state pages.old).live (P.shown.state pages.new).live
+        (IsTrue (P.shown.state pages.new).is_sound) page place entry.now result }
     ensures width { IfOk result (HasWidth shape.width) }
-    ensures few { (P.state pages.old).available ≤ (P.state pages.new).available + 1 }
-    ensures cause { IfErr result
-        (IsCaused (P.HasFailed pages.old pages.new) ((P.state pages.old).available ≡ 0)) }
-    ensures asked { (P.state pages.new).asked ≤ (P.state pages.old).asked + 4 }
-    ensures goes { P.Goes pages.old pages.new }
+    ensures few { (P.shown.state pages.old).available ≤ (P.shown.state pages.new).available + 1 }
+    ensures writes { WritesPages P.shown 4 ((P.shown.state pages.old).available ≡ 0) pages.old pages.new result }
 {
     let mut lower = [0; PAGE_SIZE];
     copy(pages, page, &mut lower)?;
@@ -69,17 +66,14 @@ pub fn add_to_inner<P: Pages>(
     separator: &Separator,
 ) -> Result<Option<Separator>, Fault>
     requires width { length separator.now.key.items ≡ shape.width }
-    requires ready { P.IsReady pages.old }
-    requires open { P.CanChange pages.old }
-    ensures added { IsTrue (P.state pages.new).is_honest → IsTrue (P.state pages.old).is_sound
-        → AddsToInner shape (P.state pages.old).live (P.state pages.new).live
-        (IsTrue (P.state pages.new).is_sound) page place separator.now result }
+    requires ready { P.shown.IsReady pages.old }
+    requires open { P.shown.CanChange pages.old }
+    ensures added { IsTrue (P.shown.state pages.new).is_honest → IsTrue (P.shown.state pages.old).is_sound
+        → AddsToInner shape (P.shown.state pages.old).live (P.shown.state pages.new).live
+        (IsTrue (P.shown.state pages.new).is_sound) page place separator.now result }
     ensures width { IfOk result (HasWidth shape.width) }
-    ensures few { (P.state pages.old).available ≤ (P.state pages.new).available + 1 }
-    ensures cause { IfErr result
-        (IsCaused (P.HasFailed pages.old pages.new) ((P.state pages.old).available ≡ 0)) }
-    ensures asked { (P.state pages.new).asked ≤ (P.state pages.old).asked + 4 }
-    ensures goes { P.Goes pages.old pages.new }
+    ensures few { (P.shown.state pages.old).available ≤ (P.shown.state pages.new).available + 1 }
+    ensures writes { WritesPages P.shown 4 ((P.shown.state pages.old).available ≡ 0) pages.old pages.new result }
 {
     let mut lower = [0; PAGE_SIZE];
     copy(pages, page, &mut lower)?;
@@ -109,16 +103,13 @@ pub fn add_root<P: Pages>(
     separator: &Separator,
 ) -> Result<u32, Fault>
     requires width { length separator.now.key.items ≡ shape.width }
-    requires ready { P.IsReady pages.old }
-    requires open { P.CanChange pages.old }
-    ensures added { IsTrue (P.state pages.new).is_honest → IsTrue (P.state pages.old).is_sound
-        → AddsRoot shape (P.state pages.old).live (P.state pages.new).live
-        (IsTrue (P.state pages.new).is_sound) left separator.now result }
-    ensures few { (P.state pages.old).available ≤ (P.state pages.new).available + 1 }
-    ensures cause { IfErr result
-        (IsCaused (P.HasFailed pages.old pages.new) ((P.state pages.old).available ≡ 0)) }
-    ensures asked { (P.state pages.new).asked ≤ (P.state pages.old).asked + 2 }
-    ensures goes { P.Goes pages.old pages.new }
+    requires ready { P.shown.IsReady pages.old }
+    requires open { P.shown.CanChange pages.old }
+    ensures added { IsTrue (P.shown.state pages.new).is_honest → IsTrue (P.shown.state pages.old).is_sound
+        → AddsRoot shape (P.shown.state pages.old).live (P.shown.state pages.new).live
+        (IsTrue (P.shown.state pages.new).is_sound) left separator.now result }
+    ensures few { (P.shown.state pages.old).available ≤ (P.shown.state pages.new).available + 1 }
+    ensures writes { WritesPages P.shown 2 ((P.shown.state pages.old).available ≡ 0) pages.old pages.new result }
 {
     let root = pages.take()?;
     let mut bytes = [0; PAGE_SIZE];

@@ -1,9 +1,9 @@
 //! Inserts by descent. A page without room is split, and a separator goes up.
 
-ghost use Rattle.std.specs.Prelude.{◌≡◌, ◌≢◌, ◌+◌, ◌*◌, ◌<◌, ◌≤◌, ℕ, false, IsTrue, IfErr, IfOk, length, take, insert};
+ghost use Rattle.std.specs.Prelude.{◌≡◌, ◌≢◌, ◌+◌, ◌*◌, ◌<◌, ◌≤◌, false, IsTrue, IfOk, length, take, insert};
 ghost use Rattle.tree_node.specs.Leaf.{IsLeaf, leaf_entries, leaf_room};
 ghost use Rattle.tree_node.specs.Order.{Ascends};
-ghost use Rattle.pages.specs.Cause.{IsCaused};
+ghost use Rattle.pages.specs.PageCalls.{WritesPages};
 ghost use Rattle.bplus_tree.specs.Insert.{Inserts, HasWholeKey, PutsBelow, PutsInPlace, IsPutIf};
 
 use crate::grow::{add_to_inner, add_to_leaf};
@@ -32,17 +32,14 @@ pub fn insert_below<P: Pages>(
     entry: &[u8],
 ) -> Result<Grown, Fault>
     requires size { length entry.now ≡ shape.entry }
-    requires ready { P.IsReady pages.old }
-    requires open { P.CanChange pages.old }
-    ensures inserted { IsTrue (P.state pages.new).is_honest → IsTrue (P.state pages.old).is_sound
-        → Inserts shape (P.state pages.old).live (P.state pages.new).live
-        (IsTrue (P.state pages.new).is_sound) levels page entry.now result }
+    requires ready { P.shown.IsReady pages.old }
+    requires open { P.shown.CanChange pages.old }
+    ensures inserted { IsTrue (P.shown.state pages.new).is_honest → IsTrue (P.shown.state pages.old).is_sound
+        → Inserts shape (P.shown.state pages.old).live (P.shown.state pages.new).live
+        (IsTrue (P.shown.state pages.new).is_sound) levels page entry.now result }
     ensures width { IfOk result (HasWholeKey shape) }
-    ensures few { (P.state pages.old).available ≤ (P.state pages.new).available + (levels + 1) }
-    ensures cause { IfErr result
-        (IsCaused (P.HasFailed pages.old pages.new) ((P.state pages.old).available < levels + 1)) }
-    ensures asked { (P.state pages.new).asked ≤ (P.state pages.old).asked + 6 * (levels + 1) }
-    ensures goes { P.Goes pages.old pages.new }
+    ensures few { (P.shown.state pages.old).available ≤ (P.shown.state pages.new).available + (levels + 1) }
+    ensures writes { WritesPages P.shown (6 * (levels + 1)) ((P.shown.state pages.old).available < levels + 1) pages.old pages.new result }
 {
     if levels == 0 {
         return insert_in_leaf(pages, shape, page, entry);
@@ -68,15 +65,13 @@ pub fn put_below<P: Pages>(
     entry: &[u8],
 ) -> Result<bool, Fault>
     requires size { length entry.now ≡ shape.entry }
-    requires ready { P.IsReady pages.old }
-    requires open { P.CanChange pages.old }
-    ensures put { IsTrue (P.state pages.new).is_honest → IsTrue (P.state pages.old).is_sound
-        → PutsBelow shape (P.state pages.old).live (P.state pages.new).live
-        (IsTrue (P.state pages.new).is_sound) levels page entry.now result }
-    ensures available { (P.state pages.new).available ≡ (P.state pages.old).available }
-    ensures cause { IfErr result (IsCaused (P.HasFailed pages.old pages.new) ⊥) }
-    ensures asked { (P.state pages.new).asked ≤ (P.state pages.old).asked + (levels + 1) }
-    ensures goes { P.Goes pages.old pages.new }
+    requires ready { P.shown.IsReady pages.old }
+    requires open { P.shown.CanChange pages.old }
+    ensures put { IsTrue (P.shown.state pages.new).is_honest → IsTrue (P.shown.state pages.old).is_sound
+        → PutsBelow shape (P.shown.state pages.old).live (P.shown.state pages.new).live
+        (IsTrue (P.shown.state pages.new).is_sound) levels page entry.now result }
+    ensures available { (P.shown.state pages.new).available ≡ (P.shown.state pages.old).available }
+    ensures writes { WritesPages P.shown (levels + 1) ⊥ pages.old pages.new result }
 {
     if levels == 0 {
         return put_in_place(pages, shape, page, entry);
@@ -93,15 +88,13 @@ fn put_in_place<P: Pages>(
     entry: &[u8],
 ) -> Result<bool, Fault>
     requires size { length entry.now ≡ shape.entry }
-    requires ready { P.IsReady pages.old }
-    requires open { P.CanChange pages.old }
-    ensures put { IsTrue (P.state pages.new).is_honest → IsTrue (P.state pages.old).is_sound
-        → PutsInPlace shape (P.state pages.old).live (P.state pages.new).live
-        (IsTrue (P.state pages.new).is_sound) page entry.now result }
-    ensures available { (P.state pages.new).available ≡ (P.state pages.old).available }
-    ensures cause { IfErr result (IsCaused (P.HasFailed pages.old pages.new) ⊥) }
-    ensures asked { (P.state pages.new).asked ≤ (P.state pages.old).asked + 1 }
-    ensures goes { P.Goes pages.old pages.new }
+    requires ready { P.shown.IsReady pages.old }
+    requires open { P.shown.CanChange pages.old }
+    ensures put { IsTrue (P.shown.state pages.new).is_honest → IsTrue (P.shown.state pages.old).is_sound
+        → PutsInPlace shape (P.shown.state pages.old).live (P.shown.state pages.new).live
+        (IsTrue (P.shown.state pages.new).is_sound) page entry.now result }
+    ensures available { (P.shown.state pages.new).available ≡ (P.shown.state pages.old).available }
+    ensures writes { WritesPages P.shown 1 ⊥ pages.old pages.new result }
 {
     let bytes = pages.page_mut(page)?;
     if !is_leaf(bytes, shape) {
@@ -148,17 +141,14 @@ fn insert_in_leaf<P: Pages>(
     entry: &[u8],
 ) -> Result<Grown, Fault>
     requires size { length entry.now ≡ shape.entry }
-    requires ready { P.IsReady pages.old }
-    requires open { P.CanChange pages.old }
-    ensures inserted { IsTrue (P.state pages.new).is_honest → IsTrue (P.state pages.old).is_sound
-        → Inserts shape (P.state pages.old).live (P.state pages.new).live
-        (IsTrue (P.state pages.new).is_sound) 0 page entry.now result }
+    requires ready { P.shown.IsReady pages.old }
+    requires open { P.shown.CanChange pages.old }
+    ensures inserted { IsTrue (P.shown.state pages.new).is_honest → IsTrue (P.shown.state pages.old).is_sound
+        → Inserts shape (P.shown.state pages.old).live (P.shown.state pages.new).live
+        (IsTrue (P.shown.state pages.new).is_sound) 0 page entry.now result }
     ensures width { IfOk result (HasWholeKey shape) }
-    ensures few { (P.state pages.old).available ≤ (P.state pages.new).available + 1 }
-    ensures cause { IfErr result
-        (IsCaused (P.HasFailed pages.old pages.new) ((P.state pages.old).available ≡ 0)) }
-    ensures asked { (P.state pages.new).asked ≤ (P.state pages.old).asked + 6 }
-    ensures goes { P.Goes pages.old pages.new }
+    ensures few { (P.shown.state pages.old).available ≤ (P.shown.state pages.new).available + 1 }
+    ensures writes { WritesPages P.shown 6 ((P.shown.state pages.old).available ≡ 0) pages.old pages.new result }
 {
     let Look { place, found } = seek(pages, shape, page, &entry[..shape.width as usize])?;
     match found {

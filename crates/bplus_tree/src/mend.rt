@@ -1,8 +1,8 @@
 //! A node one of whose children has too little.
 
-ghost use Rattle.std.specs.Prelude.{◌≡◌, ◌≢◌, ◌+◌, ◌*◌, ◌<◌, ◌≤◌, ℕ, ◌↔◌, IsTrue, IsSome, IfOk, IfErr, OnOk, length, slice_index};
+ghost use Rattle.std.specs.Prelude.{◌≡◌, ◌≢◌, ◌+◌, ◌*◌, ◌<◌, ◌≤◌, ◌↔◌, IsTrue, IsSome, IfOk, OnOk, length, slice_index};
 ghost use Rattle.tree_node.specs.Inner.{IsInner, separators, children};
-ghost use Rattle.pages.specs.Cause.{IsCaused};
+ghost use Rattle.pages.specs.PageCalls.{ReadsPages, WritesPages};
 ghost use Rattle.node_balance.specs.Even.{Evens};
 ghost use Rattle.node_balance.specs.Fill.{least};
 ghost use Rattle.bplus_tree.specs.Mend.{EndsJoined, EndsShared, IsPairAt, ReadsPair};
@@ -50,14 +50,12 @@ fn end_joined<P: Pages>(
     pair: Pair,
     left: &[u8; PAGE_SIZE],
 ) -> Result<(), Fault>
-    requires ready { P.IsReady pages.old }
-    requires open { P.CanChange pages.old }
-    ensures ended { IsTrue (P.state pages.new).is_honest → IsTrue (P.state pages.old).is_sound
-        → EndsJoined (P.state pages.old).live (P.state pages.new).live (IsTrue (P.state pages.new).is_sound) page node.now pair.lower left.now pair.upper result }
-    ensures few { (P.state pages.old).available ≤ (P.state pages.new).available }
-    ensures cause { IfErr result (IsCaused (P.HasFailed pages.old pages.new) ⊥) }
-    ensures asked { (P.state pages.new).asked ≤ (P.state pages.old).asked + 3 }
-    ensures goes { P.Goes pages.old pages.new }
+    requires ready { P.shown.IsReady pages.old }
+    requires open { P.shown.CanChange pages.old }
+    ensures ended { IsTrue (P.shown.state pages.new).is_honest → IsTrue (P.shown.state pages.old).is_sound
+        → EndsJoined (P.shown.state pages.old).live (P.shown.state pages.new).live (IsTrue (P.shown.state pages.new).is_sound) page node.now pair.lower left.now pair.upper result }
+    ensures few { (P.shown.state pages.old).available ≤ (P.shown.state pages.new).available }
+    ensures writes { WritesPages P.shown 3 ⊥ pages.old pages.new result }
 {
     store(pages, page, node)?;
     store(pages, pair.lower, left)?;
@@ -74,14 +72,12 @@ fn end_shared<P: Pages>(
     left: &[u8; PAGE_SIZE],
     right: &[u8; PAGE_SIZE],
 ) -> Result<(), Fault>
-    requires ready { P.IsReady pages.old }
-    requires open { P.CanChange pages.old }
-    ensures ended { IsTrue (P.state pages.new).is_honest → IsTrue (P.state pages.old).is_sound
-        → EndsShared (P.state pages.old).live (P.state pages.new).live (IsTrue (P.state pages.new).is_sound) page node.now pair.lower left.now pair.upper right.now result }
-    ensures few { (P.state pages.old).available ≤ (P.state pages.new).available }
-    ensures cause { IfErr result (IsCaused (P.HasFailed pages.old pages.new) ⊥) }
-    ensures asked { (P.state pages.new).asked ≤ (P.state pages.old).asked + 3 }
-    ensures goes { P.Goes pages.old pages.new }
+    requires ready { P.shown.IsReady pages.old }
+    requires open { P.shown.CanChange pages.old }
+    ensures ended { IsTrue (P.shown.state pages.new).is_honest → IsTrue (P.shown.state pages.old).is_sound
+        → EndsShared (P.shown.state pages.old).live (P.shown.state pages.new).live (IsTrue (P.shown.state pages.new).is_sound) page node.now pair.lower left.now pair.upper right.now result }
+    ensures few { (P.shown.state pages.old).available ≤ (P.shown.state pages.new).available }
+    ensures writes { WritesPages P.shown 3 ⊥ pages.old pages.new result }
 {
     store(pages, page, node)?;
     store(pages, pair.lower, left)?;
@@ -98,14 +94,12 @@ pub fn mend<P: Pages>(
     levels: u8,
     place: usize,
 ) -> Result<bool, Fault>
-    requires ready { P.IsReady pages.old }
-    requires open { P.CanChange pages.old }
-    ensures mended { IsTrue (P.state pages.new).is_honest → IsTrue (P.state pages.old).is_sound
-        → Mends shape (P.state pages.old).live (P.state pages.new).live (IsTrue (P.state pages.new).is_sound) levels page place result }
-    ensures few { (P.state pages.old).available ≤ (P.state pages.new).available }
-    ensures cause { IfErr result (IsCaused (P.HasFailed pages.old pages.new) ⊥) }
-    ensures asked { (P.state pages.new).asked ≤ (P.state pages.old).asked + 6 }
-    ensures goes { P.Goes pages.old pages.new }
+    requires ready { P.shown.IsReady pages.old }
+    requires open { P.shown.CanChange pages.old }
+    ensures mended { IsTrue (P.shown.state pages.new).is_honest → IsTrue (P.shown.state pages.old).is_sound
+        → Mends shape (P.shown.state pages.old).live (P.shown.state pages.new).live (IsTrue (P.shown.state pages.new).is_sound) levels page place result }
+    ensures few { (P.shown.state pages.old).available ≤ (P.shown.state pages.new).available }
+    ensures writes { WritesPages P.shown 6 ⊥ pages.old pages.new result }
 {
     let mut node = [0; PAGE_SIZE];
     let mut left = [0; PAGE_SIZE];
@@ -136,12 +130,10 @@ fn read_pair<P: Pages>(
     left: &mut [u8; PAGE_SIZE],
     right: &mut [u8; PAGE_SIZE],
 ) -> Result<Pair, Fault>
-    requires ready { P.IsReady pages.old }
+    requires ready { P.shown.IsReady pages.old }
     ensures inner { IfOk result (λ pair. IsInner shape node.new × (pair.at < length (separators shape node.new))) }
-    ensures read { IsTrue (P.state pages.new).is_honest → ReadsPair shape (P.state pages.old).live page place node.new left.new right.new result }
-    ensures cause { IfErr result (IsCaused (P.HasFailed pages.old pages.new) ⊥) }
-    ensures asked { (P.state pages.new).asked ≤ (P.state pages.old).asked + 3 }
-    ensures reads { P.Reads pages.old pages.new }
+    ensures read { IsTrue (P.shown.state pages.new).is_honest → ReadsPair shape (P.shown.state pages.old).live page place node.new left.new right.new result }
+    ensures reads { ReadsPages P.shown 3 pages.old pages.new result }
 {
     copy(pages, page, node)?;
     let Some(pair) = pair_at(node, shape, place) else {

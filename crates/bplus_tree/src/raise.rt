@@ -1,7 +1,7 @@
 //! The root after an insert.
 
-ghost use Rattle.std.specs.Prelude.{◌≡◌, ◌+◌, ◌<◌, ◌≤◌, IsTrue, IfErr, IfOk};
-ghost use Rattle.pages.specs.Cause.{IsCaused};
+ghost use Rattle.std.specs.Prelude.{◌≡◌, ◌+◌, ◌<◌, ◌≤◌, IsTrue, IfOk};
+ghost use Rattle.pages.specs.PageCalls.{WritesPages};
 ghost use Rattle.bplus_tree.specs.Split.{HasWidth};
 ghost use Rattle.bplus_tree.specs.Raise.{Raises};
 
@@ -24,17 +24,14 @@ pub fn raise<P: Pages>(
 ) -> Result<Base, Fault>
     requires low { levels < 19 }
     requires width { HasWidth shape.width up }
-    requires ready { P.IsReady pages.old }
-    requires open { P.CanChange pages.old }
-    ensures raised { IsTrue (P.state pages.new).is_honest → IsTrue (P.state pages.old).is_sound
-        → Raises shape (P.state pages.old).live (P.state pages.new).live
-        (IsTrue (P.state pages.new).is_sound) levels root up result }
+    requires ready { P.shown.IsReady pages.old }
+    requires open { P.shown.CanChange pages.old }
+    ensures raised { IsTrue (P.shown.state pages.new).is_honest → IsTrue (P.shown.state pages.old).is_sound
+        → Raises shape (P.shown.state pages.old).live (P.shown.state pages.new).live
+        (IsTrue (P.shown.state pages.new).is_sound) levels root up result }
     ensures height { IfOk result (λ base. base.levels ≤ levels + 1) }
-    ensures few { (P.state pages.old).available ≤ (P.state pages.new).available + 1 }
-    ensures cause { IfErr result
-        (IsCaused (P.HasFailed pages.old pages.new) ((P.state pages.old).available ≡ 0)) }
-    ensures asked { (P.state pages.new).asked ≤ (P.state pages.old).asked + 2 }
-    ensures goes { P.Goes pages.old pages.new }
+    ensures few { (P.shown.state pages.old).available ≤ (P.shown.state pages.new).available + 1 }
+    ensures writes { WritesPages P.shown 2 ((P.shown.state pages.old).available ≡ 0) pages.old pages.new result }
 {
     match up {
         None => Ok(Base { root, levels }),

@@ -1,10 +1,10 @@
 //! Removals by descent. A node that has too little takes from a neighbour or becomes one with it.
 
-ghost use Rattle.std.specs.Prelude.{◌≡◌, ◌+◌, ◌*◌, ◌<◌, ◌≤◌, ◌↔◌, ℕ, false, IsTrue, IfErr, length, remove};
+ghost use Rattle.std.specs.Prelude.{◌≡◌, ◌+◌, ◌*◌, ◌<◌, ◌≤◌, ◌↔◌, false, IsTrue, length, remove};
 ghost use Rattle.tree_node.specs.Leaf.{IsLeaf, leaf_entries};
 ghost use Rattle.tree_node.specs.Order.{Ascends};
 ghost use Rattle.node_balance.specs.Fill.{least};
-ghost use Rattle.pages.specs.Cause.{IsCaused};
+ghost use Rattle.pages.specs.PageCalls.{WritesPages};
 ghost use Rattle.bplus_tree.specs.Remove.{Removes, TakesOut, OutOfLeaf, TakesBelow, TakesInPlace, IsTakenIf};
 
 use crate::mend::mend;
@@ -31,14 +31,12 @@ pub fn remove_below<P: Pages>(
     levels: u8,
     key: &[u8],
 ) -> Result<Shrunk, Fault>
-    requires ready { P.IsReady pages.old }
-    requires open { P.CanChange pages.old }
-    ensures removed { IsTrue (P.state pages.new).is_honest → IsTrue (P.state pages.old).is_sound
-        → Removes shape (P.state pages.old).live (P.state pages.new).live (IsTrue (P.state pages.new).is_sound) levels page key.now result }
-    ensures few { (P.state pages.old).available ≤ (P.state pages.new).available }
-    ensures cause { IfErr result (IsCaused (P.HasFailed pages.old pages.new) ⊥) }
-    ensures asked { (P.state pages.new).asked ≤ (P.state pages.old).asked + 7 * (levels + 1) }
-    ensures goes { P.Goes pages.old pages.new }
+    requires ready { P.shown.IsReady pages.old }
+    requires open { P.shown.CanChange pages.old }
+    ensures removed { IsTrue (P.shown.state pages.new).is_honest → IsTrue (P.shown.state pages.old).is_sound
+        → Removes shape (P.shown.state pages.old).live (P.shown.state pages.new).live (IsTrue (P.shown.state pages.new).is_sound) levels page key.now result }
+    ensures few { (P.shown.state pages.old).available ≤ (P.shown.state pages.new).available }
+    ensures writes { WritesPages P.shown (7 * (levels + 1)) ⊥ pages.old pages.new result }
 {
     if levels == 0 {
         return remove_from_leaf(pages, shape, page, key);
@@ -68,14 +66,12 @@ pub fn take_below<P: Pages>(
     key: &[u8],
     to: &mut Entry,
 ) -> Result<bool, Fault>
-    requires ready { P.IsReady pages.old }
-    requires open { P.CanChange pages.old }
-    ensures taken { IsTrue (P.state pages.new).is_honest → IsTrue (P.state pages.old).is_sound
-        → TakesBelow shape (P.state pages.old).live (P.state pages.new).live (IsTrue (P.state pages.new).is_sound) levels page key.now to.new result }
-    ensures available { (P.state pages.new).available ≡ (P.state pages.old).available }
-    ensures cause { IfErr result (IsCaused (P.HasFailed pages.old pages.new) ⊥) }
-    ensures asked { (P.state pages.new).asked ≤ (P.state pages.old).asked + (levels + 1) }
-    ensures goes { P.Goes pages.old pages.new }
+    requires ready { P.shown.IsReady pages.old }
+    requires open { P.shown.CanChange pages.old }
+    ensures taken { IsTrue (P.shown.state pages.new).is_honest → IsTrue (P.shown.state pages.old).is_sound
+        → TakesBelow shape (P.shown.state pages.old).live (P.shown.state pages.new).live (IsTrue (P.shown.state pages.new).is_sound) levels page key.now to.new result }
+    ensures available { (P.shown.state pages.new).available ≡ (P.shown.state pages.old).available }
+    ensures writes { WritesPages P.shown (levels + 1) ⊥ pages.old pages.new result }
 {
     if levels == 0 {
         return take_in_place(pages, shape, page, key, to);
@@ -92,14 +88,12 @@ fn take_in_place<P: Pages>(
     key: &[u8],
     to: &mut Entry,
 ) -> Result<bool, Fault>
-    requires ready { P.IsReady pages.old }
-    requires open { P.CanChange pages.old }
-    ensures taken { IsTrue (P.state pages.new).is_honest → IsTrue (P.state pages.old).is_sound
-        → TakesInPlace shape (P.state pages.old).live (P.state pages.new).live (IsTrue (P.state pages.new).is_sound) page key.now to.new result }
-    ensures available { (P.state pages.new).available ≡ (P.state pages.old).available }
-    ensures cause { IfErr result (IsCaused (P.HasFailed pages.old pages.new) ⊥) }
-    ensures asked { (P.state pages.new).asked ≤ (P.state pages.old).asked + 1 }
-    ensures goes { P.Goes pages.old pages.new }
+    requires ready { P.shown.IsReady pages.old }
+    requires open { P.shown.CanChange pages.old }
+    ensures taken { IsTrue (P.shown.state pages.new).is_honest → IsTrue (P.shown.state pages.old).is_sound
+        → TakesInPlace shape (P.shown.state pages.old).live (P.shown.state pages.new).live (IsTrue (P.shown.state pages.new).is_sound) page key.now to.new result }
+    ensures available { (P.shown.state pages.new).available ≡ (P.shown.state pages.old).available }
+    ensures writes { WritesPages P.shown 1 ⊥ pages.old pages.new result }
 {
     let bytes = pages.page_mut(page)?;
     if !is_leaf(bytes, shape) {
@@ -133,14 +127,12 @@ fn remove_from_leaf<P: Pages>(
     page: u32,
     key: &[u8],
 ) -> Result<Shrunk, Fault>
-    requires ready { P.IsReady pages.old }
-    requires open { P.CanChange pages.old }
-    ensures removed { IsTrue (P.state pages.new).is_honest → IsTrue (P.state pages.old).is_sound
-        → Removes shape (P.state pages.old).live (P.state pages.new).live (IsTrue (P.state pages.new).is_sound) 0 page key.now result }
-    ensures few { (P.state pages.old).available ≤ (P.state pages.new).available }
-    ensures cause { IfErr result (IsCaused (P.HasFailed pages.old pages.new) ⊥) }
-    ensures asked { (P.state pages.new).asked ≤ (P.state pages.old).asked + 2 }
-    ensures goes { P.Goes pages.old pages.new }
+    requires ready { P.shown.IsReady pages.old }
+    requires open { P.shown.CanChange pages.old }
+    ensures removed { IsTrue (P.shown.state pages.new).is_honest → IsTrue (P.shown.state pages.old).is_sound
+        → Removes shape (P.shown.state pages.old).live (P.shown.state pages.new).live (IsTrue (P.shown.state pages.new).is_sound) 0 page key.now result }
+    ensures few { (P.shown.state pages.old).available ≤ (P.shown.state pages.new).available }
+    ensures writes { WritesPages P.shown 2 ⊥ pages.old pages.new result }
 {
     let Look { place, found } = seek(pages, shape, page, key)?;
     match found {
@@ -154,14 +146,12 @@ fn remove_from_leaf<P: Pages>(
 
 /// Takes entry `place` out of a leaf. The answer is whether the leaf has too little now.
 fn take_out<P: Pages>(pages: &mut P, shape: Shape, page: u32, place: usize) -> Result<bool, Fault>
-    requires ready { P.IsReady pages.old }
-    requires open { P.CanChange pages.old }
-    ensures taken { IsTrue (P.state pages.new).is_honest → IsTrue (P.state pages.old).is_sound
-        → OutOfLeaf shape (P.state pages.old).live (P.state pages.new).live (IsTrue (P.state pages.new).is_sound) page place result }
-    ensures few { (P.state pages.old).available ≤ (P.state pages.new).available }
-    ensures cause { IfErr result (IsCaused (P.HasFailed pages.old pages.new) ⊥) }
-    ensures asked { (P.state pages.new).asked ≤ (P.state pages.old).asked + 1 }
-    ensures goes { P.Goes pages.old pages.new }
+    requires ready { P.shown.IsReady pages.old }
+    requires open { P.shown.CanChange pages.old }
+    ensures taken { IsTrue (P.shown.state pages.new).is_honest → IsTrue (P.shown.state pages.old).is_sound
+        → OutOfLeaf shape (P.shown.state pages.old).live (P.shown.state pages.new).live (IsTrue (P.shown.state pages.new).is_sound) page place result }
+    ensures few { (P.shown.state pages.old).available ≤ (P.shown.state pages.new).available }
+    ensures writes { WritesPages P.shown 1 ⊥ pages.old pages.new result }
 {
     let bytes = pages.page_mut(page)?;
     if !is_leaf(bytes, shape) {

@@ -1,7 +1,7 @@
 //! A page that has changed, and part of which may have gone to a new page.
 
-ghost use Rattle.std.specs.Prelude.{◌≡◌, ◌≢◌, ◌+◌, ◌≤◌, IsTrue, IfErr, IfOk, option_map};
-ghost use Rattle.pages.specs.Cause.{IsCaused};
+ghost use Rattle.std.specs.Prelude.{◌≡◌, ◌≢◌, ◌+◌, ◌≤◌, IsTrue, IfOk, option_map};
+ghost use Rattle.pages.specs.PageCalls.{WritesPages};
 ghost use Rattle.bplus_tree.specs.Split.{Splits, WritesParts};
 
 use io_state::Fault;
@@ -21,17 +21,14 @@ pub fn write_parts<P: Pages>(
     upper: &[u8; PAGE_SIZE],
     key: Option<TreeKey>,
 ) -> Result<Option<Separator>, Fault>
-    requires ready { P.IsReady pages.old }
-    requires open { P.CanChange pages.old }
-    ensures written { IsTrue (P.state pages.new).is_honest → IsTrue (P.state pages.old).is_sound
-        → WritesParts (P.state pages.old).live (P.state pages.new).live
-        (IsTrue (P.state pages.new).is_sound) page lower.now upper.now key result }
+    requires ready { P.shown.IsReady pages.old }
+    requires open { P.shown.CanChange pages.old }
+    ensures written { IsTrue (P.shown.state pages.new).is_honest → IsTrue (P.shown.state pages.old).is_sound
+        → WritesParts (P.shown.state pages.old).live (P.shown.state pages.new).live
+        (IsTrue (P.shown.state pages.new).is_sound) page lower.now upper.now key result }
     ensures key { IfOk result (λ up. option_map (λ separator. separator.key) up ≡ key) }
-    ensures few { (P.state pages.old).available ≤ (P.state pages.new).available + 1 }
-    ensures cause { IfErr result
-        (IsCaused (P.HasFailed pages.old pages.new) ((P.state pages.old).available ≡ 0)) }
-    ensures asked { (P.state pages.new).asked ≤ (P.state pages.old).asked + 3 }
-    ensures goes { P.Goes pages.old pages.new }
+    ensures few { (P.shown.state pages.old).available ≤ (P.shown.state pages.new).available + 1 }
+    ensures writes { WritesPages P.shown 3 ((P.shown.state pages.old).available ≡ 0) pages.old pages.new result }
 {
     match key {
         None => {
@@ -52,16 +49,13 @@ fn write_split<P: Pages>(
     lower: &[u8; PAGE_SIZE],
     upper: &[u8; PAGE_SIZE],
 ) -> Result<u32, Fault>
-    requires ready { P.IsReady pages.old }
-    requires open { P.CanChange pages.old }
-    ensures split { IsTrue (P.state pages.new).is_honest → IsTrue (P.state pages.old).is_sound
-        → Splits (P.state pages.old).live (P.state pages.new).live
-        (IsTrue (P.state pages.new).is_sound) page lower.now upper.now result }
-    ensures few { (P.state pages.old).available ≤ (P.state pages.new).available + 1 }
-    ensures cause { IfErr result
-        (IsCaused (P.HasFailed pages.old pages.new) ((P.state pages.old).available ≡ 0)) }
-    ensures asked { (P.state pages.new).asked ≤ (P.state pages.old).asked + 3 }
-    ensures goes { P.Goes pages.old pages.new }
+    requires ready { P.shown.IsReady pages.old }
+    requires open { P.shown.CanChange pages.old }
+    ensures split { IsTrue (P.shown.state pages.new).is_honest → IsTrue (P.shown.state pages.old).is_sound
+        → Splits (P.shown.state pages.old).live (P.shown.state pages.new).live
+        (IsTrue (P.shown.state pages.new).is_sound) page lower.now upper.now result }
+    ensures few { (P.shown.state pages.old).available ≤ (P.shown.state pages.new).available + 1 }
+    ensures writes { WritesPages P.shown 3 ((P.shown.state pages.old).available ≡ 0) pages.old pages.new result }
 {
     let right = pages.take()?;
     store(pages, page, lower)?;

@@ -1,7 +1,7 @@
 //! A tree, from its root.
 
-ghost use Rattle.std.specs.Prelude.{◌≡◌, ◌≢◌, ◌+◌, ◌-◌, ◌*◌, ◌^◌, ◌<◌, ◌≤◌, ℕ, IsTrue, IsSome, IfErr, IfOk, OnOk, Ok, Err, None, length, take};
-ghost use Rattle.pages.specs.Cause.{IsCaused};
+ghost use Rattle.std.specs.Prelude.{◌≡◌, ◌≢◌, ◌+◌, ◌-◌, ◌*◌, ◌^◌, ◌<◌, ◌≤◌, IsTrue, IsSome, IfOk, OnOk, Ok, Err, None, length, take};
+ghost use Rattle.pages.specs.PageCalls.{ReadsPages, WritesPages};
 
 use crate::crown::settle;
 use crate::insert::{Grown, insert_below, put_below};
@@ -42,16 +42,14 @@ impl Tree {
 
     /// A tree without entries, in a page of its own. Full where no page is available.
     pub fn empty<P: Pages>(pages: &mut P, shape: Shape) -> Result<Tree, Fault>
-        requires ready { P.IsReady pages.old }
-        requires open { P.CanChange pages.old }
-        ensures made { IsTrue (P.state pages.new).is_honest → IsTrue (P.state pages.old).is_sound
-            → MakesTree shape (P.state pages.old).live (P.state pages.new).live (IsTrue (P.state pages.new).is_sound) result }
+        requires ready { P.shown.IsReady pages.old }
+        requires open { P.shown.CanChange pages.old }
+        ensures made { IsTrue (P.shown.state pages.new).is_honest → IsTrue (P.shown.state pages.old).is_sound
+            → MakesTree shape (P.shown.state pages.old).live (P.shown.state pages.new).live (IsTrue (P.shown.state pages.new).is_sound) result }
         ensures shape { IfOk result (λ tree. (tree.shape ≡ shape) × (tree.levels ≡ 0)) }
-        ensures few { (P.state pages.old).available ≤ (P.state pages.new).available + 1 }
-        ensures one { OnOk result ((P.state pages.new).available + 1 ≡ (P.state pages.old).available) }
-        ensures cause { IfErr result (IsCaused (P.HasFailed pages.old pages.new) ((P.state pages.old).available ≡ 0)) }
-        ensures asked { (P.state pages.new).asked ≤ (P.state pages.old).asked + 2 }
-        ensures goes { P.Goes pages.old pages.new }
+        ensures few { (P.shown.state pages.old).available ≤ (P.shown.state pages.new).available + 1 }
+        ensures one { OnOk result ((P.shown.state pages.new).available + 1 ≡ (P.shown.state pages.old).available) }
+        ensures writes { WritesPages P.shown 2 ((P.shown.state pages.old).available ≡ 0) pages.old pages.new result }
     {
         let root = pages.take()?;
         start(pages, shape, root)?;
@@ -73,12 +71,10 @@ impl Tree {
 
     /// The entry of a key. A key may have any length; one that is too short or too long is not found.
     pub fn find<P: Pages>(&self, pages: &mut P, key: &[u8]) -> Result<Option<Entry>, Fault>
-        requires ready { P.IsReady pages.old }
-        ensures found { IsTrue (P.state pages.new).is_honest
-            → Answers self.now (P.state pages.old).live (entry_of self.now.shape.width key.now) result }
-        ensures cause { IfErr result (IsCaused (P.HasFailed pages.old pages.new) ⊥) }
-        ensures asked { (P.state pages.new).asked ≤ (P.state pages.old).asked + (self.now.levels + 1) }
-        ensures reads { P.Reads pages.old pages.new }
+        requires ready { P.shown.IsReady pages.old }
+        ensures found { IsTrue (P.shown.state pages.new).is_honest
+            → Answers self.now (P.shown.state pages.old).live (entry_of self.now.shape.width key.now) result }
+        ensures reads { ReadsPages P.shown (self.now.levels + 1) pages.old pages.new result }
     {
         find_below(pages, self.shape, self.root, self.levels, key)
     }
@@ -91,36 +87,30 @@ impl Tree {
         key: &[u8],
         tail: &mut [u8],
     ) -> Result<bool, Fault>
-        requires ready { P.IsReady pages.old }
+        requires ready { P.shown.IsReady pages.old }
         requires size { self.now.shape.width + length tail.old ≡ self.now.shape.entry }
-        ensures found { IsTrue (P.state pages.new).is_honest
-            → Tells (IsTail self.now.shape.width tail.new) self.now (P.state pages.old).live key.now result }
-        ensures cause { IfErr result (IsCaused (P.HasFailed pages.old pages.new) ⊥) }
-        ensures asked { (P.state pages.new).asked ≤ (P.state pages.old).asked + (self.now.levels + 1) }
-        ensures reads { P.Reads pages.old pages.new }
+        ensures found { IsTrue (P.shown.state pages.new).is_honest
+            → Tells (IsTail self.now.shape.width tail.new) self.now (P.shown.state pages.old).live key.now result }
+        ensures reads { ReadsPages P.shown (self.now.levels + 1) pages.old pages.new result }
     {
         find_tail(pages, self.shape, self.root, self.levels, key, tail)
     }
 
     /// Whether a key, which may have any length, has an entry.
     pub fn has<P: Pages>(&self, pages: &mut P, key: &[u8]) -> Result<bool, Fault>
-        requires ready { P.IsReady pages.old }
-        ensures told { IsTrue (P.state pages.new).is_honest → Tells TellsPresence self.now (P.state pages.old).live key.now result }
-        ensures cause { IfErr result (IsCaused (P.HasFailed pages.old pages.new) ⊥) }
-        ensures asked { (P.state pages.new).asked ≤ (P.state pages.old).asked + (self.now.levels + 1) }
-        ensures reads { P.Reads pages.old pages.new }
+        requires ready { P.shown.IsReady pages.old }
+        ensures told { IsTrue (P.shown.state pages.new).is_honest → Tells TellsPresence self.now (P.shown.state pages.old).live key.now result }
+        ensures reads { ReadsPages P.shown (self.now.levels + 1) pages.old pages.new result }
     {
         has_below(pages, self.shape, self.root, self.levels, key)
     }
 
     /// The first entry whose key is not below this one, which may have any length.
     pub fn at_or_after<P: Pages>(&self, pages: &mut P, key: &[u8]) -> Result<Option<Entry>, Fault>
-        requires ready { P.IsReady pages.old }
-        ensures found { IsTrue (P.state pages.new).is_honest
-            → Answers self.now (P.state pages.old).live (first_from self.now.shape.width key.now) result }
-        ensures cause { IfErr result (IsCaused (P.HasFailed pages.old pages.new) ⊥) }
-        ensures asked { (P.state pages.new).asked ≤ (P.state pages.old).asked + 2 * (self.now.levels + 1) }
-        ensures reads { P.Reads pages.old pages.new }
+        requires ready { P.shown.IsReady pages.old }
+        ensures found { IsTrue (P.shown.state pages.new).is_honest
+            → Answers self.now (P.shown.state pages.old).live (first_from self.now.shape.width key.now) result }
+        ensures reads { ReadsPages P.shown (2 * (self.now.levels + 1)) pages.old pages.new result }
     {
         let mut spot = Spot::nowhere();
         next_below(
@@ -136,12 +126,10 @@ impl Tree {
 
     /// The first entry whose key is above this one, which may have any length.
     pub fn after<P: Pages>(&self, pages: &mut P, key: &[u8]) -> Result<Option<Entry>, Fault>
-        requires ready { P.IsReady pages.old }
-        ensures found { IsTrue (P.state pages.new).is_honest
-            → Answers self.now (P.state pages.old).live (first_after self.now.shape.width key.now) result }
-        ensures cause { IfErr result (IsCaused (P.HasFailed pages.old pages.new) ⊥) }
-        ensures asked { (P.state pages.new).asked ≤ (P.state pages.old).asked + 2 * (self.now.levels + 1) }
-        ensures reads { P.Reads pages.old pages.new }
+        requires ready { P.shown.IsReady pages.old }
+        ensures found { IsTrue (P.shown.state pages.new).is_honest
+            → Answers self.now (P.shown.state pages.old).live (first_after self.now.shape.width key.now) result }
+        ensures reads { ReadsPages P.shown (2 * (self.now.levels + 1)) pages.old pages.new result }
     {
         let mut spot = Spot::nowhere();
         next_below(
@@ -157,12 +145,10 @@ impl Tree {
 
     /// The entry of the greatest key.
     pub fn last<P: Pages>(&self, pages: &mut P) -> Result<Option<Entry>, Fault>
-        requires ready { P.IsReady pages.old }
-        ensures found { IsTrue (P.state pages.new).is_honest
-            → Answers self.now (P.state pages.old).live (last_of) result }
-        ensures cause { IfErr result (IsCaused (P.HasFailed pages.old pages.new) ⊥) }
-        ensures asked { (P.state pages.new).asked ≤ (P.state pages.old).asked + (self.now.levels + 1) }
-        ensures reads { P.Reads pages.old pages.new }
+        requires ready { P.shown.IsReady pages.old }
+        ensures found { IsTrue (P.shown.state pages.new).is_honest
+            → Answers self.now (P.shown.state pages.old).live (last_of) result }
+        ensures reads { ReadsPages P.shown (self.now.levels + 1) pages.old pages.new result }
     {
         last_below(pages, self.shape, self.root, self.levels)
     }
@@ -177,12 +163,10 @@ impl Tree {
         from: &[u8],
         to: &[u8],
     ) -> Result<Option<First>, Fault>
-        requires ready { P.IsReady pages.old }
-        ensures found { IsTrue (P.state pages.new).is_honest
-            → FindsWithin self.now (P.state pages.old).live from.now to.now result }
-        ensures cause { IfErr result (IsCaused (P.HasFailed pages.old pages.new) ⊥) }
-        ensures asked { (P.state pages.new).asked ≤ (P.state pages.old).asked + 2 * (self.now.levels + 1) }
-        ensures reads { P.Reads pages.old pages.new }
+        requires ready { P.shown.IsReady pages.old }
+        ensures found { IsTrue (P.shown.state pages.new).is_honest
+            → FindsWithin self.now (P.shown.state pages.old).live from.now to.now result }
+        ensures reads { ReadsPages P.shown (2 * (self.now.levels + 1)) pages.old pages.new result }
     {
         first_within(pages, self.shape, self.root, self.levels, from, to)
     }
@@ -194,19 +178,16 @@ impl Tree {
     /// as the file has pages, which no tree that stands comes to. After a fault nothing is known of the tree.
     pub fn insert<P: Pages>(&mut self, pages: &mut P, entry: &[u8]) -> Result<Option<Entry>, Fault>
         requires size { length entry.now ≡ self.old.shape.entry }
-        requires ready { P.IsReady pages.old }
-        requires open { P.CanChange pages.old }
-        ensures inserted { IsTrue (P.state pages.new).is_honest → IsTrue (P.state pages.old).is_sound
-            → Inserts (P.state pages.old).live (P.state pages.new).live (IsTrue (P.state pages.new).is_sound) self.old self.new entry.now result }
+        requires ready { P.shown.IsReady pages.old }
+        requires open { P.shown.CanChange pages.old }
+        ensures inserted { IsTrue (P.shown.state pages.new).is_honest → IsTrue (P.shown.state pages.old).is_sound
+            → Inserts (P.shown.state pages.old).live (P.shown.state pages.new).live (IsTrue (P.shown.state pages.new).is_sound) self.old self.new entry.now result }
         ensures deep { IsPastAll self.old → FindsDamage self.old self.new pages.old pages.new result }
         ensures shape { self.new.shape ≡ self.old.shape }
         ensures height { self.new.levels ≤ self.old.levels + 1 }
-        ensures few { (P.state pages.old).available ≤ (P.state pages.new).available + (self.old.levels + 2) }
+        ensures few { (P.shown.state pages.old).available ≤ (P.shown.state pages.new).available + (self.old.levels + 2) }
         ensures changes { result ≡ Ok None → self.new.changes ≡ one_more self.old.changes }
-        ensures cause { IfErr result (IsCaused (P.HasFailed pages.old pages.new)
-            ((P.state pages.old).available < self.old.levels + 2)) }
-        ensures asked { (P.state pages.new).asked ≤ (P.state pages.old).asked + 8 * (self.old.levels + 2) }
-        ensures goes { P.Goes pages.old pages.new }
+        ensures writes { WritesPages P.shown (8 * (self.old.levels + 2)) ((P.shown.state pages.old).available < self.old.levels + 2) pages.old pages.new result }
     {
         let room = 4096 * u64::from(pages.count());
         if self.levels >= GREATEST_LEVELS || self.count >= room {
@@ -228,18 +209,15 @@ impl Tree {
     ) -> Result<Option<Entry>, Fault>
         requires low { (self.old.levels < 19) × (self.old.count < 2 ^ 64 - 1) }
         requires size { length entry.now ≡ self.old.shape.entry }
-        requires ready { P.IsReady pages.old }
-        requires open { P.CanChange pages.old }
-        ensures inserted { IsTrue (P.state pages.new).is_honest → IsTrue (P.state pages.old).is_sound
-            → Inserts (P.state pages.old).live (P.state pages.new).live (IsTrue (P.state pages.new).is_sound) self.old self.new entry.now result }
+        requires ready { P.shown.IsReady pages.old }
+        requires open { P.shown.CanChange pages.old }
+        ensures inserted { IsTrue (P.shown.state pages.new).is_honest → IsTrue (P.shown.state pages.old).is_sound
+            → Inserts (P.shown.state pages.old).live (P.shown.state pages.new).live (IsTrue (P.shown.state pages.new).is_sound) self.old self.new entry.now result }
         ensures shape { self.new.shape ≡ self.old.shape }
         ensures height { self.new.levels ≤ self.old.levels + 1 }
-        ensures few { (P.state pages.old).available ≤ (P.state pages.new).available + (self.old.levels + 2) }
+        ensures few { (P.shown.state pages.old).available ≤ (P.shown.state pages.new).available + (self.old.levels + 2) }
         ensures changes { result ≡ Ok None → self.new.changes ≡ one_more self.old.changes }
-        ensures cause { IfErr result (IsCaused (P.HasFailed pages.old pages.new)
-            ((P.state pages.old).available < self.old.levels + 2)) }
-        ensures asked { (P.state pages.new).asked ≤ (P.state pages.old).asked + 7 * (self.old.levels + 2) }
-        ensures goes { P.Goes pages.old pages.new }
+        ensures writes { WritesPages P.shown (7 * (self.old.levels + 2)) ((P.shown.state pages.old).available < self.old.levels + 2) pages.old pages.new result }
     {
         match insert_below(pages, self.shape, self.root, self.levels, entry)? {
             Grown::Present(found) => Ok(Some(found)),
@@ -259,17 +237,15 @@ impl Tree {
 
     /// Takes the entry of a key out, and answers it. Where the key is not there, nothing is changed.
     pub fn remove<P: Pages>(&mut self, pages: &mut P, key: &[u8]) -> Result<Option<Entry>, Fault>
-        requires ready { P.IsReady pages.old }
-        requires open { P.CanChange pages.old }
-        ensures removed { IsTrue (P.state pages.new).is_honest → IsTrue (P.state pages.old).is_sound
-            → Removes (P.state pages.old).live (P.state pages.new).live (IsTrue (P.state pages.new).is_sound) self.old self.new key.now result }
+        requires ready { P.shown.IsReady pages.old }
+        requires open { P.shown.CanChange pages.old }
+        ensures removed { IsTrue (P.shown.state pages.new).is_honest → IsTrue (P.shown.state pages.old).is_sound
+            → Removes (P.shown.state pages.old).live (P.shown.state pages.new).live (IsTrue (P.shown.state pages.new).is_sound) self.old self.new key.now result }
         ensures shape { self.new.shape ≡ self.old.shape }
         ensures height { self.new.levels ≤ self.old.levels }
         ensures changes { IfOk result (λ found. IsSome found → self.new.changes ≡ one_more self.old.changes) }
-        ensures few { (P.state pages.old).available ≤ (P.state pages.new).available }
-        ensures cause { IfErr result (IsCaused (P.HasFailed pages.old pages.new) ⊥) }
-        ensures asked { (P.state pages.new).asked ≤ (P.state pages.old).asked + 8 * (self.old.levels + 2) }
-        ensures goes { P.Goes pages.old pages.new }
+        ensures few { (P.shown.state pages.old).available ≤ (P.shown.state pages.new).available }
+        ensures writes { WritesPages P.shown (8 * (self.old.levels + 2)) ⊥ pages.old pages.new result }
     {
         let mut entry = Entry::new();
         if take_below(pages, self.shape, self.root, self.levels, key, &mut entry)? {
@@ -286,17 +262,15 @@ impl Tree {
         pages: &mut P,
         key: &[u8],
     ) -> Result<Option<Entry>, Fault>
-        requires ready { P.IsReady pages.old }
-        requires open { P.CanChange pages.old }
-        ensures removed { IsTrue (P.state pages.new).is_honest → IsTrue (P.state pages.old).is_sound
-            → Removes (P.state pages.old).live (P.state pages.new).live (IsTrue (P.state pages.new).is_sound) self.old self.new key.now result }
+        requires ready { P.shown.IsReady pages.old }
+        requires open { P.shown.CanChange pages.old }
+        ensures removed { IsTrue (P.shown.state pages.new).is_honest → IsTrue (P.shown.state pages.old).is_sound
+            → Removes (P.shown.state pages.old).live (P.shown.state pages.new).live (IsTrue (P.shown.state pages.new).is_sound) self.old self.new key.now result }
         ensures shape { self.new.shape ≡ self.old.shape }
         ensures height { self.new.levels ≤ self.old.levels }
         ensures changes { IfOk result (λ found. IsSome found → self.new.changes ≡ one_more self.old.changes) }
-        ensures few { (P.state pages.old).available ≤ (P.state pages.new).available }
-        ensures cause { IfErr result (IsCaused (P.HasFailed pages.old pages.new) ⊥) }
-        ensures asked { (P.state pages.new).asked ≤ (P.state pages.old).asked + 7 * (self.old.levels + 2) }
-        ensures goes { P.Goes pages.old pages.new }
+        ensures few { (P.shown.state pages.old).available ≤ (P.shown.state pages.new).available }
+        ensures writes { WritesPages P.shown (7 * (self.old.levels + 2)) ⊥ pages.old pages.new result }
     {
         match remove_below(pages, self.shape, self.root, self.levels, key)? {
             Shrunk::Absent => Ok(None),

@@ -1,10 +1,8 @@
 -- The alternate indexes, changed one after another.
 use Rattle.std.proofs.Common.{◌≡◌, ℕ, ◌+◌, ◌==◌, true, false, List, refl, ap, sym, ◌∙◌, arith}
-use Rattle.std.specs.Prelude.{nat_lt, Result, Ok, Err, IfErr, if◌then◌else◌}
+use Rattle.std.specs.Prelude.{nat_lt, if◌then◌else◌}
 use Rattle.std.proofs.lemmas.Bool.{eq-eqb}
 use Rattle.std.proofs.lemmas.Grind.{common_steps}
-use Rattle.io_state.specs.declared.fault.Fault.{Fault}
-use Rattle.pages.specs.Cause.{IsCaused}
 use Rattle.record_layout.specs.Schema.{Schema}
 use Rattle.indexed_file.specs.File.{Row}
 use Rattle.key_index.specs.declared.entry.AltEntry.{AltEntry}
@@ -15,12 +13,6 @@ use Rattle.file_changes.specs.Replacing.{stays, freed, changed_in, changed_below
 use Rattle.open_file.proofs.OrderLemmas.{either}
 use Rattle.open_file.proofs.PartsLemmas.{from_eq, from_ne}
 use Rattle.file_changes.proofs.LevelLemmas.{not_lt_self, lt_next, lt_other}
-use Rattle.open_file.proofs.ExitLemmas.{caused_since}
-
--- a fault's cause, of an earlier state and under a wider condition
-pub causes : {X : Type 0} (r : Result X Fault) (failed since lacks short : Type 0) → (failed → since) → (lacks → short) → IfErr r (IsCaused failed lacks) → IfErr r (IsCaused since short)
-causes (Ok x) failed since lacks short f h is = tt
-causes (Err e) failed since lacks short f h is = caused_since failed since lacks short f h e is
 
 pub but_here : (j : ℕ) (others : List AltEntry) (entries : ℕ → List AltEntry) → but_at j others entries j ≡ others
 but_here j others entries = rw (eq-eqb j j refl) refl

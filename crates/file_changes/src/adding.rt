@@ -8,6 +8,7 @@ ghost use Rattle.indexed_file.specs.Answers.{added_answer};
 ghost use Rattle.indexed_file.specs.Room.{need_of_add, is_full_to_add, most_to_change};
 ghost use Rattle.pages.specs.Answer.{IsAnswer};
 ghost use Rattle.pages.specs.Cause.{IsCaused};
+ghost use Rattle.pages.specs.PageCalls.{ReadsPages, WritesPages};
 ghost use Rattle.key_index.specs.Entries.{with_alt, with_prime, has_rank, has_prime};
 ghost use Rattle.key_index.specs.Standing.{prime_height, alt_height};
 ghost use Rattle.record_heap.specs.Chain.{Slots};
@@ -32,30 +33,30 @@ use record_heap::Place;
 ///
 /// Device, Memory, Damage, Broken, after which the file is broken; Full, where nothing is changed.
 pub fn add<P: Pages>(opened: &mut OpenFile, pages: &mut P, bytes: &[u8]) -> Result<Added, Fault>
-    requires ready { P.IsReady pages.old }
+    requires ready { P.shown.IsReady pages.old }
     requires shaped { IsShaped opened.old }
     requires least { opened.old.schema.least ≤ length bytes.now }
     requires greatest { length bytes.now ≤ opened.old.schema.greatest }
-    ensures added { IsTrue (P.state pages.new).is_honest → IsTrue (P.state pages.old).is_sound → (file : File)
-        → Stands opened.old (P.state pages.old).live file
-        → IsAnswer result (HasAdded opened.new (P.state pages.new).live (IsTrue (P.state pages.new).is_sound) opened.old.schema bytes.now file) }
-    ensures clash { result ≡ Ok Added.Clash → (opened.new ≡ opened.old) × P.Reads pages.old pages.new }
-    ensures gate { IfOk result (λ answer. answer ≢ Added.Clash → P.CanChange pages.new) }
-    ensures room { IsTrue (P.state pages.new).is_honest → (file : File) → Stands opened.old (P.state pages.old).live file
+    ensures added { IsTrue (P.shown.state pages.new).is_honest → IsTrue (P.shown.state pages.old).is_sound → (file : File)
+        → Stands opened.old (P.shown.state pages.old).live file
+        → IsAnswer result (HasAdded opened.new (P.shown.state pages.new).live (IsTrue (P.shown.state pages.new).is_sound) opened.old.schema bytes.now file) }
+    ensures clash { result ≡ Ok Added.Clash → (opened.new ≡ opened.old) × P.shown.Reads pages.old pages.new }
+    ensures gate { IfOk result (λ answer. answer ≢ Added.Clash → P.shown.CanChange pages.new) }
+    ensures room { IsTrue (P.shown.state pages.new).is_honest → (file : File) → Stands opened.old (P.shown.state pages.old).live file
         → OnOk result (IsTrue (clashes opened.old.schema bytes.now file.rows
-        || not (is_full_to_add (room_of opened.old (P.state pages.old).available) file))) }
-    ensures full { result ≡ Err Fault.Full → (opened.new ≡ opened.old) × P.Reads pages.old pages.new
-        × (IsTrue (P.state pages.new).is_honest → (file : File) → Stands opened.old (P.state pages.old).live file
+        || not (is_full_to_add (room_of opened.old (P.shown.state pages.old).available) file))) }
+    ensures full { result ≡ Err Fault.Full → (opened.new ≡ opened.old) × P.shown.Reads pages.old pages.new
+        × (IsTrue (P.shown.state pages.new).is_honest → (file : File) → Stands opened.old (P.shown.state pages.old).live file
         → IsFalse (clashes opened.old.schema bytes.now file.rows)
-        × IsTrue (is_full_to_add (room_of opened.old (P.state pages.old).available) file)) }
-    ensures broken { IsTrue opened.old.broken → (result ≡ Err Fault.Broken) × (opened.new ≡ opened.old) × P.Reads pages.old pages.new }
+        × IsTrue (is_full_to_add (room_of opened.old (P.shown.state pages.old).available) file)) }
+    ensures broken { IsTrue opened.old.broken → (result ≡ Err Fault.Broken) × (opened.new ≡ opened.old) × P.shown.Reads pages.old pages.new }
     ensures breaks { IfErr result (λ e. e ≢ Fault.Full → IsTrue opened.new.broken) }
     ensures unbroken { OnOk result (IsFalse opened.new.broken) }
-    ensures cause { IfErr result (IsCausedIn opened.old.broken (P.HasFailed pages.old pages.new) (IsFalse opened.old.broken)) }
+    ensures cause { IfErr result (IsCausedIn opened.old.broken (P.shown.HasFailed pages.old pages.new) (IsFalse opened.old.broken)) }
     ensures schema { opened.new.schema ≡ opened.old.schema }
     ensures shaped { IsShaped opened.new }
-    ensures moves { P.Moves pages.old pages.new }
-    ensures asked { (P.state pages.new).asked ≤ (P.state pages.old).asked + most_to_change (room_of opened.old (P.state pages.old).available) }
+    ensures begins { P.shown.Begins pages.old pages.new }
+    ensures asked { (P.shown.state pages.new).asked ≤ (P.shown.state pages.old).asked + most_to_change (room_of opened.old (P.shown.state pages.old).available) }
 {
     if opened.broken {
         return Err(Fault::Broken);
@@ -70,28 +71,28 @@ pub fn add<P: Pages>(opened: &mut OpenFile, pages: &mut P, bytes: &[u8]) -> Resu
 
 /// What `add` does on a file that is not broken.
 fn try_add<P: Pages>(opened: &mut OpenFile, pages: &mut P, bytes: &[u8]) -> Result<Added, Fault>
-    requires ready { P.IsReady pages.old }
+    requires ready { P.shown.IsReady pages.old }
     requires shaped { IsShaped opened.old }
     requires least { opened.old.schema.least ≤ length bytes.now }
     requires greatest { length bytes.now ≤ opened.old.schema.greatest }
-    ensures added { IsTrue (P.state pages.new).is_honest → IsTrue (P.state pages.old).is_sound → (file : File)
-        → Stands opened.old (P.state pages.old).live file
-        → IsAnswer result (HasAdded opened.new (P.state pages.new).live (IsTrue (P.state pages.new).is_sound) opened.old.schema bytes.now file) }
-    ensures clash { result ≡ Ok Added.Clash → (opened.new ≡ opened.old) × P.Reads pages.old pages.new }
-    ensures gate { IfOk result (λ answer. answer ≢ Added.Clash → P.CanChange pages.new) }
-    ensures room { IsTrue (P.state pages.new).is_honest → (file : File) → Stands opened.old (P.state pages.old).live file
+    ensures added { IsTrue (P.shown.state pages.new).is_honest → IsTrue (P.shown.state pages.old).is_sound → (file : File)
+        → Stands opened.old (P.shown.state pages.old).live file
+        → IsAnswer result (HasAdded opened.new (P.shown.state pages.new).live (IsTrue (P.shown.state pages.new).is_sound) opened.old.schema bytes.now file) }
+    ensures clash { result ≡ Ok Added.Clash → (opened.new ≡ opened.old) × P.shown.Reads pages.old pages.new }
+    ensures gate { IfOk result (λ answer. answer ≢ Added.Clash → P.shown.CanChange pages.new) }
+    ensures room { IsTrue (P.shown.state pages.new).is_honest → (file : File) → Stands opened.old (P.shown.state pages.old).live file
         → OnOk result (IsTrue (clashes opened.old.schema bytes.now file.rows
-        || not (is_full_to_add (room_of opened.old (P.state pages.old).available) file))) }
-    ensures full { result ≡ Err Fault.Full → (opened.new ≡ opened.old) × P.Reads pages.old pages.new
-        × (IsTrue (P.state pages.new).is_honest → (file : File) → Stands opened.old (P.state pages.old).live file
+        || not (is_full_to_add (room_of opened.old (P.shown.state pages.old).available) file))) }
+    ensures full { result ≡ Err Fault.Full → (opened.new ≡ opened.old) × P.shown.Reads pages.old pages.new
+        × (IsTrue (P.shown.state pages.new).is_honest → (file : File) → Stands opened.old (P.shown.state pages.old).live file
         → IsFalse (clashes opened.old.schema bytes.now file.rows)
-        × IsTrue (is_full_to_add (room_of opened.old (P.state pages.old).available) file)) }
-    ensures cause { IfErr result (IsCausedIn false (P.HasFailed pages.old pages.new) ⊤) }
+        × IsTrue (is_full_to_add (room_of opened.old (P.shown.state pages.old).available) file)) }
+    ensures cause { IfErr result (IsCausedIn false (P.shown.HasFailed pages.old pages.new) ⊤) }
     ensures broken { opened.new.broken ≡ opened.old.broken }
     ensures schema { opened.new.schema ≡ opened.old.schema }
     ensures shaped { IsShaped opened.new }
-    ensures moves { P.Moves pages.old pages.new }
-    ensures asked { (P.state pages.new).asked ≤ (P.state pages.old).asked + most_to_change (room_of opened.old (P.state pages.old).available) }
+    ensures begins { P.shown.Begins pages.old pages.new }
+    ensures asked { (P.shown.state pages.new).asked ≤ (P.shown.state pages.old).asked + most_to_change (room_of opened.old (P.shown.state pages.old).available) }
 {
     let Added::Done { repeated } = adding(opened, pages, bytes)? else {
         return Ok(Added::Clash);
@@ -106,14 +107,12 @@ fn try_add<P: Pages>(opened: &mut OpenFile, pages: &mut P, bytes: &[u8]) -> Resu
 
 /// What adding a record answers, if there is room for it.
 fn adding<P: Pages>(opened: &OpenFile, pages: &mut P, bytes: &[u8]) -> Result<Added, Fault>
-    requires ready { P.IsReady pages.old }
+    requires ready { P.shown.IsReady pages.old }
     requires shaped { IsShaped opened.now }
     requires least { opened.now.schema.least ≤ length bytes.now }
-    ensures found { IsTrue (P.state pages.new).is_honest → (file : File) → Stands opened.now (P.state pages.old).live file
+    ensures found { IsTrue (P.shown.state pages.new).is_honest → (file : File) → Stands opened.now (P.shown.state pages.old).live file
         → IsAnswer result (λ answer. answer ≡ added_answer opened.now.schema bytes.now file) }
-    ensures cause { IfErr result (IsCaused (P.HasFailed pages.old pages.new) ⊥) }
-    ensures asked { (P.state pages.new).asked ≤ (P.state pages.old).asked + 2 * sum_by (λ height. height) (heights_of opened.now) }
-    ensures reads { P.Reads pages.old pages.new }
+    ensures reads { ReadsPages P.shown (2 * sum_by (λ height. height) (heights_of opened.now)) pages.old pages.new result }
 {
     let mut repeated = false;
     for k in 0..opened.schema.key_count() {
@@ -129,22 +128,20 @@ fn adding<P: Pages>(opened: &OpenFile, pages: &mut P, bytes: &[u8]) -> Result<Ad
 
 /// Puts in a record that does not clash, and for which there is room.
 fn put_in<P: Pages>(opened: &mut OpenFile, pages: &mut P, bytes: &[u8]) -> Result<(), Fault>
-    requires ready { P.IsReady pages.old }
-    requires open { P.CanChange pages.old }
+    requires ready { P.shown.IsReady pages.old }
+    requires open { P.shown.CanChange pages.old }
     requires shaped { IsShaped opened.old }
     requires least { opened.old.schema.least ≤ length bytes.now }
     requires greatest { length bytes.now ≤ opened.old.schema.greatest }
-    requires room { need_of_add (heights_of opened.old) ≤ (P.state pages.old).available }
+    requires room { need_of_add (heights_of opened.old) ≤ (P.shown.state pages.old).available }
     requires stamps { opened.old.next_stamp < 2 ^ 63 }
-    ensures done { IsTrue (P.state pages.new).is_honest → IsTrue (P.state pages.old).is_sound → (file : File)
-        → Stands opened.old (P.state pages.old).live file → clashes opened.old.schema bytes.now file.rows ≡ false
-        → IsAnswer result (λ u. Stands opened.new (P.state pages.new).live (added opened.old.schema bytes.now file) × IsTrue (P.state pages.new).is_sound) }
+    ensures done { IsTrue (P.shown.state pages.new).is_honest → IsTrue (P.shown.state pages.old).is_sound → (file : File)
+        → Stands opened.old (P.shown.state pages.old).live file → clashes opened.old.schema bytes.now file.rows ≡ false
+        → IsAnswer result (λ u. Stands opened.new (P.shown.state pages.new).live (added opened.old.schema bytes.now file) × IsTrue (P.shown.state pages.new).is_sound) }
     ensures schema { opened.new.schema ≡ opened.old.schema }
     ensures broken { opened.new.broken ≡ opened.old.broken }
     ensures shaped { IsShaped opened.new }
-    ensures cause { IfErr result (IsCaused (P.HasFailed pages.old pages.new) ⊥) }
-    ensures goes { P.Goes pages.old pages.new }
-    ensures asked { (P.state pages.new).asked ≤ (P.state pages.old).asked + 8 * need_of_add (heights_of opened.old) }
+    ensures writes { WritesPages P.shown (8 * need_of_add (heights_of opened.old)) ⊥ pages.old pages.new result }
 {
     opened.path = None;
     let place = store(opened, pages, bytes)?;
@@ -156,22 +153,20 @@ fn put_in<P: Pages>(opened: &mut OpenFile, pages: &mut P, bytes: &[u8]) -> Resul
 
 /// Puts a new record into the heap.
 fn store<P: Pages>(opened: &mut OpenFile, pages: &mut P, bytes: &[u8]) -> Result<Place, Fault>
-    requires ready { P.IsReady pages.old }
-    requires open { P.CanChange pages.old }
+    requires ready { P.shown.IsReady pages.old }
+    requires open { P.shown.CanChange pages.old }
     requires shaped { IsShaped opened.old }
     requires least { opened.old.schema.least ≤ length bytes.now }
     requires greatest { length bytes.now ≤ opened.old.schema.greatest }
-    ensures put { IsTrue (P.state pages.new).is_honest → IsTrue (P.state pages.old).is_sound
+    ensures put { IsTrue (P.shown.state pages.new).is_honest → IsTrue (P.shown.state pages.old).is_sound
         → (slots : Slots) (primes : List PrimeEntry) (entries : ℕ → List AltEntry)
-        → Parts opened.old.heap opened.old.prime opened.old.alternates.items (P.state pages.old).live slots primes entries
-        → IsAnswer result (λ place. RowPut opened.new.heap opened.new.prime opened.new.alternates.items (P.state pages.new).live slots primes entries place
-        (stored opened.old.schema (new_row opened.old.schema opened.old.next_stamp bytes.now)) × IsTrue (P.state pages.new).is_sound) }
+        → Parts opened.old.heap opened.old.prime opened.old.alternates.items (P.shown.state pages.old).live slots primes entries
+        → IsAnswer result (λ place. RowPut opened.new.heap opened.new.prime opened.new.alternates.items (P.shown.state pages.new).live slots primes entries place
+        (stored opened.old.schema (new_row opened.old.schema opened.old.next_stamp bytes.now)) × IsTrue (P.shown.state pages.new).is_sound) }
     ensures rest { opened.new ≡ record opened.old { heap = opened.new.heap } }
     ensures shape { opened.new.heap.shape ≡ opened.old.heap.shape }
-    ensures few { (P.state pages.old).available ≤ (P.state pages.new).available + 1 }
-    ensures cause { IfErr result (IsCaused (P.HasFailed pages.old pages.new) ((P.state pages.old).available < 1)) }
-    ensures asked { (P.state pages.new).asked ≤ (P.state pages.old).asked + 4 }
-    ensures goes { P.Goes pages.old pages.new }
+    ensures few { (P.shown.state pages.old).available ≤ (P.shown.state pages.new).available + 1 }
+    ensures writes { WritesPages P.shown 4 ((P.shown.state pages.old).available < 1) pages.old pages.new result }
 {
     let stamps = new_stamps(opened);
     opened.heap.add(pages, stamps.as_slice(), bytes)
@@ -184,23 +179,21 @@ fn add_to_prime<P: Pages>(
     place: Place,
     bytes: &[u8],
 ) -> Result<(), Fault>
-    requires ready { P.IsReady pages.old }
-    requires open { P.CanChange pages.old }
+    requires ready { P.shown.IsReady pages.old }
+    requires open { P.shown.CanChange pages.old }
     requires shaped { IsShaped opened.old }
     requires least { opened.old.schema.least ≤ length bytes.now }
-    ensures added { IsTrue (P.state pages.new).is_honest → IsTrue (P.state pages.old).is_sound
+    ensures added { IsTrue (P.shown.state pages.new).is_honest → IsTrue (P.shown.state pages.old).is_sound
         → (slots : Slots) (primes : List PrimeEntry) (entries : ℕ → List AltEntry)
-        → Parts opened.old.heap opened.old.prime opened.old.alternates.items (P.state pages.old).live slots primes entries
+        → Parts opened.old.heap opened.old.prime opened.old.alternates.items (P.shown.state pages.old).live slots primes entries
         → find (has_prime (prime_of opened.old.schema bytes.now)) primes ≡ None
-        → IsAnswer result (λ u. Parts opened.new.heap opened.new.prime opened.new.alternates.items (P.state pages.new).live slots
+        → IsAnswer result (λ u. Parts opened.new.heap opened.new.prime opened.new.alternates.items (P.shown.state pages.new).live slots
         (with_prime (record { value = record { items = prime_of opened.old.schema bytes.now }; place = place }) primes) entries
-        × IsTrue (P.state pages.new).is_sound) }
+        × IsTrue (P.shown.state pages.new).is_sound) }
     ensures rest { opened.new ≡ record opened.old { prime = opened.new.prime } }
     ensures width { opened.new.prime.width ≡ opened.old.prime.width }
-    ensures few { (P.state pages.old).available ≤ (P.state pages.new).available + (prime_height opened.old.prime + 1) }
-    ensures cause { IfErr result (IsCaused (P.HasFailed pages.old pages.new) ((P.state pages.old).available < prime_height opened.old.prime + 1)) }
-    ensures asked { (P.state pages.new).asked ≤ (P.state pages.old).asked + 8 * (prime_height opened.old.prime + 1) }
-    ensures goes { P.Goes pages.old pages.new }
+    ensures few { (P.shown.state pages.old).available ≤ (P.shown.state pages.new).available + (prime_height opened.old.prime + 1) }
+    ensures writes { WritesPages P.shown (8 * (prime_height opened.old.prime + 1)) ((P.shown.state pages.old).available < prime_height opened.old.prime + 1) pages.old pages.new result }
 {
     let value = opened.schema.value(bytes, 0);
     match opened.prime.add(pages, value, place)? {
@@ -215,23 +208,21 @@ fn add_to_alternates<P: Pages>(
     pages: &mut P,
     bytes: &[u8],
 ) -> Result<(), Fault>
-    requires ready { P.IsReady pages.old }
-    requires open { P.CanChange pages.old }
+    requires ready { P.shown.IsReady pages.old }
+    requires open { P.shown.CanChange pages.old }
     requires shaped { IsShaped opened.old }
     requires least { opened.old.schema.least ≤ length bytes.now }
-    requires room { levels_in opened.old.alternates.items ≤ (P.state pages.old).available }
-    ensures added { IsTrue (P.state pages.new).is_honest → IsTrue (P.state pages.old).is_sound
+    requires room { levels_in opened.old.alternates.items ≤ (P.shown.state pages.old).available }
+    ensures added { IsTrue (P.shown.state pages.new).is_honest → IsTrue (P.shown.state pages.old).is_sound
         → (slots : Slots) (primes : List PrimeEntry) (entries : ℕ → List AltEntry)
-        → Parts opened.old.heap opened.old.prime opened.old.alternates.items (P.state pages.old).live slots primes entries
+        → Parts opened.old.heap opened.old.prime opened.old.alternates.items (P.shown.state pages.old).live slots primes entries
         → AreFree opened.old.schema opened.old.next_stamp bytes.now (length opened.old.alternates.items) entries
-        → IsAnswer result (λ u. Parts opened.new.heap opened.new.prime opened.new.alternates.items (P.state pages.new).live slots primes
+        → IsAnswer result (λ u. Parts opened.new.heap opened.new.prime opened.new.alternates.items (P.shown.state pages.new).live slots primes
         (added_below opened.old.schema opened.old.next_stamp bytes.now (length opened.old.alternates.items) entries)
-        × IsTrue (P.state pages.new).is_sound) }
+        × IsTrue (P.shown.state pages.new).is_sound) }
     ensures rest { opened.new ≡ record opened.old { alternates = opened.new.alternates } }
     ensures shaped { IsShaped opened.new }
-    ensures cause { IfErr result (IsCaused (P.HasFailed pages.old pages.new) ⊥) }
-    ensures goes { P.Goes pages.old pages.new }
-    ensures asked { (P.state pages.new).asked ≤ (P.state pages.old).asked + 8 * levels_in opened.old.alternates.items }
+    ensures writes { WritesPages P.shown (8 * levels_in opened.old.alternates.items) ⊥ pages.old pages.new result }
 {
     for j in 0..opened.alternates.len() {
         add_to_alternate(opened, pages, j, bytes)?;
@@ -246,29 +237,29 @@ pub(crate) fn add_to_alternate<P: Pages>(
     j: usize,
     bytes: &[u8],
 ) -> Result<(), Fault>
-    requires ready { P.IsReady pages.old }
-    requires open { P.CanChange pages.old }
+    requires ready { P.shown.IsReady pages.old }
+    requires open { P.shown.CanChange pages.old }
     requires shaped { IsShaped opened.old }
     requires index { j < length opened.old.alternates.items }
     requires least { opened.old.schema.least ≤ length bytes.now }
-    ensures added { IsTrue (P.state pages.new).is_honest → IsTrue (P.state pages.old).is_sound
+    ensures added { IsTrue (P.shown.state pages.new).is_honest → IsTrue (P.shown.state pages.old).is_sound
         → (slots : Slots) (primes : List PrimeEntry) (entries : ℕ → List AltEntry)
-        → Parts opened.old.heap opened.old.prime opened.old.alternates.items (P.state pages.old).live slots primes entries
+        → Parts opened.old.heap opened.old.prime opened.old.alternates.items (P.shown.state pages.old).live slots primes entries
         → find (has_rank (value_of opened.old.schema (j + 1) bytes.now) (stamp_in opened.old.schema opened.old.next_stamp j)) (entries j) ≡ None
-        → IsAnswer result (λ u. Parts opened.new.heap opened.new.prime opened.new.alternates.items (P.state pages.new).live slots primes
+        → IsAnswer result (λ u. Parts opened.new.heap opened.new.prime opened.new.alternates.items (P.shown.state pages.new).live slots primes
         (but_at j (with_alt (entry_of opened.old.schema opened.old.next_stamp bytes.now j) (entries j)) entries)
-        × IsTrue (P.state pages.new).is_sound) }
+        × IsTrue (P.shown.state pages.new).is_sound) }
     ensures rest { opened.new ≡ record opened.old { alternates = opened.new.alternates } }
     ensures shaped { IsShaped opened.new }
     ensures later { drop (j + 1) opened.new.alternates.items ≡ drop (j + 1) opened.old.alternates.items }
     ensures many { length opened.new.alternates.items ≡ length opened.old.alternates.items }
     ensures few { (index : AltIndex) → index ≡ slice_index_or opened.old.alternates.items j index
-        → (P.state pages.old).available ≤ (P.state pages.new).available + (alt_height index + 1) }
+        → (P.shown.state pages.old).available ≤ (P.shown.state pages.new).available + (alt_height index + 1) }
     ensures cause { (index : AltIndex) → index ≡ slice_index_or opened.old.alternates.items j index
-        → IfErr result (IsCaused (P.HasFailed pages.old pages.new) ((P.state pages.old).available < alt_height index + 1)) }
+        → IfErr result (IsCaused (P.shown.HasFailed pages.old pages.new) ((P.shown.state pages.old).available < alt_height index + 1)) }
     ensures asked { (index : AltIndex) → index ≡ slice_index_or opened.old.alternates.items j index
-        → (P.state pages.new).asked ≤ (P.state pages.old).asked + 8 * (alt_height index + 1) }
-    ensures goes { P.Goes pages.old pages.new }
+        → (P.shown.state pages.new).asked ≤ (P.shown.state pages.old).asked + 8 * (alt_height index + 1) }
+    ensures goes { P.shown.Writes pages.old pages.new }
 {
     let part = opened.schema.part(j as u8 + 1);
     let value = opened.schema.value(bytes, j as u8 + 1);

@@ -1,9 +1,9 @@
 //! The record of a prime value, as it is before a change.
 
-ghost use Rattle.std.specs.Prelude.{◌≡◌, ◌+◌, ◌≤◌, length, drop, slice_range, IsTrue, IfOk, IfErr, IfSome};
+ghost use Rattle.std.specs.Prelude.{◌≡◌, ◌+◌, ◌≤◌, length, drop, slice_range, IsTrue, IfOk, IfSome};
 ghost use Rattle.indexed_file.specs.File.{File};
 ghost use Rattle.pages.specs.Answer.{IsAnswer};
-ghost use Rattle.pages.specs.Cause.{IsCaused};
+ghost use Rattle.pages.specs.PageCalls.{ReadsPages};
 ghost use Rattle.key_index.specs.Standing.{prime_height};
 ghost use Rattle.open_file.specs.InOrder.{prime_entries};
 ghost use Rattle.open_file.specs.Stored.{stamps_length};
@@ -33,14 +33,12 @@ pub(crate) fn find_old<P: Pages>(
     prime: &[u8],
     slot: &mut [u8; 4064],
 ) -> Result<Option<OldRecord>, Fault>
-    requires ready { P.IsReady pages.old }
+    requires ready { P.shown.IsReady pages.old }
     requires shaped { IsShaped opened.now }
-    ensures found { IsTrue (P.state pages.new).is_honest → (file : File) (stands : Stands opened.now (P.state pages.old).live file)
+    ensures found { IsTrue (P.shown.state pages.new).is_honest → (file : File) (stands : Stands opened.now (P.shown.state pages.old).live file)
         → IsAnswer result (HasFound opened.now.schema stands.slots (prime_entries opened.now.schema stands.places file.rows) file prime.now slot.new) }
     ensures within { IfOk result (λ found. IfSome found (HasRecordLength opened.now.heap.shape opened.now.alternates.items)) }
-    ensures cause { IfErr result (IsCaused (P.HasFailed pages.old pages.new) ⊥) }
-    ensures asked { (P.state pages.new).asked ≤ (P.state pages.old).asked + prime_height opened.now.prime + 1 }
-    ensures reads { P.Reads pages.old pages.new }
+    ensures reads { ReadsPages P.shown (prime_height opened.now.prime + 1) pages.old pages.new result }
 {
     let Some(entry) = opened.prime.find(pages, prime)? else {
         return Ok(None);

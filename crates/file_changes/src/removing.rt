@@ -6,6 +6,7 @@ ghost use Rattle.indexed_file.specs.File.{File};
 ghost use Rattle.indexed_file.specs.Room.{most_to_change};
 ghost use Rattle.pages.specs.Answer.{IsAnswer};
 ghost use Rattle.pages.specs.Cause.{IsCaused};
+ghost use Rattle.pages.specs.PageCalls.{WritesPages};
 ghost use Rattle.key_index.specs.Entries.{has_prime, has_rank, without_prime, without_rank};
 ghost use Rattle.key_index.specs.Standing.{prime_height, alt_height};
 ghost use Rattle.record_heap.specs.Chain.{Slots, put};
@@ -28,21 +29,21 @@ use record_heap::Place;
 ///
 /// Device, Memory, Damage, Broken, after which the file is broken.
 pub fn remove<P: Pages>(opened: &mut OpenFile, pages: &mut P, key: &Key) -> Result<bool, Fault>
-    requires ready { P.IsReady pages.old }
+    requires ready { P.shown.IsReady pages.old }
     requires shaped { IsShaped opened.old }
-    ensures removed { IsTrue (P.state pages.new).is_honest → IsTrue (P.state pages.old).is_sound → (file : File)
-        → Stands opened.old (P.state pages.old).live file
-        → IsAnswer result (HasRemovedRow opened.new (P.state pages.new).live (IsTrue (P.state pages.new).is_sound) opened.old.schema key.now.items file) }
-    ensures gone { result ≡ Ok false → (opened.new ≡ opened.old) × P.Reads pages.old pages.new }
-    ensures gate { result ≡ Ok true → P.CanChange pages.new }
-    ensures broken { IsTrue opened.old.broken → (result ≡ Err Fault.Broken) × (opened.new ≡ opened.old) × P.Reads pages.old pages.new }
+    ensures removed { IsTrue (P.shown.state pages.new).is_honest → IsTrue (P.shown.state pages.old).is_sound → (file : File)
+        → Stands opened.old (P.shown.state pages.old).live file
+        → IsAnswer result (HasRemovedRow opened.new (P.shown.state pages.new).live (IsTrue (P.shown.state pages.new).is_sound) opened.old.schema key.now.items file) }
+    ensures gone { result ≡ Ok false → (opened.new ≡ opened.old) × P.shown.Reads pages.old pages.new }
+    ensures gate { result ≡ Ok true → P.shown.CanChange pages.new }
+    ensures broken { IsTrue opened.old.broken → (result ≡ Err Fault.Broken) × (opened.new ≡ opened.old) × P.shown.Reads pages.old pages.new }
     ensures breaks { IfErr result (λ e. IsTrue opened.new.broken) }
     ensures unbroken { OnOk result (IsFalse opened.new.broken) }
-    ensures cause { IfErr result (IsCausedIn opened.old.broken (P.HasFailed pages.old pages.new) ⊥) }
+    ensures cause { IfErr result (IsCausedIn opened.old.broken (P.shown.HasFailed pages.old pages.new) ⊥) }
     ensures schema { opened.new.schema ≡ opened.old.schema }
     ensures shaped { IsShaped opened.new }
-    ensures moves { P.Moves pages.old pages.new }
-    ensures asked { (P.state pages.new).asked ≤ (P.state pages.old).asked + most_to_change (room_of opened.old (P.state pages.old).available) }
+    ensures begins { P.shown.Begins pages.old pages.new }
+    ensures asked { (P.shown.state pages.new).asked ≤ (P.shown.state pages.old).asked + most_to_change (room_of opened.old (P.shown.state pages.old).available) }
 {
     if opened.broken {
         return Err(Fault::Broken);
@@ -54,18 +55,18 @@ pub fn remove<P: Pages>(opened: &mut OpenFile, pages: &mut P, key: &Key) -> Resu
 
 /// What `remove` does on a file that is not broken.
 fn try_remove<P: Pages>(opened: &mut OpenFile, pages: &mut P, prime: &[u8]) -> Result<bool, Fault>
-    requires ready { P.IsReady pages.old }
+    requires ready { P.shown.IsReady pages.old }
     requires shaped { IsShaped opened.old }
-    ensures removed { IsTrue (P.state pages.new).is_honest → IsTrue (P.state pages.old).is_sound → (file : File)
-        → Stands opened.old (P.state pages.old).live file
-        → IsAnswer result (HasRemovedRow opened.new (P.state pages.new).live (IsTrue (P.state pages.new).is_sound) opened.old.schema prime.now file) }
-    ensures gone { result ≡ Ok false → (opened.new ≡ opened.old) × P.Reads pages.old pages.new }
-    ensures gate { result ≡ Ok true → P.CanChange pages.new }
-    ensures cause { IfErr result (IsCaused (P.HasFailed pages.old pages.new) ⊥) }
+    ensures removed { IsTrue (P.shown.state pages.new).is_honest → IsTrue (P.shown.state pages.old).is_sound → (file : File)
+        → Stands opened.old (P.shown.state pages.old).live file
+        → IsAnswer result (HasRemovedRow opened.new (P.shown.state pages.new).live (IsTrue (P.shown.state pages.new).is_sound) opened.old.schema prime.now file) }
+    ensures gone { result ≡ Ok false → (opened.new ≡ opened.old) × P.shown.Reads pages.old pages.new }
+    ensures gate { result ≡ Ok true → P.shown.CanChange pages.new }
+    ensures cause { IfErr result (IsCaused (P.shown.HasFailed pages.old pages.new) ⊥) }
     ensures schema { opened.new.schema ≡ opened.old.schema }
     ensures shaped { IsShaped opened.new }
-    ensures moves { P.Moves pages.old pages.new }
-    ensures asked { (P.state pages.new).asked ≤ (P.state pages.old).asked + most_to_change (room_of opened.old (P.state pages.old).available) }
+    ensures begins { P.shown.Begins pages.old pages.new }
+    ensures asked { (P.shown.state pages.new).asked ≤ (P.shown.state pages.old).asked + most_to_change (room_of opened.old (P.shown.state pages.old).available) }
 {
     let mut slot = [0; 4064];
     let Some(old) = find_old(opened, pages, prime, &mut slot)? else {
@@ -84,24 +85,22 @@ fn take_out<P: Pages>(
     old: &OldRecord,
     bytes: &[u8],
 ) -> Result<(), Fault>
-    requires ready { P.IsReady pages.old }
-    requires open { P.CanChange pages.old }
+    requires ready { P.shown.IsReady pages.old }
+    requires open { P.shown.CanChange pages.old }
     requires shaped { IsShaped opened.old }
     requires least { opened.old.schema.least ≤ length bytes.now }
     requires stamps { length old.now.stamps.items ≡ length opened.old.alternates.items }
-    ensures out { IsTrue (P.state pages.new).is_honest → IsTrue (P.state pages.old).is_sound
+    ensures out { IsTrue (P.shown.state pages.new).is_honest → IsTrue (P.shown.state pages.old).is_sound
         → (slots : Slots) (primes : List PrimeEntry) (entries : ℕ → List AltEntry)
-        → Parts opened.old.heap opened.old.prime opened.old.alternates.items (P.state pages.old).live slots primes entries
+        → Parts opened.old.heap opened.old.prime opened.old.alternates.items (P.shown.state pages.old).live slots primes entries
         → HasRowAndEntries opened.old.schema (row_with bytes.now old.now.stamps.items) old.now.place (length opened.old.alternates.items) slots primes entries
-        → IsAnswer result (λ u. Parts opened.new.heap opened.new.prime opened.new.alternates.items (P.state pages.new).live
+        → IsAnswer result (λ u. Parts opened.new.heap opened.new.prime opened.new.alternates.items (P.shown.state pages.new).live
         (put slots old.now.place None) (without_prime (prime_of opened.old.schema bytes.now) primes)
         (without_below opened.old.schema (row_with bytes.now old.now.stamps.items) (length opened.old.alternates.items) entries)
-        × IsTrue (P.state pages.new).is_sound) }
+        × IsTrue (P.shown.state pages.new).is_sound) }
     ensures rest { opened.new ≡ record opened.old { heap = opened.new.heap; prime = opened.new.prime; alternates = opened.new.alternates; path = None } }
     ensures shaped { IsShaped opened.new }
-    ensures cause { IfErr result (IsCaused (P.HasFailed pages.old pages.new) ⊥) }
-    ensures goes { P.Goes pages.old pages.new }
-    ensures asked { (P.state pages.new).asked ≤ (P.state pages.old).asked + 8 * ((prime_height opened.old.prime + 1) + levels_in opened.old.alternates.items) + 1 }
+    ensures writes { WritesPages P.shown (8 * ((prime_height opened.old.prime + 1) + levels_in opened.old.alternates.items) + 1) ⊥ pages.old pages.new result }
 {
     opened.path = None;
     remove_from_prime(opened, pages, bytes)?;
@@ -111,19 +110,17 @@ fn take_out<P: Pages>(
 
 /// Gives back the slot of a record.
 fn free_slot<P: Pages>(opened: &mut OpenFile, pages: &mut P, place: Place) -> Result<(), Fault>
-    requires ready { P.IsReady pages.old }
-    requires open { P.CanChange pages.old }
-    ensures freed { IsTrue (P.state pages.new).is_honest → IsTrue (P.state pages.old).is_sound
+    requires ready { P.shown.IsReady pages.old }
+    requires open { P.shown.CanChange pages.old }
+    ensures freed { IsTrue (P.shown.state pages.new).is_honest → IsTrue (P.shown.state pages.old).is_sound
         → (slots : Slots) (primes : List PrimeEntry) (entries : ℕ → List AltEntry)
-        → Parts opened.old.heap opened.old.prime opened.old.alternates.items (P.state pages.old).live slots primes entries
+        → Parts opened.old.heap opened.old.prime opened.old.alternates.items (P.shown.state pages.old).live slots primes entries
         → IsSome (slots place)
-        → IsAnswer result (λ u. Parts opened.new.heap opened.new.prime opened.new.alternates.items (P.state pages.new).live
-        (put slots place None) primes entries × IsTrue (P.state pages.new).is_sound) }
+        → IsAnswer result (λ u. Parts opened.new.heap opened.new.prime opened.new.alternates.items (P.shown.state pages.new).live
+        (put slots place None) primes entries × IsTrue (P.shown.state pages.new).is_sound) }
     ensures rest { opened.new ≡ record opened.old { heap = opened.new.heap } }
     ensures shape { opened.new.heap.shape ≡ opened.old.heap.shape }
-    ensures cause { IfErr result (IsCaused (P.HasFailed pages.old pages.new) ⊥) }
-    ensures asked { (P.state pages.new).asked ≤ (P.state pages.old).asked + 1 }
-    ensures goes { P.Goes pages.old pages.new }
+    ensures writes { WritesPages P.shown 1 ⊥ pages.old pages.new result }
 {
     opened.heap.free(pages, place)
 }
@@ -134,21 +131,19 @@ fn remove_from_prime<P: Pages>(
     pages: &mut P,
     bytes: &[u8],
 ) -> Result<(), Fault>
-    requires ready { P.IsReady pages.old }
-    requires open { P.CanChange pages.old }
+    requires ready { P.shown.IsReady pages.old }
+    requires open { P.shown.CanChange pages.old }
     requires shaped { IsShaped opened.old }
     requires least { opened.old.schema.least ≤ length bytes.now }
-    ensures removed { IsTrue (P.state pages.new).is_honest → IsTrue (P.state pages.old).is_sound
+    ensures removed { IsTrue (P.shown.state pages.new).is_honest → IsTrue (P.shown.state pages.old).is_sound
         → (slots : Slots) (primes : List PrimeEntry) (entries : ℕ → List AltEntry)
-        → Parts opened.old.heap opened.old.prime opened.old.alternates.items (P.state pages.old).live slots primes entries
+        → Parts opened.old.heap opened.old.prime opened.old.alternates.items (P.shown.state pages.old).live slots primes entries
         → IsSome (find (has_prime (prime_of opened.old.schema bytes.now)) primes)
-        → IsAnswer result (λ u. Parts opened.new.heap opened.new.prime opened.new.alternates.items (P.state pages.new).live slots
-        (without_prime (prime_of opened.old.schema bytes.now) primes) entries × IsTrue (P.state pages.new).is_sound) }
+        → IsAnswer result (λ u. Parts opened.new.heap opened.new.prime opened.new.alternates.items (P.shown.state pages.new).live slots
+        (without_prime (prime_of opened.old.schema bytes.now) primes) entries × IsTrue (P.shown.state pages.new).is_sound) }
     ensures rest { opened.new ≡ record opened.old { prime = opened.new.prime } }
     ensures width { opened.new.prime.width ≡ opened.old.prime.width }
-    ensures cause { IfErr result (IsCaused (P.HasFailed pages.old pages.new) ⊥) }
-    ensures asked { (P.state pages.new).asked ≤ (P.state pages.old).asked + 8 * (prime_height opened.old.prime + 1) }
-    ensures goes { P.Goes pages.old pages.new }
+    ensures writes { WritesPages P.shown (8 * (prime_height opened.old.prime + 1)) ⊥ pages.old pages.new result }
 {
     let value = opened.schema.value(bytes, 0);
     match opened.prime.remove(pages, value)? {
@@ -164,23 +159,21 @@ fn remove_from_alternates<P: Pages>(
     bytes: &[u8],
     stamps: &[u64],
 ) -> Result<(), Fault>
-    requires ready { P.IsReady pages.old }
-    requires open { P.CanChange pages.old }
+    requires ready { P.shown.IsReady pages.old }
+    requires open { P.shown.CanChange pages.old }
     requires shaped { IsShaped opened.old }
     requires least { opened.old.schema.least ≤ length bytes.now }
     requires stamps { length stamps.now ≡ length opened.old.alternates.items }
-    ensures removed { IsTrue (P.state pages.new).is_honest → IsTrue (P.state pages.old).is_sound
+    ensures removed { IsTrue (P.shown.state pages.new).is_honest → IsTrue (P.shown.state pages.old).is_sound
         → (slots : Slots) (primes : List PrimeEntry) (entries : ℕ → List AltEntry)
-        → Parts opened.old.heap opened.old.prime opened.old.alternates.items (P.state pages.old).live slots primes entries
+        → Parts opened.old.heap opened.old.prime opened.old.alternates.items (P.shown.state pages.old).live slots primes entries
         → AreThere opened.old.schema (row_with bytes.now stamps.now) (length opened.old.alternates.items) entries
-        → IsAnswer result (λ u. Parts opened.new.heap opened.new.prime opened.new.alternates.items (P.state pages.new).live slots primes
+        → IsAnswer result (λ u. Parts opened.new.heap opened.new.prime opened.new.alternates.items (P.shown.state pages.new).live slots primes
         (without_below opened.old.schema (row_with bytes.now stamps.now) (length opened.old.alternates.items) entries)
-        × IsTrue (P.state pages.new).is_sound) }
+        × IsTrue (P.shown.state pages.new).is_sound) }
     ensures rest { opened.new ≡ record opened.old { alternates = opened.new.alternates } }
     ensures shaped { IsShaped opened.new }
-    ensures cause { IfErr result (IsCaused (P.HasFailed pages.old pages.new) ⊥) }
-    ensures goes { P.Goes pages.old pages.new }
-    ensures asked { (P.state pages.new).asked ≤ (P.state pages.old).asked + 8 * levels_in opened.old.alternates.items }
+    ensures writes { WritesPages P.shown (8 * levels_in opened.old.alternates.items) ⊥ pages.old pages.new result }
 {
     for j in 0..opened.alternates.len() {
         remove_from_alternate(opened, pages, j, bytes, stamps[j])?;
@@ -196,31 +189,31 @@ pub(crate) fn remove_from_alternate<P: Pages>(
     bytes: &[u8],
     stamp: u64,
 ) -> Result<(), Fault>
-    requires ready { P.IsReady pages.old }
-    requires open { P.CanChange pages.old }
+    requires ready { P.shown.IsReady pages.old }
+    requires open { P.shown.CanChange pages.old }
     requires shaped { IsShaped opened.old }
     requires index { j < length opened.old.alternates.items }
     requires least { opened.old.schema.least ≤ length bytes.now }
-    ensures removed { IsTrue (P.state pages.new).is_honest → IsTrue (P.state pages.old).is_sound
+    ensures removed { IsTrue (P.shown.state pages.new).is_honest → IsTrue (P.shown.state pages.old).is_sound
         → (slots : Slots) (primes : List PrimeEntry) (entries : ℕ → List AltEntry)
-        → Parts opened.old.heap opened.old.prime opened.old.alternates.items (P.state pages.old).live slots primes entries
+        → Parts opened.old.heap opened.old.prime opened.old.alternates.items (P.shown.state pages.old).live slots primes entries
         → IsSome (find (has_rank (value_of opened.old.schema (j + 1) bytes.now) stamp) (entries j))
-        → IsAnswer result (λ u. Parts opened.new.heap opened.new.prime opened.new.alternates.items (P.state pages.new).live slots primes
+        → IsAnswer result (λ u. Parts opened.new.heap opened.new.prime opened.new.alternates.items (P.shown.state pages.new).live slots primes
         (but_at j (without_rank (value_of opened.old.schema (j + 1) bytes.now) stamp (entries j)) entries)
-        × IsTrue (P.state pages.new).is_sound) }
+        × IsTrue (P.shown.state pages.new).is_sound) }
     ensures rest { opened.new ≡ record opened.old { alternates = opened.new.alternates } }
     ensures shaped { IsShaped opened.new }
     ensures others { (i : ℕ) (index : AltIndex) → i ≢ j
         → slice_index_or opened.new.alternates.items i index ≡ slice_index_or opened.old.alternates.items i index }
     ensures later { drop (j + 1) opened.new.alternates.items ≡ drop (j + 1) opened.old.alternates.items }
     ensures many { length opened.new.alternates.items ≡ length opened.old.alternates.items }
-    ensures few { (P.state pages.old).available ≤ (P.state pages.new).available }
+    ensures few { (P.shown.state pages.old).available ≤ (P.shown.state pages.new).available }
     ensures height { OnOk result ((old new : AltIndex) → old ≡ slice_index_or opened.old.alternates.items j old
         → new ≡ slice_index_or opened.new.alternates.items j new → alt_height new ≤ alt_height old) }
-    ensures cause { IfErr result (IsCaused (P.HasFailed pages.old pages.new) ⊥) }
+    ensures cause { IfErr result (IsCaused (P.shown.HasFailed pages.old pages.new) ⊥) }
     ensures asked { (index : AltIndex) → index ≡ slice_index_or opened.old.alternates.items j index
-        → (P.state pages.new).asked ≤ (P.state pages.old).asked + 8 * (alt_height index + 1) }
-    ensures goes { P.Goes pages.old pages.new }
+        → (P.shown.state pages.new).asked ≤ (P.shown.state pages.old).asked + 8 * (alt_height index + 1) }
+    ensures goes { P.shown.Writes pages.old pages.new }
 {
     let value = opened.schema.value(bytes, j as u8 + 1);
     let mut index = opened.alternate(j + 1);

@@ -2,6 +2,7 @@
 
 ghost use Rattle.std.specs.Prelude.{◌≡◌, ◌+◌, ◌*◌, ◌<◌, ◌≤◌, [], find, length, Ok, Some, Option, option_map, IfSome, IsTrue, IfOk, IfErr, OnOk};
 ghost use Rattle.pages.specs.Cause.{IsCaused};
+ghost use Rattle.pages.specs.PageCalls.{ReadsPages};
 
 use crate::entry::{AltEntry, AltFirst};
 use crate::keys::{greatest_key, rank_key};
@@ -49,19 +50,19 @@ impl AltIndex {
         width: u16,
         prime: u16,
     ) -> Result<AltIndex, Fault>
-        requires ready { P.IsReady pages.old }
-        requires open { P.CanChange pages.old }
+        requires ready { P.shown.IsReady pages.old }
+        requires open { P.shown.CanChange pages.old }
         requires some { 1 ≤ width }
         requires narrow { width ≤ 250 }
         requires prime { prime ≤ 250 }
-        ensures made { IsTrue (P.state pages.new).is_honest → IsTrue (P.state pages.old).is_sound
-            → IsAnswer result (λ index. AltChanged (P.state pages.old).live (P.state pages.new).live index [] []
-            × IsTrue (P.state pages.new).is_sound) }
+        ensures made { IsTrue (P.shown.state pages.new).is_honest → IsTrue (P.shown.state pages.old).is_sound
+            → IsAnswer result (λ index. AltChanged (P.shown.state pages.old).live (P.shown.state pages.new).live index [] []
+            × IsTrue (P.shown.state pages.new).is_sound) }
         ensures width { IfOk result (λ index. (index.width ≡ width) × (index.prime ≡ prime) × (alt_height index ≡ 1) × (alt_key index ≡ key)) }
-        ensures spends { Spends (P.state pages.old) (P.state pages.new) 1 2 }
-        ensures one { OnOk result ((P.state pages.new).available + 1 ≡ (P.state pages.old).available) }
-        ensures cause { IfErr result (IsCaused (P.HasFailed pages.old pages.new) ((P.state pages.old).available < 1)) }
-        ensures goes { P.Goes pages.old pages.new }
+        ensures spends { Spends (P.shown.state pages.old) (P.shown.state pages.new) 1 2 }
+        ensures one { OnOk result ((P.shown.state pages.new).available + 1 ≡ (P.shown.state pages.old).available) }
+        ensures cause { IfErr result (IsCaused (P.shown.HasFailed pages.old pages.new) ((P.shown.state pages.old).available < 1)) }
+        ensures goes { P.shown.Writes pages.old pages.new }
     {
         let shape = Shape {
             key,
@@ -118,12 +119,10 @@ impl AltIndex {
         value: &[u8],
         stamp: u64,
     ) -> Result<Option<AltEntry>, Fault>
-        requires ready { P.IsReady pages.old }
-        ensures found { IsTrue (P.state pages.new).is_honest
-            → AltFinds self.now (P.state pages.old).live (find (has_rank value.now stamp)) result }
-        ensures cause { IfErr result (IsCaused (P.HasFailed pages.old pages.new) ⊥) }
-        ensures asked { (P.state pages.new).asked ≤ (P.state pages.old).asked + alt_height self.now }
-        ensures reads { P.Reads pages.old pages.new }
+        requires ready { P.shown.IsReady pages.old }
+        ensures found { IsTrue (P.shown.state pages.new).is_honest
+            → AltFinds self.now (P.shown.state pages.old).live (find (has_rank value.now stamp)) result }
+        ensures reads { ReadsPages P.shown (alt_height self.now) pages.old pages.new result }
     {
         if value.len() != usize::from(self.width) {
             return Ok(None);
@@ -139,12 +138,10 @@ impl AltIndex {
         pages: &mut P,
         value: &[u8],
     ) -> Result<Option<AltEntry>, Fault>
-        requires ready { P.IsReady pages.old }
-        ensures found { IsTrue (P.state pages.new).is_honest
-            → AltFinds self.now (P.state pages.old).live (find (from_value value.now)) result }
-        ensures cause { IfErr result (IsCaused (P.HasFailed pages.old pages.new) ⊥) }
-        ensures asked { (P.state pages.new).asked ≤ (P.state pages.old).asked + 2 * alt_height self.now }
-        ensures reads { P.Reads pages.old pages.new }
+        requires ready { P.shown.IsReady pages.old }
+        ensures found { IsTrue (P.shown.state pages.new).is_honest
+            → AltFinds self.now (P.shown.state pages.old).live (find (from_value value.now)) result }
+        ensures reads { ReadsPages P.shown (2 * alt_height self.now) pages.old pages.new result }
     {
         if value.len() > usize::from(self.width) {
             return self.first_past(pages, value);
@@ -157,11 +154,9 @@ impl AltIndex {
     ///
     /// It asks one page a level, and more only where a leaf ends between two entries of the value or in front of its first entry; never more than twice the height.
     pub fn first_of<P: Pages>(&self, pages: &mut P, value: &[u8]) -> Result<Option<AltFirst>, Fault>
-        requires ready { P.IsReady pages.old }
-        ensures found { IsTrue (P.state pages.new).is_honest → AltFindsFirst self.now (P.state pages.old).live value.now result }
-        ensures cause { IfErr result (IsCaused (P.HasFailed pages.old pages.new) ⊥) }
-        ensures asked { (P.state pages.new).asked ≤ (P.state pages.old).asked + 2 * alt_height self.now }
-        ensures reads { P.Reads pages.old pages.new }
+        requires ready { P.shown.IsReady pages.old }
+        ensures found { IsTrue (P.shown.state pages.new).is_honest → AltFindsFirst self.now (P.shown.state pages.old).live value.now result }
+        ensures reads { ReadsPages P.shown (2 * alt_height self.now) pages.old pages.new result }
     {
         if value.len() != usize::from(self.width) {
             return Ok(None);
@@ -184,12 +179,10 @@ impl AltIndex {
         value: &[u8],
         stamp: u64,
     ) -> Result<Option<AltEntry>, Fault>
-        requires ready { P.IsReady pages.old }
-        ensures found { IsTrue (P.state pages.new).is_honest
-            → AltFinds self.now (P.state pages.old).live (find (after_rank value.now stamp)) result }
-        ensures cause { IfErr result (IsCaused (P.HasFailed pages.old pages.new) ⊥) }
-        ensures asked { (P.state pages.new).asked ≤ (P.state pages.old).asked + 2 * alt_height self.now }
-        ensures reads { P.Reads pages.old pages.new }
+        requires ready { P.shown.IsReady pages.old }
+        ensures found { IsTrue (P.shown.state pages.new).is_honest
+            → AltFinds self.now (P.shown.state pages.old).live (find (after_rank value.now stamp)) result }
+        ensures reads { ReadsPages P.shown (2 * alt_height self.now) pages.old pages.new result }
     {
         let width = usize::from(self.width);
         if value.len() > width {
@@ -209,12 +202,10 @@ impl AltIndex {
         pages: &mut P,
         value: &[u8],
     ) -> Result<Option<AltEntry>, Fault>
-        requires ready { P.IsReady pages.old }
-        ensures found { IsTrue (P.state pages.new).is_honest
-            → AltFinds self.now (P.state pages.old).live (find (past_value value.now)) result }
-        ensures cause { IfErr result (IsCaused (P.HasFailed pages.old pages.new) ⊥) }
-        ensures asked { (P.state pages.new).asked ≤ (P.state pages.old).asked + 2 * alt_height self.now }
-        ensures reads { P.Reads pages.old pages.new }
+        requires ready { P.shown.IsReady pages.old }
+        ensures found { IsTrue (P.shown.state pages.new).is_honest
+            → AltFinds self.now (P.shown.state pages.old).live (find (past_value value.now)) result }
+        ensures reads { ReadsPages P.shown (2 * alt_height self.now) pages.old pages.new result }
     {
         let width = usize::from(self.width);
         let key = greatest_key(value, width, width + 8);
@@ -224,12 +215,10 @@ impl AltIndex {
 
     /// The entry of the greatest value, and of these the greatest stamp.
     pub fn last<P: Pages>(&self, pages: &mut P) -> Result<Option<AltEntry>, Fault>
-        requires ready { P.IsReady pages.old }
-        ensures found { IsTrue (P.state pages.new).is_honest
-            → AltFinds self.now (P.state pages.old).live last_of result }
-        ensures cause { IfErr result (IsCaused (P.HasFailed pages.old pages.new) ⊥) }
-        ensures asked { (P.state pages.new).asked ≤ (P.state pages.old).asked + alt_height self.now }
-        ensures reads { P.Reads pages.old pages.new }
+        requires ready { P.shown.IsReady pages.old }
+        ensures found { IsTrue (P.shown.state pages.new).is_honest
+            → AltFinds self.now (P.shown.state pages.old).live last_of result }
+        ensures reads { ReadsPages P.shown (alt_height self.now) pages.old pages.new result }
     {
         let found = self.tree.last(pages)?;
         self.told(found)
@@ -244,18 +233,18 @@ impl AltIndex {
         stamp: u64,
         prime: &[u8],
     ) -> Result<bool, Fault>
-        requires ready { P.IsReady pages.old }
-        requires open { P.CanChange pages.old }
+        requires ready { P.shown.IsReady pages.old }
+        requires open { P.shown.CanChange pages.old }
         requires value { length value.now ≡ self.old.width }
         requires prime { length prime.now ≡ self.old.prime }
-        ensures added { IsTrue (P.state pages.new).is_honest → IsTrue (P.state pages.old).is_sound
-            → AltAdds (P.state pages.old).live (P.state pages.new).live (IsTrue (P.state pages.new).is_sound) self.old self.new
+        ensures added { IsTrue (P.shown.state pages.new).is_honest → IsTrue (P.shown.state pages.old).is_sound
+            → AltAdds (P.shown.state pages.old).live (P.shown.state pages.new).live (IsTrue (P.shown.state pages.new).is_sound) self.old self.new
             (record { value = record { items = value.now }; stamp = stamp; prime = record { items = prime.now } }) result }
         ensures deep { IsPastAll self.old.tree → FindsDamage self.old self.new pages.old pages.new result }
         ensures grows { AltGrows self.old self.new 1 }
-        ensures spends { Spends (P.state pages.old) (P.state pages.new) (alt_height self.old + 1) (8 * (alt_height self.old + 1)) }
-        ensures cause { IfErr result (IsCaused (P.HasFailed pages.old pages.new) ((P.state pages.old).available < alt_height self.old + 1)) }
-        ensures goes { P.Goes pages.old pages.new }
+        ensures spends { Spends (P.shown.state pages.old) (P.shown.state pages.new) (alt_height self.old + 1) (8 * (alt_height self.old + 1)) }
+        ensures cause { IfErr result (IsCaused (P.shown.HasFailed pages.old pages.new) ((P.shown.state pages.old).available < alt_height self.old + 1)) }
+        ensures goes { P.shown.Writes pages.old pages.new }
     {
         let entry = AltEntry::bytes(value, stamp, prime);
         let mut tree = self.tree;
@@ -276,14 +265,14 @@ impl AltIndex {
         value: &[u8],
         stamp: u64,
     ) -> Result<bool, Fault>
-        requires ready { P.IsReady pages.old }
-        requires open { P.CanChange pages.old }
-        ensures removed { IsTrue (P.state pages.new).is_honest → IsTrue (P.state pages.old).is_sound
-            → AltRemoves (P.state pages.old).live (P.state pages.new).live (IsTrue (P.state pages.new).is_sound) self.old self.new value.now stamp result }
+        requires ready { P.shown.IsReady pages.old }
+        requires open { P.shown.CanChange pages.old }
+        ensures removed { IsTrue (P.shown.state pages.new).is_honest → IsTrue (P.shown.state pages.old).is_sound
+            → AltRemoves (P.shown.state pages.old).live (P.shown.state pages.new).live (IsTrue (P.shown.state pages.new).is_sound) self.old self.new value.now stamp result }
         ensures grows { AltGrows self.old self.new 0 }
-        ensures spends { Spends (P.state pages.old) (P.state pages.new) 0 (8 * (alt_height self.old + 1)) }
-        ensures cause { IfErr result (IsCaused (P.HasFailed pages.old pages.new) ⊥) }
-        ensures goes { P.Goes pages.old pages.new }
+        ensures spends { Spends (P.shown.state pages.old) (P.shown.state pages.new) 0 (8 * (alt_height self.old + 1)) }
+        ensures cause { IfErr result (IsCaused (P.shown.HasFailed pages.old pages.new) ⊥) }
+        ensures goes { P.shown.Writes pages.old pages.new }
     {
         if value.len() != usize::from(self.width) {
             return Ok(false);

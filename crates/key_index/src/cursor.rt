@@ -1,9 +1,9 @@
 //! A place among the entries of an index that is kept from one call to the next.
 
-ghost use Rattle.std.specs.Prelude.{◌≡◌, ◌+◌, ◌*◌, ◌≤◌, ◌↔◌, ◌++◌, ℕ, List, length, IsTrue, IfErr};
+ghost use Rattle.std.specs.Prelude.{◌≡◌, ◌+◌, ◌*◌, ◌≤◌, ◌↔◌, ◌++◌, ℕ, List, length, IsTrue};
 ghost use Rattle.byteorder.specs.Endian.{big_bytes};
 ghost use Rattle.pages.specs.PageMap.{PageMap};
-ghost use Rattle.pages.specs.Cause.{IsCaused};
+ghost use Rattle.pages.specs.PageCalls.{ReadsPages};
 
 use crate::alt_index::AltIndex;
 use crate::entry::{AltEntry, PrimeEntry};
@@ -59,12 +59,10 @@ impl PrimeCursor {
         index: &PrimeIndex,
         pages: &mut P,
     ) -> Result<Option<PrimeEntry>, Fault>
-        requires ready { P.IsReady pages.old }
-        ensures moved { IsTrue (P.state pages.new).is_honest
-            → PrimeMoves self.old self.new index.now (P.state pages.old).live result }
-        ensures cause { IfErr result (IsCaused (P.HasFailed pages.old pages.new) ⊥) }
-        ensures asked { (P.state pages.new).asked ≤ (P.state pages.old).asked + 2 * prime_height index.now }
-        ensures reads { P.Reads pages.old pages.new }
+        requires ready { P.shown.IsReady pages.old }
+        ensures moved { IsTrue (P.shown.state pages.new).is_honest
+            → PrimeMoves self.old self.new index.now (P.shown.state pages.old).live result }
+        ensures reads { ReadsPages P.shown (2 * prime_height index.now) pages.old pages.new result }
     {
         let found = self.cursor.next(&index.tree, pages)?;
         index.told(found)
@@ -108,12 +106,10 @@ impl AltCursor {
         index: &AltIndex,
         pages: &mut P,
     ) -> Result<Option<AltEntry>, Fault>
-        requires ready { P.IsReady pages.old }
-        ensures moved { IsTrue (P.state pages.new).is_honest
-            → AltMoves self.old self.new index.now (P.state pages.old).live result }
-        ensures cause { IfErr result (IsCaused (P.HasFailed pages.old pages.new) ⊥) }
-        ensures asked { (P.state pages.new).asked ≤ (P.state pages.old).asked + 2 * alt_height index.now }
-        ensures reads { P.Reads pages.old pages.new }
+        requires ready { P.shown.IsReady pages.old }
+        ensures moved { IsTrue (P.shown.state pages.new).is_honest
+            → AltMoves self.old self.new index.now (P.shown.state pages.old).live result }
+        ensures reads { ReadsPages P.shown (2 * alt_height index.now) pages.old pages.new result }
     {
         let found = self.cursor.next(&index.tree, pages)?;
         index.told(found)
@@ -122,12 +118,10 @@ impl AltCursor {
     /// Whether the next entry has the value that the cursor stands behind. The cursor stays where it is. While the index has not changed it asks for
     /// one page mostly.
     pub fn is_followed<P: Pages>(&self, index: &AltIndex, pages: &mut P) -> Result<bool, Fault>
-        requires ready { P.IsReady pages.old }
-        ensures told { IsTrue (P.state pages.new).is_honest
-            → AltTellsNext self.now index.now (P.state pages.old).live result }
-        ensures cause { IfErr result (IsCaused (P.HasFailed pages.old pages.new) ⊥) }
-        ensures asked { (P.state pages.new).asked ≤ (P.state pages.old).asked + 2 * alt_height index.now }
-        ensures reads { P.Reads pages.old pages.new }
+        requires ready { P.shown.IsReady pages.old }
+        ensures told { IsTrue (P.shown.state pages.new).is_honest
+            → AltTellsNext self.now index.now (P.shown.state pages.old).live result }
+        ensures reads { ReadsPages P.shown (2 * alt_height index.now) pages.old pages.new result }
     {
         let key = self.cursor.key.as_slice();
         let value = &key[..usize::from(index.width).min(key.len())];

@@ -2,6 +2,7 @@
 
 ghost use Rattle.std.specs.Prelude.{◌≡◌, ◌+◌, ◌*◌, ◌<◌, ◌≤◌, [], find, length, Ok, Option, option_map, IfSome, IsTrue, IfOk, IfErr, OnOk};
 ghost use Rattle.pages.specs.Cause.{IsCaused};
+ghost use Rattle.pages.specs.PageCalls.{ReadsPages};
 
 use crate::entry::{PrimeEntry, place_in};
 use crate::keys::greatest_key;
@@ -35,18 +36,18 @@ impl PrimeIndex {
 
     /// An index without entries for values of `width` bytes. One page is taken for its root, which may be answered Full.
     pub fn empty<P: Pages>(pages: &mut P, width: u16) -> Result<PrimeIndex, Fault>
-        requires ready { P.IsReady pages.old }
-        requires open { P.CanChange pages.old }
+        requires ready { P.shown.IsReady pages.old }
+        requires open { P.shown.CanChange pages.old }
         requires some { 1 ≤ width }
         requires narrow { width ≤ 250 }
-        ensures made { IsTrue (P.state pages.new).is_honest → IsTrue (P.state pages.old).is_sound
-            → IsAnswer result (λ index. PrimeChanged (P.state pages.old).live (P.state pages.new).live index [] []
-            × IsTrue (P.state pages.new).is_sound) }
+        ensures made { IsTrue (P.shown.state pages.new).is_honest → IsTrue (P.shown.state pages.old).is_sound
+            → IsAnswer result (λ index. PrimeChanged (P.shown.state pages.old).live (P.shown.state pages.new).live index [] []
+            × IsTrue (P.shown.state pages.new).is_sound) }
         ensures width { IfOk result (λ index. (index.width ≡ width) × (prime_height index ≡ 1)) }
-        ensures spends { Spends (P.state pages.old) (P.state pages.new) 1 2 }
-        ensures one { OnOk result ((P.state pages.new).available + 1 ≡ (P.state pages.old).available) }
-        ensures cause { IfErr result (IsCaused (P.HasFailed pages.old pages.new) ((P.state pages.old).available < 1)) }
-        ensures goes { P.Goes pages.old pages.new }
+        ensures spends { Spends (P.shown.state pages.old) (P.shown.state pages.new) 1 2 }
+        ensures one { OnOk result ((P.shown.state pages.new).available + 1 ≡ (P.shown.state pages.old).available) }
+        ensures cause { IfErr result (IsCaused (P.shown.HasFailed pages.old pages.new) ((P.shown.state pages.old).available < 1)) }
+        ensures goes { P.shown.Writes pages.old pages.new }
     {
         let shape = Shape {
             key: 0,
@@ -96,12 +97,10 @@ impl PrimeIndex {
 
     /// The entry of a value of any length.
     pub fn find<P: Pages>(&self, pages: &mut P, value: &[u8]) -> Result<Option<PrimeEntry>, Fault>
-        requires ready { P.IsReady pages.old }
-        ensures found { IsTrue (P.state pages.new).is_honest
-            → PrimeFinds self.now (P.state pages.old).live (find (has_prime value.now)) result }
-        ensures cause { IfErr result (IsCaused (P.HasFailed pages.old pages.new) ⊥) }
-        ensures asked { (P.state pages.new).asked ≤ (P.state pages.old).asked + prime_height self.now }
-        ensures reads { P.Reads pages.old pages.new }
+        requires ready { P.shown.IsReady pages.old }
+        ensures found { IsTrue (P.shown.state pages.new).is_honest
+            → PrimeFinds self.now (P.shown.state pages.old).live (find (has_prime value.now)) result }
+        ensures reads { ReadsPages P.shown (prime_height self.now) pages.old pages.new result }
     {
         let found = self.tree.find(pages, value)?;
         self.told(found)
@@ -109,12 +108,10 @@ impl PrimeIndex {
 
     /// The place of the record of a value of any length, read from the leaf.
     pub fn place_of<P: Pages>(&self, pages: &mut P, value: &[u8]) -> Result<Option<Place>, Fault>
-        requires ready { P.IsReady pages.old }
-        ensures found { IsTrue (P.state pages.new).is_honest
-            → PrimeFindsPlace self.now (P.state pages.old).live value.now result }
-        ensures cause { IfErr result (IsCaused (P.HasFailed pages.old pages.new) ⊥) }
-        ensures asked { (P.state pages.new).asked ≤ (P.state pages.old).asked + prime_height self.now }
-        ensures reads { P.Reads pages.old pages.new }
+        requires ready { P.shown.IsReady pages.old }
+        ensures found { IsTrue (P.shown.state pages.new).is_honest
+            → PrimeFindsPlace self.now (P.shown.state pages.old).live value.now result }
+        ensures reads { ReadsPages P.shown (prime_height self.now) pages.old pages.new result }
     {
         let mut place = [0; 6];
         if self.tree.find_tail(pages, value, &mut place)? {
@@ -125,12 +122,10 @@ impl PrimeIndex {
 
     /// Whether a value of any length is there.
     pub fn has<P: Pages>(&self, pages: &mut P, value: &[u8]) -> Result<bool, Fault>
-        requires ready { P.IsReady pages.old }
-        ensures told { IsTrue (P.state pages.new).is_honest
-            → PrimeTells self.now (P.state pages.old).live value.now result }
-        ensures cause { IfErr result (IsCaused (P.HasFailed pages.old pages.new) ⊥) }
-        ensures asked { (P.state pages.new).asked ≤ (P.state pages.old).asked + prime_height self.now }
-        ensures reads { P.Reads pages.old pages.new }
+        requires ready { P.shown.IsReady pages.old }
+        ensures told { IsTrue (P.shown.state pages.new).is_honest
+            → PrimeTells self.now (P.shown.state pages.old).live value.now result }
+        ensures reads { ReadsPages P.shown (prime_height self.now) pages.old pages.new result }
     {
         self.tree.has(pages, value)
     }
@@ -141,12 +136,10 @@ impl PrimeIndex {
         pages: &mut P,
         value: &[u8],
     ) -> Result<Option<PrimeEntry>, Fault>
-        requires ready { P.IsReady pages.old }
-        ensures found { IsTrue (P.state pages.new).is_honest
-            → PrimeFinds self.now (P.state pages.old).live (find (from_prime value.now)) result }
-        ensures cause { IfErr result (IsCaused (P.HasFailed pages.old pages.new) ⊥) }
-        ensures asked { (P.state pages.new).asked ≤ (P.state pages.old).asked + 2 * prime_height self.now }
-        ensures reads { P.Reads pages.old pages.new }
+        requires ready { P.shown.IsReady pages.old }
+        ensures found { IsTrue (P.shown.state pages.new).is_honest
+            → PrimeFinds self.now (P.shown.state pages.old).live (find (from_prime value.now)) result }
+        ensures reads { ReadsPages P.shown (2 * prime_height self.now) pages.old pages.new result }
     {
         let found = self.tree.at_or_after(pages, value)?;
         self.told(found)
@@ -158,12 +151,10 @@ impl PrimeIndex {
         pages: &mut P,
         value: &[u8],
     ) -> Result<Option<PrimeEntry>, Fault>
-        requires ready { P.IsReady pages.old }
-        ensures found { IsTrue (P.state pages.new).is_honest
-            → PrimeFinds self.now (P.state pages.old).live (find (after_prime value.now)) result }
-        ensures cause { IfErr result (IsCaused (P.HasFailed pages.old pages.new) ⊥) }
-        ensures asked { (P.state pages.new).asked ≤ (P.state pages.old).asked + 2 * prime_height self.now }
-        ensures reads { P.Reads pages.old pages.new }
+        requires ready { P.shown.IsReady pages.old }
+        ensures found { IsTrue (P.shown.state pages.new).is_honest
+            → PrimeFinds self.now (P.shown.state pages.old).live (find (after_prime value.now)) result }
+        ensures reads { ReadsPages P.shown (2 * prime_height self.now) pages.old pages.new result }
     {
         let found = self.tree.after(pages, value)?;
         self.told(found)
@@ -175,12 +166,10 @@ impl PrimeIndex {
         pages: &mut P,
         value: &[u8],
     ) -> Result<Option<PrimeEntry>, Fault>
-        requires ready { P.IsReady pages.old }
-        ensures found { IsTrue (P.state pages.new).is_honest
-            → PrimeFinds self.now (P.state pages.old).live (find (past_prime value.now)) result }
-        ensures cause { IfErr result (IsCaused (P.HasFailed pages.old pages.new) ⊥) }
-        ensures asked { (P.state pages.new).asked ≤ (P.state pages.old).asked + 2 * prime_height self.now }
-        ensures reads { P.Reads pages.old pages.new }
+        requires ready { P.shown.IsReady pages.old }
+        ensures found { IsTrue (P.shown.state pages.new).is_honest
+            → PrimeFinds self.now (P.shown.state pages.old).live (find (past_prime value.now)) result }
+        ensures reads { ReadsPages P.shown (2 * prime_height self.now) pages.old pages.new result }
     {
         let width = usize::from(self.width);
         let key = greatest_key(value, width, width);
@@ -190,12 +179,10 @@ impl PrimeIndex {
 
     /// The entry of the greatest value.
     pub fn last<P: Pages>(&self, pages: &mut P) -> Result<Option<PrimeEntry>, Fault>
-        requires ready { P.IsReady pages.old }
-        ensures found { IsTrue (P.state pages.new).is_honest
-            → PrimeFinds self.now (P.state pages.old).live last_of result }
-        ensures cause { IfErr result (IsCaused (P.HasFailed pages.old pages.new) ⊥) }
-        ensures asked { (P.state pages.new).asked ≤ (P.state pages.old).asked + prime_height self.now }
-        ensures reads { P.Reads pages.old pages.new }
+        requires ready { P.shown.IsReady pages.old }
+        ensures found { IsTrue (P.shown.state pages.new).is_honest
+            → PrimeFinds self.now (P.shown.state pages.old).live last_of result }
+        ensures reads { ReadsPages P.shown (prime_height self.now) pages.old pages.new result }
     {
         let found = self.tree.last(pages)?;
         self.told(found)
@@ -209,17 +196,17 @@ impl PrimeIndex {
         value: &[u8],
         place: Place,
     ) -> Result<bool, Fault>
-        requires ready { P.IsReady pages.old }
-        requires open { P.CanChange pages.old }
+        requires ready { P.shown.IsReady pages.old }
+        requires open { P.shown.CanChange pages.old }
         requires value { length value.now ≡ self.old.width }
-        ensures added { IsTrue (P.state pages.new).is_honest → IsTrue (P.state pages.old).is_sound
-            → PrimeAdds (P.state pages.old).live (P.state pages.new).live (IsTrue (P.state pages.new).is_sound) self.old self.new
+        ensures added { IsTrue (P.shown.state pages.new).is_honest → IsTrue (P.shown.state pages.old).is_sound
+            → PrimeAdds (P.shown.state pages.old).live (P.shown.state pages.new).live (IsTrue (P.shown.state pages.new).is_sound) self.old self.new
             (record { value = record { items = value.now }; place = place }) result }
         ensures deep { IsPastAll self.old.tree → FindsDamage self.old self.new pages.old pages.new result }
         ensures grows { PrimeGrows self.old self.new 1 }
-        ensures spends { Spends (P.state pages.old) (P.state pages.new) (prime_height self.old + 1) (8 * (prime_height self.old + 1)) }
-        ensures cause { IfErr result (IsCaused (P.HasFailed pages.old pages.new) ((P.state pages.old).available < prime_height self.old + 1)) }
-        ensures goes { P.Goes pages.old pages.new }
+        ensures spends { Spends (P.shown.state pages.old) (P.shown.state pages.new) (prime_height self.old + 1) (8 * (prime_height self.old + 1)) }
+        ensures cause { IfErr result (IsCaused (P.shown.HasFailed pages.old pages.new) ((P.shown.state pages.old).available < prime_height self.old + 1)) }
+        ensures goes { P.shown.Writes pages.old pages.new }
     {
         let entry = PrimeEntry::bytes(value, place);
         let mut tree = self.tree;
@@ -235,14 +222,14 @@ impl PrimeIndex {
     /// Takes out the entry of a value, and answers whether it was there; where it was not, nothing is changed. No page is taken.
     /// After a fault nothing is said of the index.
     pub fn remove<P: Pages>(&mut self, pages: &mut P, value: &[u8]) -> Result<bool, Fault>
-        requires ready { P.IsReady pages.old }
-        requires open { P.CanChange pages.old }
-        ensures removed { IsTrue (P.state pages.new).is_honest → IsTrue (P.state pages.old).is_sound
-            → PrimeRemoves (P.state pages.old).live (P.state pages.new).live (IsTrue (P.state pages.new).is_sound) self.old self.new value.now result }
+        requires ready { P.shown.IsReady pages.old }
+        requires open { P.shown.CanChange pages.old }
+        ensures removed { IsTrue (P.shown.state pages.new).is_honest → IsTrue (P.shown.state pages.old).is_sound
+            → PrimeRemoves (P.shown.state pages.old).live (P.shown.state pages.new).live (IsTrue (P.shown.state pages.new).is_sound) self.old self.new value.now result }
         ensures grows { PrimeGrows self.old self.new 0 }
-        ensures spends { Spends (P.state pages.old) (P.state pages.new) 0 (8 * (prime_height self.old + 1)) }
-        ensures cause { IfErr result (IsCaused (P.HasFailed pages.old pages.new) ⊥) }
-        ensures goes { P.Goes pages.old pages.new }
+        ensures spends { Spends (P.shown.state pages.old) (P.shown.state pages.new) 0 (8 * (prime_height self.old + 1)) }
+        ensures cause { IfErr result (IsCaused (P.shown.HasFailed pages.old pages.new) ⊥) }
+        ensures goes { P.shown.Writes pages.old pages.new }
     {
         let mut tree = self.tree;
         match tree.remove(pages, value)? {

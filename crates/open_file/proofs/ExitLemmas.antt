@@ -22,17 +22,7 @@ fails_reading r fault was sound answer old new row =
     let p = err_from_is_err_and r was in
     rw (p.1, p.2) (record { answered = record { answer = tt; no_damage = sound }; area = tt })
 
--- its cause is that of an earlier state too
-pub caused_since : (failed since lacks short : Type 0) → (failed → since) → (lacks → short) → (fault : Fault) → IsCaused failed lacks fault → IsCaused since short fault
-caused_since failed since lacks short f g fault is = record { device = λ e. f (is.device e); full = λ e. g (is.full e); not_broken = is.not_broken }
-
-pub fails_since : {X : Type 0} (r : Result X Fault) (fault : Fault) (failed since lacks short : Type 0) → IsErrAnd r (λ e. e ≡ fault) → (failed → since) → (lacks → short)
-    → IsCaused failed lacks fault → IfErr r (IsCaused since short)
-fails_since r fault failed since lacks short was f g is =
-    let p = err_from_is_err_and r was in
-    rw (p.1, p.2) (caused_since failed since lacks short f g fault is)
-
--- and the cause of a fault of a file that was not broken
+-- the cause of a fault of a file that was not broken
 pub caused_in : {X : Type 0} (r : Result X Fault) (broken : Bool) (failed lacks : Type 0) → IfErr r (IsCaused failed lacks) → IfErr r (IsCausedIn broken failed lacks)
 caused_in (Ok x) broken failed lacks is = tt
 caused_in (Err e) broken failed lacks is = record { device = is.device; full = is.full; broken = λ b. absurd (is.not_broken b) }

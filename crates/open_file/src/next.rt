@@ -4,7 +4,7 @@ ghost use Rattle.std.specs.Prelude.{◌≡◌, ◌+◌, ◌≤◌, ◌<◌, leng
 ghost use Rattle.indexed_file.specs.File.{File};
 ghost use Rattle.indexed_file.specs.Rank.{admits};
 ghost use Rattle.indexed_file.specs.Room.{most_to_read};
-ghost use Rattle.pages.specs.Cause.{IsCaused};
+ghost use Rattle.pages.specs.PageCalls.{ReadsPages};
 ghost use Rattle.open_file.specs.Stands.{Stands, IsShaped, room_of};
 ghost use Rattle.open_file.specs.Faults.{IsCausedIn};
 ghost use Rattle.open_file.specs.Reading.{Delivers};
@@ -28,21 +28,21 @@ impl OpenFile {
         position: &Position,
         area: &mut [u8],
     ) -> Result<Option<Found>, Fault>
-        requires ready { P.IsReady pages.old }
+        requires ready { P.shown.IsReady pages.old }
         requires shaped { IsShaped self.old }
         requires key { k < length self.old.schema.keys }
         requires area { length area.old ≡ self.old.schema.greatest }
-        ensures found { IsTrue (P.state pages.new).is_honest
-            → Delivers self.old (P.state pages.old).live k (admits self.old.schema k position.now) area.old area.new result }
-        ensures stands { IsTrue (P.state pages.new).is_honest → (file : File) → Stands self.old (P.state pages.old).live file
-            → Stands self.new (P.state pages.old).live file }
+        ensures found { IsTrue (P.shown.state pages.new).is_honest
+            → Delivers self.old (P.shown.state pages.old).live k (admits self.old.schema k position.now) area.old area.new result }
+        ensures stands { IsTrue (P.shown.state pages.new).is_honest → (file : File) → Stands self.old (P.shown.state pages.old).live file
+            → Stands self.new (P.shown.state pages.old).live file }
         ensures rest { self.new ≡ record self.old { path = self.new.path } }
         ensures none { result ≡ Ok None → area.new ≡ area.old }
         ensures kept { OnErr result (area.new ≡ area.old) }
         ensures broken { IsTrue self.old.broken → result ≡ Err Fault.Broken }
-        ensures cause { IfErr result (IsCausedIn self.old.broken (P.HasFailed pages.old pages.new) ⊥) }
-        ensures asked { (P.state pages.new).asked ≤ (P.state pages.old).asked + most_to_read (room_of self.old (P.state pages.old).available) k }
-        ensures reads { P.Reads pages.old pages.new }
+        ensures cause { IfErr result (IsCausedIn self.old.broken (P.shown.HasFailed pages.old pages.new) ⊥) }
+        ensures asked { (P.shown.state pages.new).asked ≤ (P.shown.state pages.old).asked + most_to_read (room_of self.old (P.shown.state pages.old).available) k }
+        ensures reads { P.shown.Reads pages.old pages.new }
     {
         if self.broken {
             return Err(Fault::Broken);
@@ -60,18 +60,16 @@ impl OpenFile {
         position: &Position,
         area: &mut [u8],
     ) -> Result<Option<Found>, Fault>
-        requires ready { P.IsReady pages.old }
+        requires ready { P.shown.IsReady pages.old }
         requires shaped { IsShaped self.old }
         requires area { length area.old ≡ self.old.schema.greatest }
-        ensures found { IsTrue (P.state pages.new).is_honest
-            → Delivers self.old (P.state pages.old).live 0 (admits self.old.schema 0 position.now) area.old area.new result }
-        ensures stands { IsTrue (P.state pages.new).is_honest → StandsStill self.old self.new (P.state pages.old).live }
+        ensures found { IsTrue (P.shown.state pages.new).is_honest
+            → Delivers self.old (P.shown.state pages.old).live 0 (admits self.old.schema 0 position.now) area.old area.new result }
+        ensures stands { IsTrue (P.shown.state pages.new).is_honest → StandsStill self.old self.new (P.shown.state pages.old).live }
         ensures rest { self.new ≡ record self.old { path = self.new.path } }
         ensures none { result ≡ Ok None → area.new ≡ area.old }
         ensures kept { OnErr result (area.new ≡ area.old) }
-        ensures cause { IfErr result (IsCaused (P.HasFailed pages.old pages.new) ⊥) }
-        ensures asked { (P.state pages.new).asked ≤ (P.state pages.old).asked + most_to_read (room_of self.old (P.state pages.old).available) 0 }
-        ensures reads { P.Reads pages.old pages.new }
+        ensures reads { ReadsPages P.shown (most_to_read (room_of self.old (P.shown.state pages.old).available) 0) pages.old pages.new result }
     {
         let Some(PrimeEntry { value, place }) = self.step_in_prime(pages, position)? else {
             return Ok(None);
@@ -93,20 +91,18 @@ impl OpenFile {
         position: &Position,
         area: &mut [u8],
     ) -> Result<Option<Found>, Fault>
-        requires ready { P.IsReady pages.old }
+        requires ready { P.shown.IsReady pages.old }
         requires shaped { IsShaped self.old }
         requires some { 1 ≤ k }
         requires within { k ≤ length self.old.alternates.items }
         requires area { length area.old ≡ self.old.schema.greatest }
-        ensures found { IsTrue (P.state pages.new).is_honest
-            → Delivers self.old (P.state pages.old).live k (admits self.old.schema k position.now) area.old area.new result }
-        ensures stands { IsTrue (P.state pages.new).is_honest → StandsStill self.old self.new (P.state pages.old).live }
+        ensures found { IsTrue (P.shown.state pages.new).is_honest
+            → Delivers self.old (P.shown.state pages.old).live k (admits self.old.schema k position.now) area.old area.new result }
+        ensures stands { IsTrue (P.shown.state pages.new).is_honest → StandsStill self.old self.new (P.shown.state pages.old).live }
         ensures rest { self.new ≡ record self.old { path = self.new.path } }
         ensures none { result ≡ Ok None → area.new ≡ area.old }
         ensures kept { OnErr result (area.new ≡ area.old) }
-        ensures cause { IfErr result (IsCaused (P.HasFailed pages.old pages.new) ⊥) }
-        ensures asked { (P.state pages.new).asked ≤ (P.state pages.old).asked + most_to_read (room_of self.old (P.state pages.old).available) k }
-        ensures reads { P.Reads pages.old pages.new }
+        ensures reads { ReadsPages P.shown (most_to_read (room_of self.old (P.shown.state pages.old).available) k) pages.old pages.new result }
     {
         let index = self.alternate(k);
         let Some(entry) = self.step_in_alternate(pages, k, index, position)? else {

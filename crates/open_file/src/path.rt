@@ -1,10 +1,10 @@
 //! The path of READ NEXT through an index.
 
-ghost use Rattle.std.specs.Prelude.{◌≡◌, ◌+◌, ◌-◌, ◌*◌, ◌≤◌, ◌++◌, ℕ, List, length, None, Some, IfSome, IsTrue, IsFalse, IfErr, slice_index_or};
+ghost use Rattle.std.specs.Prelude.{◌≡◌, ◌+◌, ◌-◌, ◌*◌, ◌≤◌, ◌++◌, ℕ, List, length, None, Some, IfSome, IsTrue, IsFalse, slice_index_or};
 ghost use Rattle.record_layout.specs.Schema.{key_at};
 ghost use Rattle.byteorder.specs.Endian.{big_bytes};
 ghost use Rattle.pages.specs.PageMap.{PageMap};
-ghost use Rattle.pages.specs.Cause.{IsCaused};
+ghost use Rattle.pages.specs.PageCalls.{ReadsPages};
 ghost use Rattle.key_index.specs.Entries.{from_prime, after_prime, from_value, after_rank};
 ghost use Rattle.key_index.specs.Standing.{prime_height, alt_height};
 ghost use Rattle.key_index.specs.Cursors.{PrimeBelongs, AltBelongs};
@@ -32,13 +32,11 @@ impl OpenFile {
         pages: &mut P,
         position: &Position,
     ) -> Result<Option<PrimeEntry>, Fault>
-        requires ready { P.IsReady pages.old }
-        ensures found { IsTrue (P.state pages.new).is_honest → GivesPrime self.old (P.state pages.old).live (admits_prime position.now) result }
-        ensures stands { IsTrue (P.state pages.new).is_honest → StandsStill self.old self.new (P.state pages.old).live }
+        requires ready { P.shown.IsReady pages.old }
+        ensures found { IsTrue (P.shown.state pages.new).is_honest → GivesPrime self.old (P.shown.state pages.old).live (admits_prime position.now) result }
+        ensures stands { IsTrue (P.shown.state pages.new).is_honest → StandsStill self.old self.new (P.shown.state pages.old).live }
         ensures rest { self.new ≡ record self.old { path = self.new.path } }
-        ensures cause { IfErr result (IsCaused (P.HasFailed pages.old pages.new) ⊥) }
-        ensures asked { (P.state pages.new).asked ≤ (P.state pages.old).asked + 2 * prime_height self.old.prime }
-        ensures reads { P.Reads pages.old pages.new }
+        ensures reads { ReadsPages P.shown (2 * prime_height self.old.prime) pages.old pages.new result }
     {
         match position {
             Position::Invalid | Position::Missing => Ok(None),
@@ -55,16 +53,14 @@ impl OpenFile {
         index: AltIndex,
         position: &Position,
     ) -> Result<Option<AltEntry>, Fault>
-        requires ready { P.IsReady pages.old }
+        requires ready { P.shown.IsReady pages.old }
         requires some { 1 ≤ k }
         requires within { k ≤ length self.old.alternates.items }
         requires index { index ≡ slice_index_or self.old.alternates.items (k - 1) index }
-        ensures found { IsTrue (P.state pages.new).is_honest → GivesAlt self.old (P.state pages.old).live k (admits_alt position.now) result }
-        ensures stands { IsTrue (P.state pages.new).is_honest → StandsStill self.old self.new (P.state pages.old).live }
+        ensures found { IsTrue (P.shown.state pages.new).is_honest → GivesAlt self.old (P.shown.state pages.old).live k (admits_alt position.now) result }
+        ensures stands { IsTrue (P.shown.state pages.new).is_honest → StandsStill self.old self.new (P.shown.state pages.old).live }
         ensures rest { self.new ≡ record self.old { path = self.new.path } }
-        ensures cause { IfErr result (IsCaused (P.HasFailed pages.old pages.new) ⊥) }
-        ensures asked { (P.state pages.new).asked ≤ (P.state pages.old).asked + 2 * alt_height index }
-        ensures reads { P.Reads pages.old pages.new }
+        ensures reads { ReadsPages P.shown (2 * alt_height index) pages.old pages.new result }
     {
         match position {
             Position::Invalid | Position::Missing => Ok(None),
@@ -89,17 +85,15 @@ impl OpenFile {
         value: &[u8],
         stamp: u64,
     ) -> Result<bool, Fault>
-        requires ready { P.IsReady pages.old }
+        requires ready { P.shown.IsReady pages.old }
         requires shaped { IsShaped self.now }
         requires short { length value.now ≤ 250 }
         requires some { 1 ≤ k }
         requires within { k ≤ length self.now.alternates.items }
         requires index { index ≡ slice_index_or self.now.alternates.items (k - 1) index }
-        ensures told { IsTrue (P.state pages.new).is_honest → TellsNextOfKey self.now (P.state pages.old).live k value.now stamp result }
-        ensures cause { IfErr result (IsCaused (P.HasFailed pages.old pages.new) ⊥) }
-        ensures asked { (P.state pages.new).asked ≤ (P.state pages.old).asked + 2 * alt_height index }
-        ensures alone { IsFalse (key_at self.now.schema k).duplicates → (P.state pages.new).asked ≤ (P.state pages.old).asked }
-        ensures reads { P.Reads pages.old pages.new }
+        ensures told { IsTrue (P.shown.state pages.new).is_honest → TellsNextOfKey self.now (P.shown.state pages.old).live k value.now stamp result }
+        ensures alone { IsFalse (key_at self.now.schema k).duplicates → (P.shown.state pages.new).asked ≤ (P.shown.state pages.old).asked }
+        ensures reads { ReadsPages P.shown (2 * alt_height index) pages.old pages.new result }
     {
         if !self.schema.part(k as u8).duplicates {
             return Ok(false);
@@ -132,13 +126,11 @@ impl OpenFile {
         pages: &mut P,
         value: &[u8],
     ) -> Result<Option<PrimeEntry>, Fault>
-        requires ready { P.IsReady pages.old }
-        ensures found { IsTrue (P.state pages.new).is_honest → GivesPrime self.old (P.state pages.old).live (from_prime value.now) result }
-        ensures stands { IsTrue (P.state pages.new).is_honest → StandsStill self.old self.new (P.state pages.old).live }
+        requires ready { P.shown.IsReady pages.old }
+        ensures found { IsTrue (P.shown.state pages.new).is_honest → GivesPrime self.old (P.shown.state pages.old).live (from_prime value.now) result }
+        ensures stands { IsTrue (P.shown.state pages.new).is_honest → StandsStill self.old self.new (P.shown.state pages.old).live }
         ensures rest { self.new ≡ record self.old { path = self.new.path } }
-        ensures cause { IfErr result (IsCaused (P.HasFailed pages.old pages.new) ⊥) }
-        ensures asked { (P.state pages.new).asked ≤ (P.state pages.old).asked + 2 * prime_height self.old.prime }
-        ensures reads { P.Reads pages.old pages.new }
+        ensures reads { ReadsPages P.shown (2 * prime_height self.old.prime) pages.old pages.new result }
     {
         let found = self.prime.first_from(pages, value)?;
         if let Some(entry) = &found {
@@ -153,13 +145,11 @@ impl OpenFile {
         pages: &mut P,
         value: &[u8],
     ) -> Result<Option<PrimeEntry>, Fault>
-        requires ready { P.IsReady pages.old }
-        ensures found { IsTrue (P.state pages.new).is_honest → GivesPrime self.old (P.state pages.old).live (after_prime value.now) result }
-        ensures stands { IsTrue (P.state pages.new).is_honest → StandsStill self.old self.new (P.state pages.old).live }
+        requires ready { P.shown.IsReady pages.old }
+        ensures found { IsTrue (P.shown.state pages.new).is_honest → GivesPrime self.old (P.shown.state pages.old).live (after_prime value.now) result }
+        ensures stands { IsTrue (P.shown.state pages.new).is_honest → StandsStill self.old self.new (P.shown.state pages.old).live }
         ensures rest { self.new ≡ record self.old { path = self.new.path } }
-        ensures cause { IfErr result (IsCaused (P.HasFailed pages.old pages.new) ⊥) }
-        ensures asked { (P.state pages.new).asked ≤ (P.state pages.old).asked + 2 * prime_height self.old.prime }
-        ensures reads { P.Reads pages.old pages.new }
+        ensures reads { ReadsPages P.shown (2 * prime_height self.old.prime) pages.old pages.new result }
     {
         if value.len() != usize::from(self.prime.width) {
             return self.prime.first_after(pages, value);
@@ -178,16 +168,14 @@ impl OpenFile {
         index: AltIndex,
         value: &[u8],
     ) -> Result<Option<AltEntry>, Fault>
-        requires ready { P.IsReady pages.old }
+        requires ready { P.shown.IsReady pages.old }
         requires some { 1 ≤ k }
         requires within { k ≤ length self.old.alternates.items }
         requires index { index ≡ slice_index_or self.old.alternates.items (k - 1) index }
-        ensures found { IsTrue (P.state pages.new).is_honest → GivesAlt self.old (P.state pages.old).live k (from_value value.now) result }
-        ensures stands { IsTrue (P.state pages.new).is_honest → StandsStill self.old self.new (P.state pages.old).live }
+        ensures found { IsTrue (P.shown.state pages.new).is_honest → GivesAlt self.old (P.shown.state pages.old).live k (from_value value.now) result }
+        ensures stands { IsTrue (P.shown.state pages.new).is_honest → StandsStill self.old self.new (P.shown.state pages.old).live }
         ensures rest { self.new ≡ record self.old { path = self.new.path } }
-        ensures cause { IfErr result (IsCaused (P.HasFailed pages.old pages.new) ⊥) }
-        ensures asked { (P.state pages.new).asked ≤ (P.state pages.old).asked + 2 * alt_height index }
-        ensures reads { P.Reads pages.old pages.new }
+        ensures reads { ReadsPages P.shown (2 * alt_height index) pages.old pages.new result }
     {
         let found = index.first_from(pages, value)?;
         if let Some(entry) = &found {
@@ -205,16 +193,14 @@ impl OpenFile {
         value: &[u8],
         stamp: u64,
     ) -> Result<Option<AltEntry>, Fault>
-        requires ready { P.IsReady pages.old }
+        requires ready { P.shown.IsReady pages.old }
         requires some { 1 ≤ k }
         requires within { k ≤ length self.old.alternates.items }
         requires index { index ≡ slice_index_or self.old.alternates.items (k - 1) index }
-        ensures found { IsTrue (P.state pages.new).is_honest → GivesAlt self.old (P.state pages.old).live k (after_rank value.now stamp) result }
-        ensures stands { IsTrue (P.state pages.new).is_honest → StandsStill self.old self.new (P.state pages.old).live }
+        ensures found { IsTrue (P.shown.state pages.new).is_honest → GivesAlt self.old (P.shown.state pages.old).live k (after_rank value.now stamp) result }
+        ensures stands { IsTrue (P.shown.state pages.new).is_honest → StandsStill self.old self.new (P.shown.state pages.old).live }
         ensures rest { self.new ≡ record self.old { path = self.new.path } }
-        ensures cause { IfErr result (IsCaused (P.HasFailed pages.old pages.new) ⊥) }
-        ensures asked { (P.state pages.new).asked ≤ (P.state pages.old).asked + 2 * alt_height index }
-        ensures reads { P.Reads pages.old pages.new }
+        ensures reads { ReadsPages P.shown (2 * alt_height index) pages.old pages.new result }
     {
         if value.len() != usize::from(index.width) {
             return index.first_after(pages, value, stamp);

@@ -8,7 +8,7 @@ ghost use Rattle.indexed_file.specs.Rank.{has_value, is_repeated, highest_of};
 ghost use Rattle.indexed_file.specs.Answers.{found_of};
 ghost use Rattle.indexed_file.specs.Room.{most_to_read, most_to_seek};
 ghost use Rattle.pages.specs.Answer.{IsAnswer};
-ghost use Rattle.pages.specs.Cause.{IsCaused};
+ghost use Rattle.pages.specs.PageCalls.{ReadsPages};
 ghost use Rattle.key_index.specs.Calls.{IsAltFirst};
 ghost use Rattle.key_index.specs.Standing.{prime_height, alt_height};
 ghost use Rattle.open_file.specs.Stands.{Stands, IsShaped, room_of, heights_of};
@@ -37,21 +37,21 @@ impl OpenFile {
         key: &Key,
         area: &mut [u8],
     ) -> Result<Option<Found>, Fault>
-        requires ready { P.IsReady pages.old }
+        requires ready { P.shown.IsReady pages.old }
         requires shaped { IsShaped self.now }
         requires key { k < length self.now.schema.keys }
         requires area { length area.old ≡ self.now.schema.greatest }
-        ensures found { IsTrue (P.state pages.new).is_honest
-            → Delivers self.now (P.state pages.old).live k (has_value self.now.schema k key.now.items) area.old area.new result }
+        ensures found { IsTrue (P.shown.state pages.new).is_honest
+            → Delivers self.now (P.shown.state pages.old).live k (has_value self.now.schema k key.now.items) area.old area.new result }
         ensures none { result ≡ Ok None → area.new ≡ area.old }
         ensures kept { OnErr result (area.new ≡ area.old) }
         ensures broken { IsTrue self.now.broken → result ≡ Err Fault.Broken }
-        ensures cause { IfErr result (IsCausedIn self.now.broken (P.HasFailed pages.old pages.new) ⊥) }
-        ensures asked { (P.state pages.new).asked ≤ (P.state pages.old).asked + most_to_read (room_of self.now (P.state pages.old).available) k }
-        ensures once { (P.state pages.new).asked ≤ (P.state pages.old).asked + 2 * slice_index (heights_of self.now) k + prime_height self.now.prime + 1 }
+        ensures cause { IfErr result (IsCausedIn self.now.broken (P.shown.HasFailed pages.old pages.new) ⊥) }
+        ensures asked { (P.shown.state pages.new).asked ≤ (P.shown.state pages.old).asked + most_to_read (room_of self.now (P.shown.state pages.old).available) k }
+        ensures once { (P.shown.state pages.new).asked ≤ (P.shown.state pages.old).asked + 2 * slice_index (heights_of self.now) k + prime_height self.now.prime + 1 }
         ensures alone { IsFalse (key_at self.now.schema k).duplicates
-            → (P.state pages.new).asked ≤ (P.state pages.old).asked + slice_index (heights_of self.now) k + prime_height self.now.prime + 1 }
-        ensures reads { P.Reads pages.old pages.new }
+            → (P.shown.state pages.new).asked ≤ (P.shown.state pages.old).asked + slice_index (heights_of self.now) k + prime_height self.now.prime + 1 }
+        ensures reads { P.shown.Reads pages.old pages.new }
     {
         if self.broken {
             return Err(Fault::Broken);
@@ -66,13 +66,13 @@ impl OpenFile {
     ///
     /// Device, Memory, Damage, Broken.
     pub fn highest<P: Pages>(&self, pages: &mut P) -> Result<Option<Key>, Fault>
-        requires ready { P.IsReady pages.old }
-        ensures found { IsTrue (P.state pages.new).is_honest → (file : File) → Stands self.now (P.state pages.old).live file
+        requires ready { P.shown.IsReady pages.old }
+        ensures found { IsTrue (P.shown.state pages.new).is_honest → (file : File) → Stands self.now (P.shown.state pages.old).live file
             → IsAnswer result (λ key. option_map (λ key. key.items) key ≡ highest_of self.now.schema file.rows) }
         ensures broken { IsTrue self.now.broken → result ≡ Err Fault.Broken }
-        ensures cause { IfErr result (IsCausedIn self.now.broken (P.HasFailed pages.old pages.new) ⊥) }
-        ensures asked { (P.state pages.new).asked ≤ (P.state pages.old).asked + most_to_seek (room_of self.now (P.state pages.old).available) 0 }
-        ensures reads { P.Reads pages.old pages.new }
+        ensures cause { IfErr result (IsCausedIn self.now.broken (P.shown.HasFailed pages.old pages.new) ⊥) }
+        ensures asked { (P.shown.state pages.new).asked ≤ (P.shown.state pages.old).asked + most_to_seek (room_of self.now (P.shown.state pages.old).available) 0 }
+        ensures reads { P.shown.Reads pages.old pages.new }
     {
         if self.broken {
             return Err(Fault::Broken);
@@ -90,16 +90,14 @@ impl OpenFile {
         key: &Key,
         area: &mut [u8],
     ) -> Result<Option<Found>, Fault>
-        requires ready { P.IsReady pages.old }
+        requires ready { P.shown.IsReady pages.old }
         requires shaped { IsShaped self.now }
         requires area { length area.old ≡ self.now.schema.greatest }
-        ensures found { IsTrue (P.state pages.new).is_honest
-            → Delivers self.now (P.state pages.old).live 0 (has_value self.now.schema 0 key.now.items) area.old area.new result }
+        ensures found { IsTrue (P.shown.state pages.new).is_honest
+            → Delivers self.now (P.shown.state pages.old).live 0 (has_value self.now.schema 0 key.now.items) area.old area.new result }
         ensures none { result ≡ Ok None → area.new ≡ area.old }
         ensures kept { OnErr result (area.new ≡ area.old) }
-        ensures cause { IfErr result (IsCaused (P.HasFailed pages.old pages.new) ⊥) }
-        ensures asked { (P.state pages.new).asked ≤ (P.state pages.old).asked + prime_height self.now.prime + 1 }
-        ensures reads { P.Reads pages.old pages.new }
+        ensures reads { ReadsPages P.shown (prime_height self.now.prime + 1) pages.old pages.new result }
     {
         match self.fetch(pages, key.as_slice(), area)? {
             Some(length) => Ok(Some(Found {
@@ -120,20 +118,18 @@ impl OpenFile {
         key: &Key,
         area: &mut [u8],
     ) -> Result<Option<Found>, Fault>
-        requires ready { P.IsReady pages.old }
+        requires ready { P.shown.IsReady pages.old }
         requires shaped { IsShaped self.now }
         requires some { 1 ≤ k }
         requires within { k ≤ length self.now.alternates.items }
         requires area { length area.old ≡ self.now.schema.greatest }
-        ensures found { IsTrue (P.state pages.new).is_honest
-            → Delivers self.now (P.state pages.old).live k (has_value self.now.schema k key.now.items) area.old area.new result }
+        ensures found { IsTrue (P.shown.state pages.new).is_honest
+            → Delivers self.now (P.shown.state pages.old).live k (has_value self.now.schema k key.now.items) area.old area.new result }
         ensures none { result ≡ Ok None → area.new ≡ area.old }
         ensures kept { OnErr result (area.new ≡ area.old) }
-        ensures cause { IfErr result (IsCaused (P.HasFailed pages.old pages.new) ⊥) }
-        ensures asked { (P.state pages.new).asked ≤ (P.state pages.old).asked + 2 * slice_index (heights_of self.now) k + prime_height self.now.prime + 1 }
         ensures alone { IsFalse (key_at self.now.schema k).duplicates
-            → (P.state pages.new).asked ≤ (P.state pages.old).asked + slice_index (heights_of self.now) k + prime_height self.now.prime + 1 }
-        ensures reads { P.Reads pages.old pages.new }
+            → (P.shown.state pages.new).asked ≤ (P.shown.state pages.old).asked + slice_index (heights_of self.now) k + prime_height self.now.prime + 1 }
+        ensures reads { ReadsPages P.shown (2 * slice_index (heights_of self.now) k + prime_height self.now.prime + 1) pages.old pages.new result }
     {
         match self.first_of(pages, k, key.as_slice())? {
             Some(AltFirst { entry, followed }) => Ok(Some(self.tell(
@@ -151,17 +147,15 @@ impl OpenFile {
         k: usize,
         value: &[u8],
     ) -> Result<Option<AltFirst>, Fault>
-        requires ready { P.IsReady pages.old }
+        requires ready { P.shown.IsReady pages.old }
         requires shaped { IsShaped self.now }
         requires some { 1 ≤ k }
         requires within { k ≤ length self.now.alternates.items }
-        ensures found { IsTrue (P.state pages.new).is_honest → (file : File) → Stands self.now (P.state pages.old).live file
+        ensures found { IsTrue (P.shown.state pages.new).is_honest → (file : File) → Stands self.now (P.shown.state pages.old).live file
             → IsAnswer result (IsAltFirst value.now (alt_entries self.now.schema k file.rows)) }
-        ensures cause { IfErr result (IsCaused (P.HasFailed pages.old pages.new) ⊥) }
-        ensures asked { (P.state pages.new).asked ≤ (P.state pages.old).asked + 2 * slice_index (heights_of self.now) k }
         ensures alone { IsFalse (key_at self.now.schema k).duplicates
-            → (P.state pages.new).asked ≤ (P.state pages.old).asked + slice_index (heights_of self.now) k }
-        ensures reads { P.Reads pages.old pages.new }
+            → (P.shown.state pages.new).asked ≤ (P.shown.state pages.old).asked + slice_index (heights_of self.now) k }
+        ensures reads { ReadsPages P.shown (2 * slice_index (heights_of self.now) k) pages.old pages.new result }
     {
         let index = self.alternate(k);
         if self.schema.part(k as u8).duplicates {
@@ -185,19 +179,17 @@ impl OpenFile {
         entry: AltEntry,
         area: &mut [u8],
     ) -> Result<Found, Fault>
-        requires ready { P.IsReady pages.old }
+        requires ready { P.shown.IsReady pages.old }
         requires shaped { IsShaped self.now }
         requires some { 1 ≤ k }
         requires within { k ≤ length self.now.alternates.items }
         requires index { index ≡ slice_index_or self.now.alternates.items (k - 1) index }
         requires area { length area.old ≡ self.now.schema.greatest }
-        ensures found { IsTrue (P.state pages.new).is_honest → (file : File) → Stands self.now (P.state pages.old).live file
+        ensures found { IsTrue (P.shown.state pages.new).is_honest → (file : File) → Stands self.now (P.shown.state pages.old).live file
             → (row : Row) → IsEntryOfRow self.now.schema k file entry row
             → ReadsRow result (found_of self.now.schema k file row) area.old area.new (Some row) }
         ensures kept { OnErr result (area.new ≡ area.old) }
-        ensures cause { IfErr result (IsCaused (P.HasFailed pages.old pages.new) ⊥) }
-        ensures asked { (P.state pages.new).asked ≤ (P.state pages.old).asked + 2 * alt_height index + prime_height self.now.prime + 1 }
-        ensures reads { P.Reads pages.old pages.new }
+        ensures reads { ReadsPages P.shown (2 * alt_height index + prime_height self.now.prime + 1) pages.old pages.new result }
     {
         let repeated = self.is_followed(pages, k, index, entry.value.as_slice(), entry.stamp)?;
         self.tell(pages, entry, repeated, area)
@@ -211,16 +203,14 @@ impl OpenFile {
         repeated: bool,
         area: &mut [u8],
     ) -> Result<Found, Fault>
-        requires ready { P.IsReady pages.old }
+        requires ready { P.shown.IsReady pages.old }
         requires shaped { IsShaped self.now }
         requires area { length area.old ≡ self.now.schema.greatest }
-        ensures found { IsTrue (P.state pages.new).is_honest → (file : File) → Stands self.now (P.state pages.old).live file
+        ensures found { IsTrue (P.shown.state pages.new).is_honest → (file : File) → Stands self.now (P.shown.state pages.old).live file
             → (k : ℕ) (row : Row) → IsEntryOfRow self.now.schema k file entry row → repeated ≡ is_repeated self.now.schema k row file
             → ReadsRow result (found_of self.now.schema k file row) area.old area.new (Some row) }
         ensures kept { OnErr result (area.new ≡ area.old) }
-        ensures cause { IfErr result (IsCaused (P.HasFailed pages.old pages.new) ⊥) }
-        ensures asked { (P.state pages.new).asked ≤ (P.state pages.old).asked + prime_height self.now.prime + 1 }
-        ensures reads { P.Reads pages.old pages.new }
+        ensures reads { ReadsPages P.shown (prime_height self.now.prime + 1) pages.old pages.new result }
     {
         let AltEntry {
             value,
@@ -245,16 +235,14 @@ impl OpenFile {
         prime: &[u8],
         area: &mut [u8],
     ) -> Result<Option<u16>, Fault>
-        requires ready { P.IsReady pages.old }
+        requires ready { P.shown.IsReady pages.old }
         requires shaped { IsShaped self.now }
         requires area { length area.old ≡ self.now.schema.greatest }
-        ensures fetched { IsTrue (P.state pages.new).is_honest → (file : File) → Stands self.now (P.state pages.old).live file
+        ensures fetched { IsTrue (P.shown.state pages.new).is_honest → (file : File) → Stands self.now (P.shown.state pages.old).live file
             → ReadsRow result (option_map (λ row. length row.bytes) (row_of self.now.schema prime.now file)) area.old area.new (row_of self.now.schema prime.now file) }
         ensures none { result ≡ Ok None → area.new ≡ area.old }
         ensures kept { OnErr result (area.new ≡ area.old) }
-        ensures cause { IfErr result (IsCaused (P.HasFailed pages.old pages.new) ⊥) }
-        ensures asked { (P.state pages.new).asked ≤ (P.state pages.old).asked + prime_height self.now.prime + 1 }
-        ensures reads { P.Reads pages.old pages.new }
+        ensures reads { ReadsPages P.shown (prime_height self.now.prime + 1) pages.old pages.new result }
     {
         match self.prime.place_of(pages, prime)? {
             None => Ok(None),
@@ -269,16 +257,14 @@ impl OpenFile {
         place: Place,
         area: &mut [u8],
     ) -> Result<u16, Fault>
-        requires ready { P.IsReady pages.old }
+        requires ready { P.shown.IsReady pages.old }
         requires shaped { IsShaped self.now }
         requires area { length area.old ≡ self.now.schema.greatest }
-        ensures found { IsTrue (P.state pages.new).is_honest → (row : Row)
-            → IsRowAt self.now.schema self.now.heap self.now.heap.shape.stamps (P.state pages.old).live place row
+        ensures found { IsTrue (P.shown.state pages.new).is_honest → (row : Row)
+            → IsRowAt self.now.schema self.now.heap self.now.heap.shape.stamps (P.shown.state pages.old).live place row
             → ReadsRow result (length row.bytes) area.old area.new (Some row) }
         ensures kept { OnErr result (area.new ≡ area.old) }
-        ensures cause { IfErr result (IsCaused (P.HasFailed pages.old pages.new) ⊥) }
-        ensures asked { (P.state pages.new).asked ≤ (P.state pages.old).asked + 1 }
-        ensures reads { P.Reads pages.old pages.new }
+        ensures reads { ReadsPages P.shown 1 pages.old pages.new result }
     {
         let length = self.heap.get_record(pages, place, area)?;
         Ok(length as u16)

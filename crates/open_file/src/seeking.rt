@@ -2,7 +2,7 @@
 
 ghost use Rattle.std.specs.Prelude.{◌≡◌, ◌+◌, ◌*◌, ◌≤◌, ◌<◌, length, find, Some, None, Err, IsTrue, IfErr, if◌then◌else◌};
 ghost use Rattle.indexed_file.specs.Room.{most_to_seek};
-ghost use Rattle.pages.specs.Cause.{IsCaused};
+ghost use Rattle.pages.specs.PageCalls.{ReadsPages};
 ghost use Rattle.key_index.specs.Standing.{prime_height, alt_height};
 ghost use Rattle.key_index.specs.Calls.{PrimeFinds, AltFinds};
 ghost use Rattle.open_file.specs.Stands.{IsShaped, room_of};
@@ -26,14 +26,14 @@ impl OpenFile {
         operand: &[u8],
         relation: Relation,
     ) -> Result<Option<Key>, Fault>
-        requires ready { P.IsReady pages.old }
+        requires ready { P.shown.IsReady pages.old }
         requires shaped { IsShaped self.now }
         requires key { k < length self.now.schema.keys }
-        ensures found { IsTrue (P.state pages.new).is_honest → Seeks self.now (P.state pages.old).live k relation operand.now result }
+        ensures found { IsTrue (P.shown.state pages.new).is_honest → Seeks self.now (P.shown.state pages.old).live k relation operand.now result }
         ensures broken { IsTrue self.now.broken → result ≡ Err Fault.Broken }
-        ensures cause { IfErr result (IsCausedIn self.now.broken (P.HasFailed pages.old pages.new) ⊥) }
-        ensures asked { (P.state pages.new).asked ≤ (P.state pages.old).asked + most_to_seek (room_of self.now (P.state pages.old).available) k }
-        ensures reads { P.Reads pages.old pages.new }
+        ensures cause { IfErr result (IsCausedIn self.now.broken (P.shown.HasFailed pages.old pages.new) ⊥) }
+        ensures asked { (P.shown.state pages.new).asked ≤ (P.shown.state pages.old).asked + most_to_seek (room_of self.now (P.shown.state pages.old).available) k }
+        ensures reads { P.shown.Reads pages.old pages.new }
     {
         if self.broken {
             return Err(Fault::Broken);
@@ -51,11 +51,9 @@ impl OpenFile {
         operand: &[u8],
         relation: Relation,
     ) -> Result<Option<Key>, Fault>
-        requires ready { P.IsReady pages.old }
-        ensures found { IsTrue (P.state pages.new).is_honest → Seeks self.now (P.state pages.old).live 0 relation operand.now result }
-        ensures cause { IfErr result (IsCaused (P.HasFailed pages.old pages.new) ⊥) }
-        ensures asked { (P.state pages.new).asked ≤ (P.state pages.old).asked + most_to_seek (room_of self.now (P.state pages.old).available) 0 }
-        ensures reads { P.Reads pages.old pages.new }
+        requires ready { P.shown.IsReady pages.old }
+        ensures found { IsTrue (P.shown.state pages.new).is_honest → Seeks self.now (P.shown.state pages.old).live 0 relation operand.now result }
+        ensures reads { ReadsPages P.shown (most_to_seek (room_of self.now (P.shown.state pages.old).available) 0) pages.old pages.new result }
     {
         match self.first_in_prime(pages, operand, relation)? {
             Some(entry) => Ok(wanted(entry.value, operand, relation)),
@@ -71,13 +69,11 @@ impl OpenFile {
         operand: &[u8],
         relation: Relation,
     ) -> Result<Option<Key>, Fault>
-        requires ready { P.IsReady pages.old }
+        requires ready { P.shown.IsReady pages.old }
         requires some { 1 ≤ k }
         requires within { k ≤ length self.now.alternates.items }
-        ensures found { IsTrue (P.state pages.new).is_honest → Seeks self.now (P.state pages.old).live k relation operand.now result }
-        ensures cause { IfErr result (IsCaused (P.HasFailed pages.old pages.new) ⊥) }
-        ensures asked { (P.state pages.new).asked ≤ (P.state pages.old).asked + most_to_seek (room_of self.now (P.state pages.old).available) k }
-        ensures reads { P.Reads pages.old pages.new }
+        ensures found { IsTrue (P.shown.state pages.new).is_honest → Seeks self.now (P.shown.state pages.old).live k relation operand.now result }
+        ensures reads { ReadsPages P.shown (most_to_seek (room_of self.now (P.shown.state pages.old).available) k) pages.old pages.new result }
     {
         let index = self.alternate(k);
         match first_in_alternate(&index, pages, operand, relation)? {
@@ -93,12 +89,10 @@ impl OpenFile {
         operand: &[u8],
         relation: Relation,
     ) -> Result<Option<PrimeEntry>, Fault>
-        requires ready { P.IsReady pages.old }
-        ensures found { IsTrue (P.state pages.new).is_honest
-            → PrimeFinds self.now.prime (P.state pages.old).live (find (leads_prime relation operand.now)) result }
-        ensures cause { IfErr result (IsCaused (P.HasFailed pages.old pages.new) ⊥) }
-        ensures asked { (P.state pages.new).asked ≤ (P.state pages.old).asked + 2 * prime_height self.now.prime }
-        ensures reads { P.Reads pages.old pages.new }
+        requires ready { P.shown.IsReady pages.old }
+        ensures found { IsTrue (P.shown.state pages.new).is_honest
+            → PrimeFinds self.now.prime (P.shown.state pages.old).live (find (leads_prime relation operand.now)) result }
+        ensures reads { ReadsPages P.shown (2 * prime_height self.now.prime) pages.old pages.new result }
     {
         match relation {
             Relation::Greater => self.prime.first_past(pages, operand),
@@ -114,12 +108,10 @@ fn first_in_alternate<P: Pages>(
     operand: &[u8],
     relation: Relation,
 ) -> Result<Option<AltEntry>, Fault>
-    requires ready { P.IsReady pages.old }
-    ensures found { IsTrue (P.state pages.new).is_honest
-        → AltFinds index.now (P.state pages.old).live (find (leads_alt relation operand.now)) result }
-    ensures cause { IfErr result (IsCaused (P.HasFailed pages.old pages.new) ⊥) }
-    ensures asked { (P.state pages.new).asked ≤ (P.state pages.old).asked + 2 * alt_height index.now }
-    ensures reads { P.Reads pages.old pages.new }
+    requires ready { P.shown.IsReady pages.old }
+    ensures found { IsTrue (P.shown.state pages.new).is_honest
+        → AltFinds index.now (P.shown.state pages.old).live (find (leads_alt relation operand.now)) result }
+    ensures reads { ReadsPages P.shown (2 * alt_height index.now) pages.old pages.new result }
 {
     match relation {
         Relation::Greater => index.first_past(pages, operand),

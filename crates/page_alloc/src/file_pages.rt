@@ -21,31 +21,27 @@ impl<'a, S: Shelf> Pages for FilePages<'a, S> {
     ghost use Rattle.page_alloc.specs.Steps.{state_of, ReadsPages, Goes as GoesOn, Moves as MovesOn};
     ghost use Rattle.page_alloc.specs.StepLaws.{goes_nothing, goes_on, goes_moves, reads_nothing, reads_on, moves_on, failed_before, failed_after};
 
-    ghost state = { λ p. state_of p.file.now (S.Shelf.state p.shelf.now) };
-
-    ghost IsReady = { λ p. IsOpenOver p.file.now (S.Shelf.state p.shelf.now) };
-
-    ghost CanChange = { λ p. p.file.now.changed ≡ true };
-
-    ghost Reads = { λ a b. (b.file.ghost_name ≡ a.file.ghost_name) × (b.shelf.ghost_name ≡ a.shelf.ghost_name)
-        × ReadsPages a.file.now b.file.now (S.Shelf.state a.shelf.now) (S.Shelf.state b.shelf.now)
-        (S.Shelf.fault_count a.shelf.now) (S.Shelf.fault_count b.shelf.now) };
-
-    ghost Goes = { λ a b. (b.file.ghost_name ≡ a.file.ghost_name) × (b.shelf.ghost_name ≡ a.shelf.ghost_name)
-        × GoesOn a.file.now b.file.now (S.Shelf.state a.shelf.now) (S.Shelf.state b.shelf.now)
-        (S.Shelf.fault_count a.shelf.now) (S.Shelf.fault_count b.shelf.now) };
-
-    ghost Moves = { λ a b. (b.file.ghost_name ≡ a.file.ghost_name) × (b.shelf.ghost_name ≡ a.shelf.ghost_name)
-        × MovesOn a.file.now b.file.now (S.Shelf.state a.shelf.now) (S.Shelf.state b.shelf.now)
-        (S.Shelf.fault_count a.shelf.now) (S.Shelf.fault_count b.shelf.now) };
-
-    ghost HasFailed = { λ a b. Failed (S.Shelf.fault_count a.shelf.now) (S.Shelf.fault_count b.shelf.now) };
+    ghost shown = { record {
+      state = λ p. state_of p.file.now (S.Shelf.state p.shelf.now);
+      IsReady = λ p. IsOpenOver p.file.now (S.Shelf.state p.shelf.now);
+      CanChange = λ p. p.file.now.changed ≡ true;
+      Reads = λ a b. (b.file.ghost_name ≡ a.file.ghost_name) × (b.shelf.ghost_name ≡ a.shelf.ghost_name)
+          × ReadsPages a.file.now b.file.now (S.Shelf.state a.shelf.now) (S.Shelf.state b.shelf.now)
+          (S.Shelf.fault_count a.shelf.now) (S.Shelf.fault_count b.shelf.now);
+      Writes = λ a b. (b.file.ghost_name ≡ a.file.ghost_name) × (b.shelf.ghost_name ≡ a.shelf.ghost_name)
+          × GoesOn a.file.now b.file.now (S.Shelf.state a.shelf.now) (S.Shelf.state b.shelf.now)
+          (S.Shelf.fault_count a.shelf.now) (S.Shelf.fault_count b.shelf.now);
+      Begins = λ a b. (b.file.ghost_name ≡ a.file.ghost_name) × (b.shelf.ghost_name ≡ a.shelf.ghost_name)
+          × MovesOn a.file.now b.file.now (S.Shelf.state a.shelf.now) (S.Shelf.state b.shelf.now)
+          (S.Shelf.fault_count a.shelf.now) (S.Shelf.fault_count b.shelf.now);
+      HasFailed = λ a b. Failed (S.Shelf.fault_count a.shelf.now) (S.Shelf.fault_count b.shelf.now);
+    } };
 
     ghost reads_nothing = { λ a. (refl, refl, reads_nothing a.file.now (S.Shelf.state a.shelf.now) (S.Shelf.fault_count a.shelf.now)) };
 
     ghost reads_on = { λ a b c ab bc. (bc.0 ∙ ab.0, bc.1 ∙ ab.1, reads_on a.file.now b.file.now c.file.now _ _ _ _ _ _ ab.2 bc.2) };
 
-    ghost reads_goes = { λ a b reads. (reads.0, reads.1, reads.2.goes) };
+    ghost reads_writes = { λ a b reads. (reads.0, reads.1, reads.2.goes) };
 
     ghost reads_live = { λ a b reads. reads.2.rests.live };
 
@@ -53,19 +49,19 @@ impl<'a, S: Shelf> Pages for FilePages<'a, S> {
 
     ghost reads_available = { λ a b reads. reads.2.rests.available };
 
-    ghost goes_nowhere = { λ a. (refl, refl, goes_nothing a.file.now (S.Shelf.state a.shelf.now) (S.Shelf.fault_count a.shelf.now)) };
+    ghost writes_nothing = { λ a. (refl, refl, goes_nothing a.file.now (S.Shelf.state a.shelf.now) (S.Shelf.fault_count a.shelf.now)) };
 
-    ghost goes_on = { λ a b c ab bc. (bc.0 ∙ ab.0, bc.1 ∙ ab.1, goes_on a.file.now b.file.now c.file.now _ _ _ _ _ _ ab.2 bc.2) };
+    ghost writes_on = { λ a b c ab bc. (bc.0 ∙ ab.0, bc.1 ∙ ab.1, goes_on a.file.now b.file.now c.file.now _ _ _ _ _ _ ab.2 bc.2) };
 
-    ghost goes_moves = { λ a b goes. (goes.0, goes.1, goes_moves a.file.now b.file.now _ _ _ _ goes.2) };
+    ghost writes_begins = { λ a b goes. (goes.0, goes.1, goes_moves a.file.now b.file.now _ _ _ _ goes.2) };
 
-    ghost goes_honestly = { λ a b goes. goes.2.parts.quietly.others.honest };
+    ghost writes_honestly = { λ a b goes. goes.2.parts.quietly.others.honest };
 
-    ghost goes_ready = { λ a b goes. goes.2.ready };
+    ghost writes_ready = { λ a b goes. goes.2.ready };
 
-    ghost goes_changing = { λ a b goes begun. goes.2.gate ∙ begun };
+    ghost writes_changing = { λ a b goes begun. goes.2.gate ∙ begun };
 
-    ghost goes_counts = { λ a b goes. goes.2.parts.asked };
+    ghost writes_counts = { λ a b goes. goes.2.parts.asked };
 
     ghost failed_before = { λ a b c failed goes. failed_before
         (S.Shelf.fault_count a.shelf.now) (S.Shelf.fault_count b.shelf.now) (S.Shelf.fault_count c.shelf.now) failed goes.2.parts.faults };
@@ -73,13 +69,13 @@ impl<'a, S: Shelf> Pages for FilePages<'a, S> {
     ghost failed_after = { λ a b c goes failed. failed_after
         (S.Shelf.fault_count a.shelf.now) (S.Shelf.fault_count b.shelf.now) (S.Shelf.fault_count c.shelf.now) goes.2.parts.faults failed };
 
-    ghost moves_on = { λ a b c ab bc. (bc.0 ∙ ab.0, bc.1 ∙ ab.1, moves_on a.file.now b.file.now c.file.now _ _ _ _ _ _ ab.2 bc.2) };
+    ghost begins_on = { λ a b c ab bc. (bc.0 ∙ ab.0, bc.1 ∙ ab.1, moves_on a.file.now b.file.now c.file.now _ _ _ _ _ _ ab.2 bc.2) };
 
-    ghost moves_honestly = { λ a b moves. moves.2.others.honest };
+    ghost begins_honestly = { λ a b moves. moves.2.others.honest };
 
-    ghost moves_ready = { λ a b moves. moves.2.ready };
+    ghost begins_ready = { λ a b moves. moves.2.ready };
 
-    ghost moves_counts = { λ a b moves. moves.2.asked };
+    ghost begins_counts = { λ a b moves. moves.2.asked };
 
     ghost failed_earlier = { λ a b c failed moves. failed_before
         (S.Shelf.fault_count a.shelf.now) (S.Shelf.fault_count b.shelf.now) (S.Shelf.fault_count c.shelf.now) failed moves.2.faults };

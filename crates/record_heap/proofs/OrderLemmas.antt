@@ -1,15 +1,13 @@
 -- The order of a heap's chains after its calls.
-use Rattle.std.proofs.Common.{◌≡◌, ◌≢◌, ℕ, ◌≤◌, ◌∙◌, ap, subst, List, [], ◌∷◌, Option, Some, None, Ok, Err, Result, refl, sym, arith}
-use Rattle.std.specs.Prelude.{IsErrAnd, IsTrue, OnOk, ⊤}
-use Rattle.std.proofs.lemmas.Result.{err_from_is_err_and}
+use Rattle.std.proofs.Common.{◌≡◌, ◌≢◌, ℕ, ◌≤◌, ◌∙◌, ap, subst, List, [], ◌∷◌, Some, None, Ok, refl, sym, arith}
+use Rattle.std.specs.Prelude.{IsTrue, ⊤}
 use Rattle.page_bytes.specs.Each.{Each}
 use Rattle.pages.specs.PageMap.{PageMap}
 use Rattle.pages.specs.PagesState.{PagesState}
-use Rattle.io_state.specs.declared.fault.Fault.{Fault}
 use Rattle.record_heap.specs.declared.shape.Place.{Place}
 use Rattle.record_heap.specs.declared.heap.Heap.{Heap}
 use Rattle.record_heap.specs.Slot.{room, used_in, behind_in}
-use Rattle.record_heap.specs.Chain.{Slots, AreOnce, IsPlaceOf, IsFreeChain}
+use Rattle.record_heap.specs.Chain.{Slots, IsPlaceOf, IsFreeChain}
 use Rattle.record_heap.specs.Calls.{behind_at, RewritesSlot, Rewriting, Refilling}
 use Rattle.record_heap.specs.Standing.{HeapStands}
 use Rattle.record_heap.specs.Found.{MakesRoom}

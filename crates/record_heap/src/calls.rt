@@ -1,7 +1,7 @@
 //! One call on one page.
 
-ghost use Rattle.std.specs.Prelude.{◌≡◌, ◌≤◌, ◌<◌, ◌+◌, ◌++◌, IsTrue, IfOk, IfErr, OnErr, Some, length};
-ghost use Rattle.pages.specs.Cause.{IsCaused};
+ghost use Rattle.std.specs.Prelude.{◌≡◌, ◌≤◌, ◌<◌, ◌+◌, ◌++◌, IsTrue, IfOk, OnErr, Some, length};
+ghost use Rattle.pages.specs.PageCalls.{ReadsPages, WritesPages};
 ghost use Rattle.record_heap.specs.Slot.{used_in, behind_in};
 ghost use Rattle.record_heap.specs.Calls.{Rewriting, Refilling, Gets, GetsRecord, FillsFront};
 
@@ -18,14 +18,12 @@ pub fn read_used<P: Pages>(
     place: Place,
     to: &mut [u8],
 ) -> Result<usize, Fault>
-    requires ready { P.IsReady pages.old }
+    requires ready { P.shown.IsReady pages.old }
     requires room { shape.stamps + shape.greatest ≤ length to.old }
-    ensures got { IsTrue (P.state pages.new).is_honest
-        → Gets shape (P.state pages.old).live place to.old to.new result }
+    ensures got { IsTrue (P.shown.state pages.new).is_honest
+        → Gets shape (P.shown.state pages.old).live place to.old to.new result }
     ensures front { FillsFront shape to.old to.new result }
-    ensures cause { IfErr result (IsCaused (P.HasFailed pages.old pages.new) ⊥) }
-    ensures asked { (P.state pages.new).asked ≤ (P.state pages.old).asked + 1 }
-    ensures reads { P.Reads pages.old pages.new }
+    ensures reads { ReadsPages P.shown 1 pages.old pages.new result }
 {
     let page = pages.page(place.page)?;
     if page[0] != b'H' || place.slot as usize >= shape.room() {
@@ -44,15 +42,13 @@ pub fn read_record<P: Pages>(
     place: Place,
     to: &mut [u8],
 ) -> Result<usize, Fault>
-    requires ready { P.IsReady pages.old }
+    requires ready { P.shown.IsReady pages.old }
     requires room { shape.greatest ≤ length to.old }
-    ensures got { IsTrue (P.state pages.new).is_honest
-        → GetsRecord shape (P.state pages.old).live place to.old to.new result }
+    ensures got { IsTrue (P.shown.state pages.new).is_honest
+        → GetsRecord shape (P.shown.state pages.old).live place to.old to.new result }
     ensures greatest { IfOk result (λ n. n ≤ shape.greatest) }
     ensures kept { OnErr result (to.new ≡ to.old) }
-    ensures cause { IfErr result (IsCaused (P.HasFailed pages.old pages.new) ⊥) }
-    ensures asked { (P.state pages.new).asked ≤ (P.state pages.old).asked + 1 }
-    ensures reads { P.Reads pages.old pages.new }
+    ensures reads { ReadsPages P.shown 1 pages.old pages.new result }
 {
     let page = pages.page(place.page)?;
     if page[0] != b'H' || place.slot as usize >= shape.room() {
@@ -66,14 +62,12 @@ pub fn read_record<P: Pages>(
 
 /// Makes the slot at a place free, with another behind it.
 pub fn link<P: Pages>(pages: &mut P, shape: Shape, place: Place, next: Place) -> Result<(), Fault>
-    requires ready { P.IsReady pages.old }
-    requires open { P.CanChange pages.old }
-    ensures linked { Rewriting shape (P.state pages.old) (P.state pages.new) place
+    requires ready { P.shown.IsReady pages.old }
+    requires open { P.shown.CanChange pages.old }
+    ensures linked { Rewriting shape (P.shown.state pages.old) (P.shown.state pages.new) place
         (λ u slot. behind_in slot ≡ Some next) result }
-    ensures available { (P.state pages.new).available ≡ (P.state pages.old).available }
-    ensures cause { IfErr result (IsCaused (P.HasFailed pages.old pages.new) ⊥) }
-    ensures asked { (P.state pages.new).asked ≤ (P.state pages.old).asked + 1 }
-    ensures goes { P.Goes pages.old pages.new }
+    ensures available { (P.shown.state pages.new).available ≡ (P.shown.state pages.old).available }
+    ensures writes { WritesPages P.shown 1 ⊥ pages.old pages.new result }
 {
     let page = pages.page_mut(place.page)?;
     if page[0] != b'H' || place.slot as usize >= shape.room() {
@@ -91,17 +85,15 @@ pub fn fill<P: Pages>(
     stamps: &[u8],
     record: &[u8],
 ) -> Result<(), Fault>
-    requires ready { P.IsReady pages.old }
-    requires open { P.CanChange pages.old }
+    requires ready { P.shown.IsReady pages.old }
+    requires open { P.shown.CanChange pages.old }
     requires stamps { length stamps.now ≡ shape.stamps }
     requires least { shape.least ≤ length «record».now }
     requires greatest { length «record».now ≤ shape.greatest }
-    ensures filled { Rewriting shape (P.state pages.old) (P.state pages.new) place
+    ensures filled { Rewriting shape (P.shown.state pages.old) (P.shown.state pages.new) place
         (λ u slot. used_in shape slot ≡ Some (stamps.now ++ «record».now)) result }
-    ensures available { (P.state pages.new).available ≡ (P.state pages.old).available }
-    ensures cause { IfErr result (IsCaused (P.HasFailed pages.old pages.new) ⊥) }
-    ensures asked { (P.state pages.new).asked ≤ (P.state pages.old).asked + 1 }
-    ensures goes { P.Goes pages.old pages.new }
+    ensures available { (P.shown.state pages.new).available ≡ (P.shown.state pages.old).available }
+    ensures writes { WritesPages P.shown 1 ⊥ pages.old pages.new result }
 {
     let page = pages.page_mut(place.page)?;
     if page[0] != b'H' || place.slot as usize >= shape.room() {
@@ -119,17 +111,15 @@ pub fn refill<P: Pages>(
     stamps: &[u8],
     record: &[u8],
 ) -> Result<Place, Fault>
-    requires ready { P.IsReady pages.old }
-    requires open { P.CanChange pages.old }
+    requires ready { P.shown.IsReady pages.old }
+    requires open { P.shown.CanChange pages.old }
     requires stamps { length stamps.now ≡ shape.stamps }
     requires least { shape.least ≤ length «record».now }
     requires greatest { length «record».now ≤ shape.greatest }
-    ensures refilled { Refilling shape (P.state pages.old) (P.state pages.new) place
+    ensures refilled { Refilling shape (P.shown.state pages.old) (P.shown.state pages.new) place
         (stamps.now ++ «record».now) result }
-    ensures available { (P.state pages.new).available ≡ (P.state pages.old).available }
-    ensures cause { IfErr result (IsCaused (P.HasFailed pages.old pages.new) ⊥) }
-    ensures asked { (P.state pages.new).asked ≤ (P.state pages.old).asked + 1 }
-    ensures goes { P.Goes pages.old pages.new }
+    ensures available { (P.shown.state pages.new).available ≡ (P.shown.state pages.old).available }
+    ensures writes { WritesPages P.shown 1 ⊥ pages.old pages.new result }
 {
     let page = pages.page_mut(place.page)?;
     if page[0] != b'H' || place.slot as usize >= shape.room() {

@@ -19,6 +19,7 @@ impl Heap {
     ghost use Rattle.std.specs.Prelude.{◌≡◌, ◌≢◌, ◌≤◌, ◌+◌, ◌++◌, ℕ, [], ◌∷◌, None, Some, IsTrue, IfOk, IfErr, OnOk, OnErr, length};
     ghost use Rattle.pages.specs.PageMap.{PageMap};
     ghost use Rattle.pages.specs.Cause.{IsCaused};
+    ghost use Rattle.pages.specs.PageCalls.{ReadsPages, WritesPages};
     ghost use Rattle.record_heap.specs.Chain.{no_slots};
     ghost use Rattle.record_heap.specs.Calls.{FillsFront};
     ghost use Rattle.record_heap.specs.Standing.{HeapStands};
@@ -41,14 +42,12 @@ impl Heap {
     ///
     /// Device, Memory; Damage where the place has no record.
     pub fn get<P: Pages>(&self, pages: &mut P, place: Place, to: &mut [u8]) -> Result<usize, Fault>
-        requires ready { P.IsReady pages.old }
+        requires ready { P.shown.IsReady pages.old }
         requires room { self.now.shape.stamps + self.now.shape.greatest ≤ length to.old }
-        ensures got { IsTrue (P.state pages.new).is_honest
-            → Got self.now (P.state pages.old).live place to.old to.new result }
+        ensures got { IsTrue (P.shown.state pages.new).is_honest
+            → Got self.now (P.shown.state pages.old).live place to.old to.new result }
         ensures front { FillsFront self.now.shape to.old to.new result }
-        ensures cause { IfErr result (IsCaused (P.HasFailed pages.old pages.new) ⊥) }
-        ensures asked { (P.state pages.new).asked ≤ (P.state pages.old).asked + 1 }
-        ensures reads { P.Reads pages.old pages.new }
+        ensures reads { ReadsPages P.shown 1 pages.old pages.new result }
     {
         read_used(pages, self.shape, place, to)
     }
@@ -62,15 +61,13 @@ impl Heap {
         place: Place,
         to: &mut [u8],
     ) -> Result<usize, Fault>
-        requires ready { P.IsReady pages.old }
+        requires ready { P.shown.IsReady pages.old }
         requires room { self.now.shape.greatest ≤ length to.old }
-        ensures got { IsTrue (P.state pages.new).is_honest
-            → GotRecord self.now (P.state pages.old).live place to.old to.new result }
+        ensures got { IsTrue (P.shown.state pages.new).is_honest
+            → GotRecord self.now (P.shown.state pages.old).live place to.old to.new result }
         ensures greatest { IfOk result (λ n. n ≤ self.now.shape.greatest) }
         ensures kept { OnErr result (to.new ≡ to.old) }
-        ensures cause { IfErr result (IsCaused (P.HasFailed pages.old pages.new) ⊥) }
-        ensures asked { (P.state pages.new).asked ≤ (P.state pages.old).asked + 1 }
-        ensures reads { P.Reads pages.old pages.new }
+        ensures reads { ReadsPages P.shown 1 pages.old pages.new result }
     {
         let length = read_record(pages, self.shape, place, to);
         pages.demote(place.page);
@@ -86,20 +83,17 @@ impl Heap {
         stamps: &[u8],
         record: &[u8],
     ) -> Result<Place, Fault>
-        requires ready { P.IsReady pages.old }
-        requires open { P.CanChange pages.old }
+        requires ready { P.shown.IsReady pages.old }
+        requires open { P.shown.CanChange pages.old }
         requires stamps { length stamps.now ≡ self.old.shape.stamps }
         requires least { self.old.shape.least ≤ length «record».now }
         requires greatest { length «record».now ≤ self.old.shape.greatest }
-        ensures added { Adds (P.state pages.old) (P.state pages.new) self.old self.new
+        ensures added { Adds (P.shown.state pages.old) (P.shown.state pages.new) self.old self.new
             (stamps.now ++ «record».now) result }
         ensures shape { self.new.shape ≡ self.old.shape }
-        ensures few { TakesFew self.old (P.state pages.old) (P.state pages.new) }
-        ensures cause { IfErr result (IsCaused (P.HasFailed pages.old pages.new)
-            (LacksSlot self.old (P.state pages.old))) }
-        ensures asked { (P.state pages.new).asked ≤ (P.state pages.old).asked + 3 }
-        ensures goes { P.Goes pages.old pages.new }
-        ensures order { AddsInOrder (P.state pages.old) (P.state pages.new) self.old self.new result }
+        ensures few { TakesFew self.old (P.shown.state pages.old) (P.shown.state pages.new) }
+        ensures writes { WritesPages P.shown 3 (LacksSlot self.old (P.shown.state pages.old)) pages.old pages.new result }
+        ensures order { AddsInOrder (P.shown.state pages.old) (P.shown.state pages.new) self.old self.new result }
     {
         self.make_room(pages)?;
         let place = self.free;
@@ -117,18 +111,16 @@ impl Heap {
         stamps: &[u8],
         record: &[u8],
     ) -> Result<(), Fault>
-        requires ready { P.IsReady pages.old }
-        requires open { P.CanChange pages.old }
+        requires ready { P.shown.IsReady pages.old }
+        requires open { P.shown.CanChange pages.old }
         requires stamps { length stamps.now ≡ self.now.shape.stamps }
         requires least { self.now.shape.least ≤ length «record».now }
         requires greatest { length «record».now ≤ self.now.shape.greatest }
-        ensures set { Sets (P.state pages.old) (P.state pages.new) self.now self.now place
+        ensures set { Sets (P.shown.state pages.old) (P.shown.state pages.new) self.now self.now place
             (Some (stamps.now ++ «record».now)) result }
-        ensures available { (P.state pages.new).available ≡ (P.state pages.old).available }
-        ensures cause { IfErr result (IsCaused (P.HasFailed pages.old pages.new) ⊥) }
-        ensures asked { (P.state pages.new).asked ≤ (P.state pages.old).asked + 1 }
-        ensures goes { P.Goes pages.old pages.new }
-        ensures order { SetsInOrder (P.state pages.old) (P.state pages.new) self.now self.now place [] result }
+        ensures available { (P.shown.state pages.new).available ≡ (P.shown.state pages.old).available }
+        ensures writes { WritesPages P.shown 1 ⊥ pages.old pages.new result }
+        ensures order { SetsInOrder (P.shown.state pages.old) (P.shown.state pages.new) self.now self.now place [] result }
     {
         fill(pages, self.shape, place, stamps, record)?;
         Ok(())
@@ -138,15 +130,13 @@ impl Heap {
     ///
     /// Device, Memory; Damage where the page is none of a heap.
     pub fn free<P: Pages>(&mut self, pages: &mut P, place: Place) -> Result<(), Fault>
-        requires ready { P.IsReady pages.old }
-        requires open { P.CanChange pages.old }
-        ensures freed { Sets (P.state pages.old) (P.state pages.new) self.old self.new place None result }
+        requires ready { P.shown.IsReady pages.old }
+        requires open { P.shown.CanChange pages.old }
+        ensures freed { Sets (P.shown.state pages.old) (P.shown.state pages.new) self.old self.new place None result }
         ensures shape { self.new.shape ≡ self.old.shape }
-        ensures available { (P.state pages.new).available ≡ (P.state pages.old).available }
-        ensures cause { IfErr result (IsCaused (P.HasFailed pages.old pages.new) ⊥) }
-        ensures asked { (P.state pages.new).asked ≤ (P.state pages.old).asked + 1 }
-        ensures goes { P.Goes pages.old pages.new }
-        ensures order { SetsInOrder (P.state pages.old) (P.state pages.new) self.old self.new place
+        ensures available { (P.shown.state pages.new).available ≡ (P.shown.state pages.old).available }
+        ensures writes { WritesPages P.shown 1 ⊥ pages.old pages.new result }
+        ensures order { SetsInOrder (P.shown.state pages.old) (P.shown.state pages.new) self.old self.new place
             (place ∷ []) result }
     {
         link(pages, self.shape, place, self.free)?;
@@ -156,16 +146,13 @@ impl Heap {
 
     /// Takes a new page where no slot is free.
     fn make_room<P: Pages>(&mut self, pages: &mut P) -> Result<(), Fault>
-        requires ready { P.IsReady pages.old }
-        requires open { P.CanChange pages.old }
-        ensures room { MakesRoom (P.state pages.old) (P.state pages.new) self.old self.new result }
+        requires ready { P.shown.IsReady pages.old }
+        requires open { P.shown.CanChange pages.old }
+        ensures room { MakesRoom (P.shown.state pages.old) (P.shown.state pages.new) self.old self.new result }
         ensures shape { self.new.shape ≡ self.old.shape }
-        ensures few { TakesFew self.old (P.state pages.old) (P.state pages.new) }
-        ensures cause { IfErr result (IsCaused (P.HasFailed pages.old pages.new)
-            (LacksSlot self.old (P.state pages.old))) }
-        ensures asked { (P.state pages.new).asked ≤ (P.state pages.old).asked + 2 }
-        ensures goes { P.Goes pages.old pages.new }
-        ensures order { MakesRoomInOrder (P.state pages.old) (P.state pages.new) self.old self.new result }
+        ensures few { TakesFew self.old (P.shown.state pages.old) (P.shown.state pages.new) }
+        ensures writes { WritesPages P.shown 2 (LacksSlot self.old (P.shown.state pages.old)) pages.old pages.new result }
+        ensures order { MakesRoomInOrder (P.shown.state pages.old) (P.shown.state pages.new) self.old self.new result }
     {
         if self.free.page != 0 {
             return Ok(());
@@ -175,17 +162,14 @@ impl Heap {
 
     /// Takes a new page, which goes to the front of the chain with all its slots free, in rising order.
     fn grow<P: Pages>(&mut self, pages: &mut P) -> Result<(), Fault>
-        requires ready { P.IsReady pages.old }
-        requires open { P.CanChange pages.old }
+        requires ready { P.shown.IsReady pages.old }
+        requires open { P.shown.CanChange pages.old }
         requires none { self.old.free.page ≡ 0 }
-        ensures room { MakesRoom (P.state pages.old) (P.state pages.new) self.old self.new result }
+        ensures room { MakesRoom (P.shown.state pages.old) (P.shown.state pages.new) self.old self.new result }
         ensures shape { self.new.shape ≡ self.old.shape }
-        ensures few { (P.state pages.old).available ≤ (P.state pages.new).available + 1 }
-        ensures cause { IfErr result (IsCaused (P.HasFailed pages.old pages.new)
-            ((P.state pages.old).available ≡ 0)) }
-        ensures asked { (P.state pages.new).asked ≤ (P.state pages.old).asked + 2 }
-        ensures goes { P.Goes pages.old pages.new }
-        ensures order { MakesRoomInOrder (P.state pages.old) (P.state pages.new) self.old self.new result }
+        ensures few { (P.shown.state pages.old).available ≤ (P.shown.state pages.new).available + 1 }
+        ensures writes { WritesPages P.shown 2 ((P.shown.state pages.old).available ≡ 0) pages.old pages.new result }
+        ensures order { MakesRoomInOrder (P.shown.state pages.old) (P.shown.state pages.new) self.old self.new result }
     {
         let n = pages.take()?;
         let mut page = [0; PAGE_SIZE];

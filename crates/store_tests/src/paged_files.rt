@@ -25,9 +25,9 @@ enum Found {
 
 // Writes the number of a page at both of its ends.
 fn mark<P: Pages>(pages: &mut P, n: u32) -> Result<(), Fault>
-    requires ready { P.IsReady pages.old }
-    requires open { P.CanChange pages.old }
-    ensures goes { P.Goes pages.old pages.new }
+    requires ready { P.shown.IsReady pages.old }
+    requires open { P.shown.CanChange pages.old }
+    ensures goes { P.shown.Writes pages.old pages.new }
 {
     let page = pages.page_mut(n)?;
     page[0] = (n % 251) as u8;
@@ -36,8 +36,8 @@ fn mark<P: Pages>(pages: &mut P, n: u32) -> Result<(), Fault>
 }
 
 fn is_marked<P: Pages>(pages: &mut P, n: u32) -> Result<bool, Fault>
-    requires ready { P.IsReady pages.old }
-    ensures goes { P.Goes pages.old pages.new }
+    requires ready { P.shown.IsReady pages.old }
+    ensures goes { P.shown.Writes pages.old pages.new }
 {
     let page = pages.page(n)?;
     Ok(page[0] == (n % 251) as u8 && page[4095] == (n % 251) as u8)
@@ -45,9 +45,9 @@ fn is_marked<P: Pages>(pages: &mut P, n: u32) -> Result<bool, Fault>
 
 // Takes pages and marks them. So many of them have the next number.
 fn fill<P: Pages>(pages: &mut P, count: u32) -> Result<u32, Fault>
-    requires ready { P.IsReady pages.old }
-    requires open { P.CanChange pages.old }
-    ensures goes { P.Goes pages.old pages.new }
+    requires ready { P.shown.IsReady pages.old }
+    requires open { P.shown.CanChange pages.old }
+    ensures goes { P.shown.Writes pages.old pages.new }
 {
     let mut right = 0u32;
     for n in 0..count {
@@ -62,8 +62,8 @@ fn fill<P: Pages>(pages: &mut P, count: u32) -> Result<u32, Fault>
 
 // How many of the first pages are marked.
 fn count_marked<P: Pages>(pages: &mut P, count: u32) -> Result<u32, Fault>
-    requires ready { P.IsReady pages.old }
-    ensures goes { P.Goes pages.old pages.new }
+    requires ready { P.shown.IsReady pages.old }
+    ensures goes { P.shown.Writes pages.old pages.new }
 {
     let mut right = 0u32;
     for n in 0..count {
@@ -269,9 +269,9 @@ fn pages_are_read_as_written_or_not_at_all_whichever_read_failed(
 
 // Takes a page, if one is left.
 fn take_one<P: Pages>(pages: &mut P) -> Result<bool, Fault>
-    requires ready { P.IsReady pages.old }
-    requires open { P.CanChange pages.old }
-    ensures goes { P.Goes pages.old pages.new }
+    requires ready { P.shown.IsReady pages.old }
+    requires open { P.shown.CanChange pages.old }
+    ensures goes { P.shown.Writes pages.old pages.new }
 {
     match pages.take() {
         Ok(_) => Ok(true),
@@ -282,9 +282,9 @@ fn take_one<P: Pages>(pages: &mut P) -> Result<bool, Fault>
 
 // Takes pages until none is left.
 fn take_all<P: Pages>(pages: &mut P) -> Result<u32, Fault>
-    requires ready { P.IsReady pages.old }
-    requires open { P.CanChange pages.old }
-    ensures goes { P.Goes pages.old pages.new }
+    requires ready { P.shown.IsReady pages.old }
+    requires open { P.shown.CanChange pages.old }
+    ensures goes { P.shown.Writes pages.old pages.new }
 {
     for taken in 0..100u32 {
         if !take_one(pages)? {
@@ -319,9 +319,9 @@ fn a_limit_of_sixteen_leaves_twelve_pages_behind_four(rt: HostRuntime) -> Result
 
 // Ten rounds over the first eight pages, each lent for writing.
 fn change_often<P: Pages>(pages: &mut P) -> Result<(), Fault>
-    requires ready { P.IsReady pages.old }
-    requires open { P.CanChange pages.old }
-    ensures goes { P.Goes pages.old pages.new }
+    requires ready { P.shown.IsReady pages.old }
+    requires open { P.shown.CanChange pages.old }
+    ensures goes { P.shown.Writes pages.old pages.new }
 {
     for n in 0..80u32 {
         mark(pages, n % 8 + 1)?;
@@ -358,8 +358,8 @@ fn a_page_is_read_once_while_it_is_held_and_written_when_the_file_is_closed(
 
 // Whether each of the first pages is one of zeros.
 fn all_zeros<P: Pages>(pages: &mut P, count: u32) -> Result<bool, Fault>
-    requires ready { P.IsReady pages.old }
-    ensures goes { P.Goes pages.old pages.new }
+    requires ready { P.shown.IsReady pages.old }
+    ensures goes { P.shown.Writes pages.old pages.new }
 {
     for n in 0..count {
         if pages.page(n.wrapping_add(1))?.iter().any(|byte| *byte != 0) {
@@ -371,9 +371,9 @@ fn all_zeros<P: Pages>(pages: &mut P, count: u32) -> Result<bool, Fault>
 
 // Takes so many pages. So many of them have the next number.
 fn take_next<P: Pages>(pages: &mut P, count: u32) -> Result<u32, Fault>
-    requires ready { P.IsReady pages.old }
-    requires open { P.CanChange pages.old }
-    ensures goes { P.Goes pages.old pages.new }
+    requires ready { P.shown.IsReady pages.old }
+    requires open { P.shown.CanChange pages.old }
+    ensures goes { P.shown.Writes pages.old pages.new }
 {
     let mut right = 0u32;
     for n in 0..count {

@@ -1,7 +1,7 @@
 //! One step down a tree, and a look into a leaf.
 
-ghost use Rattle.std.specs.Prelude.{◌≡◌, ◌+◌, ◌<◌, ◌≤◌, ℕ, true, IsTrue, IfErr, length};
-ghost use Rattle.pages.specs.Cause.{IsCaused};
+ghost use Rattle.std.specs.Prelude.{◌≡◌, ◌+◌, ◌<◌, true, IsTrue, length};
+ghost use Rattle.pages.specs.PageCalls.{ReadsPages};
 ghost use Rattle.tree_search.specs.Descent.{Steps, IsDescentStep, Looks, IsLook, IsKeyAt};
 ghost use Rattle.tree_node.specs.Inner.{IsInner, separators, children};
 ghost use Rattle.tree_node.specs.Leaf.{IsLeaf, leaf_entries};
@@ -37,11 +37,9 @@ pub fn descend<P: Pages>(
     page: u32,
     key: &[u8],
 ) -> Result<StepDown, Fault>
-    requires ready { P.IsReady pages.old }
-    ensures down { IsTrue (P.state pages.new).is_honest → Steps shape (P.state pages.old).live page key.now result }
-    ensures cause { IfErr result (IsCaused (P.HasFailed pages.old pages.new) ⊥) }
-    ensures asked { (P.state pages.new).asked ≤ (P.state pages.old).asked + 1 }
-    ensures reads { P.Reads pages.old pages.new }
+    requires ready { P.shown.IsReady pages.old }
+    ensures down { IsTrue (P.shown.state pages.new).is_honest → Steps shape (P.shown.state pages.old).live page key.now result }
+    ensures reads { ReadsPages P.shown 1 pages.old pages.new result }
 {
     let bytes = pages.page(page)?;
     if !is_inner(bytes, shape) {
@@ -68,11 +66,9 @@ pub fn step_in(page: &[u8; PAGE_SIZE], shape: Shape, key: &[u8]) -> StepDown
 
 /// Looks for a key in a leaf.
 pub fn seek<P: Pages>(pages: &mut P, shape: Shape, page: u32, key: &[u8]) -> Result<Look, Fault>
-    requires ready { P.IsReady pages.old }
-    ensures sought { IsTrue (P.state pages.new).is_honest → Looks shape (P.state pages.old).live page key.now result }
-    ensures cause { IfErr result (IsCaused (P.HasFailed pages.old pages.new) ⊥) }
-    ensures asked { (P.state pages.new).asked ≤ (P.state pages.old).asked + 1 }
-    ensures reads { P.Reads pages.old pages.new }
+    requires ready { P.shown.IsReady pages.old }
+    ensures sought { IsTrue (P.shown.state pages.new).is_honest → Looks shape (P.shown.state pages.old).live page key.now result }
+    ensures reads { ReadsPages P.shown 1 pages.old pages.new result }
 {
     let bytes = pages.page(page)?;
     if !is_leaf(bytes, shape) {

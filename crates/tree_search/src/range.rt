@@ -1,10 +1,10 @@
 //! The first entry of a range of keys, both ends of which belong to it.
 
-ghost use Rattle.std.specs.Prelude.{◌≡◌, ◌+◌, ◌*◌, ◌≤◌, ◌++◌, List, ℕ, IsTrue, IfErr, IfOk, length};
+ghost use Rattle.std.specs.Prelude.{◌≡◌, ◌+◌, ◌*◌, ◌≤◌, ◌++◌, List, IsTrue, IfOk, length};
 ghost use Rattle.tree_node.specs.Inner.{IsInner, separators, children};
 ghost use Rattle.tree_node.specs.Leaf.{IsLeaf, leaf_entries};
 ghost use Rattle.tree_node.specs.Order.{less};
-ghost use Rattle.pages.specs.Cause.{IsCaused};
+ghost use Rattle.pages.specs.PageCalls.{ReadsPages};
 ghost use Rattle.tree_search.specs.Range.{FindsBelow, Sights, SightsInLeaf, IsSightFrom, Fronts, FrontsInLeaf, HasFront, IsFork, Forks, IsUnended, told_first, told_seen, seen, alone};
 
 use crate::descent::{StepDown, step_in};
@@ -48,12 +48,10 @@ pub fn first_within<P: Pages>(
     from: &[u8],
     to: &[u8],
 ) -> Result<Option<First>, Fault>
-    requires ready { P.IsReady pages.old }
-    ensures found { IsTrue (P.state pages.new).is_honest
-        → FindsBelow shape (P.state pages.old).live levels page from.now to.now result }
-    ensures cause { IfErr result (IsCaused (P.HasFailed pages.old pages.new) ⊥) }
-    ensures asked { (P.state pages.new).asked ≤ (P.state pages.old).asked + 2 * (levels + 1) }
-    ensures reads { P.Reads pages.old pages.new }
+    requires ready { P.shown.IsReady pages.old }
+    ensures found { IsTrue (P.shown.state pages.new).is_honest
+        → FindsBelow shape (P.shown.state pages.old).live levels page from.now to.now result }
+    ensures reads { ReadsPages P.shown (2 * (levels + 1)) pages.old pages.new result }
 {
     let mut entry = Entry::new();
     match fill_within(pages, shape, page, levels, from, to, &mut entry)? {
@@ -72,12 +70,10 @@ fn fill_within<P: Pages>(
     to: &[u8],
     entry: &mut Entry,
 ) -> Result<Option<bool>, Fault>
-    requires ready { P.IsReady pages.old }
-    ensures found { IsTrue (P.state pages.new).is_honest
-        → FindsBelow shape (P.state pages.old).live levels page from.now to.now (told_first entry.new result) }
-    ensures cause { IfErr result (IsCaused (P.HasFailed pages.old pages.new) ⊥) }
-    ensures asked { (P.state pages.new).asked ≤ (P.state pages.old).asked + 2 * (levels + 1) }
-    ensures reads { P.Reads pages.old pages.new }
+    requires ready { P.shown.IsReady pages.old }
+    ensures found { IsTrue (P.shown.state pages.new).is_honest
+        → FindsBelow shape (P.shown.state pages.old).live levels page from.now to.now (told_first entry.new result) }
+    ensures reads { ReadsPages P.shown (2 * (levels + 1)) pages.old pages.new result }
 {
     match look_below(pages, shape, page, levels, from, to, entry)? {
         Sight::Answered(found) => Ok(found),
@@ -95,13 +91,11 @@ fn look_below<P: Pages>(
     to: &[u8],
     entry: &mut Entry,
 ) -> Result<Sight, Fault>
-    requires ready { P.IsReady pages.old }
-    ensures sight { IsTrue (P.state pages.new).is_honest
-        → Sights shape (P.state pages.old).live levels page from.now to.now (told_seen entry.new result) }
-    ensures cause { IfErr result (IsCaused (P.HasFailed pages.old pages.new) ⊥) }
-    ensures asked { (P.state pages.new).asked ≤ (P.state pages.old).asked + 2 * (levels + 1) }
-    ensures open { IfOk result (λ sight. IsUnended sight → (P.state pages.new).asked ≤ (P.state pages.old).asked + (levels + 1)) }
-    ensures reads { P.Reads pages.old pages.new }
+    requires ready { P.shown.IsReady pages.old }
+    ensures sight { IsTrue (P.shown.state pages.new).is_honest
+        → Sights shape (P.shown.state pages.old).live levels page from.now to.now (told_seen entry.new result) }
+    ensures open { IfOk result (λ sight. IsUnended sight → (P.shown.state pages.new).asked ≤ (P.shown.state pages.old).asked + (levels + 1)) }
+    ensures reads { ReadsPages P.shown (2 * (levels + 1)) pages.old pages.new result }
 {
     if levels == 0 {
         return look_in_leaf(pages, shape, page, from, to, entry);
@@ -134,12 +128,10 @@ fn look_in_leaf<P: Pages>(
     to: &[u8],
     entry: &mut Entry,
 ) -> Result<Sight, Fault>
-    requires ready { P.IsReady pages.old }
-    ensures sight { IsTrue (P.state pages.new).is_honest
-        → SightsInLeaf shape (P.state pages.old).live page from.now to.now (told_seen entry.new result) }
-    ensures cause { IfErr result (IsCaused (P.HasFailed pages.old pages.new) ⊥) }
-    ensures asked { (P.state pages.new).asked ≤ (P.state pages.old).asked + 1 }
-    ensures reads { P.Reads pages.old pages.new }
+    requires ready { P.shown.IsReady pages.old }
+    ensures sight { IsTrue (P.shown.state pages.new).is_honest
+        → SightsInLeaf shape (P.shown.state pages.old).live page from.now to.now (told_seen entry.new result) }
+    ensures reads { ReadsPages P.shown 1 pages.old pages.new result }
 {
     let bytes = pages.page(page)?;
     if !is_leaf(bytes, shape) {
@@ -185,11 +177,9 @@ fn fork_at<P: Pages>(
     from: &[u8],
     to: &[u8],
 ) -> Result<Fork, Fault>
-    requires ready { P.IsReady pages.old }
-    ensures fork { IsTrue (P.state pages.new).is_honest → Forks shape (P.state pages.old).live page from.now to.now result }
-    ensures cause { IfErr result (IsCaused (P.HasFailed pages.old pages.new) ⊥) }
-    ensures asked { (P.state pages.new).asked ≤ (P.state pages.old).asked + 1 }
-    ensures reads { P.Reads pages.old pages.new }
+    requires ready { P.shown.IsReady pages.old }
+    ensures fork { IsTrue (P.shown.state pages.new).is_honest → Forks shape (P.shown.state pages.old).live page from.now to.now result }
+    ensures reads { ReadsPages P.shown 1 pages.old pages.new result }
 {
     let bytes = pages.page(page)?;
     if !is_inner(bytes, shape) {
@@ -218,12 +208,10 @@ fn front_below<P: Pages>(
     to: &[u8],
     entry: &mut Entry,
 ) -> Result<Option<bool>, Fault>
-    requires ready { P.IsReady pages.old }
-    ensures front { IsTrue (P.state pages.new).is_honest
-        → Fronts shape (P.state pages.old).live levels page to.now (told_first entry.new result) }
-    ensures cause { IfErr result (IsCaused (P.HasFailed pages.old pages.new) ⊥) }
-    ensures asked { (P.state pages.new).asked ≤ (P.state pages.old).asked + (levels + 1) }
-    ensures reads { P.Reads pages.old pages.new }
+    requires ready { P.shown.IsReady pages.old }
+    ensures front { IsTrue (P.shown.state pages.new).is_honest
+        → Fronts shape (P.shown.state pages.old).live levels page to.now (told_first entry.new result) }
+    ensures reads { ReadsPages P.shown (levels + 1) pages.old pages.new result }
 {
     if levels == 0 {
         return front_of_leaf(pages, shape, page, to, entry);
@@ -240,11 +228,9 @@ fn has_front<P: Pages>(
     levels: u8,
     to: &[u8],
 ) -> Result<bool, Fault>
-    requires ready { P.IsReady pages.old }
-    ensures front { IsTrue (P.state pages.new).is_honest → HasFront shape (P.state pages.old).live levels page to.now result }
-    ensures cause { IfErr result (IsCaused (P.HasFailed pages.old pages.new) ⊥) }
-    ensures asked { (P.state pages.new).asked ≤ (P.state pages.old).asked + (levels + 1) }
-    ensures reads { P.Reads pages.old pages.new }
+    requires ready { P.shown.IsReady pages.old }
+    ensures front { IsTrue (P.shown.state pages.new).is_honest → HasFront shape (P.shown.state pages.old).live levels page to.now result }
+    ensures reads { ReadsPages P.shown (levels + 1) pages.old pages.new result }
 {
     let mut entry = Entry::new();
     let front = front_below(pages, shape, page, levels, to, &mut entry)?;
@@ -259,12 +245,10 @@ fn front_of_leaf<P: Pages>(
     to: &[u8],
     entry: &mut Entry,
 ) -> Result<Option<bool>, Fault>
-    requires ready { P.IsReady pages.old }
-    ensures front { IsTrue (P.state pages.new).is_honest
-        → FrontsInLeaf shape (P.state pages.old).live page to.now (told_first entry.new result) }
-    ensures cause { IfErr result (IsCaused (P.HasFailed pages.old pages.new) ⊥) }
-    ensures asked { (P.state pages.new).asked ≤ (P.state pages.old).asked + 1 }
-    ensures reads { P.Reads pages.old pages.new }
+    requires ready { P.shown.IsReady pages.old }
+    ensures front { IsTrue (P.shown.state pages.new).is_honest
+        → FrontsInLeaf shape (P.shown.state pages.old).live page to.now (told_first entry.new result) }
+    ensures reads { ReadsPages P.shown 1 pages.old pages.new result }
 {
     let bytes = pages.page(page)?;
     if !is_leaf(bytes, shape) {

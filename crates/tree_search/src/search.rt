@@ -1,9 +1,9 @@
 //! Look-ups by descent.
 
-ghost use Rattle.std.specs.Prelude.{◌≡◌, ◌+◌, ◌*◌, ◌<◌, ◌≤◌, ℕ, IsTrue, IfErr, IfOk, Ok, None, length, option_map};
+ghost use Rattle.std.specs.Prelude.{◌≡◌, ◌+◌, ◌*◌, ◌<◌, ◌≤◌, IsTrue, IfOk, Ok, None, length, option_map};
 ghost use Rattle.tree_node.specs.Leaf.{IsLeaf, leaf_entries};
 ghost use Rattle.tree_node.specs.Order.{Ascends};
-ghost use Rattle.pages.specs.Cause.{IsCaused};
+ghost use Rattle.pages.specs.PageCalls.{ReadsPages};
 ghost use Rattle.tree_search.specs.Calls.{entry_of, last_of};
 ghost use Rattle.tree_search.specs.Spot.{IsInLeafIf, Spots, SpotsInLeaf, SpotsFirst, SpotsFirstInLeaf};
 ghost use Rattle.tree_search.specs.Search.{Finds, FindsFilled, FindsInLeaf, FindsFirst, FirstOfLeaf, FirstChild, FindsLast, LastOfLeaf, LastChild, IsFound, IsPlace, LeadsToLeaf, FillsFromLeaf, filled, first_of};
@@ -23,11 +23,9 @@ pub fn find_below<P: Pages>(
     levels: u8,
     key: &[u8],
 ) -> Result<Option<Entry>, Fault>
-    requires ready { P.IsReady pages.old }
-    ensures found { IsTrue (P.state pages.new).is_honest → Finds shape (P.state pages.old).live levels page (entry_of shape.width key.now) result }
-    ensures cause { IfErr result (IsCaused (P.HasFailed pages.old pages.new) ⊥) }
-    ensures asked { (P.state pages.new).asked ≤ (P.state pages.old).asked + (levels + 1) }
-    ensures reads { P.Reads pages.old pages.new }
+    requires ready { P.shown.IsReady pages.old }
+    ensures found { IsTrue (P.shown.state pages.new).is_honest → Finds shape (P.shown.state pages.old).live levels page (entry_of shape.width key.now) result }
+    ensures reads { ReadsPages P.shown (levels + 1) pages.old pages.new result }
 {
     let leaf = leaf_below(pages, shape, page, levels, key)?;
     let mut entry = Entry::new();
@@ -45,11 +43,9 @@ pub fn leaf_below<P: Pages>(
     levels: u8,
     key: &[u8],
 ) -> Result<u32, Fault>
-    requires ready { P.IsReady pages.old }
-    ensures leaf { IsTrue (P.state pages.new).is_honest → LeadsToLeaf shape (P.state pages.old).live levels page key.now result }
-    ensures cause { IfErr result (IsCaused (P.HasFailed pages.old pages.new) ⊥) }
-    ensures asked { (P.state pages.new).asked ≤ (P.state pages.old).asked + levels }
-    ensures reads { P.Reads pages.old pages.new }
+    requires ready { P.shown.IsReady pages.old }
+    ensures leaf { IsTrue (P.shown.state pages.new).is_honest → LeadsToLeaf shape (P.shown.state pages.old).live levels page key.now result }
+    ensures reads { ReadsPages P.shown levels pages.old pages.new result }
 {
     if levels == 0 {
         return Ok(page);
@@ -66,12 +62,10 @@ fn find_in_leaf<P: Pages>(
     key: &[u8],
     to: &mut Entry,
 ) -> Result<bool, Fault>
-    requires ready { P.IsReady pages.old }
-    ensures found { IsTrue (P.state pages.new).is_honest
-        → FillsFromLeaf shape (P.state pages.old).live page (entry_of shape.width key.now) to.new result }
-    ensures cause { IfErr result (IsCaused (P.HasFailed pages.old pages.new) ⊥) }
-    ensures asked { (P.state pages.new).asked ≤ (P.state pages.old).asked + 1 }
-    ensures reads { P.Reads pages.old pages.new }
+    requires ready { P.shown.IsReady pages.old }
+    ensures found { IsTrue (P.shown.state pages.new).is_honest
+        → FillsFromLeaf shape (P.shown.state pages.old).live page (entry_of shape.width key.now) to.new result }
+    ensures reads { ReadsPages P.shown 1 pages.old pages.new result }
 {
     let bytes = pages.page(page)?;
     if !is_leaf(bytes, shape) {
@@ -105,14 +99,12 @@ pub fn next_below<P: Pages>(
     past: bool,
     spot: &mut Spot,
 ) -> Result<Option<Entry>, Fault>
-    requires ready { P.IsReady pages.old }
-    ensures found { IsTrue (P.state pages.new).is_honest
-        → FindsFilled shape (P.state pages.old).live levels page (first_of past shape.width key.now) result }
-    ensures spot { IsTrue (P.state pages.new).is_honest → Spots shape (P.state pages.old).live levels page spot.new result }
-    ensures cause { IfErr result (IsCaused (P.HasFailed pages.old pages.new) ⊥) }
-    ensures asked { (P.state pages.new).asked ≤ (P.state pages.old).asked + 2 * (levels + 1) }
-    ensures none { result ≡ Ok None → (P.state pages.new).asked ≤ (P.state pages.old).asked + (levels + 1) }
-    ensures reads { P.Reads pages.old pages.new }
+    requires ready { P.shown.IsReady pages.old }
+    ensures found { IsTrue (P.shown.state pages.new).is_honest
+        → FindsFilled shape (P.shown.state pages.old).live levels page (first_of past shape.width key.now) result }
+    ensures spot { IsTrue (P.shown.state pages.new).is_honest → Spots shape (P.shown.state pages.old).live levels page spot.new result }
+    ensures none { result ≡ Ok None → (P.shown.state pages.new).asked ≤ (P.shown.state pages.old).asked + (levels + 1) }
+    ensures reads { ReadsPages P.shown (2 * (levels + 1)) pages.old pages.new result }
 {
     if levels == 0 {
         return next_in_leaf(pages, shape, page, key, past, spot);
@@ -136,13 +128,11 @@ fn next_in_leaf<P: Pages>(
     past: bool,
     spot: &mut Spot,
 ) -> Result<Option<Entry>, Fault>
-    requires ready { P.IsReady pages.old }
-    ensures found { IsTrue (P.state pages.new).is_honest
-        → FindsInLeaf shape (P.state pages.old).live page (first_of past shape.width key.now) result }
-    ensures spot { IsTrue (P.state pages.new).is_honest → SpotsInLeaf shape (P.state pages.old).live page spot.new result }
-    ensures cause { IfErr result (IsCaused (P.HasFailed pages.old pages.new) ⊥) }
-    ensures asked { (P.state pages.new).asked ≤ (P.state pages.old).asked + 1 }
-    ensures reads { P.Reads pages.old pages.new }
+    requires ready { P.shown.IsReady pages.old }
+    ensures found { IsTrue (P.shown.state pages.new).is_honest
+        → FindsInLeaf shape (P.shown.state pages.old).live page (first_of past shape.width key.now) result }
+    ensures spot { IsTrue (P.shown.state pages.new).is_honest → SpotsInLeaf shape (P.shown.state pages.old).live page spot.new result }
+    ensures reads { ReadsPages P.shown 1 pages.old pages.new result }
 {
     let bytes = pages.page(page)?;
     if !is_leaf(bytes, shape) {
@@ -191,12 +181,10 @@ pub fn first_below<P: Pages>(
     levels: u8,
     spot: &mut Spot,
 ) -> Result<Entry, Fault>
-    requires ready { P.IsReady pages.old }
-    ensures first { IsTrue (P.state pages.new).is_honest → FindsFirst shape (P.state pages.old).live levels page result }
-    ensures spot { IsTrue (P.state pages.new).is_honest → SpotsFirst shape (P.state pages.old).live levels page spot.new result }
-    ensures cause { IfErr result (IsCaused (P.HasFailed pages.old pages.new) ⊥) }
-    ensures asked { (P.state pages.new).asked ≤ (P.state pages.old).asked + (levels + 1) }
-    ensures reads { P.Reads pages.old pages.new }
+    requires ready { P.shown.IsReady pages.old }
+    ensures first { IsTrue (P.shown.state pages.new).is_honest → FindsFirst shape (P.shown.state pages.old).live levels page result }
+    ensures spot { IsTrue (P.shown.state pages.new).is_honest → SpotsFirst shape (P.shown.state pages.old).live levels page spot.new result }
+    ensures reads { ReadsPages P.shown (levels + 1) pages.old pages.new result }
 {
     if levels == 0 {
         return first_of_leaf(pages, shape, page, spot);
@@ -211,12 +199,10 @@ fn first_of_leaf<P: Pages>(
     page: u32,
     spot: &mut Spot,
 ) -> Result<Entry, Fault>
-    requires ready { P.IsReady pages.old }
-    ensures first { IsTrue (P.state pages.new).is_honest → FirstOfLeaf shape (P.state pages.old).live page result }
-    ensures spot { IsTrue (P.state pages.new).is_honest → SpotsFirstInLeaf shape (P.state pages.old).live page spot.new result }
-    ensures cause { IfErr result (IsCaused (P.HasFailed pages.old pages.new) ⊥) }
-    ensures asked { (P.state pages.new).asked ≤ (P.state pages.old).asked + 1 }
-    ensures reads { P.Reads pages.old pages.new }
+    requires ready { P.shown.IsReady pages.old }
+    ensures first { IsTrue (P.shown.state pages.new).is_honest → FirstOfLeaf shape (P.shown.state pages.old).live page result }
+    ensures spot { IsTrue (P.shown.state pages.new).is_honest → SpotsFirstInLeaf shape (P.shown.state pages.old).live page spot.new result }
+    ensures reads { ReadsPages P.shown 1 pages.old pages.new result }
 {
     match entry_in_leaf(pages, shape, page, 0, spot)? {
         Some(entry) => Ok(entry),
@@ -225,11 +211,9 @@ fn first_of_leaf<P: Pages>(
 }
 
 pub fn first_child<P: Pages>(pages: &mut P, shape: Shape, page: u32) -> Result<u32, Fault>
-    requires ready { P.IsReady pages.old }
-    ensures child { IsTrue (P.state pages.new).is_honest → FirstChild shape (P.state pages.old).live page result }
-    ensures cause { IfErr result (IsCaused (P.HasFailed pages.old pages.new) ⊥) }
-    ensures asked { (P.state pages.new).asked ≤ (P.state pages.old).asked + 1 }
-    ensures reads { P.Reads pages.old pages.new }
+    requires ready { P.shown.IsReady pages.old }
+    ensures child { IsTrue (P.shown.state pages.new).is_honest → FirstChild shape (P.shown.state pages.old).live page result }
+    ensures reads { ReadsPages P.shown 1 pages.old pages.new result }
 {
     let bytes = pages.page(page)?;
     if !is_inner(bytes, shape) {
@@ -245,11 +229,9 @@ pub fn last_below<P: Pages>(
     page: u32,
     levels: u8,
 ) -> Result<Option<Entry>, Fault>
-    requires ready { P.IsReady pages.old }
-    ensures last { IsTrue (P.state pages.new).is_honest → FindsLast shape (P.state pages.old).live levels page result }
-    ensures cause { IfErr result (IsCaused (P.HasFailed pages.old pages.new) ⊥) }
-    ensures asked { (P.state pages.new).asked ≤ (P.state pages.old).asked + (levels + 1) }
-    ensures reads { P.Reads pages.old pages.new }
+    requires ready { P.shown.IsReady pages.old }
+    ensures last { IsTrue (P.shown.state pages.new).is_honest → FindsLast shape (P.shown.state pages.old).live levels page result }
+    ensures reads { ReadsPages P.shown (levels + 1) pages.old pages.new result }
 {
     if levels == 0 {
         return last_of_leaf(pages, shape, page);
@@ -259,11 +241,9 @@ pub fn last_below<P: Pages>(
 }
 
 fn last_of_leaf<P: Pages>(pages: &mut P, shape: Shape, page: u32) -> Result<Option<Entry>, Fault>
-    requires ready { P.IsReady pages.old }
-    ensures last { IsTrue (P.state pages.new).is_honest → LastOfLeaf shape (P.state pages.old).live page result }
-    ensures cause { IfErr result (IsCaused (P.HasFailed pages.old pages.new) ⊥) }
-    ensures asked { (P.state pages.new).asked ≤ (P.state pages.old).asked + 1 }
-    ensures reads { P.Reads pages.old pages.new }
+    requires ready { P.shown.IsReady pages.old }
+    ensures last { IsTrue (P.shown.state pages.new).is_honest → LastOfLeaf shape (P.shown.state pages.old).live page result }
+    ensures reads { ReadsPages P.shown 1 pages.old pages.new result }
 {
     let bytes = pages.page(page)?;
     if !is_leaf(bytes, shape) {
@@ -285,11 +265,9 @@ fn last_in(page: &[u8; PAGE_SIZE], shape: Shape) -> Option<Entry>
 }
 
 fn last_child<P: Pages>(pages: &mut P, shape: Shape, page: u32) -> Result<u32, Fault>
-    requires ready { P.IsReady pages.old }
-    ensures child { IsTrue (P.state pages.new).is_honest → LastChild shape (P.state pages.old).live page result }
-    ensures cause { IfErr result (IsCaused (P.HasFailed pages.old pages.new) ⊥) }
-    ensures asked { (P.state pages.new).asked ≤ (P.state pages.old).asked + 1 }
-    ensures reads { P.Reads pages.old pages.new }
+    requires ready { P.shown.IsReady pages.old }
+    ensures child { IsTrue (P.shown.state pages.new).is_honest → LastChild shape (P.shown.state pages.old).live page result }
+    ensures reads { ReadsPages P.shown 1 pages.old pages.new result }
 {
     let bytes = pages.page(page)?;
     if !is_inner(bytes, shape) {

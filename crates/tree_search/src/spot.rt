@@ -1,8 +1,8 @@
 //! Where an entry stands.
 
-ghost use Rattle.std.specs.Prelude.{◌≡◌, ◌+◌, ◌<◌, ◌≤◌, ℕ, IsTrue, IfErr, length};
+ghost use Rattle.std.specs.Prelude.{◌≡◌, ◌<◌, ◌≤◌, IsTrue, length};
 ghost use Rattle.tree_node.specs.Leaf.{IsLeaf, leaf_entries};
-ghost use Rattle.pages.specs.Cause.{IsCaused};
+ghost use Rattle.pages.specs.PageCalls.{ReadsPages};
 
 use io_state::Fault;
 use page_bytes::PAGE_SIZE;
@@ -40,12 +40,10 @@ pub fn entry_in_leaf<P: Pages>(
     place: usize,
     spot: &mut Spot,
 ) -> Result<Option<Entry>, Fault>
-    requires ready { P.IsReady pages.old }
-    ensures entry { IsTrue (P.state pages.new).is_honest
-        → EntryAt shape (P.state pages.old).live page place spot.new result }
-    ensures cause { IfErr result (IsCaused (P.HasFailed pages.old pages.new) ⊥) }
-    ensures asked { (P.state pages.new).asked ≤ (P.state pages.old).asked + 1 }
-    ensures reads { P.Reads pages.old pages.new }
+    requires ready { P.shown.IsReady pages.old }
+    ensures entry { IsTrue (P.shown.state pages.new).is_honest
+        → EntryAt shape (P.shown.state pages.old).live page place spot.new result }
+    ensures reads { ReadsPages P.shown 1 pages.old pages.new result }
 {
     let bytes = pages.page(page)?;
     if !is_leaf(bytes, shape) {
@@ -86,12 +84,10 @@ pub fn copy_entry<P: Pages>(
     place: usize,
     to: &mut Entry,
 ) -> Result<bool, Fault>
-    requires ready { P.IsReady pages.old }
-    ensures entry { IsTrue (P.state pages.new).is_honest
-        → CopiesEntry shape (P.state pages.old).live page place to.new.items result }
-    ensures cause { IfErr result (IsCaused (P.HasFailed pages.old pages.new) ⊥) }
-    ensures asked { (P.state pages.new).asked ≤ (P.state pages.old).asked + 1 }
-    ensures reads { P.Reads pages.old pages.new }
+    requires ready { P.shown.IsReady pages.old }
+    ensures entry { IsTrue (P.shown.state pages.new).is_honest
+        → CopiesEntry shape (P.shown.state pages.old).live page place to.new.items result }
+    ensures reads { ReadsPages P.shown 1 pages.old pages.new result }
 {
     let bytes = pages.page(page)?;
     if !is_leaf(bytes, shape) {
@@ -113,12 +109,10 @@ pub fn entry_begins_with<P: Pages>(
     place: usize,
     start: &[u8],
 ) -> Result<bool, Fault>
-    requires ready { P.IsReady pages.old }
-    ensures told { IsTrue (P.state pages.new).is_honest
-        → TellsStart shape (P.state pages.old).live page place start.now result }
-    ensures cause { IfErr result (IsCaused (P.HasFailed pages.old pages.new) ⊥) }
-    ensures asked { (P.state pages.new).asked ≤ (P.state pages.old).asked + 1 }
-    ensures reads { P.Reads pages.old pages.new }
+    requires ready { P.shown.IsReady pages.old }
+    ensures told { IsTrue (P.shown.state pages.new).is_honest
+        → TellsStart shape (P.shown.state pages.old).live page place start.now result }
+    ensures reads { ReadsPages P.shown 1 pages.old pages.new result }
 {
     let bytes = pages.page(page)?;
     if !is_leaf(bytes, shape) {

@@ -1,7 +1,7 @@
 //! What the entry of a key has behind the key, and whether a key has an entry.
 
-ghost use Rattle.std.specs.Prelude.{◌≡◌, ◌+◌, ◌≤◌, ℕ, IsTrue, IfErr, length};
-ghost use Rattle.pages.specs.Cause.{IsCaused};
+ghost use Rattle.std.specs.Prelude.{◌≡◌, ◌+◌, IsTrue, length};
+ghost use Rattle.pages.specs.PageCalls.{ReadsPages};
 ghost use Rattle.tree_node.specs.Leaf.{IsLeaf, leaf_entries};
 ghost use Rattle.tree_node.specs.Order.{Ascends};
 ghost use Rattle.tree_search.specs.Calls.{entry_of};
@@ -23,13 +23,11 @@ pub fn find_tail<P: Pages>(
     key: &[u8],
     tail: &mut [u8],
 ) -> Result<bool, Fault>
-    requires ready { P.IsReady pages.old }
+    requires ready { P.shown.IsReady pages.old }
     requires size { shape.width + length tail.old ≡ shape.entry }
-    ensures found { IsTrue (P.state pages.new).is_honest
-        → TellsBelow (IsTail shape.width tail.new) shape (P.state pages.old).live levels page key.now result }
-    ensures cause { IfErr result (IsCaused (P.HasFailed pages.old pages.new) ⊥) }
-    ensures asked { (P.state pages.new).asked ≤ (P.state pages.old).asked + (levels + 1) }
-    ensures reads { P.Reads pages.old pages.new }
+    ensures found { IsTrue (P.shown.state pages.new).is_honest
+        → TellsBelow (IsTail shape.width tail.new) shape (P.shown.state pages.old).live levels page key.now result }
+    ensures reads { ReadsPages P.shown (levels + 1) pages.old pages.new result }
 {
     let leaf = leaf_below(pages, shape, page, levels, key)?;
     tail_in_leaf(pages, shape, leaf, key, tail)
@@ -43,13 +41,11 @@ fn tail_in_leaf<P: Pages>(
     key: &[u8],
     tail: &mut [u8],
 ) -> Result<bool, Fault>
-    requires ready { P.IsReady pages.old }
+    requires ready { P.shown.IsReady pages.old }
     requires size { shape.width + length tail.old ≡ shape.entry }
-    ensures found { IsTrue (P.state pages.new).is_honest
-        → TellsInLeaf (IsTail shape.width tail.new) shape (P.state pages.old).live page key.now result }
-    ensures cause { IfErr result (IsCaused (P.HasFailed pages.old pages.new) ⊥) }
-    ensures asked { (P.state pages.new).asked ≤ (P.state pages.old).asked + 1 }
-    ensures reads { P.Reads pages.old pages.new }
+    ensures found { IsTrue (P.shown.state pages.new).is_honest
+        → TellsInLeaf (IsTail shape.width tail.new) shape (P.shown.state pages.old).live page key.now result }
+    ensures reads { ReadsPages P.shown 1 pages.old pages.new result }
 {
     let bytes = pages.page(page)?;
     if !is_leaf(bytes, shape) {
@@ -83,11 +79,9 @@ pub fn has_below<P: Pages>(
     levels: u8,
     key: &[u8],
 ) -> Result<bool, Fault>
-    requires ready { P.IsReady pages.old }
-    ensures told { IsTrue (P.state pages.new).is_honest → TellsBelow TellsPresence shape (P.state pages.old).live levels page key.now result }
-    ensures cause { IfErr result (IsCaused (P.HasFailed pages.old pages.new) ⊥) }
-    ensures asked { (P.state pages.new).asked ≤ (P.state pages.old).asked + (levels + 1) }
-    ensures reads { P.Reads pages.old pages.new }
+    requires ready { P.shown.IsReady pages.old }
+    ensures told { IsTrue (P.shown.state pages.new).is_honest → TellsBelow TellsPresence shape (P.shown.state pages.old).live levels page key.now result }
+    ensures reads { ReadsPages P.shown (levels + 1) pages.old pages.new result }
 {
     let leaf = leaf_below(pages, shape, page, levels, key)?;
     is_in_leaf(pages, shape, leaf, key)
@@ -95,11 +89,9 @@ pub fn has_below<P: Pages>(
 
 /// The same in a leaf.
 fn is_in_leaf<P: Pages>(pages: &mut P, shape: Shape, page: u32, key: &[u8]) -> Result<bool, Fault>
-    requires ready { P.IsReady pages.old }
-    ensures told { IsTrue (P.state pages.new).is_honest → TellsInLeaf TellsPresence shape (P.state pages.old).live page key.now result }
-    ensures cause { IfErr result (IsCaused (P.HasFailed pages.old pages.new) ⊥) }
-    ensures asked { (P.state pages.new).asked ≤ (P.state pages.old).asked + 1 }
-    ensures reads { P.Reads pages.old pages.new }
+    requires ready { P.shown.IsReady pages.old }
+    ensures told { IsTrue (P.shown.state pages.new).is_honest → TellsInLeaf TellsPresence shape (P.shown.state pages.old).live page key.now result }
+    ensures reads { ReadsPages P.shown 1 pages.old pages.new result }
 {
     let bytes = pages.page(page)?;
     if !is_leaf(bytes, shape) {

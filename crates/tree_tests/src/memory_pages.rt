@@ -51,25 +51,21 @@ impl Pages for MemoryPages {
     ghost use Rattle.std.proofs.Common.{◌∙◌, le_refl};
     ghost use Rattle.tree_tests.specs.MemoryPages.{unclaimed};
 
-    ghost state = { λ p. unclaimed p.left };
-
-    ghost IsReady = { λ p. ⊤ };
-
-    ghost CanChange = { λ p. ⊤ };
-
-    ghost Reads = { λ a b. b.left ≡ a.left };
-
-    ghost Goes = { λ a b. ⊤ };
-
-    ghost Moves = { λ a b. ⊤ };
-
-    ghost HasFailed = { λ a b. ⊥ };
+    ghost shown = { record {
+      state = λ p. unclaimed p.left;
+      IsReady = λ p. ⊤;
+      CanChange = λ p. ⊤;
+      Reads = λ a b. b.left ≡ a.left;
+      Writes = λ a b. ⊤;
+      Begins = λ a b. ⊤;
+      HasFailed = λ a b. ⊥;
+    } };
 
     ghost reads_nothing = { λ a. refl };
 
     ghost reads_on = { λ a b c ab bc. bc ∙ ab };
 
-    ghost reads_goes = { λ a b reads. tt };
+    ghost reads_writes = { λ a b reads. tt };
 
     ghost reads_live = { λ a b reads honest. refl };
 
@@ -77,31 +73,31 @@ impl Pages for MemoryPages {
 
     ghost reads_available = { λ a b reads. reads };
 
-    ghost goes_nowhere = { λ a. tt };
+    ghost writes_nothing = { λ a. tt };
 
-    ghost goes_on = { λ a b c ab bc. tt };
+    ghost writes_on = { λ a b c ab bc. tt };
 
-    ghost goes_moves = { λ a b goes. tt };
+    ghost writes_begins = { λ a b goes. tt };
 
-    ghost goes_honestly = { λ a b goes honest. honest };
+    ghost writes_honestly = { λ a b goes honest. honest };
 
-    ghost goes_ready = { λ a b goes ready. tt };
+    ghost writes_ready = { λ a b goes ready. tt };
 
-    ghost goes_changing = { λ a b goes changing. tt };
+    ghost writes_changing = { λ a b goes changing. tt };
 
-    ghost goes_counts = { λ a b goes. le_refl 0 };
+    ghost writes_counts = { λ a b goes. le_refl 0 };
 
     ghost failed_before = { λ a b c failed goes. failed };
 
     ghost failed_after = { λ a b c goes failed. failed };
 
-    ghost moves_on = { λ a b c ab bc. tt };
+    ghost begins_on = { λ a b c ab bc. tt };
 
-    ghost moves_honestly = { λ a b moves honest. honest };
+    ghost begins_honestly = { λ a b moves honest. honest };
 
-    ghost moves_ready = { λ a b moves ready. tt };
+    ghost begins_ready = { λ a b moves ready. tt };
 
-    ghost moves_counts = { λ a b moves. le_refl 0 };
+    ghost begins_counts = { λ a b moves. le_refl 0 };
 
     ghost failed_earlier = { λ a b c failed moves. failed };
 

@@ -11,9 +11,9 @@ use tree_node::Entry;
 /// Puts each entry in. How many were not there.
 pub fn insert_all<P: Pages>(tree: &mut Tree, pages: &mut P, entries: &[Bytes]) -> Result<u64, Fault>
     requires shape { tree.old.shape.entry ≡ 24 }
-    requires ready { P.IsReady pages.old }
-    requires open { P.CanChange pages.old }
-    ensures goes { P.Goes pages.old pages.new }
+    requires ready { P.shown.IsReady pages.old }
+    requires open { P.shown.CanChange pages.old }
+    ensures goes { P.shown.Writes pages.old pages.new }
     ensures shape { tree.new.shape ≡ tree.old.shape }
 {
     let mut sum = 0u64;
@@ -27,9 +27,9 @@ pub fn insert_all<P: Pages>(tree: &mut Tree, pages: &mut P, entries: &[Bytes]) -
 
 /// Takes the entry of each key out. A sum of what was taken.
 pub fn remove_all<P: Pages>(tree: &mut Tree, pages: &mut P, entries: &[Bytes]) -> Result<u64, Fault>
-    requires ready { P.IsReady pages.old }
-    requires open { P.CanChange pages.old }
-    ensures goes { P.Goes pages.old pages.new }
+    requires ready { P.shown.IsReady pages.old }
+    requires open { P.shown.CanChange pages.old }
+    ensures goes { P.shown.Writes pages.old pages.new }
     ensures shape { tree.new.shape ≡ tree.old.shape }
 {
     let mut sum = 0u64;
@@ -42,8 +42,8 @@ pub fn remove_all<P: Pages>(tree: &mut Tree, pages: &mut P, entries: &[Bytes]) -
 
 /// Looks each key up. A sum of what was found.
 pub fn find_all<P: Pages>(tree: &Tree, pages: &mut P, entries: &[Bytes]) -> Result<u64, Fault>
-    requires ready { P.IsReady pages.old }
-    ensures goes { P.Goes pages.old pages.new }
+    requires ready { P.shown.IsReady pages.old }
+    ensures goes { P.shown.Writes pages.old pages.new }
 {
     let mut sum = 0u64;
     for entry in entries {
@@ -55,8 +55,8 @@ pub fn find_all<P: Pages>(tree: &Tree, pages: &mut P, entries: &[Bytes]) -> Resu
 
 /// Goes over the entries of a tree by a cursor. A sum of them.
 pub fn step_over<P: Pages>(tree: &Tree, pages: &mut P) -> Result<u64, Fault>
-    requires ready { P.IsReady pages.old }
-    ensures goes { P.Goes pages.old pages.new }
+    requires ready { P.shown.IsReady pages.old }
+    ensures goes { P.shown.Writes pages.old pages.new }
 {
     let mut sum = 0u64;
     let mut cursor = tree.cursor(&[]);

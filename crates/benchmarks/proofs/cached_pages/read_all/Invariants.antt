@@ -1,4 +1,4 @@
 use Rattle.benchmarks.proofs.cached_pages.read_all.Given as goal
 
 abbrev pub invariant-loop-i : goal.invariant-loop-i
-invariant-loop-i g l = g.P.Pages.Goes l.initial.pages l.pages
+invariant-loop-i g l = g.P.Pages.shown.Writes l.initial.pages l.pages

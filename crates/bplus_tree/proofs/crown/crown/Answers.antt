@@ -12,15 +12,15 @@ returns-in_err-only_child-clause-crowned g c honest sound separators below at =
 pub returns-in-None-clause-crowned : goal.returns-in-None-clause-crowned
 returns-in-None-clause-crowned g c honest sound separators below at =
     let only = subst (λ (o : Option ℕ). IsOnly separators below o) c.in-None.is (c.in_ok-only_child.ensures.child honest separators below at).answer in
-    record { answer = ((only, g.met.P.Pages.reads_live c.args.pages.now c.only_child.new.pages c.only_child.ensures.reads honest), subst (λ (b : Bool). IsTrue b) (sym (g.met.P.Pages.reads_sound c.args.pages.now c.only_child.new.pages c.only_child.ensures.reads honest)) sound); no_damage = tt }
+    record { answer = ((only, g.met.P.Pages.reads_live c.args.pages.now c.only_child.new.pages c.only_child.ensures.reads.step honest), subst (λ (b : Bool). IsTrue b) (sym (g.met.P.Pages.reads_sound c.args.pages.now c.only_child.new.pages c.only_child.ensures.reads.step honest)) sound); no_damage = tt }
 
 pub returns-in_ok-give-in-Some-clause-crowned : goal.returns-in_ok-give-in-Some-clause-crowned
 returns-in_ok-give-in-Some-clause-crowned g c honest sound separators below at =
-    let h1 = g.met.P.Pages.goes_honestly c.only_child.new.pages c.give.new.self c.give.ensures.goes honest in
-    let live = g.met.P.Pages.reads_live c.args.pages.now c.only_child.new.pages c.only_child.ensures.reads h1 in
-    let sound1 = subst (λ (b : Bool). IsTrue b) (sym (g.met.P.Pages.reads_sound c.args.pages.now c.only_child.new.pages c.only_child.ensures.reads h1)) sound in
+    let h1 = g.met.P.Pages.writes_honestly c.only_child.new.pages c.give.new.self c.give.ensures.writes.step honest in
+    let live = g.met.P.Pages.reads_live c.args.pages.now c.only_child.new.pages c.only_child.ensures.reads.step h1 in
+    let sound1 = subst (λ (b : Bool). IsTrue b) (sym (g.met.P.Pages.reads_sound c.args.pages.now c.only_child.new.pages c.only_child.ensures.reads.step h1)) sound in
     let only = subst (λ (o : Option ℕ). IsOnly separators below o) c.in-Some.is (c.in_ok-only_child.ensures.child h1 separators below at).answer in
-    let alive = subst (λ (m : PageMap). IsSome (m c.args.page)) (sym live) (node_there c.args.shape ((g.P.Pages.state c.args.pages.now).live) c.args.page separators below at) in
+    let alive = subst (λ (m : PageMap). IsSome (m c.args.page)) (sym live) (node_there c.args.shape ((g.P.Pages.shown.state c.args.pages.now).live) c.args.page separators below at) in
     let given = c.in_ok-give-in-Some.ensures.given honest alive in
     record {
       answer = ((only.0, only.1, given.free, λ n ne. given.others n ne ∙ ap (λ (m : PageMap). m n) live), subst (λ (b : Bool). IsTrue b) (sym (c.give.ensures.sound honest alive)) sound1);

@@ -1,22 +1,23 @@
+use Rattle.std.proofs.lemmas.Grind.{common_steps}
 use Rattle.std.proofs.Common.{◌≡◌, ℕ, ◌+◌, ◌-◌, ◌<◌, suc, Ok, IsTrue, subst, sym, ap, ◌∙◌, arith}
 use Rattle.bplus_tree.specs.declared.insert.Grown.{Grown}
 use Rattle.bplus_tree.specs.declared.insert.Grown.TheVariants.{Added}
 use Rattle.bplus_tree.specs.Insert.{Inserts}
-use Rattle.bplus_tree.proofs.GrowLemmas.{caused_on}
+use Rattle.pages.proofs.CauseLemmas.{fails_since}
 use Rattle.bplus_tree.proofs.InsertLemmas.{down_fails, child_fails, child_has, child_grown, split_grown, split_fails}
 use Rattle.bplus_tree.proofs.insert.+insert_below.Goals as goal
 
 pub returns-then-levels-eq0-clause-inserted : goal.returns-then-levels-eq0-clause-inserted
 returns-then-levels-eq0-clause-inserted g t c honest sound =
-    let old = g.P.Pages.state c.args.pages.now in
-    let new = g.P.Pages.state c.insert_in_leaf.new.pages in
+    let old = g.P.Pages.shown.state c.args.pages.now in
+    let new = g.P.Pages.shown.state c.insert_in_leaf.new.pages in
     subst (λ (n : ℕ). Inserts c.args.shape old.live new.live (IsTrue new.is_sound) n c.args.page c.args.entry.now c.insert_in_leaf.result) (sym c.if-levels-eq0.true) (c.insert_in_leaf.ensures.inserted honest sound)
 
 pub returns-in_err-down-clause-inserted : goal.returns-in_err-down-clause-inserted
 returns-in_err-down-clause-inserted g t c honest sound =
     let one : c.args.levels ≡ suc (c.args.levels - 1) = omega arith in
-    let old = g.P.Pages.state c.args.pages.now in
-    let new = g.P.Pages.state c.descend.new.pages in
+    let old = g.P.Pages.shown.state c.args.pages.now in
+    let new = g.P.Pages.shown.state c.descend.new.pages in
     down_fails c.args.shape c.args.levels (c.args.levels - 1) c.args.page c.args.entry.now one old.live new.live (IsTrue new.is_sound) _ c.from_residual.result (c.in_err-down.ensures.down honest) c.from_residual.ensures.1
 
 pub returns-in_err-found-clause-inserted : goal.returns-in_err-found-clause-inserted
@@ -25,11 +26,11 @@ returns-in_err-found-clause-inserted g t c honest sound =
     let old = c.args.pages.now in
     let mid = c.descend.new.pages in
     let new = c.insert_below.new.pages in
-    let reads = c.descend.ensures.reads in
-    let h = g.met.P.Pages.goes_honestly mid new c.insert_below.ensures.goes honest in
-    let sound' : IsTrue (g.P.Pages.state mid).is_sound = subst IsTrue (sym (g.met.P.Pages.reads_sound old mid reads h)) sound in
-    child_fails c.args.shape c.args.levels (c.args.levels - 1) c.args.page c.args.entry.now one (g.P.Pages.state old).live (g.P.Pages.state mid).live (g.met.P.Pages.reads_live old mid reads h)
-    c.in_ok-down.down (c.in_ok-down.ensures.down h) (g.P.Pages.state new).live (IsTrue (g.P.Pages.state new).is_sound) _ c.from_residual-in_err-found.result (c.in_err-found.ensures.inserted honest sound')
+    let reads = c.descend.ensures.reads.step in
+    let h = g.met.P.Pages.writes_honestly mid new c.insert_below.ensures.writes.step honest in
+    let sound' : IsTrue (g.P.Pages.shown.state mid).is_sound = subst IsTrue (sym (g.met.P.Pages.reads_sound old mid reads h)) sound in
+    child_fails c.args.shape c.args.levels (c.args.levels - 1) c.args.page c.args.entry.now one (g.P.Pages.shown.state old).live (g.P.Pages.shown.state mid).live (g.met.P.Pages.reads_live old mid reads h)
+    c.in_ok-down.down (c.in_ok-down.ensures.down h) (g.P.Pages.shown.state new).live (IsTrue (g.P.Pages.shown.state new).is_sound) _ c.from_residual-in_err-found.result (c.in_err-found.ensures.inserted honest sound')
     c.from_residual-in_err-found.ensures.1
 
 pub returns-in-Present-clause-inserted : goal.returns-in-Present-clause-inserted
@@ -38,13 +39,13 @@ returns-in-Present-clause-inserted g t c honest sound =
     let old = c.args.pages.now in
     let mid = c.descend.new.pages in
     let new = c.insert_below.new.pages in
-    let reads = c.descend.ensures.reads in
-    let h = g.met.P.Pages.goes_honestly mid new c.insert_below.ensures.goes honest in
-    let sound' : IsTrue (g.P.Pages.state mid).is_sound = subst IsTrue (sym (g.met.P.Pages.reads_sound old mid reads h)) sound in
-    let inserts = subst (λ (s : Grown). Inserts c.args.shape (g.P.Pages.state mid).live (g.P.Pages.state new).live (IsTrue (g.P.Pages.state new).is_sound) (c.args.levels - 1) c.in_ok-down.down.child c.args.entry.now (Ok s))
+    let reads = c.descend.ensures.reads.step in
+    let h = g.met.P.Pages.writes_honestly mid new c.insert_below.ensures.writes.step honest in
+    let sound' : IsTrue (g.P.Pages.shown.state mid).is_sound = subst IsTrue (sym (g.met.P.Pages.reads_sound old mid reads h)) sound in
+    let inserts = subst (λ (s : Grown). Inserts c.args.shape (g.P.Pages.shown.state mid).live (g.P.Pages.shown.state new).live (IsTrue (g.P.Pages.shown.state new).is_sound) (c.args.levels - 1) c.in_ok-down.down.child c.args.entry.now (Ok s))
     c.in-Present.is (c.in_ok-found.ensures.inserted honest sound') in
-    child_has c.args.shape c.args.levels (c.args.levels - 1) c.args.page c.args.entry.now one (g.P.Pages.state old).live (g.P.Pages.state mid).live (g.met.P.Pages.reads_live old mid reads h)
-    c.in_ok-down.down (c.in_ok-down.ensures.down h) (g.P.Pages.state new).live (IsTrue (g.P.Pages.state new).is_sound) c.in-Present.found inserts
+    child_has c.args.shape c.args.levels (c.args.levels - 1) c.args.page c.args.entry.now one (g.P.Pages.shown.state old).live (g.P.Pages.shown.state mid).live (g.met.P.Pages.reads_live old mid reads h)
+    c.in_ok-down.down (c.in_ok-down.ensures.down h) (g.P.Pages.shown.state new).live (IsTrue (g.P.Pages.shown.state new).is_sound) c.in-Present.found inserts
 
 pub returns-in-Added-None-clause-inserted : goal.returns-in-Added-None-clause-inserted
 returns-in-Added-None-clause-inserted g t c honest sound =
@@ -52,13 +53,13 @@ returns-in-Added-None-clause-inserted g t c honest sound =
     let old = c.args.pages.now in
     let mid = c.descend.new.pages in
     let new = c.insert_below.new.pages in
-    let reads = c.descend.ensures.reads in
-    let h = g.met.P.Pages.goes_honestly mid new c.insert_below.ensures.goes honest in
-    let sound' : IsTrue (g.P.Pages.state mid).is_sound = subst IsTrue (sym (g.met.P.Pages.reads_sound old mid reads h)) sound in
-    let inserts = subst (λ (s : Grown). Inserts c.args.shape (g.P.Pages.state mid).live (g.P.Pages.state new).live (IsTrue (g.P.Pages.state new).is_sound) (c.args.levels - 1) c.in_ok-down.down.child c.args.entry.now (Ok s))
+    let reads = c.descend.ensures.reads.step in
+    let h = g.met.P.Pages.writes_honestly mid new c.insert_below.ensures.writes.step honest in
+    let sound' : IsTrue (g.P.Pages.shown.state mid).is_sound = subst IsTrue (sym (g.met.P.Pages.reads_sound old mid reads h)) sound in
+    let inserts = subst (λ (s : Grown). Inserts c.args.shape (g.P.Pages.shown.state mid).live (g.P.Pages.shown.state new).live (IsTrue (g.P.Pages.shown.state new).is_sound) (c.args.levels - 1) c.in_ok-down.down.child c.args.entry.now (Ok s))
     (c.in-Added-None.is ∙ ap Added c.in-Added-None.field-0-is) (c.in_ok-found.ensures.inserted honest sound') in
-    child_grown c.args.shape c.args.levels (c.args.levels - 1) c.args.page c.args.entry.now one (g.P.Pages.state old).live (g.P.Pages.state mid).live (g.met.P.Pages.reads_live old mid reads h)
-    c.in_ok-down.down (c.in_ok-down.ensures.down h) (g.P.Pages.state new).live (IsTrue (g.P.Pages.state new).is_sound) inserts
+    child_grown c.args.shape c.args.levels (c.args.levels - 1) c.args.page c.args.entry.now one (g.P.Pages.shown.state old).live (g.P.Pages.shown.state mid).live (g.met.P.Pages.reads_live old mid reads h)
+    c.in_ok-down.down (c.in_ok-down.ensures.down h) (g.P.Pages.shown.state new).live (IsTrue (g.P.Pages.shown.state new).is_sound) inserts
 
 pub returns-in_ok-up-in-Added-Some-clause-inserted : goal.returns-in_ok-up-in-Added-Some-clause-inserted
 returns-in_ok-up-in-Added-Some-clause-inserted g t c honest sound =
@@ -67,14 +68,14 @@ returns-in_ok-up-in-Added-Some-clause-inserted g t c honest sound =
     let mid = c.descend.new.pages in
     let new = c.insert_below.new.pages in
     let last = c.add_to_inner.new.pages in
-    let reads = c.descend.ensures.reads in
-    let h2 = g.met.P.Pages.goes_honestly new last c.add_to_inner.ensures.goes honest in
-    let h = g.met.P.Pages.goes_honestly mid new c.insert_below.ensures.goes h2 in
-    let sound' : IsTrue (g.P.Pages.state mid).is_sound = subst IsTrue (sym (g.met.P.Pages.reads_sound old mid reads h)) sound in
-    let inserts = subst (λ (s : Grown). Inserts c.args.shape (g.P.Pages.state mid).live (g.P.Pages.state new).live (IsTrue (g.P.Pages.state new).is_sound) (c.args.levels - 1) c.in_ok-down.down.child c.args.entry.now (Ok s))
+    let reads = c.descend.ensures.reads.step in
+    let h2 = g.met.P.Pages.writes_honestly new last c.add_to_inner.ensures.writes.step honest in
+    let h = g.met.P.Pages.writes_honestly mid new c.insert_below.ensures.writes.step h2 in
+    let sound' : IsTrue (g.P.Pages.shown.state mid).is_sound = subst IsTrue (sym (g.met.P.Pages.reads_sound old mid reads h)) sound in
+    let inserts = subst (λ (s : Grown). Inserts c.args.shape (g.P.Pages.shown.state mid).live (g.P.Pages.shown.state new).live (IsTrue (g.P.Pages.shown.state new).is_sound) (c.args.levels - 1) c.in_ok-down.down.child c.args.entry.now (Ok s))
     (c.in-Added-Some.is ∙ ap Added c.in-Added-Some.field-0-is) (c.in_ok-found.ensures.inserted h2 sound') in
-    split_grown c.args.shape c.args.levels (c.args.levels - 1) c.args.page c.args.entry.now one (g.P.Pages.state old).live (g.P.Pages.state mid).live (g.met.P.Pages.reads_live old mid reads h)
-    c.in_ok-down.down (c.in_ok-down.ensures.down h) (g.P.Pages.state new).live (g.P.Pages.state last).live (IsTrue (g.P.Pages.state last).is_sound) (IsTrue (g.P.Pages.state new).is_sound) c.in-Added-Some.separator
+    split_grown c.args.shape c.args.levels (c.args.levels - 1) c.args.page c.args.entry.now one (g.P.Pages.shown.state old).live (g.P.Pages.shown.state mid).live (g.met.P.Pages.reads_live old mid reads h)
+    c.in_ok-down.down (c.in_ok-down.ensures.down h) (g.P.Pages.shown.state new).live (g.P.Pages.shown.state last).live (IsTrue (g.P.Pages.shown.state last).is_sound) (IsTrue (g.P.Pages.shown.state new).is_sound) c.in-Added-Some.separator
     c.in_ok-up-in-Added-Some.up inserts (c.in_ok-up-in-Added-Some.ensures.added honest)
 
 pub returns-in_err-up-in-Added-Some-clause-inserted : goal.returns-in_err-up-in-Added-Some-clause-inserted
@@ -84,26 +85,32 @@ returns-in_err-up-in-Added-Some-clause-inserted g t c honest sound =
     let mid = c.descend.new.pages in
     let new = c.insert_below.new.pages in
     let last = c.add_to_inner.new.pages in
-    let reads = c.descend.ensures.reads in
-    let h2 = g.met.P.Pages.goes_honestly new last c.add_to_inner.ensures.goes honest in
-    let h = g.met.P.Pages.goes_honestly mid new c.insert_below.ensures.goes h2 in
-    let sound' : IsTrue (g.P.Pages.state mid).is_sound = subst IsTrue (sym (g.met.P.Pages.reads_sound old mid reads h)) sound in
-    let inserts = subst (λ (s : Grown). Inserts c.args.shape (g.P.Pages.state mid).live (g.P.Pages.state new).live (IsTrue (g.P.Pages.state new).is_sound) (c.args.levels - 1) c.in_ok-down.down.child c.args.entry.now (Ok s))
+    let reads = c.descend.ensures.reads.step in
+    let h2 = g.met.P.Pages.writes_honestly new last c.add_to_inner.ensures.writes.step honest in
+    let h = g.met.P.Pages.writes_honestly mid new c.insert_below.ensures.writes.step h2 in
+    let sound' : IsTrue (g.P.Pages.shown.state mid).is_sound = subst IsTrue (sym (g.met.P.Pages.reads_sound old mid reads h)) sound in
+    let inserts = subst (λ (s : Grown). Inserts c.args.shape (g.P.Pages.shown.state mid).live (g.P.Pages.shown.state new).live (IsTrue (g.P.Pages.shown.state new).is_sound) (c.args.levels - 1) c.in_ok-down.down.child c.args.entry.now (Ok s))
     (c.in-Added-Some.is ∙ ap Added c.in-Added-Some.field-0-is) (c.in_ok-found.ensures.inserted h2 sound') in
-    split_fails c.args.shape c.args.levels (c.args.levels - 1) c.args.page c.args.entry.now one (g.P.Pages.state old).live (g.P.Pages.state mid).live (g.met.P.Pages.reads_live old mid reads h)
-    c.in_ok-down.down (c.in_ok-down.ensures.down h) (g.P.Pages.state new).live (g.P.Pages.state last).live (IsTrue (g.P.Pages.state last).is_sound) (IsTrue (g.P.Pages.state new).is_sound) c.in-Added-Some.separator _
+    split_fails c.args.shape c.args.levels (c.args.levels - 1) c.args.page c.args.entry.now one (g.P.Pages.shown.state old).live (g.P.Pages.shown.state mid).live (g.met.P.Pages.reads_live old mid reads h)
+    c.in_ok-down.down (c.in_ok-down.ensures.down h) (g.P.Pages.shown.state new).live (g.P.Pages.shown.state last).live (IsTrue (g.P.Pages.shown.state last).is_sound) (IsTrue (g.P.Pages.shown.state new).is_sound) c.in-Added-Some.separator _
     c.from_residual-in_err-up-in-Added-Some.result inserts (c.in_err-up-in-Added-Some.ensures.added honest) c.from_residual-in_err-up-in-Added-Some.ensures.1
 
-pub returns-in_err-up-in-Added-Some-clause-cause : goal.returns-in_err-up-in-Added-Some-clause-cause
-returns-in_err-up-in-Added-Some-clause-cause g t c =
-    let old = c.args.pages.now in
-    let mid = c.descend.new.pages in
-    let new = c.insert_below.new.pages in
-    let last = c.add_to_inner.new.pages in
-    let reads = c.descend.ensures.reads in
-    let goes = g.met.P.Pages.goes_on old mid new (g.met.P.Pages.reads_goes old mid reads) c.insert_below.ensures.goes in
-    let same = g.met.P.Pages.reads_available old mid reads in
-    let few = c.insert_below.ensures.few in
-    let some = c.if-levels-eq0.false in
-    caused_on c.from_residual-in_err-up-in-Added-Some.result _ (g.P.Pages.HasFailed new last) (g.P.Pages.HasFailed old last) ((g.P.Pages.state new).available ≡ 0) ((g.P.Pages.state old).available < c.args.levels + 1)
-    c.from_residual-in_err-up-in-Added-Some.ensures.1 (g.met.P.Pages.failed_after old new last goes) (λ none. omega arith) c.in_err-up-in-Added-Some.ensures.cause
+pub returns-in_err-up-in-Added-Some-clause-writes : goal.returns-in_err-up-in-Added-Some-clause-writes
+returns-in_err-up-in-Added-Some-clause-writes g t c =
+    record {
+      cause =
+          let old = c.args.pages.now in
+          let mid = c.descend.new.pages in
+          let new = c.insert_below.new.pages in
+          let last = c.add_to_inner.new.pages in
+          let reads = c.descend.ensures.reads.step in
+          let goes = g.met.P.Pages.writes_on old mid new (g.met.P.Pages.reads_writes old mid reads) c.insert_below.ensures.writes.step in
+          let same = g.met.P.Pages.reads_available old mid reads in
+          let few = c.insert_below.ensures.few in
+          let some = c.if-levels-eq0.false in
+          fails_since c.from_residual-in_err-up-in-Added-Some.result _ (g.P.Pages.shown.HasFailed new last) (g.P.Pages.shown.HasFailed old last) ((g.P.Pages.shown.state new).available ≡ 0) ((g.P.Pages.shown.state old).available < c.args.levels + 1)
+          c.from_residual-in_err-up-in-Added-Some.ensures.1 (g.met.P.Pages.failed_after old new last goes) (λ none. omega arith) c.in_err-up-in-Added-Some.ensures.writes.cause;
+      asked = grind (arith, common_steps);
+      step =
+          g.met.P.Pages.writes_on c.args.pages.now c.insert_below.new.pages c.add_to_inner.new.pages (g.met.P.Pages.writes_on c.args.pages.now c.descend.new.pages c.insert_below.new.pages (g.met.P.Pages.reads_writes c.args.pages.now c.descend.new.pages c.descend.ensures.reads.step) c.insert_below.ensures.writes.step) c.add_to_inner.ensures.writes.step;
+    }

@@ -6,14 +6,14 @@ use Rattle.bplus_tree.proofs.raise.raise.Goals as goal
 
 pub returns-in-None-clause-raised : goal.returns-in-None-clause-raised
 returns-in-None-clause-raised g c honest sound =
-    let old = g.P.Pages.state c.args.pages.now in
+    let old = g.P.Pages.shown.state c.args.pages.now in
     subst (λ (u : Option Separator). Raises c.args.shape old.live old.live (IsTrue old.is_sound) c.args.levels c.args.root u (Ok (record { root = c.args.root; levels = c.args.levels }))) (sym c.in-None.is)
     (raises_none c.args.shape c.args.levels c.args.root old.live old.live (IsTrue old.is_sound) refl sound)
 
 pub returns-in_ok-root-in-Some-clause-raised : goal.returns-in_ok-root-in-Some-clause-raised
 returns-in_ok-root-in-Some-clause-raised g c honest sound =
-    let old = g.P.Pages.state c.args.pages.now in
-    let new = g.P.Pages.state c.add_root.new.pages in
+    let old = g.P.Pages.shown.state c.args.pages.now in
+    let new = g.P.Pages.shown.state c.add_root.new.pages in
     let levels = c.args.levels + 1 in
     subst (λ (u : Option Separator). Raises c.args.shape old.live new.live (IsTrue new.is_sound) c.args.levels c.args.root u (Ok (record { root = c.in_ok-root-in-Some.root; levels = levels }))) (sym c.in-Some.is)
     (raises_above c.args.shape c.args.levels c.args.root old.live new.live (IsTrue new.is_sound) c.in-Some.separator c.in_ok-root-in-Some.root levels (add-one c.args.levels) (c.in_ok-root-in-Some.ensures.added honest sound))

@@ -19,5 +19,5 @@ returns-then-added-clause-added g c honest sound slots primes entries p none =
       | else-part w ↦ w.stamp-is ∙ ap (λ b. if b then opened.next_stamp else 0) (sym (ap (λ part. part.duplicates) (sym c.part-part.ensures.part) ∙ w.if-part.false))
     ]) in
     let added = ((rw (c.if-added.true, c.value-value.ensures.value, c.value-prime.ensures.value, stamp) at c.in_ok-added.ensures.added) honest sound (entries c.args.j) _ (p.alternates_stand c.args.j c.alternate-index.result c.requires.index at)).answer in
-    let whole = alternate_changed opened.heap opened.prime opened.alternates.items (g.P.Pages.state c.args.pages.now).live slots primes entries p (g.P.Pages.state c.add.new.pages).live c.args.j c.add.new.self _ c.requires.index added.0.1 in
+    let whole = alternate_changed opened.heap opened.prime opened.alternates.items (g.P.Pages.shown.state c.args.pages.now).live slots primes entries p (g.P.Pages.shown.state c.add.new.pages).live c.args.j c.add.new.self _ c.requires.index added.0.1 in
     rw c.put_at.ensures (record { answer = (whole, added.1); no_damage = tt })

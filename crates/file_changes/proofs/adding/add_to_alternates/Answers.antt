@@ -1,16 +1,17 @@
 use Rattle.std.proofs.Common.{◌≡◌, ◌+◌, ◌<◌, length, drop, arith, refl, ap, ◌∙◌}
 use Rattle.file_changes.specs.Adding.{levels_in, added_below}
 use Rattle.open_file.specs.declared.open_file.OpenFile.{OpenFile}
-use Rattle.open_file.proofs.ExitLemmas.{fails, fails_since}
+use Rattle.pages.proofs.CauseLemmas.{fails_since}
+use Rattle.open_file.proofs.ExitLemmas.{fails}
 use Rattle.open_file.proofs.PartsLemmas.{said_so, found_at}
 use Rattle.file_changes.proofs.LevelLemmas.{levels_dropped, below_start, below_here, below_step}
 use Rattle.file_changes.proofs.adding.add_to_alternates.Goals as goal
 
 pub loop-j-init : goal.loop-j-init
 loop-j-init g c = (
-  g.met.P.Pages.goes_nowhere c.args.pages.now,
+  g.met.P.Pages.writes_nothing c.args.pages.now,
   (λ honest sound slots primes entries p free. (
-    said_so c.args.opened.now.heap c.args.opened.now.prime c.args.opened.now.alternates.items (g.P.Pages.state c.args.pages.now).live slots primes entries p primes
+    said_so c.args.opened.now.heap c.args.opened.now.prime c.args.opened.now.alternates.items (g.P.Pages.shown.state c.args.pages.now).live slots primes entries p primes
         (added_below c.args.opened.now.schema c.args.opened.now.next_stamp c.args.bytes.now 0 entries) refl (λ i lt. below_start c.args.opened.now.schema c.args.opened.now.next_stamp c.args.bytes.now entries i),
     sound,
   )),
@@ -34,9 +35,9 @@ loop-j-preserved g c =
     let index = found_at opened.alternates.items c.loop-j.j lt in
     let levels = levels_dropped opened.alternates.items c.loop-j.j index.0 lt index.1 in
     let left : levels_in (drop (c.loop-j.j + 1) new.alternates.items) ≡ levels_in (drop (c.loop-j.j + 1) opened.alternates.items) = ap levels_in step.later in (
-      g.met.P.Pages.goes_on start now later inv.0 step.goes,
+      g.met.P.Pages.writes_on start now later inv.0 step.goes,
       (λ honest sound slots primes entries p free.
-          let before = g.met.P.Pages.goes_honestly now later step.goes honest in
+          let before = g.met.P.Pages.writes_honestly now later step.goes honest in
           let had = inv.1 before sound slots primes entries p free in
           let schema = ap (λ (u : OpenFile). u.schema) inv.2 in
           let stamp = ap (λ (u : OpenFile). u.next_stamp) inv.2 in
@@ -44,7 +45,7 @@ loop-j-preserved g c =
           let within : j < length c.args.opened.now.alternates.items = omega (arith, lt, inv.4) in
           let none = below_here c.args.opened.now.schema c.args.opened.now.next_stamp c.args.bytes.now j entries ∙ refl in
           let done = ((rw (schema, stamp) at c.in_ok-add_to_alternate.ensures.added) honest had.1 slots primes (added_below c.args.opened.now.schema c.args.opened.now.next_stamp c.args.bytes.now j entries) had.0 (rw none (free j within))).answer in (
-            said_so new.heap new.prime new.alternates.items (g.P.Pages.state later).live slots primes _ done.0 primes
+            said_so new.heap new.prime new.alternates.items (g.P.Pages.shown.state later).live slots primes _ done.0 primes
                 (added_below c.args.opened.now.schema c.args.opened.now.next_stamp c.args.bytes.now (j + 1) entries) refl (λ i _. below_step c.args.opened.now.schema c.args.opened.now.next_stamp c.args.bytes.now j entries i),
             done.1,
           )),
@@ -62,7 +63,7 @@ returns-in_err-add_to_alternate-clause-added g c honest sound slots primes entri
     let opened = c.loop-j.opened in
     let inv = c.loop-j.invariant in
     let lt : c.loop-j.j < length c.args.opened.now.alternates.items = omega (arith, c.loop-j-test.true, c.len-j-end.ensures.value, inv.4) in
-    let before = g.met.P.Pages.goes_honestly now later c.add_to_alternate.ensures.goes honest in
+    let before = g.met.P.Pages.writes_honestly now later c.add_to_alternate.ensures.goes honest in
     let had = inv.1 before sound slots primes entries p free in
     let schema = ap (λ (u : OpenFile). u.schema) inv.2 in
     let stamp = ap (λ (u : OpenFile). u.next_stamp) inv.2 in
@@ -70,8 +71,8 @@ returns-in_err-add_to_alternate-clause-added g c honest sound slots primes entri
     let failed = (rw (schema, stamp) at c.in_err-add_to_alternate.ensures.added) honest had.1 slots primes (added_below c.args.opened.now.schema c.args.opened.now.next_stamp c.args.bytes.now c.loop-j.j entries) had.0 (rw none (free c.loop-j.j lt)) in
     fails c.from_residual.result _ c.from_residual.ensures.1 failed.no_damage _
 
-pub returns-in_err-add_to_alternate-clause-cause : goal.returns-in_err-add_to_alternate-clause-cause
-returns-in_err-add_to_alternate-clause-cause g c =
+pub returns-in_err-add_to_alternate-clause-writes : goal.returns-in_err-add_to_alternate-clause-writes
+returns-in_err-add_to_alternate-clause-writes g c =
     let start = c.args.pages.now in
     let now = c.loop-j.pages in
     let later = c.add_to_alternate.new.pages in
@@ -80,16 +81,12 @@ returns-in_err-add_to_alternate-clause-cause g c =
     let lt : c.loop-j.j < length opened.alternates.items = omega (arith, c.loop-j-test.true, c.len-j-end.ensures.value, inv.4) in
     let index = found_at opened.alternates.items c.loop-j.j lt in
     let levels = levels_dropped opened.alternates.items c.loop-j.j index.0 lt index.1 in
-    fails_since c.from_residual.result _ _ _ _ _ c.from_residual.ensures.1 (λ failed. g.met.P.Pages.failed_after start now later inv.0 failed) (λ full. omega (arith, full, levels, inv.5)) (c.in_err-add_to_alternate.ensures.cause index.0 index.1)
-
-pub returns-in_err-add_to_alternate-clause-asked : goal.returns-in_err-add_to_alternate-clause-asked
-returns-in_err-add_to_alternate-clause-asked g c =
-    let opened = c.loop-j.opened in
-    let inv = c.loop-j.invariant in
-    let lt : c.loop-j.j < length opened.alternates.items = omega (arith, c.loop-j-test.true, c.len-j-end.ensures.value, inv.4) in
-    let index = found_at opened.alternates.items c.loop-j.j lt in
-    let levels = levels_dropped opened.alternates.items c.loop-j.j index.0 lt index.1 in
-    omega (arith, levels, inv.6, c.add_to_alternate.ensures.asked index.0 index.1)
+    record {
+      cause = fails_since c.from_residual.result _ _ _ _ _ c.from_residual.ensures.1 (λ failed. g.met.P.Pages.failed_after start now later inv.0 failed) (λ full. omega (arith, full, levels, inv.5))
+          (c.in_err-add_to_alternate.ensures.cause index.0 index.1);
+      asked = omega (arith, levels, inv.6, c.add_to_alternate.ensures.asked index.0 index.1);
+      step = g.met.P.Pages.writes_on start now later inv.0 c.add_to_alternate.ensures.goes;
+    }
 
 pub returns-clause-added : goal.returns-clause-added
 returns-clause-added g c honest sound slots primes entries p free =

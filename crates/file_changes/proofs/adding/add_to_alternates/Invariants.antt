@@ -9,14 +9,14 @@ use Rattle.file_changes.proofs.adding.add_to_alternates.Given as goal
 
 abbrev pub invariant-loop-j : goal.invariant-loop-j
 invariant-loop-j g l =
-    (g.P.Pages.Goes l.fn.pages l.pages)
-    × (IsTrue (g.P.Pages.state l.pages).is_honest → IsTrue (g.P.Pages.state l.fn.pages).is_sound → (slots : Slots) (primes : List PrimeEntry) (entries : ℕ → List AltEntry)
-    → Parts l.fn.opened.heap l.fn.opened.prime l.fn.opened.alternates.items (g.P.Pages.state l.fn.pages).live slots primes entries
+    (g.P.Pages.shown.Writes l.fn.pages l.pages)
+    × (IsTrue (g.P.Pages.shown.state l.pages).is_honest → IsTrue (g.P.Pages.shown.state l.fn.pages).is_sound → (slots : Slots) (primes : List PrimeEntry) (entries : ℕ → List AltEntry)
+    → Parts l.fn.opened.heap l.fn.opened.prime l.fn.opened.alternates.items (g.P.Pages.shown.state l.fn.pages).live slots primes entries
     → AreFree l.fn.opened.schema l.fn.opened.next_stamp l.bytes (length l.fn.opened.alternates.items) entries
-    → Parts l.opened.heap l.opened.prime l.opened.alternates.items (g.P.Pages.state l.pages).live slots primes (added_below l.fn.opened.schema l.fn.opened.next_stamp l.bytes l.j entries)
-    × IsTrue (g.P.Pages.state l.pages).is_sound)
+    → Parts l.opened.heap l.opened.prime l.opened.alternates.items (g.P.Pages.shown.state l.pages).live slots primes (added_below l.fn.opened.schema l.fn.opened.next_stamp l.bytes l.j entries)
+    × IsTrue (g.P.Pages.shown.state l.pages).is_sound)
     × (l.opened ≡ record l.fn.opened { alternates = l.opened.alternates })
     × (IsShaped l.opened)
     × (length l.opened.alternates.items ≡ length l.fn.opened.alternates.items)
-    × (levels_in (drop l.j l.opened.alternates.items) ≤ (g.P.Pages.state l.pages).available)
-    × ((g.P.Pages.state l.pages).asked + 8 * levels_in (drop l.j l.opened.alternates.items) ≤ (g.P.Pages.state l.fn.pages).asked + 8 * levels_in l.fn.opened.alternates.items)
+    × (levels_in (drop l.j l.opened.alternates.items) ≤ (g.P.Pages.shown.state l.pages).available)
+    × ((g.P.Pages.shown.state l.pages).asked + 8 * levels_in (drop l.j l.opened.alternates.items) ≤ (g.P.Pages.shown.state l.fn.pages).asked + 8 * levels_in l.fn.opened.alternates.items)

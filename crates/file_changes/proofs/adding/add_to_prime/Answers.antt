@@ -11,7 +11,7 @@ returns-in-true-clause-added g c honest sound slots primes entries p none =
     let opened = c.args.opened.now in
     let added = ((rw (c.in-true.is, c.value-value.ensures.value) at c.in_ok-add.ensures.added) honest sound primes _ p.prime_stands).answer in
     record {
-      answer = (prime_changed opened.heap opened.prime opened.alternates.items (g.P.Pages.state c.args.pages.now).live slots primes entries p (g.P.Pages.state c.add.new.pages).live c.add.new.self _ added.0.1, added.1);
+      answer = (prime_changed opened.heap opened.prime opened.alternates.items (g.P.Pages.shown.state c.args.pages.now).live slots primes entries p (g.P.Pages.shown.state c.add.new.pages).live c.add.new.self _ added.0.1, added.1);
       no_damage = tt;
     }
 

@@ -1,7 +1,8 @@
 use Rattle.std.proofs.Common.{◌≡◌, ◌≤◌, ◌<◌, length, not, false, true, Bool, refl, sym, ap, subst, ◌∙◌, arith}
 use Rattle.record_layout.specs.declared.schema.KeyPart.{KeyPart}
 use Rattle.open_file.specs.Stands.{Stands, heights_of}
-use Rattle.open_file.proofs.ExitLemmas.{fails, fails_since}
+use Rattle.pages.proofs.CauseLemmas.{fails_since}
+use Rattle.open_file.proofs.ExitLemmas.{fails}
 use Rattle.open_file.proofs.HeightLemmas.{heights_many}
 use Rattle.open_file.proofs.LookLemmas.{at_start, step_absent, step_repeated, clash_found, clash_told, done_told, asked_start, asked_more, asked_in_all, asked_so_far, was_true}
 use Rattle.file_changes.proofs.adding.adding.Goals as goal
@@ -9,10 +10,10 @@ use Rattle.file_changes.proofs.adding.adding.Goals.{then-branch+else-not-part, e
 
 pub loop-k-init : goal.loop-k-init
 loop-k-init g c =
-    (g.met.P.Pages.reads_nothing c.args.pages.now, (λ honest file stands. at_start c.args.opened.now.schema.keys c.args.bytes.now file.rows), asked_start (g.P.Pages.state c.args.pages.now).asked (heights_of c.args.opened.now))
+    (g.met.P.Pages.reads_nothing c.args.pages.now, (λ honest file stands. at_start c.args.opened.now.schema.keys c.args.bytes.now file.rows), asked_start (g.P.Pages.shown.state c.args.pages.now).asked (heights_of c.args.opened.now))
 
 pub is_there-requires-clause-ready : goal.is_there-requires-clause-ready
-is_there-requires-clause-ready g c = g.met.P.Pages.goes_ready c.args.pages.now c.loop-k.pages (g.met.P.Pages.reads_goes c.args.pages.now c.loop-k.pages c.loop-k.invariant.0) c.requires.ready
+is_there-requires-clause-ready g c = g.met.P.Pages.writes_ready c.args.pages.now c.loop-k.pages (g.met.P.Pages.reads_writes c.args.pages.now c.loop-k.pages c.loop-k.invariant.0) c.requires.ready
 
 pub loop-k-preserved : goal.loop-k-preserved
 loop-k-preserved g c =
@@ -22,9 +23,9 @@ loop-k-preserved g c =
     let keys = c.args.opened.now.schema.keys in
     let lt : c.loop-k.k < length keys = omega (arith, c.loop-k-test.true, c.key_count-k-end.ensures.count) in
     let d : KeyPart = record { offset = 0; length = 0; duplicates = false } in (
-      g.met.P.Pages.reads_on start now later c.loop-k.invariant.0 c.is_there.ensures.reads,
+      g.met.P.Pages.reads_on start now later c.loop-k.invariant.0 c.is_there.ensures.reads.step,
       (λ honest file stands.
-          let before = g.met.P.Pages.goes_honestly now later (g.met.P.Pages.reads_goes now later c.is_there.ensures.reads) honest in
+          let before = g.met.P.Pages.writes_honestly now later (g.met.P.Pages.reads_writes now later c.is_there.ensures.reads.step) honest in
           let still = subst (λ p. Stands c.args.opened.now p file) (sym (g.met.P.Pages.reads_live start now c.loop-k.invariant.0 before)) stands in
           let found = (c.in_ok-is_there.ensures.found honest file still).answer in
           let on = c.loop-k.invariant.1 before file stands in
@@ -33,28 +34,26 @@ loop-k-preserved g c =
                 (ap (λ part. part.duplicates) (sym w.part.ensures.part) ∙ was_true _ w.if-not-part.false) on)
             | else-branch w ↦ rw w.repeated-is (step_absent keys d c.args.bytes.now file.rows c.loop-k.k c.loop-k.repeated lt (sym found ∙ w.if-branch.false) on)
           ]),
-      asked_more (g.P.Pages.state start).asked (g.P.Pages.state now).asked (g.P.Pages.state later).asked (heights_of c.args.opened.now) c.loop-k.k
-          (omega (arith, lt, c.requires.shaped.keys, heights_many c.args.opened.now.prime c.args.opened.now.alternates.items)) c.is_there.ensures.asked c.loop-k.invariant.2,
+      asked_more (g.P.Pages.shown.state start).asked (g.P.Pages.shown.state now).asked (g.P.Pages.shown.state later).asked (heights_of c.args.opened.now) c.loop-k.k
+          (omega (arith, lt, c.requires.shaped.keys, heights_many c.args.opened.now.prime c.args.opened.now.alternates.items)) c.is_there.ensures.reads.asked c.loop-k.invariant.2,
     )
 
 pub returns-in_err-is_there-clause-found : goal.returns-in_err-is_there-clause-found
 returns-in_err-is_there-clause-found g c honest file stands =
-    let before = g.met.P.Pages.goes_honestly c.loop-k.pages c.is_there.new.pages (g.met.P.Pages.reads_goes c.loop-k.pages c.is_there.new.pages c.is_there.ensures.reads) honest in
+    let before = g.met.P.Pages.writes_honestly c.loop-k.pages c.is_there.new.pages (g.met.P.Pages.reads_writes c.loop-k.pages c.is_there.new.pages c.is_there.ensures.reads.step) honest in
     let still = subst (λ p. Stands c.args.opened.now p file) (sym (g.met.P.Pages.reads_live c.args.pages.now c.loop-k.pages c.loop-k.invariant.0 before)) stands in
     fails c.from_residual.result _ c.from_residual.ensures.1 (c.in_err-is_there.ensures.found honest file still).no_damage _
 
-pub returns-in_err-is_there-clause-cause : goal.returns-in_err-is_there-clause-cause
-returns-in_err-is_there-clause-cause g c =
-    fails_since c.from_residual.result _ _ _ _ _ c.from_residual.ensures.1 (λ failed. g.met.P.Pages.failed_after c.args.pages.now c.loop-k.pages c.is_there.new.pages (g.met.P.Pages.reads_goes c.args.pages.now c.loop-k.pages c.loop-k.invariant.0) failed) (λ none. none) c.in_err-is_there.ensures.cause
-
 pub returns-in_err-is_there-clause-reads : goal.returns-in_err-is_there-clause-reads
-returns-in_err-is_there-clause-reads g c = g.met.P.Pages.reads_on c.args.pages.now c.loop-k.pages c.is_there.new.pages c.loop-k.invariant.0 c.is_there.ensures.reads
-
-pub returns-in_err-is_there-clause-asked : goal.returns-in_err-is_there-clause-asked
-returns-in_err-is_there-clause-asked g c =
-    let lt : c.loop-k.k < length c.args.opened.now.schema.keys = omega (arith, c.loop-k-test.true, c.key_count-k-end.ensures.count) in
-    asked_so_far (g.P.Pages.state c.args.pages.now).asked (g.P.Pages.state c.loop-k.pages).asked (g.P.Pages.state c.is_there.new.pages).asked (heights_of c.args.opened.now) c.loop-k.k
-    (omega (arith, lt, c.requires.shaped.keys, heights_many c.args.opened.now.prime c.args.opened.now.alternates.items)) c.is_there.ensures.asked c.loop-k.invariant.2
+returns-in_err-is_there-clause-reads g c =
+    record {
+      cause = fails_since c.from_residual.result _ _ _ _ _ c.from_residual.ensures.1 (λ failed. g.met.P.Pages.failed_after c.args.pages.now c.loop-k.pages c.is_there.new.pages (g.met.P.Pages.reads_writes c.args.pages.now c.loop-k.pages c.loop-k.invariant.0) failed) (λ none. none) c.in_err-is_there.ensures.reads.cause;
+      asked =
+          let lt : c.loop-k.k < length c.args.opened.now.schema.keys = omega (arith, c.loop-k-test.true, c.key_count-k-end.ensures.count) in
+          asked_so_far (g.P.Pages.shown.state c.args.pages.now).asked (g.P.Pages.shown.state c.loop-k.pages).asked (g.P.Pages.shown.state c.is_there.new.pages).asked (heights_of c.args.opened.now) c.loop-k.k
+          (omega (arith, lt, c.requires.shaped.keys, heights_many c.args.opened.now.prime c.args.opened.now.alternates.items)) c.is_there.ensures.reads.asked c.loop-k.invariant.2;
+      step = g.met.P.Pages.reads_on c.args.pages.now c.loop-k.pages c.is_there.new.pages c.loop-k.invariant.0 c.is_there.ensures.reads.step;
+    }
 
 pub returns-then-not-part-clause-found : goal.returns-then-not-part-clause-found
 returns-then-not-part-clause-found g c honest file stands =
@@ -64,7 +63,7 @@ returns-then-not-part-clause-found g c honest file stands =
     let keys = c.args.opened.now.schema.keys in
     let lt : c.loop-k.k < length keys = omega (arith, c.loop-k-test.true, c.key_count-k-end.ensures.count) in
     let d : KeyPart = record { offset = 0; length = 0; duplicates = false } in
-    let before = g.met.P.Pages.goes_honestly now later (g.met.P.Pages.reads_goes now later c.is_there.ensures.reads) honest in
+    let before = g.met.P.Pages.writes_honestly now later (g.met.P.Pages.reads_writes now later c.is_there.ensures.reads.step) honest in
     let still = subst (λ p. Stands c.args.opened.now p file) (sym (g.met.P.Pages.reads_live start now c.loop-k.invariant.0 before)) stands in
     let found = (c.in_ok-is_there.ensures.found honest file still).answer in
     let on = c.loop-k.invariant.1 before file stands in
@@ -79,13 +78,15 @@ returns-then-not-part-clause-found g c honest file stands =
     was_false false h = refl
 
 pub returns-then-not-part-clause-reads : goal.returns-then-not-part-clause-reads
-returns-then-not-part-clause-reads g c = g.met.P.Pages.reads_on c.args.pages.now c.loop-k.pages c.is_there.new.pages c.loop-k.invariant.0 c.is_there.ensures.reads
-
-pub returns-then-not-part-clause-asked : goal.returns-then-not-part-clause-asked
-returns-then-not-part-clause-asked g c =
-    let lt : c.loop-k.k < length c.args.opened.now.schema.keys = omega (arith, c.loop-k-test.true, c.key_count-k-end.ensures.count) in
-    asked_so_far (g.P.Pages.state c.args.pages.now).asked (g.P.Pages.state c.loop-k.pages).asked (g.P.Pages.state c.is_there.new.pages).asked (heights_of c.args.opened.now) c.loop-k.k
-    (omega (arith, lt, c.requires.shaped.keys, heights_many c.args.opened.now.prime c.args.opened.now.alternates.items)) c.is_there.ensures.asked c.loop-k.invariant.2
+returns-then-not-part-clause-reads g c =
+    record {
+      cause = tt;
+      asked =
+          let lt : c.loop-k.k < length c.args.opened.now.schema.keys = omega (arith, c.loop-k-test.true, c.key_count-k-end.ensures.count) in
+          asked_so_far (g.P.Pages.shown.state c.args.pages.now).asked (g.P.Pages.shown.state c.loop-k.pages).asked (g.P.Pages.shown.state c.is_there.new.pages).asked (heights_of c.args.opened.now) c.loop-k.k
+          (omega (arith, lt, c.requires.shaped.keys, heights_many c.args.opened.now.prime c.args.opened.now.alternates.items)) c.is_there.ensures.reads.asked c.loop-k.invariant.2;
+      step = g.met.P.Pages.reads_on c.args.pages.now c.loop-k.pages c.is_there.new.pages c.loop-k.invariant.0 c.is_there.ensures.reads.step;
+    }
 
 pub returns-clause-found : goal.returns-clause-found
 returns-clause-found g c honest file stands =
@@ -94,7 +95,9 @@ returns-clause-found g c honest file stands =
     record { answer = done_told c.args.opened.now.schema c.args.bytes.now file c.loop-k.k c.loop-k.repeated all on; no_damage = tt }
 
 pub returns-clause-reads : goal.returns-clause-reads
-returns-clause-reads g c = c.loop-k.invariant.0
-
-pub returns-clause-asked : goal.returns-clause-asked
-returns-clause-asked g c = asked_in_all (g.P.Pages.state c.args.pages.now).asked (g.P.Pages.state c.loop-k.pages).asked (heights_of c.args.opened.now) c.loop-k.k c.loop-k.invariant.2
+returns-clause-reads g c =
+    record {
+      cause = tt;
+      asked = asked_in_all (g.P.Pages.shown.state c.args.pages.now).asked (g.P.Pages.shown.state c.loop-k.pages).asked (heights_of c.args.opened.now) c.loop-k.k c.loop-k.invariant.2;
+      step = c.loop-k.invariant.0;
+    }

@@ -6,6 +6,6 @@ use Rattle.file_changes.proofs.adding.adding.Given as goal
 
 abbrev pub invariant-loop-k : goal.invariant-loop-k
 invariant-loop-k g l =
-    (g.P.Pages.Reads l.fn.pages l.pages)
-    × (IsTrue (g.P.Pages.state l.pages).is_honest → (file : File) → Stands l.opened ((g.P.Pages.state l.fn.pages).live) file → LooksOn l.opened.schema.keys l.bytes file.rows l.k l.repeated)
-    × (IsAsked (g.P.Pages.state l.fn.pages).asked (g.P.Pages.state l.pages).asked (heights_of l.opened) l.k)
+    (g.P.Pages.shown.Reads l.fn.pages l.pages)
+    × (IsTrue (g.P.Pages.shown.state l.pages).is_honest → (file : File) → Stands l.opened ((g.P.Pages.shown.state l.fn.pages).live) file → LooksOn l.opened.schema.keys l.bytes file.rows l.k l.repeated)
+    × (IsAsked (g.P.Pages.shown.state l.fn.pages).asked (g.P.Pages.shown.state l.pages).asked (heights_of l.opened) l.k)

@@ -10,7 +10,7 @@ returns-clause-put g c honest sound slots primes entries p =
       answer = if_ok c.add.result _ _ (λ place done. (
         record {
           free = done.0;
-          parts = heap_changed opened.heap opened.prime opened.alternates.items (g.P.Pages.state c.args.pages.now).live slots primes entries p (g.P.Pages.state c.add.new.pages).live c.add.new.self _ done.1;
+          parts = heap_changed opened.heap opened.prime opened.alternates.items (g.P.Pages.shown.state c.args.pages.now).live slots primes entries p (g.P.Pages.shown.state c.add.new.pages).live c.add.new.self _ done.1;
         },
         done.2,
       )) added.answer;

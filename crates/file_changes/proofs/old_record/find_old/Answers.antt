@@ -24,26 +24,26 @@ returns-in_err-entry-clause-found g c honest file stands =
 pub returns-in_default-clause-found : goal.returns-in_default-clause-found
 returns-in_default-clause-found g c honest file stands =
     let found = (rw c.in_default.is at c.in_ok-entry.ensures.found honest _ _ stands.parts.prime_stands).answer in
-    record { answer = none_is c.args.opened.now (g.P.Pages.state c.args.pages.now).live file stands c.args.prime.now (sym found); no_damage = tt }
+    record { answer = none_is c.args.opened.now (g.P.Pages.shown.state c.args.pages.now).live file stands c.args.prime.now (sym found); no_damage = tt }
 
 pub returns-in_err-end-clause-found : goal.returns-in_err-end-clause-found
 returns-in_err-end-clause-found g c honest file stands =
     let u = c.args.opened.now in
-    let start = (g.P.Pages.state c.args.pages.now).live in
-    let before = g.met.P.Pages.goes_honestly c.find.new.pages c.get.new.pages (g.met.P.Pages.reads_goes c.find.new.pages c.get.new.pages c.get.ensures.reads) honest in
+    let start = (g.P.Pages.shown.state c.args.pages.now).live in
+    let before = g.met.P.Pages.writes_honestly c.find.new.pages c.get.new.pages (g.met.P.Pages.reads_writes c.find.new.pages c.get.new.pages c.get.ensures.reads.step) honest in
     let found = (rw c.in-Some.is at c.in_ok-entry.ensures.found before _ _ stands.parts.prime_stands).answer in
     let leads = leads_to u start file stands c.args.prime.now c.in-Some.entry (sym found) in
-    let heap = subst (λ p. HeapStands u.heap p stands.slots (own_at stands.parts.owns 0)) (sym (g.met.P.Pages.reads_live c.args.pages.now c.find.new.pages c.find.ensures.reads before)) stands.parts.heap_stands in
+    let heap = subst (λ p. HeapStands u.heap p stands.slots (own_at stands.parts.owns 0)) (sym (g.met.P.Pages.reads_live c.args.pages.now c.find.new.pages c.find.ensures.reads.step before)) stands.parts.heap_stands in
     fails c.from_residual-in_err-end.result _ c.from_residual-in_err-end.ensures.1 (c.in_err-end.ensures.got honest stands.slots _ (stored u.schema leads.row) heap leads.here).no_damage _
 
 pub returns-clause-found : goal.returns-clause-found
 returns-clause-found g c honest file stands =
     let u = c.args.opened.now in
-    let start = (g.P.Pages.state c.args.pages.now).live in
-    let before = g.met.P.Pages.goes_honestly c.find.new.pages c.get.new.pages (g.met.P.Pages.reads_goes c.find.new.pages c.get.new.pages c.get.ensures.reads) honest in
+    let start = (g.P.Pages.shown.state c.args.pages.now).live in
+    let before = g.met.P.Pages.writes_honestly c.find.new.pages c.get.new.pages (g.met.P.Pages.reads_writes c.find.new.pages c.get.new.pages c.get.ensures.reads.step) honest in
     let found = (rw c.in-Some.is at c.in_ok-entry.ensures.found before _ _ stands.parts.prime_stands).answer in
     let leads = leads_to u start file stands c.args.prime.now c.in-Some.entry (sym found) in
-    let heap = subst (λ p. HeapStands u.heap p stands.slots (own_at stands.parts.owns 0)) (sym (g.met.P.Pages.reads_live c.args.pages.now c.find.new.pages c.find.ensures.reads before)) stands.parts.heap_stands in
+    let heap = subst (λ p. HeapStands u.heap p stands.slots (own_at stands.parts.owns 0)) (sym (g.met.P.Pages.reads_live c.args.pages.now c.find.new.pages c.find.ensures.reads.step before)) stands.parts.heap_stands in
     let got = (c.in_ok-end.ensures.got honest stands.slots _ (stored u.schema leads.row) heap leads.here).answer in
     record {
       answer = old_is u start file stands c.args.prime.now c.in-Some.entry (sym found) c.get.new.to c.args.slot.now

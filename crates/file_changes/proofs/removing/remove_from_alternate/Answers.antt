@@ -12,5 +12,5 @@ returns-then-removed-clause-removed g c honest sound slots primes entries p some
     let j = c.args.j in
     let at : c.alternate-index.result ≡ slice_index_or u.alternates.items j c.alternate-index.result = c.alternate-index.ensures ∙ ap (λ m. slice_index_or u.alternates.items m c.alternate-index.result) (again j) in
     let removed = (rw (c.value-value.ensures.value, c.if-removed.true) at c.in_ok-removed.ensures.removed) honest sound (entries j) _ (p.alternates_stand j c.alternate-index.result c.requires.index at) in
-    let whole = alternate_changed u.heap u.prime u.alternates.items (g.P.Pages.state c.args.pages.now).live slots primes entries p (g.P.Pages.state c.remove.new.pages).live j c.remove.new.self _ c.requires.index removed.answer.0.1 in
+    let whole = alternate_changed u.heap u.prime u.alternates.items (g.P.Pages.shown.state c.args.pages.now).live slots primes entries p (g.P.Pages.shown.state c.remove.new.pages).live j c.remove.new.self _ c.requires.index removed.answer.0.1 in
     record { answer = rw c.put_at.ensures (whole, removed.answer.1); no_damage = tt }

@@ -1,3 +1,4 @@
+use Rattle.pages.proofs.CauseLemmas.{fails_since}
 use Rattle.std.proofs.Common.{◌≡◌, ◌+◌, ◌<◌, length, drop, arith, refl, ap, sym, ◌∙◌}
 use Rattle.file_changes.specs.Adding.{levels_in}
 use Rattle.file_changes.specs.Old.{row_with}
@@ -14,9 +15,9 @@ loop-j-init g c =
     let u = c.args.opened.now in
     let row = row_with c.args.bytes.now c.args.stamps.now in
     record {
-      goes = g.met.P.Pages.goes_nowhere c.args.pages.now;
+      goes = g.met.P.Pages.writes_nothing c.args.pages.now;
       removed = λ honest sound slots primes entries p there. (
-        said_so u.heap u.prime u.alternates.items (g.P.Pages.state c.args.pages.now).live slots primes entries p primes
+        said_so u.heap u.prime u.alternates.items (g.P.Pages.shown.state c.args.pages.now).live slots primes entries p primes
             (without_below u.schema row 0 entries) refl (λ i lt. without_start u.schema row entries i),
         sound,
       );
@@ -42,15 +43,15 @@ loop-j-preserved g c =
     let levels = levels_dropped u.alternates.items j index.0 lt index.1 in
     let left : levels_in (drop (j + 1) new.alternates.items) ≡ levels_in (drop (j + 1) u.alternates.items) = ap levels_in step.later in
     record {
-      goes = g.met.P.Pages.goes_on start now later inv.goes step.goes;
+      goes = g.met.P.Pages.writes_on start now later inv.goes step.goes;
       removed = λ honest sound slots primes entries p there.
-          let before = g.met.P.Pages.goes_honestly now later step.goes honest in
+          let before = g.met.P.Pages.writes_honestly now later step.goes honest in
           let had = inv.removed before sound slots primes entries p there in
           let schema = ap (λ (o : OpenFile). o.schema) inv.rest in
           let within : j < length c.args.opened.now.alternates.items = omega (arith, lt, inv.many) in
           let here = without_here c.args.opened.now.schema row j entries in
           let done = ((rw (schema, sym (stamp_in_key j row)) at c.in_ok-remove_from_alternate.ensures.removed) honest had.1 slots primes (without_below c.args.opened.now.schema row j entries) had.0 (rw here (there j within))).answer in (
-            said_so new.heap new.prime new.alternates.items (g.P.Pages.state later).live slots primes _ done.0 primes
+            said_so new.heap new.prime new.alternates.items (g.P.Pages.shown.state later).live slots primes _ done.0 primes
                 (without_below c.args.opened.now.schema row (j + 1) entries) refl (λ i _. without_step c.args.opened.now.schema row j entries i),
             done.1,
           );
@@ -68,20 +69,29 @@ returns-in_err-remove_from_alternate-clause-removed g c honest sound slots prime
     let inv = c.loop-j.invariant in
     let row = row_with c.args.bytes.now c.args.stamps.now in
     let within : j < length c.args.opened.now.alternates.items = omega (arith, c.loop-j-test.true, c.len-j-end.ensures.value) in
-    let before = g.met.P.Pages.goes_honestly now later c.remove_from_alternate.ensures.goes honest in
+    let before = g.met.P.Pages.writes_honestly now later c.remove_from_alternate.ensures.goes honest in
     let had = inv.removed before sound slots primes entries p there in
     let schema = ap (λ (o : OpenFile). o.schema) inv.rest in
     let here = without_here c.args.opened.now.schema row j entries in
     let failed = (rw (schema, sym (stamp_in_key j row)) at c.in_err-remove_from_alternate.ensures.removed) honest had.1 slots primes (without_below c.args.opened.now.schema row j entries) had.0 (rw here (there j within)) in
     fails c.from_residual.result _ c.from_residual.ensures.1 failed.no_damage _
 
-pub returns-in_err-remove_from_alternate-clause-asked : goal.returns-in_err-remove_from_alternate-clause-asked
-returns-in_err-remove_from_alternate-clause-asked g c =
-    let u = c.loop-j.opened in
-    let lt : c.loop-j.j < length u.alternates.items = omega (arith, c.loop-j-test.true, c.len-j-end.ensures.value, c.loop-j.invariant.many) in
-    let index = found_at u.alternates.items c.loop-j.j lt in
-    let levels = levels_dropped u.alternates.items c.loop-j.j index.0 lt index.1 in
-    omega (arith, levels, c.loop-j.invariant.asked, c.remove_from_alternate.ensures.asked index.0 index.1)
+pub returns-in_err-remove_from_alternate-clause-writes : goal.returns-in_err-remove_from_alternate-clause-writes
+returns-in_err-remove_from_alternate-clause-writes g c =
+    let start = c.args.pages.now in
+    let now = c.loop-j.pages in
+    let later = c.remove_from_alternate.new.pages in
+    let opened = c.loop-j.opened in
+    let inv = c.loop-j.invariant in
+    let lt : c.loop-j.j < length opened.alternates.items = omega (arith, c.loop-j-test.true, c.len-j-end.ensures.value, inv.many) in
+    let index = found_at opened.alternates.items c.loop-j.j lt in
+    let levels = levels_dropped opened.alternates.items c.loop-j.j index.0 lt index.1 in
+    record {
+      cause = fails_since c.from_residual.result _ _ _ _ _ c.from_residual.ensures.1 (λ failed. g.met.P.Pages.failed_after start now later inv.goes failed) (λ none. none)
+          c.in_err-remove_from_alternate.ensures.cause;
+      asked = omega (arith, levels, inv.asked, c.remove_from_alternate.ensures.asked index.0 index.1);
+      step = g.met.P.Pages.writes_on start now later inv.goes c.remove_from_alternate.ensures.goes;
+    }
 
 pub returns-clause-removed : goal.returns-clause-removed
 returns-clause-removed g c honest sound slots primes entries p there =

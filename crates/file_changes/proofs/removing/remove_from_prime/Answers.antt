@@ -11,7 +11,7 @@ returns-in-true-clause-removed g c honest sound slots primes entries p some =
     let u = c.args.opened.now in
     let removed = ((rw (c.value-value.ensures.value, c.in-true.is) at c.in_ok-remove.ensures.removed) honest sound primes _ p.prime_stands).answer in
     record {
-      answer = (prime_changed u.heap u.prime u.alternates.items (g.P.Pages.state c.args.pages.now).live slots primes entries p (g.P.Pages.state c.remove.new.pages).live c.remove.new.self _ removed.0.1, removed.1);
+      answer = (prime_changed u.heap u.prime u.alternates.items (g.P.Pages.shown.state c.args.pages.now).live slots primes entries p (g.P.Pages.shown.state c.remove.new.pages).live c.remove.new.self _ removed.0.1, removed.1);
       no_damage = tt;
     }
 

@@ -1,4 +1,6 @@
-use Rattle.std.proofs.Common.{ap}
+use Rattle.pages.proofs.CauseLemmas.{caused_since}
+use Rattle.std.proofs.lemmas.Grind.{common_steps}
+use Rattle.std.proofs.Common.{ap, arith}
 use Rattle.open_file.specs.declared.open_file.OpenFile.{OpenFile}
 use Rattle.open_file.proofs.ExitLemmas.{fails}
 use Rattle.file_changes.proofs.removing.take_out.Goals as goal
@@ -9,7 +11,7 @@ returns-in_err-remove_from_prime-clause-out g c honest sound slots primes entrie
 
 pub returns-in_err-remove_from_alternates-clause-out : goal.returns-in_err-remove_from_alternates-clause-out
 returns-in_err-remove_from_alternates-clause-out g c honest sound slots primes entries p has =
-    let before = g.met.P.Pages.goes_honestly c.remove_from_prime.new.pages c.remove_from_alternates.new.pages c.remove_from_alternates.ensures.goes honest in
+    let before = g.met.P.Pages.writes_honestly c.remove_from_prime.new.pages c.remove_from_alternates.new.pages c.remove_from_alternates.ensures.writes.step honest in
     let prime = (c.in_ok-remove_from_prime.ensures.removed before sound slots primes entries p has.in_prime).answer in
     let schema = ap (λ (o : OpenFile). o.schema) c.remove_from_prime.ensures.rest in
     let alternates = ap (λ (o : OpenFile). o.alternates.items) c.remove_from_prime.ensures.rest in
@@ -21,15 +23,23 @@ returns-clause-out g c honest sound slots primes entries p has =
     let first = c.remove_from_prime.new.pages in
     let second = c.remove_from_alternates.new.pages in
     let last = c.free_slot.new.pages in
-    let h2 = g.met.P.Pages.goes_honestly second last c.free_slot.ensures.goes honest in
-    let h1 = g.met.P.Pages.goes_honestly first second c.remove_from_alternates.ensures.goes h2 in
+    let h2 = g.met.P.Pages.writes_honestly second last c.free_slot.ensures.writes.step honest in
+    let h1 = g.met.P.Pages.writes_honestly first second c.remove_from_alternates.ensures.writes.step h2 in
     let prime = (c.in_ok-remove_from_prime.ensures.removed h1 sound slots primes entries p has.in_prime).answer in
     let schema = ap (λ (o : OpenFile). o.schema) c.remove_from_prime.ensures.rest in
     let alternates = ap (λ (o : OpenFile). o.alternates.items) c.remove_from_prime.ensures.rest in
     let rest = ((rw (schema, alternates, c.as_slice.ensures.value) at c.in_ok-remove_from_alternates.ensures.removed) h2 prime.1 slots _ entries (rw alternates at prime.0) has.in_alternates).answer in
     c.free_slot.ensures.freed honest rest.1 slots _ _ rest.0 has.in_heap
 
-pub returns-clause-goes : goal.returns-clause-goes
-returns-clause-goes g c =
-    g.met.P.Pages.goes_on c.args.pages.now c.remove_from_alternates.new.pages c.free_slot.new.pages
-    (g.met.P.Pages.goes_on c.args.pages.now c.remove_from_prime.new.pages c.remove_from_alternates.new.pages c.remove_from_prime.ensures.goes c.remove_from_alternates.ensures.goes) c.free_slot.ensures.goes
+pub returns-clause-writes : goal.returns-clause-writes
+returns-clause-writes g c =
+    let start = c.args.pages.now in
+    let first = c.remove_from_prime.new.pages in
+    let second = c.remove_from_alternates.new.pages in
+    let last = c.free_slot.new.pages in
+    let before = g.met.P.Pages.writes_on start first second c.remove_from_prime.ensures.writes.step c.remove_from_alternates.ensures.writes.step in
+    record {
+      cause = caused_since c.free_slot.result _ _ _ _ (λ failed. g.met.P.Pages.failed_after start second last before failed) (λ none. none) c.free_slot.ensures.writes.cause;
+      asked = grind (arith, common_steps);
+      step = g.met.P.Pages.writes_on start second last before c.free_slot.ensures.writes.step;
+    }

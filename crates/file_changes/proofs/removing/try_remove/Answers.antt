@@ -1,7 +1,8 @@
 use Rattle.std.proofs.Common.{◌+◌, sym, subst, ◌∙◌, arith, IsTrue}
 use Rattle.open_file.specs.InOrder.{alt_entries, prime_entries}
 use Rattle.open_file.specs.Parts.{Parts}
-use Rattle.open_file.proofs.ExitLemmas.{fails, fails_since}
+use Rattle.pages.proofs.CauseLemmas.{fails_since}
+use Rattle.open_file.proofs.ExitLemmas.{fails}
 use Rattle.open_file.proofs.StampedLemmas.{few_stamps}
 use Rattle.file_changes.proofs.FoundLemmas.{old_at}
 use Rattle.file_changes.proofs.RemovedLemmas.{has_row, has_removed, none_removed}
@@ -17,8 +18,8 @@ returns-in_default-clause-removed g c honest sound file stands =
     let now = c.find_old.new.pages in
     let none = (rw c.in_default.is at c.in_ok-old.ensures.found honest file stands).answer in
     record {
-      answer = none_removed c.args.opened.now (g.P.Pages.state start).live (g.P.Pages.state now).live (IsTrue (g.P.Pages.state now).is_sound) file c.args.prime.now stands
-          (g.met.P.Pages.reads_live start now c.find_old.ensures.reads honest) none (g.met.P.Pages.reads_sound start now c.find_old.ensures.reads honest ∙ sound);
+      answer = none_removed c.args.opened.now (g.P.Pages.shown.state start).live (g.P.Pages.shown.state now).live (IsTrue (g.P.Pages.shown.state now).is_sound) file c.args.prime.now stands
+          (g.met.P.Pages.reads_live start now c.find_old.ensures.reads.step honest) none (g.met.P.Pages.reads_sound start now c.find_old.ensures.reads.step honest ∙ sound);
       no_damage = tt;
     }
 
@@ -29,13 +30,13 @@ returns-in_err-take_out-clause-removed g c honest sound file stands =
     let looked = c.find_old.new.pages in
     let begun = c.begin.new.self in
     let last = c.take_out.new.pages in
-    let h2 = g.met.P.Pages.goes_honestly begun last c.take_out.ensures.goes honest in
-    let h1 = g.met.P.Pages.moves_honestly looked begun c.begin.ensures.moves h2 in
-    let live = c.begin.ensures.rests.live h2 ∙ g.met.P.Pages.reads_live start looked c.find_old.ensures.reads h1 in
-    let kept = c.begin.ensures.rests.sound h2 ∙ g.met.P.Pages.reads_sound start looked c.find_old.ensures.reads h1 ∙ sound in
+    let h2 = g.met.P.Pages.writes_honestly begun last c.take_out.ensures.writes.step honest in
+    let h1 = g.met.P.Pages.begins_honestly looked begun c.begin.ensures.begins h2 in
+    let live = c.begin.ensures.rests.live h2 ∙ g.met.P.Pages.reads_live start looked c.find_old.ensures.reads.step h1 in
+    let kept = c.begin.ensures.rests.sound h2 ∙ g.met.P.Pages.reads_sound start looked c.find_old.ensures.reads.step h1 ∙ sound in
     let is = (rw c.in-Some.is at c.in_ok-old.ensures.found h1 file stands).answer in
     let at = old_at u.schema stands.slots (prime_entries u.schema stands.places file.rows) file c.args.prime.now c.find_old.new.slot c.record_in-before.result.now c.in-Some.old is c.record_in-before.ensures.bytes in
-    let has = has_row u (g.P.Pages.state start).live file c.args.prime.now c.in-Some.old.place _ stands at in
+    let has = has_row u (g.P.Pages.shown.state start).live file c.args.prime.now c.in-Some.old.place _ stands at in
     let parts = subst (λ p. Parts u.heap u.prime u.alternates.items p stands.slots (prime_entries u.schema stands.places file.rows) (λ j. alt_entries u.schema (j + 1) file.rows)) (sym live) stands.parts in
     fails c.from_residual-in_err-take_out.result _ c.from_residual-in_err-take_out.ensures.1 (c.in_err-take_out.ensures.out honest kept stands.slots _ _ parts has).no_damage _
 
@@ -46,17 +47,17 @@ returns-clause-removed g c honest sound file stands =
     let looked = c.find_old.new.pages in
     let begun = c.begin.new.self in
     let last = c.take_out.new.pages in
-    let h2 = g.met.P.Pages.goes_honestly begun last c.take_out.ensures.goes honest in
-    let h1 = g.met.P.Pages.moves_honestly looked begun c.begin.ensures.moves h2 in
-    let live = c.begin.ensures.rests.live h2 ∙ g.met.P.Pages.reads_live start looked c.find_old.ensures.reads h1 in
-    let kept = c.begin.ensures.rests.sound h2 ∙ g.met.P.Pages.reads_sound start looked c.find_old.ensures.reads h1 ∙ sound in
+    let h2 = g.met.P.Pages.writes_honestly begun last c.take_out.ensures.writes.step honest in
+    let h1 = g.met.P.Pages.begins_honestly looked begun c.begin.ensures.begins h2 in
+    let live = c.begin.ensures.rests.live h2 ∙ g.met.P.Pages.reads_live start looked c.find_old.ensures.reads.step h1 in
+    let kept = c.begin.ensures.rests.sound h2 ∙ g.met.P.Pages.reads_sound start looked c.find_old.ensures.reads.step h1 ∙ sound in
     let is = (rw c.in-Some.is at c.in_ok-old.ensures.found h1 file stands).answer in
     let at = old_at u.schema stands.slots (prime_entries u.schema stands.places file.rows) file c.args.prime.now c.find_old.new.slot c.record_in-before.result.now c.in-Some.old is c.record_in-before.ensures.bytes in
-    let has = has_row u (g.P.Pages.state start).live file c.args.prime.now c.in-Some.old.place _ stands at in
+    let has = has_row u (g.P.Pages.shown.state start).live file c.args.prime.now c.in-Some.old.place _ stands at in
     let parts = subst (λ p. Parts u.heap u.prime u.alternates.items p stands.slots (prime_entries u.schema stands.places file.rows) (λ j. alt_entries u.schema (j + 1) file.rows)) (sym live) stands.parts in
     let out = (c.in_ok-take_out.ensures.out honest kept stands.slots _ _ parts has).answer in
     record {
-      answer = has_removed u c.take_out.new.opened (g.P.Pages.state start).live (g.P.Pages.state last).live (IsTrue (g.P.Pages.state last).is_sound) file c.args.prime.now c.in-Some.old.place _ stands
+      answer = has_removed u c.take_out.new.opened (g.P.Pages.shown.state start).live (g.P.Pages.shown.state last).live (IsTrue (g.P.Pages.shown.state last).is_sound) file c.args.prime.now c.in-Some.old.place _ stands
           c.requires.shaped c.take_out.ensures.shaped at c.take_out.ensures.rest out;
       no_damage = tt;
     }
@@ -71,23 +72,23 @@ returns-in_err-take_out-clause-cause g c =
     let start = c.args.pages.now in
     let looked = c.find_old.new.pages in
     let begun = c.begin.new.self in
-    let moves = g.met.P.Pages.moves_on start looked begun (g.met.P.Pages.goes_moves start looked (g.met.P.Pages.reads_goes start looked c.find_old.ensures.reads)) c.begin.ensures.moves in
-    fails_since c.from_residual-in_err-take_out.result _ _ _ _ _ c.from_residual-in_err-take_out.ensures.1 (λ failed. g.met.P.Pages.failed_later start begun c.take_out.new.pages moves failed) (λ x. x) c.in_err-take_out.ensures.cause
+    let moves = g.met.P.Pages.begins_on start looked begun (g.met.P.Pages.writes_begins start looked (g.met.P.Pages.reads_writes start looked c.find_old.ensures.reads.step)) c.begin.ensures.begins in
+    fails_since c.from_residual-in_err-take_out.result _ _ _ _ _ c.from_residual-in_err-take_out.ensures.1 (λ failed. g.met.P.Pages.failed_later start begun c.take_out.new.pages moves failed) (λ x. x) c.in_err-take_out.ensures.writes.cause
 
-pub returns-in_err-take_out-clause-moves : goal.returns-in_err-take_out-clause-moves
-returns-in_err-take_out-clause-moves g c =
+pub returns-in_err-take_out-clause-begins : goal.returns-in_err-take_out-clause-begins
+returns-in_err-take_out-clause-begins g c =
     let start = c.args.pages.now in
     let looked = c.find_old.new.pages in
     let begun = c.begin.new.self in
     let last = c.take_out.new.pages in
-    g.met.P.Pages.moves_on start begun last (g.met.P.Pages.moves_on start looked begun (g.met.P.Pages.goes_moves start looked (g.met.P.Pages.reads_goes start looked c.find_old.ensures.reads)) c.begin.ensures.moves)
-    (g.met.P.Pages.goes_moves begun last c.take_out.ensures.goes)
+    g.met.P.Pages.begins_on start begun last (g.met.P.Pages.begins_on start looked begun (g.met.P.Pages.writes_begins start looked (g.met.P.Pages.reads_writes start looked c.find_old.ensures.reads.step)) c.begin.ensures.begins)
+    (g.met.P.Pages.writes_begins begun last c.take_out.ensures.writes.step)
 
-pub returns-clause-moves : goal.returns-clause-moves
-returns-clause-moves g c =
+pub returns-clause-begins : goal.returns-clause-begins
+returns-clause-begins g c =
     let start = c.args.pages.now in
     let looked = c.find_old.new.pages in
     let begun = c.begin.new.self in
     let last = c.take_out.new.pages in
-    g.met.P.Pages.moves_on start begun last (g.met.P.Pages.moves_on start looked begun (g.met.P.Pages.goes_moves start looked (g.met.P.Pages.reads_goes start looked c.find_old.ensures.reads)) c.begin.ensures.moves)
-    (g.met.P.Pages.goes_moves begun last c.take_out.ensures.goes)
+    g.met.P.Pages.begins_on start begun last (g.met.P.Pages.begins_on start looked begun (g.met.P.Pages.writes_begins start looked (g.met.P.Pages.reads_writes start looked c.find_old.ensures.reads.step)) c.begin.ensures.begins)
+    (g.met.P.Pages.writes_begins begun last c.take_out.ensures.writes.step)

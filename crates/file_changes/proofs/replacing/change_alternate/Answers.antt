@@ -7,7 +7,8 @@ use Rattle.open_file.specs.Parts.{but_at}
 use Rattle.open_file.specs.declared.open_file.OpenFile.{OpenFile}
 use Rattle.open_file.proofs.ExitLemmas.{fails, if_ok}
 use Rattle.open_file.proofs.PartsLemmas.{said_so, found_at}
-use Rattle.file_changes.proofs.ChangingLemmas.{causes, but_here, but_twice}
+use Rattle.pages.proofs.CauseLemmas.{caused_since}
+use Rattle.file_changes.proofs.ChangingLemmas.{but_here, but_twice}
 use Rattle.file_changes.proofs.replacing.change_alternate.Goals as goal
 
 pub returns-in_err-remove_from_alternate-clause-changed : goal.returns-in_err-remove_from_alternate-clause-changed
@@ -21,7 +22,7 @@ returns-clause-changed g c honest sound slots primes entries p there free =
     let now = c.remove_from_alternate.new.pages in
     let last = c.add_to_alternate.new.pages in
     let new = c.add_to_alternate.new.opened in
-    let before = g.met.P.Pages.goes_honestly now last c.add_to_alternate.ensures.goes honest in
+    let before = g.met.P.Pages.writes_honestly now last c.add_to_alternate.ensures.goes honest in
     let left = without_rank (value_of u.schema (j + 1) c.args.old.now) c.args.stamp (entries j) in
     let entry = entry_of u.schema u.next_stamp c.args.bytes.now j in
     let out = (c.in_ok-remove_from_alternate.ensures.removed before sound slots primes entries p there).answer in
@@ -30,7 +31,7 @@ returns-clause-changed g c honest sound slots primes entries p there free =
     let added = (rw (schema, next) at c.add_to_alternate.ensures.added) honest out.1 slots primes (but_at j left entries) out.0 (rw (but_here j left entries) free) in
     record {
       answer = if_ok c.add_to_alternate.result _ _ (λ x done. (
-        said_so new.heap new.prime new.alternates.items (g.P.Pages.state last).live slots primes _ done.0 primes (but_at j (with_alt entry left) entries) refl
+        said_so new.heap new.prime new.alternates.items (g.P.Pages.shown.state last).live slots primes _ done.0 primes (but_at j (with_alt entry left) entries) refl
             (λ i lt. but_twice j left (with_alt entry left) entries i ∙ ap (λ es. but_at j (with_alt entry es) (but_at j left entries) i) (sym (but_here j left entries))),
         done.1,
       )) added.answer;
@@ -65,6 +66,6 @@ returns-clause-cause g c index is =
     let lt : c.args.j < length mid.alternates.items = omega (arith, c.requires.index, c.remove_from_alternate.ensures.many) in
     let later = found_at mid.alternates.items c.args.j lt in
     let less = c.in_ok-remove_from_alternate.ensures.height index later.0 is later.1 in
-    causes c.add_to_alternate.result _ _ _ _ (λ failed. g.met.P.Pages.failed_after start now last c.remove_from_alternate.ensures.goes failed)
-    (λ lacks. lower (alt_height later.0) (alt_height index) less (g.P.Pages.state start).available (g.P.Pages.state now).available c.remove_from_alternate.ensures.few lacks)
+    caused_since c.add_to_alternate.result _ _ _ _ (λ failed. g.met.P.Pages.failed_after start now last c.remove_from_alternate.ensures.goes failed)
+    (λ lacks. lower (alt_height later.0) (alt_height index) less (g.P.Pages.shown.state start).available (g.P.Pages.shown.state now).available c.remove_from_alternate.ensures.few lacks)
     (c.add_to_alternate.ensures.cause later.0 later.1)

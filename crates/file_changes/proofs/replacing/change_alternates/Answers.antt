@@ -6,7 +6,8 @@ use Rattle.key_index.specs.Standing.{alt_height}
 use Rattle.file_changes.specs.Old.{row_with}
 use Rattle.file_changes.specs.Replacing.{changed_below, stays}
 use Rattle.open_file.specs.declared.open_file.OpenFile.{OpenFile}
-use Rattle.open_file.proofs.ExitLemmas.{fails, fails_since}
+use Rattle.pages.proofs.CauseLemmas.{fails_since}
+use Rattle.open_file.proofs.ExitLemmas.{fails}
 use Rattle.open_file.proofs.PartsLemmas.{said_so, found_at}
 use Rattle.file_changes.proofs.WithoutLemmas.{stamp_in_key}
 use Rattle.file_changes.proofs.ChangedLemmas.{need_from, need_step}
@@ -20,9 +21,9 @@ loop-j-init g c =
     let u = c.args.opened.now in
     let row = row_with c.args.old.now c.args.stamps.now in
     record {
-      goes = g.met.P.Pages.goes_nowhere c.args.pages.now;
+      goes = g.met.P.Pages.writes_nothing c.args.pages.now;
       changed = λ honest sound slots primes entries p there free. (
-        said_so u.heap u.prime u.alternates.items (g.P.Pages.state c.args.pages.now).live slots primes entries p primes
+        said_so u.heap u.prime u.alternates.items (g.P.Pages.shown.state c.args.pages.now).live slots primes entries p primes
             (changed_below u.schema u.next_stamp row c.args.bytes.now 0 entries) refl (λ i lt. changed_start u.schema u.next_stamp row c.args.bytes.now entries i),
         sound,
       );
@@ -61,14 +62,14 @@ loop-j-preserved g c =
           let left : need_from u.schema old bytes new.alternates.items (j + 1) ≡ need_from u.schema old bytes unit.alternates.items (j + 1) =
           ap (λ (is : List AltIndex). need_of_changed (drop (j + 1 + 1) u.schema.keys) old bytes (map alt_height is)) step.later in
           rw (w.opened-is, w.pages-is) (record {
-            goes = g.met.P.Pages.goes_on start now later inv.goes step.goes;
+            goes = g.met.P.Pages.writes_on start now later inv.goes step.goes;
             changed = λ honest sound slots primes entries p there free.
-                let before = g.met.P.Pages.goes_honestly now later step.goes honest in
+                let before = g.met.P.Pages.writes_honestly now later step.goes honest in
                 let had = inv.changed before sound slots primes entries p there free in
                 let was = changed_here u.schema u.next_stamp row bytes j entries in
                 let done = ((rw (schema, next, sym (stamp_in_key j row)) at w.in_ok-change_alternate.ensures.changed) honest had.1 slots primes (changed_below u.schema u.next_stamp row bytes j entries) had.0
                 (rw was (there j within)) (rw was (free j within moves))).answer in (
-                  said_so new.heap new.prime new.alternates.items (g.P.Pages.state later).live slots primes _ done.0 primes
+                  said_so new.heap new.prime new.alternates.items (g.P.Pages.shown.state later).live slots primes _ done.0 primes
                       (changed_below u.schema u.next_stamp row bytes (j + 1) entries) refl (λ i _. changed_step u.schema u.next_stamp row bytes j entries moves i),
                   done.1,
                 );
@@ -85,7 +86,7 @@ loop-j-preserved g c =
             goes = inv.goes;
             changed = λ honest sound slots primes entries p there free.
                 let had = inv.changed honest sound slots primes entries p there free in (
-                  said_so unit.heap unit.prime unit.alternates.items (g.P.Pages.state now).live slots primes _ had.0 primes
+                  said_so unit.heap unit.prime unit.alternates.items (g.P.Pages.shown.state now).live slots primes _ had.0 primes
                       (changed_below u.schema u.next_stamp row bytes (j + 1) entries) refl (λ i _. changed_skip u.schema u.next_stamp row bytes j entries same i),
                   had.1,
                 );
@@ -109,15 +110,15 @@ returns-in_err-change_alternate-clause-changed g c honest sound slots primes ent
     let next = ap (λ (o : OpenFile). o.next_stamp) inv.rest in
     let within : j < length u.alternates.items = omega (arith, c.loop-j-test.true, c.len-j-end.ensures.value) in
     let moves : stays u.schema c.args.old.now c.args.bytes.now j ≡ false = was_false _ (sym (rw schema at c.differs.ensures) ∙ c.if-differs.true) in
-    let before = g.met.P.Pages.goes_honestly now later c.change_alternate.ensures.goes honest in
+    let before = g.met.P.Pages.writes_honestly now later c.change_alternate.ensures.goes honest in
     let had = inv.changed before sound slots primes entries p there free in
     let was = changed_here u.schema u.next_stamp row c.args.bytes.now j entries in
     let failed = (rw (schema, next, sym (stamp_in_key j row)) at c.in_err-change_alternate.ensures.changed) honest had.1 slots primes (changed_below u.schema u.next_stamp row c.args.bytes.now j entries) had.0
     (rw was (there j within)) (rw was (free j within moves)) in
     fails c.from_residual.result _ c.from_residual.ensures.1 failed.no_damage _
 
-pub returns-in_err-change_alternate-clause-cause : goal.returns-in_err-change_alternate-clause-cause
-returns-in_err-change_alternate-clause-cause g c =
+pub returns-in_err-change_alternate-clause-writes : goal.returns-in_err-change_alternate-clause-writes
+returns-in_err-change_alternate-clause-writes g c =
     let u = c.args.opened.now in
     let unit = c.loop-j.opened in
     let j = c.loop-j.j in
@@ -129,23 +130,12 @@ returns-in_err-change_alternate-clause-cause g c =
     let need = need_step u.schema c.args.old.now c.args.bytes.now unit.alternates.items j index.0 keys lt index.1 in
     let moves : stays u.schema c.args.old.now c.args.bytes.now j ≡ false = was_false _ (sym (rw schema at c.differs.ensures) ∙ c.if-differs.true) in
     let here = ap (λ b. if b then 0 else alt_height index.0 + 1) moves in
-    fails_since c.from_residual.result _ _ _ _ _ c.from_residual.ensures.1 (λ failed. g.met.P.Pages.failed_after c.args.pages.now c.loop-j.pages c.change_alternate.new.pages inv.goes failed)
-    (λ lacks. omega (arith, lacks, need, here, inv.room)) (c.in_err-change_alternate.ensures.cause index.0 index.1)
-
-pub returns-in_err-change_alternate-clause-asked : goal.returns-in_err-change_alternate-clause-asked
-returns-in_err-change_alternate-clause-asked g c =
-    let u = c.args.opened.now in
-    let unit = c.loop-j.opened in
-    let j = c.loop-j.j in
-    let inv = c.loop-j.invariant in
-    let schema = ap (λ (o : OpenFile). o.schema) inv.rest in
-    let lt : j < length unit.alternates.items = omega (arith, c.loop-j-test.true, c.len-j-end.ensures.value, inv.many) in
-    let keys : length u.schema.keys ≡ length unit.alternates.items + 1 = omega (arith, c.requires.shaped.keys, inv.many) in
-    let index = found_at unit.alternates.items j lt in
-    let need = need_step u.schema c.args.old.now c.args.bytes.now unit.alternates.items j index.0 keys lt index.1 in
-    let moves : stays u.schema c.args.old.now c.args.bytes.now j ≡ false = was_false _ (sym (rw schema at c.differs.ensures) ∙ c.if-differs.true) in
-    let here = ap (λ b. if b then 0 else alt_height index.0 + 1) moves in
-    omega (arith, need, here, inv.asked, c.change_alternate.ensures.asked index.0 index.1)
+    record {
+      cause = fails_since c.from_residual.result _ _ _ _ _ c.from_residual.ensures.1 (λ failed. g.met.P.Pages.failed_after c.args.pages.now c.loop-j.pages c.change_alternate.new.pages inv.goes failed)
+          (λ lacks. omega (arith, lacks, need, here, inv.room)) (c.in_err-change_alternate.ensures.cause index.0 index.1);
+      asked = omega (arith, need, here, inv.asked, c.change_alternate.ensures.asked index.0 index.1);
+      step = g.met.P.Pages.writes_on c.args.pages.now c.loop-j.pages c.change_alternate.new.pages inv.goes c.change_alternate.ensures.goes;
+    }
 
 pub returns-clause-changed : goal.returns-clause-changed
 returns-clause-changed g c honest sound slots primes entries p there free =

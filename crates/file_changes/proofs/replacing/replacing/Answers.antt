@@ -1,3 +1,4 @@
+use Rattle.std.proofs.lemmas.Grind.{common_steps}
 use Rattle.std.proofs.Common.{◌+◌, ◌≤◌, ◌<◌, length, sym, ap, subst, ◌∙◌, arith}
 use Rattle.record_layout.specs.Schema.{prime_of}
 use Rattle.open_file.specs.Stands.{Stands, heights_of}
@@ -13,7 +14,7 @@ pub loop-k-init : goal.loop-k-init
 loop-k-init g c =
     let u = c.args.opened.now in
     let start = c.args.pages.now in
-    let asked = (g.P.Pages.state start).asked in
+    let asked = (g.P.Pages.shown.state start).asked in
     record {
       reads = g.met.P.Pages.reads_nothing start;
       seen = λ honest file stands row is same.
@@ -24,7 +25,7 @@ loop-k-init g c =
     }
 
 pub is_new_there-requires-clause-ready : goal.is_new_there-requires-clause-ready
-is_new_there-requires-clause-ready g c = g.met.P.Pages.goes_ready c.args.pages.now c.loop-k.pages (g.met.P.Pages.reads_goes c.args.pages.now c.loop-k.pages c.loop-k.invariant.reads) c.requires.ready
+is_new_there-requires-clause-ready g c = g.met.P.Pages.writes_ready c.args.pages.now c.loop-k.pages (g.met.P.Pages.reads_writes c.args.pages.now c.loop-k.pages c.loop-k.invariant.reads) c.requires.ready
 
 pub loop-k-preserved : goal.loop-k-preserved
 loop-k-preserved g c =
@@ -35,9 +36,9 @@ loop-k-preserved g c =
     let k = c.loop-k.k in
     let lt : k < length u.schema.keys = omega (arith, c.loop-k-test.true, c.key_count-k-end.ensures.count) in
     record {
-      reads = g.met.P.Pages.reads_on start now later c.loop-k.invariant.reads c.is_new_there.ensures.reads;
+      reads = g.met.P.Pages.reads_on start now later c.loop-k.invariant.reads c.is_new_there.ensures.reads.step;
       seen = λ honest file stands row is same.
-          let before = g.met.P.Pages.goes_honestly now later (g.met.P.Pages.reads_goes now later c.is_new_there.ensures.reads) honest in
+          let before = g.met.P.Pages.writes_honestly now later (g.met.P.Pages.reads_writes now later c.is_new_there.ensures.reads.step) honest in
           let still = subst (λ p. Stands u p file) (sym (g.met.P.Pages.reads_live start now c.loop-k.invariant.reads before)) stands in
           let there = (c.in_ok-is_new_there.ensures.found honest file still).answer in
           let on = c.loop-k.invariant.seen before file stands row is same in
@@ -48,13 +49,13 @@ loop-k-preserved g c =
                 (ap (λ part. part.duplicates) (sym w.part.ensures.part) ∙ was_true _ w.if-not-part.false) on)
             | else-branch w ↦ rw w.repeated-is (seen_none u.schema c.args.old.now c.args.bytes.now file.rows k c.loop-k.repeated lt told (sym there ∙ w.if-branch.false) on)
           ];
-      asked = asked_more (g.P.Pages.state start).asked (g.P.Pages.state now).asked (g.P.Pages.state later).asked (heights_of u) k
-          (omega (arith, lt, c.requires.shaped.keys, heights_many u.prime u.alternates.items)) c.is_new_there.ensures.asked c.loop-k.invariant.asked;
+      asked = asked_more (g.P.Pages.shown.state start).asked (g.P.Pages.shown.state now).asked (g.P.Pages.shown.state later).asked (heights_of u) k
+          (omega (arith, lt, c.requires.shaped.keys, heights_many u.prime u.alternates.items)) c.is_new_there.ensures.reads.asked c.loop-k.invariant.asked;
     }
 
 pub returns-in_err-is_new_there-clause-found : goal.returns-in_err-is_new_there-clause-found
 returns-in_err-is_new_there-clause-found g c honest file stands row is same =
-    let before = g.met.P.Pages.goes_honestly c.loop-k.pages c.is_new_there.new.pages (g.met.P.Pages.reads_goes c.loop-k.pages c.is_new_there.new.pages c.is_new_there.ensures.reads) honest in
+    let before = g.met.P.Pages.writes_honestly c.loop-k.pages c.is_new_there.new.pages (g.met.P.Pages.reads_writes c.loop-k.pages c.is_new_there.new.pages c.is_new_there.ensures.reads.step) honest in
     let still = subst (λ p. Stands c.args.opened.now p file) (sym (g.met.P.Pages.reads_live c.args.pages.now c.loop-k.pages c.loop-k.invariant.reads before)) stands in
     fails c.from_residual.result _ c.from_residual.ensures.1 (c.in_err-is_new_there.ensures.found honest file still).no_damage _
 
@@ -65,7 +66,7 @@ returns-then-not-part-clause-found g c honest file stands row is same =
     let now = c.loop-k.pages in
     let later = c.is_new_there.new.pages in
     let lt : k < length u.schema.keys = omega (arith, c.loop-k-test.true, c.key_count-k-end.ensures.count) in
-    let before = g.met.P.Pages.goes_honestly now later (g.met.P.Pages.reads_goes now later c.is_new_there.ensures.reads) honest in
+    let before = g.met.P.Pages.writes_honestly now later (g.met.P.Pages.reads_writes now later c.is_new_there.ensures.reads.step) honest in
     let still = subst (λ p. Stands u p file) (sym (g.met.P.Pages.reads_live c.args.pages.now now c.loop-k.invariant.reads before)) stands in
     let there = (c.in_ok-is_new_there.ensures.found honest file still).answer in
     let on = c.loop-k.invariant.seen before file stands row is same in
@@ -74,13 +75,18 @@ returns-then-not-part-clause-found g c honest file stands row is same =
     let unique = ap (λ part. part.duplicates) (sym c.part.ensures.part) ∙ was_false _ c.if-not-part.true in
     record { answer = clash_seen u.schema c.args.bytes.now file row (seen_clash u.schema c.args.old.now c.args.bytes.now file.rows k c.loop-k.repeated lt told (sym there ∙ c.if-branch.true) unique on); no_damage = tt }
 
-pub returns-then-not-part-clause-asked : goal.returns-then-not-part-clause-asked
-returns-then-not-part-clause-asked g c =
-    let u = c.args.opened.now in
-    let lt : c.loop-k.k < length u.schema.keys = omega (arith, c.loop-k-test.true, c.key_count-k-end.ensures.count) in
-    asked_in_all (g.P.Pages.state c.args.pages.now).asked (g.P.Pages.state c.is_new_there.new.pages).asked (heights_of u) (c.loop-k.k + 1)
-    (asked_more (g.P.Pages.state c.args.pages.now).asked (g.P.Pages.state c.loop-k.pages).asked (g.P.Pages.state c.is_new_there.new.pages).asked (heights_of u) c.loop-k.k
-    (omega (arith, lt, c.requires.shaped.keys, heights_many u.prime u.alternates.items)) c.is_new_there.ensures.asked c.loop-k.invariant.asked)
+pub returns-then-not-part-clause-reads : goal.returns-then-not-part-clause-reads
+returns-then-not-part-clause-reads g c =
+    record {
+      cause = tt;
+      asked =
+          let u = c.args.opened.now in
+          let lt : c.loop-k.k < length u.schema.keys = omega (arith, c.loop-k-test.true, c.key_count-k-end.ensures.count) in
+          asked_in_all (g.P.Pages.shown.state c.args.pages.now).asked (g.P.Pages.shown.state c.is_new_there.new.pages).asked (heights_of u) (c.loop-k.k + 1)
+          (asked_more (g.P.Pages.shown.state c.args.pages.now).asked (g.P.Pages.shown.state c.loop-k.pages).asked (g.P.Pages.shown.state c.is_new_there.new.pages).asked (heights_of u) c.loop-k.k
+          (omega (arith, lt, c.requires.shaped.keys, heights_many u.prime u.alternates.items)) c.is_new_there.ensures.reads.asked c.loop-k.invariant.asked);
+      step = grind (arith, common_steps);
+    }
 
 pub returns-clause-found : goal.returns-clause-found
 returns-clause-found g c honest file stands row is same =

@@ -9,9 +9,9 @@ use Rattle.file_changes.proofs.replacing.replacing.Given as goal
 
 abbrev pub invariant-loop-k : goal.invariant-loop-k
 invariant-loop-k g l = record {
-  reads : g.P.Pages.Reads l.fn.pages l.pages;
-  seen : IsTrue (g.P.Pages.state l.pages).is_honest → (file : File) → Stands l.opened (g.P.Pages.state l.fn.pages).live file
+  reads : g.P.Pages.shown.Reads l.fn.pages l.pages;
+  seen : IsTrue (g.P.Pages.shown.state l.pages).is_honest → (file : File) → Stands l.opened (g.P.Pages.shown.state l.fn.pages).live file
       → (row : Row) → row_of l.opened.schema (prime_of l.opened.schema l.bytes) file ≡ Some row → row.bytes ≡ l.old
       → SeenOn l.opened.schema l.old l.bytes file.rows l.k l.repeated;
-  asked : IsAsked (g.P.Pages.state l.fn.pages).asked (g.P.Pages.state l.pages).asked (heights_of l.opened) l.k;
+  asked : IsAsked (g.P.Pages.shown.state l.fn.pages).asked (g.P.Pages.shown.state l.pages).asked (heights_of l.opened) l.k;
 }

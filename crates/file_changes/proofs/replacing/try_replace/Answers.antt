@@ -9,7 +9,7 @@ use Rattle.open_file.proofs.ExitLemmas.{fails}
 use Rattle.open_file.proofs.StampedLemmas.{few_stamps}
 use Rattle.file_changes.proofs.LevelLemmas.{heights_few, levels_of_all}
 use Rattle.file_changes.proofs.FoundLemmas.{old_at}
-use Rattle.file_changes.proofs.ChangingLemmas.{causes}
+use Rattle.pages.proofs.CauseLemmas.{caused_since}
 use Rattle.file_changes.proofs.ReplacedLemmas.{has_none}
 use Rattle.file_changes.proofs.replacing.try_replace.Goals as goal
 
@@ -28,8 +28,8 @@ returns-in_default-clause-replaced g c honest sound file stands =
     let now = c.find_old.new.pages in
     let none = (rw (c.value-prime.ensures.value, c.in_default.is) at c.in_ok-old.ensures.found honest file stands).answer in
     record {
-      answer = has_none c.args.opened.now (g.P.Pages.state start).live (g.P.Pages.state now).live (IsTrue (g.P.Pages.state now).is_sound) c.args.bytes.now file stands
-          (g.met.P.Pages.reads_live start now c.find_old.ensures.reads honest) none (g.met.P.Pages.reads_sound start now c.find_old.ensures.reads honest ∙ sound);
+      answer = has_none c.args.opened.now (g.P.Pages.shown.state start).live (g.P.Pages.shown.state now).live (IsTrue (g.P.Pages.shown.state now).is_sound) c.args.bytes.now file stands
+          (g.met.P.Pages.reads_live start now c.find_old.ensures.reads.step honest) none (g.met.P.Pages.reads_sound start now c.find_old.ensures.reads.step honest ∙ sound);
       no_damage = tt;
     }
 
@@ -41,7 +41,7 @@ pub returns-in_default-clause-room : goal.returns-in_default-clause-room
 returns-in_default-clause-room g c honest file stands =
     let u = c.args.opened.now in
     let none = (rw (c.value-prime.ensures.value, c.in_default.is) at c.in_ok-old.ensures.found honest file stands).answer in
-    ap (λ row. clashes_with_others u.schema c.args.bytes.now file || not (is_full_at (room_of u (g.P.Pages.state c.args.pages.now).available) u.schema c.args.bytes.now file row)) none
+    ap (λ row. clashes_with_others u.schema c.args.bytes.now file || not (is_full_at (room_of u (g.P.Pages.shown.state c.args.pages.now).available) u.schema c.args.bytes.now file row)) none
     ∙ or_true (clashes_with_others u.schema c.args.bytes.now file)
 
 pub returns-clause-replaced : goal.returns-clause-replaced
@@ -51,9 +51,9 @@ returns-clause-replaced g c honest sound file stands =
     let looked = c.find_old.new.pages in
     let prime = prime_of u.schema c.args.bytes.now in
     let row = row_with c.record_in-before.result.now c.in-Some.old.stamps.items in
-    let h1 = g.met.P.Pages.moves_honestly looked c.replace_old.new.pages c.replace_old.ensures.moves honest in
-    let live = g.met.P.Pages.reads_live start looked c.find_old.ensures.reads h1 in
-    let kept = g.met.P.Pages.reads_sound start looked c.find_old.ensures.reads h1 ∙ sound in
+    let h1 = g.met.P.Pages.begins_honestly looked c.replace_old.new.pages c.replace_old.ensures.begins honest in
+    let live = g.met.P.Pages.reads_live start looked c.find_old.ensures.reads.step h1 in
+    let kept = g.met.P.Pages.reads_sound start looked c.find_old.ensures.reads.step h1 ∙ sound in
     let is = (rw (c.value-prime.ensures.value, c.in-Some.is) at c.in_ok-old.ensures.found h1 file stands).answer in
     let at = old_at u.schema stands.slots (prime_entries u.schema stands.places file.rows) file prime c.find_old.new.slot c.record_in-before.result.now c.in-Some.old is c.record_in-before.ensures.bytes in
     let moved = subst (λ p. (s : Stands u p file) × IsOldAt u.schema s.slots (prime_entries u.schema s.places file.rows) file prime c.in-Some.old.place row) (sym live) (stands, at) in
@@ -65,11 +65,11 @@ returns-clause-room g c honest file stands =
     let start = c.args.pages.now in
     let looked = c.find_old.new.pages in
     let prime = prime_of u.schema c.args.bytes.now in
-    let h1 = g.met.P.Pages.moves_honestly looked c.replace_old.new.pages c.replace_old.ensures.moves honest in
-    let still = subst (λ p. Stands u p file) (sym (g.met.P.Pages.reads_live start looked c.find_old.ensures.reads h1)) stands in
+    let h1 = g.met.P.Pages.begins_honestly looked c.replace_old.new.pages c.replace_old.ensures.begins honest in
+    let still = subst (λ p. Stands u p file) (sym (g.met.P.Pages.reads_live start looked c.find_old.ensures.reads.step h1)) stands in
     let is = (rw (c.value-prime.ensures.value, c.in-Some.is) at c.in_ok-old.ensures.found h1 file stands).answer in
     let at = old_at u.schema stands.slots (prime_entries u.schema stands.places file.rows) file prime c.find_old.new.slot c.record_in-before.result.now c.in-Some.old is c.record_in-before.ensures.bytes in
-    rw (g.met.P.Pages.reads_available start looked c.find_old.ensures.reads) at (c.replace_old.ensures.room honest file still at.is_row)
+    rw (g.met.P.Pages.reads_available start looked c.find_old.ensures.reads.step) at (c.replace_old.ensures.room honest file still at.is_row)
 
 pub returns-clause-full : goal.returns-clause-full
 returns-clause-full g c e =
@@ -80,28 +80,28 @@ returns-clause-full g c e =
     let prime = prime_of u.schema c.args.bytes.now in
     let full = c.replace_old.ensures.full e in (
       full.0,
-      g.met.P.Pages.reads_on start looked last c.find_old.ensures.reads full.1,
+      g.met.P.Pages.reads_on start looked last c.find_old.ensures.reads.step full.1,
       (λ honest file stands.
-          let h1 = g.met.P.Pages.moves_honestly looked last c.replace_old.ensures.moves honest in
-          let still = subst (λ p. Stands u p file) (sym (g.met.P.Pages.reads_live start looked c.find_old.ensures.reads h1)) stands in
+          let h1 = g.met.P.Pages.begins_honestly looked last c.replace_old.ensures.begins honest in
+          let still = subst (λ p. Stands u p file) (sym (g.met.P.Pages.reads_live start looked c.find_old.ensures.reads.step h1)) stands in
           let is = (rw (c.value-prime.ensures.value, c.in-Some.is) at c.in_ok-old.ensures.found h1 file stands).answer in
           let at = old_at u.schema stands.slots (prime_entries u.schema stands.places file.rows) file prime c.find_old.new.slot c.record_in-before.result.now c.in-Some.old is c.record_in-before.ensures.bytes in
-          rw (g.met.P.Pages.reads_available start looked c.find_old.ensures.reads) at (full.2 honest file still at.is_row)),
+          rw (g.met.P.Pages.reads_available start looked c.find_old.ensures.reads.step) at (full.2 honest file still at.is_row)),
     )
 
 pub returns-clause-cause : goal.returns-clause-cause
 returns-clause-cause g c =
     let start = c.args.pages.now in
     let looked = c.find_old.new.pages in
-    causes c.replace_old.result _ _ _ _ (λ failed. g.met.P.Pages.failed_after start looked c.replace_old.new.pages (g.met.P.Pages.reads_goes start looked c.find_old.ensures.reads) failed) (λ x. x) c.replace_old.ensures.cause
+    caused_since c.replace_old.result _ _ _ _ (λ failed. g.met.P.Pages.failed_after start looked c.replace_old.new.pages (g.met.P.Pages.reads_writes start looked c.find_old.ensures.reads.step) failed) (λ x. x) c.replace_old.ensures.cause
 
-pub returns-clause-moves : goal.returns-clause-moves
-returns-clause-moves g c =
+pub returns-clause-begins : goal.returns-clause-begins
+returns-clause-begins g c =
     let start = c.args.pages.now in
     let looked = c.find_old.new.pages in
-    g.met.P.Pages.moves_on start looked c.replace_old.new.pages (g.met.P.Pages.goes_moves start looked (g.met.P.Pages.reads_goes start looked c.find_old.ensures.reads)) c.replace_old.ensures.moves
+    g.met.P.Pages.begins_on start looked c.replace_old.new.pages (g.met.P.Pages.writes_begins start looked (g.met.P.Pages.reads_writes start looked c.find_old.ensures.reads.step)) c.replace_old.ensures.begins
 
 pub returns-clause-asked : goal.returns-clause-asked
 returns-clause-asked g c =
     let u = c.args.opened.now in
-    omega (arith, c.find_old.ensures.asked, c.replace_old.ensures.asked, heights_few u.prime u.alternates.items, levels_of_all u.prime u.alternates.items)
+    omega (arith, c.find_old.ensures.reads.asked, c.replace_old.ensures.asked, heights_few u.prime u.alternates.items, levels_of_all u.prime u.alternates.items)

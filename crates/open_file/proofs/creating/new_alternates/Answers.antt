@@ -15,7 +15,7 @@ returns-in_err-empty-clause-made g c honest sound heap prime parts =
     let now = c.loop-k.pages in
     let later = c.empty.new.pages in
     let inv = c.loop-k.invariant in
-    let before = g.met.P.Pages.goes_honestly now later c.empty.ensures.goes honest in
+    let before = g.met.P.Pages.writes_honestly now later c.empty.ensures.goes honest in
     let had = inv.made before sound heap prime parts in
     fails c.from_residual.result _ _ c.from_residual.ensures.1 (c.in_err-empty.ensures.made honest had.1).no_damage
 
@@ -35,12 +35,12 @@ loop-k-preserved g c =
       low = is.2;
     } in
     record {
-      goes = g.met.P.Pages.goes_on start now later inv.goes c.empty.ensures.goes;
+      goes = g.met.P.Pages.writes_on start now later inv.goes c.empty.ensures.goes;
       made = λ honest sound heap prime parts.
-          let before = g.met.P.Pages.goes_honestly now later c.empty.ensures.goes honest in
+          let before = g.met.P.Pages.writes_honestly now later c.empty.ensures.goes honest in
           let had = inv.made before sound heap prime parts in
           let made = (c.in_ok-empty.ensures.made honest had.1).answer in
-          (rw c.push.ensures.items (alternate_more heap prime c.loop-k.alternates.items (g.P.Pages.state now).live had.0 (g.P.Pages.state later).live new made.0), made.1);
+          (rw c.push.ensures.items (alternate_more heap prime c.loop-k.alternates.items (g.P.Pages.shown.state now).live had.0 (g.P.Pages.shown.state later).live new made.0), made.1);
       each = rw c.push.ensures.items (indexes_more c.args.schema.now c.loop-k.alternates.items new c.loop-k.k inv.many one inv.each);
       many = ap (λ n. n + 1) c.push.ensures.len ∙ ap (λ n. n + 1) inv.many;
       few = omega (arith, inv.few, c.empty.ensures.spends.few);

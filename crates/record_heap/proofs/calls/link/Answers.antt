@@ -7,8 +7,8 @@ pub returns-clause-linked : goal.returns-clause-linked
 returns-clause-linked g c honest sound next at within =
     let ok : IsOk c.page_mut.result = rw c.in_ok-page.was refl in
     let w = c.page_mut.follows.holds c.put_free.new.page ok in
-    let before = (g.P.Pages.state c.args.pages.now).live in
-    let after = (g.P.Pages.state (c.page_mut.follows.lender c.put_free.new.page)).live in
+    let before = (g.P.Pages.shown.state c.args.pages.now).live in
+    let after = (g.P.Pages.shown.state (c.page_mut.follows.lender c.put_free.new.page)).live in
     let live : IsSome (before c.args.place.page) = rw at.there refl in
     let shown : before c.args.place.page ≡ Some c.in_ok-page.page.now = (rw c.in_ok-page.was at (w.3 honest)) live in
     let writes = w.0.live honest live in

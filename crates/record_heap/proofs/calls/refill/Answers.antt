@@ -8,8 +8,8 @@ pub returns-in-Some-clause-refilled : goal.returns-in-Some-clause-refilled
 returns-in-Some-clause-refilled g c behind behind_is honest sound next at within =
     let ok : IsOk c.page_mut.result = rw c.in_ok-page.was refl in
     let w = c.page_mut.follows.holds c.put_used.new.page ok in
-    let before = (g.P.Pages.state c.args.pages.now).live in
-    let after = (g.P.Pages.state (c.page_mut.follows.lender c.put_used.new.page)).live in
+    let before = (g.P.Pages.shown.state c.args.pages.now).live in
+    let after = (g.P.Pages.shown.state (c.page_mut.follows.lender c.put_used.new.page)).live in
     let live : IsSome (before c.args.place.page) = rw at.there refl in
     let shown : before c.args.place.page ≡ Some c.in_ok-page.page.now = (rw c.in_ok-page.was at (w.3 honest)) live in
     let writes = w.0.live honest live in
@@ -29,12 +29,8 @@ returns-in-Some-clause-available g c =
     let ok : IsOk c.page_mut.result = rw c.in_ok-page.was refl in
     (c.page_mut.follows.holds c.put_used.new.page ok).0.available
 
-pub returns-in-Some-clause-asked : goal.returns-in-Some-clause-asked
-returns-in-Some-clause-asked g c =
+pub returns-in-Some-clause-writes : goal.returns-in-Some-clause-writes
+returns-in-Some-clause-writes g c =
     let ok : IsOk c.page_mut.result = rw c.in_ok-page.was refl in
-    (c.page_mut.follows.holds c.put_used.new.page ok).1
-
-pub returns-in-Some-clause-goes : goal.returns-in-Some-clause-goes
-returns-in-Some-clause-goes g c =
-    let ok : IsOk c.page_mut.result = rw c.in_ok-page.was refl in
-    (c.page_mut.follows.holds c.put_used.new.page ok).2
+    let held = c.page_mut.follows.holds c.put_used.new.page ok in
+    record { cause = tt; asked = held.1; step = held.2 }

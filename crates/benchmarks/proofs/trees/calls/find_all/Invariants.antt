@@ -1,4 +1,4 @@
 use Rattle.benchmarks.proofs.trees.calls.find_all.Given as goal
 
 abbrev pub invariant-loop-entry : goal.invariant-loop-entry
-invariant-loop-entry g l = g.P.Pages.Goes l.initial.pages l.pages
+invariant-loop-entry g l = g.P.Pages.shown.Writes l.initial.pages l.pages

@@ -16,8 +16,8 @@ returns-in_err-put_below-clause-inserted g c honest sound entries own stands =
 pub returns-then-branch-clause-inserted : goal.returns-then-branch-clause-inserted
 returns-then-branch-clause-inserted g c honest sound entries own stands =
     let old = c.args.self.now in
-    let before = (g.P.Pages.state c.args.pages.now).live in
-    let new = g.P.Pages.state c.put_below.new.pages in
+    let before = (g.P.Pages.shown.state c.args.pages.now).live in
+    let new = g.P.Pages.shown.state c.put_below.new.pages in
     let a = (c.in_ok-put_below.ensures.put honest sound stands.value None None stands.whole tt tt).answer in
     let h = subst (λ (b : Bool). HasPutIf old.shape before new.live old.levels old.root None None c.args.entry.now stands.value b) c.if-branch.true a.0 in
     record {
@@ -29,10 +29,10 @@ returns-then-branch-clause-inserted g c honest sound entries own stands =
 pub returns-clause-inserted : goal.returns-clause-inserted
 returns-clause-inserted g c honest sound entries own stands =
     let old = c.args.self.now in
-    let before = (g.P.Pages.state c.args.pages.now).live in
-    let mid = g.P.Pages.state c.put_below.new.pages in
-    let new = g.P.Pages.state c.insert_or_split.new.pages in
-    let h1 = g.met.P.Pages.goes_honestly c.put_below.new.pages c.insert_or_split.new.pages c.insert_or_split.ensures.goes honest in
+    let before = (g.P.Pages.shown.state c.args.pages.now).live in
+    let mid = g.P.Pages.shown.state c.put_below.new.pages in
+    let new = g.P.Pages.shown.state c.insert_or_split.new.pages in
+    let h1 = g.met.P.Pages.writes_honestly c.put_below.new.pages c.insert_or_split.new.pages c.insert_or_split.ensures.writes.step honest in
     let a = (c.in_ok-put_below.ensures.put h1 sound stands.value None None stands.whole tt tt).answer in
     let same : mid.live ≡ before = subst (λ (b : Bool). HasPutIf old.shape before mid.live old.levels old.root None None c.args.entry.now stands.value b) c.if-branch.false a.0 in
     (subst (λ (m : PageMap). Inserts m new.live (IsTrue new.is_sound) old c.insert_or_split.new.self c.args.entry.now c.insert_or_split.result) same
@@ -41,7 +41,7 @@ returns-clause-inserted g c honest sound entries own stands =
 pub returns-then-self-ge-GREATEST_LEVELS-clause-inserted : goal.returns-then-self-ge-GREATEST_LEVELS-clause-inserted
 returns-then-self-ge-GREATEST_LEVELS-clause-inserted g c honest sound entries own stands =
     let tree = c.args.self.now in
-    let live = (g.P.Pages.state c.args.pages.now).live in
+    let live = (g.P.Pages.shown.state c.args.pages.now).live in
     let low = c.count.ensures.low in
     let never : ⊥ = elim c.then-self-ge-GREATEST_LEVELS.branch [
       | then-self-ge-GREATEST_LEVELS-via-then-self-ge-GREATEST_LEVELS w ↦ never_deep tree live entries own c.count.result stands low (omega (arith, c.count.type_inv)) (omega (arith, w.if-self-ge-GREATEST_LEVELS))

@@ -14,8 +14,8 @@ returns-in_err-found-clause-inserted g c honest sound entries own stands =
 pub returns-in-Present-clause-inserted : goal.returns-in-Present-clause-inserted
 returns-in-Present-clause-inserted g c honest sound entries own stands =
     let old = c.args.self.now in
-    let before = (g.P.Pages.state c.args.pages.now).live in
-    let after = (g.P.Pages.state c.insert_below.new.pages).live in
+    let before = (g.P.Pages.shown.state c.args.pages.now).live in
+    let after = (g.P.Pages.shown.state c.insert_below.new.pages).live in
     let a = (c.in_ok-found.ensures.inserted honest sound stands.value None None stands.whole tt tt).answer in
     let h = subst (λ (s : Grown). HasInsertedBelow old.shape before after old.levels old.root None None c.args.entry.now stands.value s) c.in-Present.is a.0 in
     record { answer = (inserted_none old c.args.entry.now before entries own stands after c.in-Present.found h, a.1); no_damage = tt }
@@ -23,9 +23,9 @@ returns-in-Present-clause-inserted g c honest sound entries own stands =
 pub returns-in_err-base-in-Added-clause-inserted : goal.returns-in_err-base-in-Added-clause-inserted
 returns-in_err-base-in-Added-clause-inserted g c honest sound entries own stands =
     let old = c.args.self.now in
-    let before = (g.P.Pages.state c.args.pages.now).live in
-    let mid = (g.P.Pages.state c.insert_below.new.pages).live in
-    let h1 = g.met.P.Pages.goes_honestly c.insert_below.new.pages c.raise.new.pages c.raise.ensures.goes honest in
+    let before = (g.P.Pages.shown.state c.args.pages.now).live in
+    let mid = (g.P.Pages.shown.state c.insert_below.new.pages).live in
+    let h1 = g.met.P.Pages.writes_honestly c.insert_below.new.pages c.raise.new.pages c.raise.ensures.writes.step honest in
     let a = (c.in_ok-found.ensures.inserted h1 sound stands.value None None stands.whole tt tt).answer in
     let h = subst (λ (s : Grown). HasInsertedBelow old.shape before mid old.levels old.root None None c.args.entry.now stands.value s) c.in-Added.is a.0 in
     fails c.from_residual-in_err-base-in-Added.result _ _ c.from_residual-in_err-base-in-Added.ensures.1
@@ -34,10 +34,10 @@ returns-in_err-base-in-Added-clause-inserted g c honest sound entries own stands
 pub returns-in_ok-base-in-Added-clause-inserted : goal.returns-in_ok-base-in-Added-clause-inserted
 returns-in_ok-base-in-Added-clause-inserted g c honest sound entries own stands =
     let old = c.args.self.now in
-    let before = (g.P.Pages.state c.args.pages.now).live in
-    let mid = (g.P.Pages.state c.insert_below.new.pages).live in
-    let late = g.P.Pages.state c.raise.new.pages in
-    let h1 = g.met.P.Pages.goes_honestly c.insert_below.new.pages c.raise.new.pages c.raise.ensures.goes honest in
+    let before = (g.P.Pages.shown.state c.args.pages.now).live in
+    let mid = (g.P.Pages.shown.state c.insert_below.new.pages).live in
+    let late = g.P.Pages.shown.state c.raise.new.pages in
+    let h1 = g.met.P.Pages.writes_honestly c.insert_below.new.pages c.raise.new.pages c.raise.ensures.writes.step honest in
     let a = (c.in_ok-found.ensures.inserted h1 sound stands.value None None stands.whole tt tt).answer in
     let h = subst (λ (s : Grown). HasInsertedBelow old.shape before mid old.levels old.root None None c.args.entry.now stands.value s) c.in-Added.is a.0 in
     record {

@@ -13,8 +13,8 @@ returns-in_err-take_below-clause-removed g c honest sound entries own stands =
 pub returns-then-branch-clause-removed : goal.returns-then-branch-clause-removed
 returns-then-branch-clause-removed g c honest sound entries own stands =
     let old = c.args.self.now in
-    let before = (g.P.Pages.state c.args.pages.now).live in
-    let new = g.P.Pages.state c.take_below.new.pages in
+    let before = (g.P.Pages.shown.state c.args.pages.now).live in
+    let new = g.P.Pages.shown.state c.take_below.new.pages in
     let entry = c.take_below.new.to in
     let a = (c.in_ok-take_below.ensures.taken honest sound stands.value None None stands.whole).answer in
     let h = subst (λ (b : Bool). HasTakenIf old.shape before new.live old.levels old.root None None c.args.key.now stands.value entry.items b) c.if-branch.true a.0 in
@@ -26,10 +26,10 @@ returns-then-branch-clause-removed g c honest sound entries own stands =
 pub returns-clause-removed : goal.returns-clause-removed
 returns-clause-removed g c honest sound entries own stands =
     let old = c.args.self.now in
-    let before = (g.P.Pages.state c.args.pages.now).live in
-    let mid = g.P.Pages.state c.take_below.new.pages in
-    let new = g.P.Pages.state c.remove_or_mend.new.pages in
-    let h1 = g.met.P.Pages.goes_honestly c.take_below.new.pages c.remove_or_mend.new.pages c.remove_or_mend.ensures.goes honest in
+    let before = (g.P.Pages.shown.state c.args.pages.now).live in
+    let mid = g.P.Pages.shown.state c.take_below.new.pages in
+    let new = g.P.Pages.shown.state c.remove_or_mend.new.pages in
+    let h1 = g.met.P.Pages.writes_honestly c.take_below.new.pages c.remove_or_mend.new.pages c.remove_or_mend.ensures.writes.step honest in
     let a = (c.in_ok-take_below.ensures.taken h1 sound stands.value None None stands.whole).answer in
     let same : mid.live ≡ before =
     subst (λ (b : Bool). HasTakenIf old.shape before mid.live old.levels old.root None None c.args.key.now stands.value c.take_below.new.to.items b) c.if-branch.false a.0 in

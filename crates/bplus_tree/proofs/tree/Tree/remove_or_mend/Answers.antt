@@ -12,18 +12,18 @@ returns-in_err-remove_below-clause-removed g c honest sound entries own stands =
 pub returns-in-Absent-clause-removed : goal.returns-in-Absent-clause-removed
 returns-in-Absent-clause-removed g c honest sound entries own stands =
     let old = c.args.self.now in
-    let before = (g.P.Pages.state c.args.pages.now).live in
-    let after = (g.P.Pages.state c.remove_below.new.pages).live in
+    let before = (g.P.Pages.shown.state c.args.pages.now).live in
+    let after = (g.P.Pages.shown.state c.remove_below.new.pages).live in
     let a = (c.in_ok-remove_below.ensures.removed honest sound stands.value None None stands.whole).answer in
     let h = subst (λ (s : Shrunk). HasRemovedBelow old.shape before after old.levels old.root None None c.args.key.now stands.value s) c.in-Absent.is a.0 in
     record { answer = (removed_absent before after old c.args.key.now entries own stands h, a.1); no_damage = tt }
 
 pub returns-in_err-base-in-Taken-clause-removed : goal.returns-in_err-base-in-Taken-clause-removed
 returns-in_err-base-in-Taken-clause-removed g c honest sound entries own stands =
-    let h1 = g.met.P.Pages.goes_honestly c.remove_below.new.pages c.settle.new.pages c.settle.ensures.goes honest in
+    let h1 = g.met.P.Pages.writes_honestly c.remove_below.new.pages c.settle.new.pages c.settle.ensures.writes.step honest in
     let old = c.args.self.now in
-    let before = (g.P.Pages.state c.args.pages.now).live in
-    let mid = (g.P.Pages.state c.remove_below.new.pages).live in
+    let before = (g.P.Pages.shown.state c.args.pages.now).live in
+    let mid = (g.P.Pages.shown.state c.remove_below.new.pages).live in
     let a = (c.in_ok-remove_below.ensures.removed h1 sound stands.value None None stands.whole).answer in
     let h = subst (λ (s : Shrunk). HasRemovedBelow old.shape before mid old.levels old.root None None c.args.key.now stands.value s) c.in-Taken.is a.0 in
     let b = h.1.becomes in
@@ -32,14 +32,14 @@ returns-in_err-base-in-Taken-clause-removed g c honest sound entries own stands 
 
 pub returns-in_ok-base-in-Taken-clause-removed : goal.returns-in_ok-base-in-Taken-clause-removed
 returns-in_ok-base-in-Taken-clause-removed g c honest sound entries own stands =
-    let h1 = g.met.P.Pages.goes_honestly c.remove_below.new.pages c.settle.new.pages c.settle.ensures.goes honest in
+    let h1 = g.met.P.Pages.writes_honestly c.remove_below.new.pages c.settle.new.pages c.settle.ensures.writes.step honest in
     let old = c.args.self.now in
-    let before = (g.P.Pages.state c.args.pages.now).live in
-    let mid = (g.P.Pages.state c.remove_below.new.pages).live in
-    let late = (g.P.Pages.state c.settle.new.pages).live in
+    let before = (g.P.Pages.shown.state c.args.pages.now).live in
+    let mid = (g.P.Pages.shown.state c.remove_below.new.pages).live in
+    let late = (g.P.Pages.shown.state c.settle.new.pages).live in
     let a = (c.in_ok-remove_below.ensures.removed h1 sound stands.value None None stands.whole).answer in
     let h = subst (λ (s : Shrunk). HasRemovedBelow old.shape before mid old.levels old.root None None c.args.key.now stands.value s) c.in-Taken.is a.0 in
     record {
-      answer = removed_some before mid late (IsTrue (g.P.Pages.state c.settle.new.pages).is_sound) old c.args.key.now entries own stands c.in-Taken.entry _ c.in_ok-base-in-Taken.base c.saturating_sub.result c.saturating_add.result _ c.saturating_sub.ensures h (c.in_ok-base-in-Taken.ensures.settled honest a.1);
+      answer = removed_some before mid late (IsTrue (g.P.Pages.shown.state c.settle.new.pages).is_sound) old c.args.key.now entries own stands c.in-Taken.entry _ c.in_ok-base-in-Taken.base c.saturating_sub.result c.saturating_add.result _ c.saturating_sub.ensures h (c.in_ok-base-in-Taken.ensures.settled honest a.1);
       no_damage = tt;
     }

@@ -13,8 +13,8 @@ returns-in_err-insert-clause-added g c honest sound entries own stands =
 
 pub returns-in-None-clause-added : goal.returns-in-None-clause-added
 returns-in-None-clause-added g c honest sound entries own stands =
-    let before = (g.P.Pages.state c.args.pages.now).live in
-    let after = (g.P.Pages.state c.insert.new.pages).live in
+    let before = (g.P.Pages.shown.state c.args.pages.now).live in
+    let after = (g.P.Pages.shown.state c.insert.new.pages).live in
     let old = c.args.self.now in
     let e : AltEntry = record { value = record { items = c.args.value.now }; stamp = c.args.stamp; prime = record { items = c.args.prime.now } } in
     let fits : IsAltEntry old.width old.prime e =
@@ -27,8 +27,8 @@ returns-in-None-clause-added g c honest sound entries own stands =
 
 pub returns-in-Some-clause-added : goal.returns-in-Some-clause-added
 returns-in-Some-clause-added g c honest sound entries own stands =
-    let before = (g.P.Pages.state c.args.pages.now).live in
-    let after = (g.P.Pages.state c.insert.new.pages).live in
+    let before = (g.P.Pages.shown.state c.args.pages.now).live in
+    let after = (g.P.Pages.shown.state c.insert.new.pages).live in
     let old = c.args.self.now in
     let e : AltEntry = record { value = record { items = c.args.value.now }; stamp = c.args.stamp; prime = record { items = c.args.prime.now } } in
     let fits : IsAltEntry old.width old.prime e =

@@ -13,8 +13,8 @@ returns-in_err-remove-clause-removed g c honest sound entries own stands =
 
 pub returns-in-Some-clause-removed : goal.returns-in-Some-clause-removed
 returns-in-Some-clause-removed g c honest sound entries own stands =
-    let before = (g.P.Pages.state c.args.pages.now).live in
-    let after = (g.P.Pages.state c.remove.new.pages).live in
+    let before = (g.P.Pages.shown.state c.args.pages.now).live in
+    let after = (g.P.Pages.shown.state c.remove.new.pages).live in
     let old = c.args.self.now in
     let is : c.as_slice.result.now ≡ c.args.value.now ++ bytes_high_first 8 c.args.stamp = c.as_slice.ensures.value ∙ c.rank_key-rank.ensures in
     let long : length c.args.value.now ≡ old.width = omega arith in
@@ -25,8 +25,8 @@ returns-in-Some-clause-removed g c honest sound entries own stands =
 
 pub returns-in-None-clause-removed : goal.returns-in-None-clause-removed
 returns-in-None-clause-removed g c honest sound entries own stands =
-    let before = (g.P.Pages.state c.args.pages.now).live in
-    let after = (g.P.Pages.state c.remove.new.pages).live in
+    let before = (g.P.Pages.shown.state c.args.pages.now).live in
+    let after = (g.P.Pages.shown.state c.remove.new.pages).live in
     let old = c.args.self.now in
     let is : c.as_slice.result.now ≡ c.args.value.now ++ bytes_high_first 8 c.args.stamp = c.as_slice.ensures.value ∙ c.rank_key-rank.ensures in
     let long : length c.args.value.now ≡ old.width = omega arith in

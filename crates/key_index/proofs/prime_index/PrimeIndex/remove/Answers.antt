@@ -12,8 +12,8 @@ returns-in_err-remove-clause-removed g c honest sound entries own stands =
 
 pub returns-in-Some-clause-removed : goal.returns-in-Some-clause-removed
 returns-in-Some-clause-removed g c honest sound entries own stands =
-    let before = (g.P.Pages.state c.args.pages.now).live in
-    let after = (g.P.Pages.state c.remove.new.pages).live in
+    let before = (g.P.Pages.shown.state c.args.pages.now).live in
+    let after = (g.P.Pages.shown.state c.remove.new.pages).live in
     let old = c.args.self.now in
     let a = (c.in_ok-remove.ensures.removed honest sound (map prime_bytes entries) own stands.tree).answer in
     let h = subst (λ (o : Option (ArrayVec ℕ)). HasRemoved before after old.tree c.remove.new.self c.args.value.now (map prime_bytes entries) own o) c.in-Some.is a.0 in
@@ -21,8 +21,8 @@ returns-in-Some-clause-removed g c honest sound entries own stands =
 
 pub returns-in-None-clause-removed : goal.returns-in-None-clause-removed
 returns-in-None-clause-removed g c honest sound entries own stands =
-    let before = (g.P.Pages.state c.args.pages.now).live in
-    let after = (g.P.Pages.state c.remove.new.pages).live in
+    let before = (g.P.Pages.shown.state c.args.pages.now).live in
+    let after = (g.P.Pages.shown.state c.remove.new.pages).live in
     let old = c.args.self.now in
     let a = (c.in_ok-remove.ensures.removed honest sound (map prime_bytes entries) own stands.tree).answer in
     let h = subst (λ (o : Option (ArrayVec ℕ)). HasRemoved before after old.tree c.remove.new.self c.args.value.now (map prime_bytes entries) own o) c.in-None.is a.0 in

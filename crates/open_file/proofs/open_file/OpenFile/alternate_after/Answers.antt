@@ -14,7 +14,7 @@ again k some = omega arith
 
 pub returns-clause-found : goal.returns-clause-found
 returns-clause-found g c honest file stands =
-    let live = (g.P.Pages.state c.args.pages.now).live in
+    let live = (g.P.Pages.shown.state c.args.pages.now).live in
     let k = c.args.k in
     let standing = stands.parts.alternates_stand (k - 1) c.args.index (below k _ c.requires.some c.requires.within) c.requires.index in
     let belongs = c.alternate_cursor-cursor.ensures.belongs live _ _ _ stands.on_path in
@@ -23,7 +23,7 @@ returns-clause-found g c honest file stands =
 
 pub returns-clause-stands : goal.returns-clause-stands
 returns-clause-stands g c honest file stands =
-    let live = (g.P.Pages.state c.args.pages.now).live in
+    let live = (g.P.Pages.shown.state c.args.pages.now).live in
     let k = c.args.k in
     let standing = stands.parts.alternates_stand (k - 1) c.args.index (below k _ c.requires.some c.requires.within) c.requires.index in
     let belongs = c.alternate_cursor-cursor.ensures.belongs live _ _ _ stands.on_path in

@@ -12,16 +12,16 @@ returns-in-None-clause-found g c honest file stands =
 
 pub returns-in_err-tell-in-Some-clause-found : goal.returns-in_err-tell-in-Some-clause-found
 returns-in_err-tell-in-Some-clause-found g c honest file stands =
-    let before = g.met.P.Pages.goes_honestly c.first_of.new.pages c.tell.new.pages (g.met.P.Pages.reads_goes c.first_of.new.pages c.tell.new.pages c.tell.ensures.reads) honest in
-    let still = subst (λ p. Stands c.args.self.now p file) (sym (g.met.P.Pages.reads_live c.args.pages.now c.first_of.new.pages c.first_of.ensures.reads before)) stands in
+    let before = g.met.P.Pages.writes_honestly c.first_of.new.pages c.tell.new.pages (g.met.P.Pages.reads_writes c.first_of.new.pages c.tell.new.pages c.tell.ensures.reads.step) honest in
+    let still = subst (λ p. Stands c.args.self.now p file) (sym (g.met.P.Pages.reads_live c.args.pages.now c.first_of.new.pages c.first_of.ensures.reads.step before)) stands in
     let found = rw (c.in-Some.is, c.as_slice.ensures.value) at (c.in_ok-entry.ensures.found before file stands).answer in
     let first = first_row c.args.self.now.schema c.args.k file c.args.key.now.items c.in-Some.field-0 stands.sound found in
     fails_reading c.from_residual-in_err-tell-in-Some.result _ c.from_residual-in_err-tell-in-Some.ensures.1 (c.in_err-tell-in-Some.ensures.found honest file still c.args.k first.of.row first.is first.repeated).answered.no_damage _ _ _ _
 
 pub returns-in_ok-tell-in-Some-clause-found : goal.returns-in_ok-tell-in-Some-clause-found
 returns-in_ok-tell-in-Some-clause-found g c honest file stands =
-    let before = g.met.P.Pages.goes_honestly c.first_of.new.pages c.tell.new.pages (g.met.P.Pages.reads_goes c.first_of.new.pages c.tell.new.pages c.tell.ensures.reads) honest in
-    let still = subst (λ p. Stands c.args.self.now p file) (sym (g.met.P.Pages.reads_live c.args.pages.now c.first_of.new.pages c.first_of.ensures.reads before)) stands in
+    let before = g.met.P.Pages.writes_honestly c.first_of.new.pages c.tell.new.pages (g.met.P.Pages.reads_writes c.first_of.new.pages c.tell.new.pages c.tell.ensures.reads.step) honest in
+    let still = subst (λ p. Stands c.args.self.now p file) (sym (g.met.P.Pages.reads_live c.args.pages.now c.first_of.new.pages c.first_of.ensures.reads.step before)) stands in
     let found = rw (c.in-Some.is, c.as_slice.ensures.value) at (c.in_ok-entry.ensures.found before file stands).answer in
     let first = first_row c.args.self.now.schema c.args.k file c.args.key.now.items c.in-Some.field-0 stands.sound found in
     found_it c.args.self.now.schema c.args.k file c.args.key.now.items c.in-Some.field-0.entry first.of c.in_ok-tell-in-Some.field-0 c.args.area.now c.tell.new.area

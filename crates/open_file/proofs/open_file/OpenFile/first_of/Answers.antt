@@ -1,3 +1,4 @@
+use Rattle.std.proofs.lemmas.Grind.{common_steps}
 use Rattle.std.proofs.Common.{◌≡◌, ℕ, ◌+◌, ◌-◌, ◌<◌, false, length, Some, None, ap, sym, subst, ◌∙◌, arith}
 use Rattle.record_layout.specs.declared.schema.KeyPart.{KeyPart}
 use Rattle.record_layout.specs.Schema.{key_at}
@@ -24,10 +25,15 @@ returns-in-Some-clause-found g c honest file stands =
       no_damage = tt;
     }
 
-pub returns-in-Some-clause-asked : goal.returns-in-Some-clause-asked
-returns-in-Some-clause-asked g c =
-    let h = height_by_key c.args.self.now.prime c.args.self.now.alternates.items c.args.k c.alternate-index.result c.requires.some c.requires.within c.alternate-index.ensures in
-    rw h (omega (arith, c.find.ensures.asked))
+pub returns-in-Some-clause-reads : goal.returns-in-Some-clause-reads
+returns-in-Some-clause-reads g c =
+    record {
+      cause = tt;
+      asked =
+          let h = height_by_key c.args.self.now.prime c.args.self.now.alternates.items c.args.k c.alternate-index.result c.requires.some c.requires.within c.alternate-index.ensures in
+          rw h (omega (arith, c.find.ensures.reads.asked));
+      step = grind (arith, common_steps);
+    }
 
 pub returns-in-None-clause-found : goal.returns-in-None-clause-found
 returns-in-None-clause-found g c honest file stands =
@@ -44,12 +50,17 @@ returns-in-None-clause-found g c honest file stands =
       no_damage = tt;
     }
 
-pub returns-in-None-clause-asked : goal.returns-in-None-clause-asked
-returns-in-None-clause-asked g c =
-    let h = height_by_key c.args.self.now.prime c.args.self.now.alternates.items c.args.k c.alternate-index.result c.requires.some c.requires.within c.alternate-index.ensures in
-    rw h (omega (arith, c.find.ensures.asked))
+pub returns-in-None-clause-reads : goal.returns-in-None-clause-reads
+returns-in-None-clause-reads g c =
+    record {
+      cause = tt;
+      asked =
+          let h = height_by_key c.args.self.now.prime c.args.self.now.alternates.items c.args.k c.alternate-index.result c.requires.some c.requires.within c.alternate-index.ensures in
+          rw h (omega (arith, c.find.ensures.reads.asked));
+      step = grind (arith, common_steps);
+    }
 
 pub returns-in-None-clause-alone : goal.returns-in-None-clause-alone
 returns-in-None-clause-alone g c one =
     let h = height_by_key c.args.self.now.prime c.args.self.now.alternates.items c.args.k c.alternate-index.result c.requires.some c.requires.within c.alternate-index.ensures in
-    rw h (c.find.ensures.asked)
+    rw h (c.find.ensures.reads.asked)

@@ -1,3 +1,4 @@
+use Rattle.std.proofs.lemmas.Grind.{common_steps}
 use Rattle.std.proofs.Common.{◌≡◌, ℕ, ◌+◌, ◌-◌, ◌≤◌, ◌<◌, length, sym, ap, subst, ◌∙◌, arith}
 use Rattle.std.specs.Prelude.{false, bytes_eq}
 use Rattle.std.specs.List.{list_any}
@@ -22,10 +23,15 @@ returns-in-Some-clause-found g c honest file bytes stands same =
     let at_k = subst (λ m. list_any (has_value schema m v) file.rows ≡ bytes_eq c.in-Some.entry.value.items v) (key_again c.args.k c.requires.some) there in
     record { answer = c.eq.ensures ∙ ap (λ w. bytes_eq w v) c.as_slice.ensures.value ∙ sym at_k ∙ ap (λ w. list_any (has_value schema c.args.k w) file.rows) same; no_damage = tt }
 
-pub returns-in-Some-clause-asked : goal.returns-in-Some-clause-asked
-returns-in-Some-clause-asked g c =
-    let h = height_by_key c.args.self.now.prime c.args.self.now.alternates.items c.args.k c.alternate-index.result c.requires.some c.requires.within c.alternate-index.ensures in
-    rw h (c.first_from.ensures.asked)
+pub returns-in-Some-clause-reads : goal.returns-in-Some-clause-reads
+returns-in-Some-clause-reads g c =
+    record {
+      cause = tt;
+      asked =
+          let h = height_by_key c.args.self.now.prime c.args.self.now.alternates.items c.args.k c.alternate-index.result c.requires.some c.requires.within c.alternate-index.ensures in
+          rw h (c.first_from.ensures.reads.asked);
+      step = grind (arith, common_steps);
+    }
 
 pub returns-in-None-clause-found : goal.returns-in-None-clause-found
 returns-in-None-clause-found g c honest file bytes stands same =
@@ -37,7 +43,12 @@ returns-in-None-clause-found g c honest file bytes stands same =
     let at_k = subst (λ m. list_any (has_value schema m v) file.rows ≡ false) (key_again c.args.k c.requires.some) there in
     record { answer = sym at_k ∙ ap (λ w. list_any (has_value schema c.args.k w) file.rows) same; no_damage = tt }
 
-pub returns-in-None-clause-asked : goal.returns-in-None-clause-asked
-returns-in-None-clause-asked g c =
-    let h = height_by_key c.args.self.now.prime c.args.self.now.alternates.items c.args.k c.alternate-index.result c.requires.some c.requires.within c.alternate-index.ensures in
-    rw h (c.first_from.ensures.asked)
+pub returns-in-None-clause-reads : goal.returns-in-None-clause-reads
+returns-in-None-clause-reads g c =
+    record {
+      cause = tt;
+      asked =
+          let h = height_by_key c.args.self.now.prime c.args.self.now.alternates.items c.args.k c.alternate-index.result c.requires.some c.requires.within c.alternate-index.ensures in
+          rw h (c.first_from.ensures.reads.asked);
+      step = grind (arith, common_steps);
+    }

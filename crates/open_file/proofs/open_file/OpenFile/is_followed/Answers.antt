@@ -19,7 +19,7 @@ is_false false h = refl
 pub returns-then-is_after-clause-told : goal.returns-then-is_after-clause-told
 returns-then-is_after-clause-told g c honest file stands =
     let opened = c.args.self.now in
-    let live = (g.P.Pages.state c.args.pages.now).live in
+    let live = (g.P.Pages.shown.state c.args.pages.now).live in
     let k = c.args.k in
     let value = c.args.value.now in
     let at = index_at opened k c.requires.some c.requires.within in

@@ -8,7 +8,7 @@ returns-then-value-from-clause-found g c honest file stands = c.first_after.ensu
 
 pub returns-clause-stands : goal.returns-clause-stands
 returns-clause-stands g c honest file stands =
-    let live = (g.P.Pages.state c.args.pages.now).live in
+    let live = (g.P.Pages.shown.state c.args.pages.now).live in
     let same = same_prime_index c.args.self.now c.prime_cursor-cursor.new.self c.prime_cursor-cursor.ensures.gone in
     let belongs = c.prime_cursor-cursor.ensures.belongs live _ _ _ stands.on_path in
     let moved = (rw same at c.in_ok-found.ensures.moved honest) _ _ stands.parts.prime_stands belongs in

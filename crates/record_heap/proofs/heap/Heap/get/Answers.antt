@@ -3,4 +3,4 @@ use Rattle.record_heap.proofs.heap.Heap.get.Goals as goal
 
 pub returns-clause-got : goal.returns-clause-got
 returns-clause-got g c honest =
-    gets c.args.self.now (g.P.Pages.state c.args.pages.now).live c.args.place c.args.to.now c.read_used.new.to c.read_used.result (c.read_used.ensures.got honest)
+    gets c.args.self.now (g.P.Pages.shown.state c.args.pages.now).live c.args.place c.args.to.now c.read_used.new.to c.read_used.result (c.read_used.ensures.got honest)

@@ -4,5 +4,5 @@ use Rattle.record_heap.proofs.heap.Heap.get_record.Goals as goal
 pub returns-clause-got : goal.returns-clause-got
 returns-clause-got g c honest =
     let read = c.read_record-length in
-    let before = g.met.P.Pages.goes_honestly read.new.pages c.demote.new.self (g.met.P.Pages.reads_goes read.new.pages c.demote.new.self c.demote.ensures.reads) honest in
-    gets_record c.args.self.now (g.P.Pages.state c.args.pages.now).live c.args.place c.args.to.now read.new.to read.result (read.ensures.got before)
+    let before = g.met.P.Pages.writes_honestly read.new.pages c.demote.new.self (g.met.P.Pages.reads_writes read.new.pages c.demote.new.self c.demote.ensures.reads) honest in
+    gets_record c.args.self.now (g.P.Pages.shown.state c.args.pages.now).live c.args.place c.args.to.now read.new.to read.result (read.ensures.got before)

@@ -6,10 +6,10 @@ use Rattle.record_heap.proofs.heap.Heap.grow.Goals as goal
 
 pub returns-clause-room : goal.returns-clause-room
 returns-clause-room g c honest sound slots own stands =
-    let before = (g.P.Pages.state c.args.pages.now).live in
-    let middle = (g.P.Pages.state c.take.new.self).live in
-    let after = (g.P.Pages.state c.store.new.pages).live in
-    let honest' = g.met.P.Pages.goes_honestly c.take.new.self c.store.new.pages c.store.ensures.goes honest in
+    let before = (g.P.Pages.shown.state c.args.pages.now).live in
+    let middle = (g.P.Pages.shown.state c.take.new.self).live in
+    let after = (g.P.Pages.shown.state c.store.new.pages).live in
+    let honest' = g.met.P.Pages.writes_honestly c.take.new.self c.store.new.pages c.store.ensures.writes.step honest in
     let taken = c.in_ok-n.ensures.taken honest' sound in
     let there : IsSome (middle c.in_ok-n.n) = rw taken.1.1.page refl in
     let writes = c.in_ok-store.ensures.stored honest there in
@@ -26,10 +26,10 @@ returns-clause-room g c honest sound slots own stands =
 
 pub returns-clause-order : goal.returns-clause-order
 returns-clause-order g c honest sound slots own stands =
-    let before = (g.P.Pages.state c.args.pages.now).live in
-    let middle = (g.P.Pages.state c.take.new.self).live in
-    let after = (g.P.Pages.state c.store.new.pages).live in
-    let taken = c.in_ok-n.ensures.taken (g.met.P.Pages.goes_honestly c.take.new.self c.store.new.pages c.store.ensures.goes honest) sound in
+    let before = (g.P.Pages.shown.state c.args.pages.now).live in
+    let middle = (g.P.Pages.shown.state c.take.new.self).live in
+    let after = (g.P.Pages.shown.state c.store.new.pages).live in
+    let taken = c.in_ok-n.ensures.taken (g.met.P.Pages.writes_honestly c.take.new.self c.store.new.pages c.store.ensures.writes.step honest) sound in
     let there : IsSome (middle c.in_ok-n.n) = rw taken.1.1.page refl in
     chains_grown c.args.self.now before after slots own c.new_page.new.page c.in_ok-n.n c.requires.none (room_some c.args.self.now.shape)
     (taken_written before middle after c.in_ok-n.n taken.1.0 c.new_page.new.page taken.1.1 (c.in_ok-store.ensures.stored honest there)) c.new_page.ensures.heap c.new_page.ensures.linked stands
