@@ -2,7 +2,8 @@
 
 use crate::slow::Slow;
 use crate::written::{one_record, put, put_all, three_keys, varying};
-use file_checker::{CheckFault, Reason, Verdict, check_file};
+use file_checker::{CheckFault, Finding, Reason, Verdict, check_file, examine_file};
+use page_marks::FaultPlace;
 use std::alloc::Global;
 use std::process::Abort;
 use std::test::Fail;
@@ -31,8 +32,16 @@ fn is_found(alloc: Global, bytes: &[u8], expected: Verdict) -> bool {
     }
 }
 
-fn is_unsound(alloc: Global, bytes: &[u8], reason: Reason) -> bool {
-    is_found(alloc, bytes, Verdict::Unsound(reason))
+/// Whether the bytes are unsound for this reason, which is met there.
+fn is_unsound(alloc: Global, bytes: &[u8], reason: Reason, place: FaultPlace) -> bool {
+    let mut reader = bytes;
+    match examine_file(alloc, &mut reader) {
+        Ok(found) => {
+            found == Finding::Unsound(reason, place)
+                && is_found(alloc, bytes, Verdict::Unsound(reason))
+        }
+        Err(_) => false,
+    }
 }
 
 #[test]
@@ -56,42 +65,128 @@ fn a_file_may_be_longer_than_it_counts(rt: HostRuntime) -> Result<(), Fail> {
 }
 
 // One byte each that is changed in the file of one record.
-const CHANGED_BYTES: [(usize, u8, Reason, &str); 17] = [
-    (0, b'D', Reason::Gate, "an open gate"),
-    (9, 7, Reason::Header, "a version that is not known"),
-    (15, 0, Reason::Header, "no page is counted"),
-    (15, 2, Reason::Header, "a root past the last page"),
-    (15, 4, Reason::Short, "a page too many is counted"),
-    (12, 255, Reason::Short, "very many pages are counted"),
-    (8199, 2, Reason::Shared, "a heap page that leads to itself"),
-    (75, 2, Reason::Shared, "a root in the heap"),
+const CHANGED_BYTES: [(usize, u8, Reason, FaultPlace, &str); 17] = [
+    (0, b'D', Reason::Gate, FaultPlace::File, "an open gate"),
+    (
+        9,
+        7,
+        Reason::Header,
+        FaultPlace::File,
+        "a version that is not known",
+    ),
+    (
+        15,
+        0,
+        Reason::Header,
+        FaultPlace::File,
+        "no page is counted",
+    ),
+    (
+        15,
+        2,
+        Reason::Header,
+        FaultPlace::File,
+        "a root past the last page",
+    ),
+    (
+        15,
+        4,
+        Reason::Short,
+        FaultPlace::File,
+        "a page too many is counted",
+    ),
+    (
+        12,
+        255,
+        Reason::Short,
+        FaultPlace::File,
+        "very many pages are counted",
+    ),
+    (
+        8199,
+        2,
+        Reason::Shared,
+        FaultPlace::Page(2),
+        "a heap page that leads to itself",
+    ),
+    (
+        75,
+        2,
+        Reason::Shared,
+        FaultPlace::Page(2),
+        "a root in the heap",
+    ),
     (
         69,
         2,
         Reason::Node,
+        FaultPlace::Page(1),
         "a tree that is higher than it was made",
     ),
-    (4096, b'I', Reason::Node, "another kind of node"),
-    (4097, 1, Reason::Node, "a node of another key"),
-    (8219, 2, Reason::Heap, "a slot without a mark"),
-    (8192, b'L', Reason::Heap, "a heap page of another kind"),
-    (33, 2, Reason::Heap, "a free slot that nothing leads to"),
-    (23, 1, Reason::Heap, "a free page that is none"),
+    (
+        4096,
+        b'I',
+        Reason::Node,
+        FaultPlace::Page(1),
+        "another kind of node",
+    ),
+    (
+        4097,
+        1,
+        Reason::Node,
+        FaultPlace::Page(1),
+        "a node of another key",
+    ),
+    (
+        8219,
+        2,
+        Reason::Heap,
+        FaultPlace::Entry { page: 2, entry: 1 },
+        "a slot without a mark",
+    ),
+    (
+        8192,
+        b'L',
+        Reason::Heap,
+        FaultPlace::Page(2),
+        "a heap page of another kind",
+    ),
+    (
+        33,
+        2,
+        Reason::Heap,
+        FaultPlace::Entry { page: 2, entry: 1 },
+        "a free slot that nothing leads to",
+    ),
+    (
+        23,
+        1,
+        Reason::Heap,
+        FaultPlace::Page(0),
+        "a free page that is none",
+    ),
     (
         4112,
         b'1',
         Reason::Index,
+        FaultPlace::Entry { page: 1, entry: 0 },
         "a value that is not the record's",
     ),
-    (55, 2, Reason::Index, "a record too many is counted"),
+    (
+        55,
+        2,
+        Reason::Index,
+        FaultPlace::Page(1),
+        "a record too many is counted",
+    ),
 ];
 
 #[test]
 fn a_changed_byte_has_its_reason(rt: HostRuntime) -> Result<(), Fail> {
     let mut bytes = one_record(&rt, rt.alloc())?;
-    for (at, byte, reason, what) in CHANGED_BYTES {
+    for (at, byte, reason, place, what) in CHANGED_BYTES {
         let was = put(&rt, &mut bytes, at, byte);
-        assert!(rt; is_unsound(rt.alloc(), &bytes, reason), "{what}");
+        assert!(rt; is_unsound(rt.alloc(), &bytes, reason, place), "{what}");
         put(&rt, &mut bytes, at, was);
     }
     Ok(())
@@ -100,7 +195,7 @@ fn a_changed_byte_has_its_reason(rt: HostRuntime) -> Result<(), Fail> {
 /// Whether the file that is cut to this length is short.
 fn is_short(alloc: Global, bytes: &[u8], length: usize) -> bool {
     match bytes.get(..length) {
-        Some(part) => is_unsound(alloc, part, Reason::Short),
+        Some(part) => is_unsound(alloc, part, Reason::Short, FaultPlace::File),
         None => false,
     }
 }
@@ -117,7 +212,7 @@ fn a_file_that_is_cut_is_short(rt: HostRuntime) -> Result<(), Fail> {
     }
     put(&rt, &mut bytes, 9, 7);
     // The gate comes before the rest of the first page.
-    assert!(rt; is_unsound(rt.alloc(), &bytes, Reason::Gate));
+    assert!(rt; is_unsound(rt.alloc(), &bytes, Reason::Gate, FaultPlace::File));
     Ok(())
 }
 
@@ -128,88 +223,146 @@ fn a_page_that_nothing_reaches_is_lost(rt: HostRuntime) -> Result<(), Fail> {
     for _ in 0..4096 {
         bytes.push(0)?;
     }
-    assert!(rt; is_unsound(rt.alloc(), &bytes, Reason::Lost));
+    assert!(rt; is_unsound(rt.alloc(), &bytes, Reason::Lost, FaultPlace::Page(3)));
     Ok(())
 }
 
 // A few bytes from one place on that are changed in the file of three keys.
-const CHANGED_PARTS: [(usize, &[u8], Reason, &str); 18] = [
-    (4096 + 16, b"0002", Reason::Order, "a prime value twice"),
+const CHANGED_PARTS: [(usize, &[u8], Reason, FaultPlace, &str); 18] = [
+    (
+        4096 + 16,
+        b"0002",
+        Reason::Order,
+        FaultPlace::Entry { page: 1, entry: 0 },
+        "a prime value twice",
+    ),
     (
         4096 + 25,
         &[3],
         Reason::Index,
+        FaultPlace::Entry { page: 1, entry: 0 },
         "an entry that leads to a free slot",
     ),
     (
         4096 + 25,
         &[1],
         Reason::Index,
+        FaultPlace::Entry { page: 1, entry: 0 },
         "an entry that leads to another record",
     ),
     (
         4096 + 23,
         &[2],
         Reason::Index,
+        FaultPlace::Entry { page: 1, entry: 0 },
         "an entry that leads to a page of no slots",
     ),
     (
         8192 + 16,
         b"AB",
         Reason::Index,
+        FaultPlace::Entry { page: 2, entry: 0 },
         "a value that is not the record's",
     ),
-    (8192 + 25, &[1], Reason::Index, "a stamp in a unique key"),
+    (
+        8192 + 25,
+        &[1],
+        Reason::Index,
+        FaultPlace::Entry { page: 2, entry: 0 },
+        "a stamp in a unique key",
+    ),
     (
         8192 + 26,
         b"0004",
         Reason::Index,
+        FaultPlace::Entry { page: 2, entry: 0 },
         "a record that is not there",
     ),
-    (8192 + 26, b"0002", Reason::Index, "another record"),
+    (
+        8192 + 26,
+        b"0002",
+        Reason::Index,
+        FaultPlace::Entry { page: 2, entry: 0 },
+        "another record",
+    ),
     (
         12288 + 27,
         &[2],
         Reason::Index,
+        FaultPlace::Entry { page: 3, entry: 0 },
         "a stamp that is not the slot's",
     ),
-    (12288 + 27, &[3], Reason::Order, "a value and stamp twice"),
+    (
+        12288 + 27,
+        &[3],
+        Reason::Order,
+        FaultPlace::Entry { page: 3, entry: 0 },
+        "a value and stamp twice",
+    ),
     (
         16384 + 24,
         &[2],
         Reason::Index,
+        FaultPlace::Entry { page: 3, entry: 0 },
         "a stamp in the slot that is not the entry's",
     ),
-    (16384 + 24, &[0], Reason::Index, "no stamp in the slot"),
+    (
+        16384 + 24,
+        &[0],
+        Reason::Index,
+        FaultPlace::Entry { page: 1, entry: 0 },
+        "no stamp in the slot",
+    ),
     (
         16384 + 25,
         b"0009",
         Reason::Index,
+        FaultPlace::Entry { page: 1, entry: 0 },
         "a record of another prime value",
     ),
     (
         16384 + 29,
         b"ZZ",
         Reason::Index,
+        FaultPlace::Entry { page: 2, entry: 0 },
         "a record of another unique value",
     ),
     (
         16384 + 31,
         b"BERN",
         Reason::Index,
+        FaultPlace::Entry { page: 3, entry: 0 },
         "a record of another city",
     ),
-    (47, &[3], Reason::Index, "a stamp that comes next"),
-    (55, &[2], Reason::Index, "a record too few is counted"),
-    (91, &[1], Reason::Shared, "two keys of one root"),
+    (
+        47,
+        &[3],
+        Reason::Index,
+        FaultPlace::Entry { page: 1, entry: 1 },
+        "a stamp that comes next",
+    ),
+    (
+        55,
+        &[2],
+        Reason::Index,
+        FaultPlace::Page(1),
+        "a record too few is counted",
+    ),
+    (
+        91,
+        &[1],
+        Reason::Shared,
+        FaultPlace::Page(1),
+        "two keys of one root",
+    ),
 ];
 
 #[test]
 fn indexes_and_records_agree_both_ways(rt: HostRuntime) -> Result<(), Fail> {
-    for (at, part, reason, what) in CHANGED_PARTS {
+    for (at, part, reason, place, what) in CHANGED_PARTS {
         let mut bytes = three_keys(&rt, rt.alloc())?;
         put_all(&rt, &mut bytes, at, part);
-        assert!(rt; is_unsound(rt.alloc(), &bytes, reason), "{what}");
+        assert!(rt; is_unsound(rt.alloc(), &bytes, reason, place), "{what}");
     }
     Ok(())
 }
@@ -220,7 +373,14 @@ fn a_record_has_its_entry(rt: HostRuntime) -> Result<(), Fail> {
     let mut bytes = three_keys(&rt, rt.alloc())?;
     put(&rt, &mut bytes, 33, 4);
     put(&rt, &mut bytes, 16384 + 16 + 3 * 21, 1);
-    assert!(rt; is_unsound(rt.alloc(), &bytes, Reason::Index));
+    assert!(rt;
+        is_unsound(
+            rt.alloc(),
+            &bytes,
+            Reason::Index,
+            FaultPlace::Entry { page: 4, entry: 3 }
+        )
+    );
     Ok(())
 }
 
@@ -233,25 +393,62 @@ fn entries_that_are_exchanged_are_out_of_order(rt: HostRuntime) -> Result<(), Fa
         let right = put(&rt, &mut bytes, 4122 + i, left);
         put(&rt, &mut bytes, 4112 + i, right);
     }
-    assert!(rt; is_unsound(rt.alloc(), &bytes, Reason::Order));
+    assert!(rt;
+        is_unsound(
+            rt.alloc(),
+            &bytes,
+            Reason::Order,
+            FaultPlace::Entry { page: 1, entry: 0 }
+        )
+    );
     Ok(())
 }
 
 // One byte each that is changed in the file of three keys, of which page 5 is free: in the chain, and reached by nothing.
-const CHANGED_CHAINS: [(usize, u8, Reason, &str); 5] = [
-    (20487, 4, Reason::Heap, "a free page more than are counted"),
-    (20480, b'L', Reason::Heap, "a free page of another kind"),
-    (19, 4, Reason::Heap, "a chain that begins in the heap"),
-    (27, 5, Reason::Heap, "a heap that begins with a free page"),
-    (75, 5, Reason::Shared, "a root that is a free page"),
+const CHANGED_CHAINS: [(usize, u8, Reason, FaultPlace, &str); 5] = [
+    (
+        20487,
+        4,
+        Reason::Heap,
+        FaultPlace::Page(5),
+        "a free page more than are counted",
+    ),
+    (
+        20480,
+        b'L',
+        Reason::Heap,
+        FaultPlace::Page(5),
+        "a free page of another kind",
+    ),
+    (
+        19,
+        4,
+        Reason::Heap,
+        FaultPlace::Page(4),
+        "a chain that begins in the heap",
+    ),
+    (
+        27,
+        5,
+        Reason::Heap,
+        FaultPlace::Page(5),
+        "a heap that begins with a free page",
+    ),
+    (
+        75,
+        5,
+        Reason::Shared,
+        FaultPlace::Page(5),
+        "a root that is a free page",
+    ),
 ];
 
 #[test]
 fn a_free_page_is_reached_by_its_chain(rt: HostRuntime) -> Result<(), Fail> {
-    for (at, byte, reason, what) in CHANGED_CHAINS {
+    for (at, byte, reason, place, what) in CHANGED_CHAINS {
         let mut bytes = three_keys(&rt, rt.alloc())?;
         put(&rt, &mut bytes, at, byte);
-        assert!(rt; is_unsound(rt.alloc(), &bytes, reason), "{what}");
+        assert!(rt; is_unsound(rt.alloc(), &bytes, reason, place), "{what}");
     }
     Ok(())
 }
@@ -261,7 +458,7 @@ fn a_free_page_in_no_chain_is_lost(rt: HostRuntime) -> Result<(), Fail> {
     let mut bytes = three_keys(&rt, rt.alloc())?;
     put(&rt, &mut bytes, 19, 0);
     put(&rt, &mut bytes, 23, 0);
-    assert!(rt; is_unsound(rt.alloc(), &bytes, Reason::Lost));
+    assert!(rt; is_unsound(rt.alloc(), &bytes, Reason::Lost, FaultPlace::Page(5)));
     Ok(())
 }
 

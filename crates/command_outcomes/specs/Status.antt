@@ -58,7 +58,7 @@ status_of_load (LoadEnds end) = status_where (is_loaded end)
 -- the exit status that tells whether the pages of a file were counted
 abbrev pub status_of_count : FileStatisticsEnd → ℕ
 status_of_count CountListed = 0
-status_of_count (NotCounted reason) = 1
+status_of_count (NotCounted reason place) = 1
 
 -- the exit status that tells what was done: that a run or a session ended, whatever its verbs answered, a verdict, whether a file has a schema, that of a deck, or a list, or whether all lines were loaded
 abbrev pub status_for : Outcome → ℕ

@@ -4,9 +4,11 @@ ghost use Rattle.command_outcomes.specs.Status.{status_by, status_of_list, statu
 
 use crate::fault::Fault;
 use deck_runner::RunEnd;
-use file_checker::Verdict;
+use explanations::REASON_LINES;
+use file_checker::{Reason, Verdict};
 use file_listing::FileList;
 use file_statistics::FileStatisticsEnd;
+use page_marks::FaultPlace;
 use schema_listing::{Comparison, Refusal};
 use shelf_loading::{ShelfEnd, is_loaded};
 use std::io::{self, Write};
@@ -80,7 +82,7 @@ pub fn status_by_count(end: FileStatisticsEnd) -> u8
 {
     match end {
         FileStatisticsEnd::Listed => 0,
-        FileStatisticsEnd::Unsound(_) => 1,
+        FileStatisticsEnd::Unsound(..) => 1,
     }
 }
 
@@ -97,6 +99,16 @@ fn tell_list<E: Write>(list: FileList, err: &mut E) -> io::Result<()> {
         FileList::Listed => Ok(()),
         FileList::NoKey => writeln!(err, "cobix: the file has no such key"),
         FileList::Unsound(reason) => writeln!(err, "unsound {}", reason.number()),
+    }
+}
+
+/// Tells the reason for which a file is not sound: its number, and then where it was met and what it means, unless that is the file as a whole.
+fn tell_reason<E: Write>(reason: Reason, place: FaultPlace, err: &mut E) -> io::Result<()> {
+    let number = reason.number();
+    writeln!(err, "unsound {number}")?;
+    match REASON_LINES.get(usize::from(number).saturating_sub(1)) {
+        Some((_, meaning)) if place != FaultPlace::File => writeln!(err, "{place}: {meaning}"),
+        _ => Ok(()),
     }
 }
 
@@ -121,8 +133,8 @@ impl Outcome {
         if let Outcome::Records(list) = self {
             let _ = tell_list(list, err);
         }
-        if let Outcome::Counted(FileStatisticsEnd::Unsound(reason)) = self {
-            let _ = writeln!(err, "unsound {}", reason.number());
+        if let Outcome::Counted(FileStatisticsEnd::Unsound(reason, place)) = self {
+            let _ = tell_reason(reason, place, err);
         }
         if let Outcome::Loaded(ShelfEnd::IsThere) = self {
             let _ = writeln!(err, "cobix: the file is there already");

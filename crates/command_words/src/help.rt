@@ -129,6 +129,10 @@ pub const COUNTED: &str =
   key N pages N entries N longest run N                the pages of the tree of a key, its entries, and how many of them have one value at most
     level N pages N entries N fill N% [####    ]       a level of it, from the root down to the leaves, level 0; how full its pages are, and a bar of 20 characters
 
+Where the file is unsound for a reason from 4 on, a second line on standard error tells where the reason was met, and what it means:
+  page N: ...            a page; they are numbered from 0
+  page N, entry N: ...   an entry of a leaf, a separator of an inner node, or a slot of a page of records; they are numbered from 0 too
+
 Exit status:
   0   the lines were written
   1   'unsound N' on standard error, as of 'cobix check'; no line was written

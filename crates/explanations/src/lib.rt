@@ -11,5 +11,6 @@ mod tables;
 
 pub use lookup::{all_are_explained, explanation_of};
 pub use tables::{
-    FAULT_LINES, FAULT_NUMBERS, FAULTS, REASON_NUMBERS, REASONS, STATUS_NUMBERS, STATUSES,
+    FAULT_LINES, FAULT_NUMBERS, FAULTS, REASON_LINES, REASON_NUMBERS, REASONS, STATUS_NUMBERS,
+    STATUSES,
 };

@@ -32,6 +32,9 @@ pub const REASONS: [(&str, &str); 9] = reasons!(rows "unsound");
 /// What each code of a refused deck means, in a line.
 pub const FAULT_LINES: [(&str, &str); 7] = faults!(lines);
 
+/// What each reason of the check means, in a line.
+pub const REASON_LINES: [(&str, &str); 9] = reasons!(lines);
+
 /// The numbers of each table, with a space before each.
 pub const STATUS_NUMBERS: &str = statuses!(numbers);
 

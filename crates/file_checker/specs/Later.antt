@@ -1,7 +1,9 @@
 -- Why the walks of a file that can be opened stop.
 use Rattle.std.specs.Prelude.{◌≡◌, ℕ, List, ⊤}
+use Rattle.page_marks.specs.declared.page_fault.PageFault.{PageFault}
+use Rattle.page_marks.specs.declared.page_fault.PageFault.TheVariants.{Shared as SharedPage, Node as WrongNode, Order as WrongOrder, Chain, Count}
 use Rattle.page_marks.specs.declared.walk_fault.WalkFault.{WalkFault}
-use Rattle.page_marks.specs.declared.walk_fault.WalkFault.TheVariants.{Memory as NoMemory, Shared as SharedPage, Node as WrongNode, Order as WrongOrder, Chain, Count}
+use Rattle.page_marks.specs.declared.walk_fault.WalkFault.TheVariants.{Memory as NoMemory, At}
 use Rattle.row_checks.specs.declared.row_fault.RowFault.{RowFault}
 use Rattle.row_checks.specs.declared.row_fault.RowFault.TheVariants.{Memory as NoRoom, Index as WrongIndex}
 use Rattle.file_header.specs.declared.header.Header.{Header}
@@ -11,19 +13,23 @@ use Rattle.file_checker.specs.declared.stop.Stop.{Stop}
 use Rattle.file_checker.specs.declared.stop.Stop.TheVariants.{Memory, Unsound}
 use Rattle.file_checker.specs.Lost.{HasLostPage}
 
+-- the reason by which what is wrong with a page is told
+abbrev pub reason_by_walk : PageFault → Reason
+reason_by_walk SharedPage = Shared
+reason_by_walk WrongNode = Node
+reason_by_walk WrongOrder = Order
+reason_by_walk Chain = Heap
+reason_by_walk Count = Index
+
 -- how a fault of a walk is told
 abbrev pub stop_by_walk : WalkFault → Stop
 stop_by_walk NoMemory = Memory
-stop_by_walk SharedPage = Unsound Shared
-stop_by_walk WrongNode = Unsound Node
-stop_by_walk WrongOrder = Unsound Order
-stop_by_walk Chain = Unsound Heap
-stop_by_walk Count = Unsound Index
+stop_by_walk (At fault place) = Unsound (reason_by_walk fault) place
 
 -- how a fault of rows is told
 abbrev pub stop_by_rows : RowFault → Stop
 stop_by_rows NoRoom = Memory
-stop_by_rows WrongIndex = Unsound Index
+stop_by_rows (WrongIndex place) = Unsound Index place
 
 -- the reason is one that a walk meets
 abbrev pub IsMet : Reason → Type 0
@@ -39,7 +45,7 @@ IsMet Lost = ⊥
 
 abbrev pub StopsWalk : Stop → Type 0
 StopsWalk Memory = ⊤
-StopsWalk (Unsound reason) = IsMet reason
+StopsWalk (Unsound reason place) = IsMet reason
 
 -- what is known of the pages by the reason
 abbrev pub IsMetIn : Header → List (List ℕ) → Reason → Type 0
@@ -55,4 +61,4 @@ IsMetIn header list Lost = HasLostPage header list
 
 abbrev pub StopsIn : Header → List (List ℕ) → Stop → Type 0
 StopsIn header list Memory = ⊤
-StopsIn header list (Unsound reason) = IsMetIn header list reason
+StopsIn header list (Unsound reason place) = IsMetIn header list reason

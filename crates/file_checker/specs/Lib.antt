@@ -3,4 +3,5 @@ pub mod Bytes
 pub mod Parts
 pub mod Lost
 pub mod Later
+pub mod Findings
 pub mod Sound

@@ -4,8 +4,10 @@ ghost use Rattle.std.specs.Prelude.{◌≡◌, ◌≢◌, List, ℕ, Some, None,
 ghost use Rattle.std.specs.Option.{IfSome};
 ghost use Rattle.std.specs.Io.KnownBytes.{Consumes};
 ghost use Rattle.file_header.specs.Reading.{header_in, IsFirstPage};
+ghost use Rattle.file_checker.specs.Findings.{verdict_of};
 ghost use Rattle.file_checker.specs.Sound.{HasReason, IsRight, IsReadFor, GivesUp};
 
+use crate::finding::Finding;
 use crate::parts::check_pages;
 use crate::reading::{push_page, read_page, read_pages, skip_pages};
 use crate::stop::Stop;
@@ -13,6 +15,7 @@ use crate::verdict::{CheckFault, Reason, Verdict};
 use byteorder::{BigEndian, ByteOrder};
 use file_header::Header;
 use page_bytes::PAGE_SIZE;
+use page_marks::FaultPlace;
 use std::alloc::Global;
 use std::io::Read;
 
@@ -44,33 +47,49 @@ fn refusal<R: Read>(reader: &mut R, first: &[u8; PAGE_SIZE]) -> Result<Reason, C
     Ok(Reason::Header)
 }
 
-/// Checks the file of a header that its first page has, behind which the reader stands.
-fn check_accepted<R: Read>(
+/// Examines the file of a header that its first page has, behind which the reader stands.
+fn examine_accepted<R: Read>(
     alloc: Global,
     reader: &mut R,
     first: &[u8; PAGE_SIZE],
     header: &Header,
-) -> Result<Verdict, CheckFault>
+) -> Result<Finding, CheckFault>
     requires { IsFirstPage header.now first.now }
     ensures right { (bytes : List ℕ) → Consumes (Some bytes) (R.remaining reader.old) first.now
-        → IfOk result (IsRight bytes) }
+        → IfOk result (λ finding. IsRight bytes (verdict_of finding)) }
     ensures read { (bytes : List ℕ) → Consumes (Some bytes) (R.remaining reader.old) first.now
-        → IfOk result (IsReadFor bytes (R.remaining reader.new)) }
+        → IfOk result (λ finding. IsReadFor bytes (R.remaining reader.new) (verdict_of finding)) }
     ensures fault { (bytes : List ℕ) → Consumes (Some bytes) (R.remaining reader.old) first.now
         → IfErr result (GivesUp bytes (R.remaining reader.new)) }
 {
     let mut pages = Vec::new(alloc);
     push_page(&mut pages, *first)?;
     if !read_pages(reader, header.pages, &mut pages)? {
-        return Ok(Verdict::Unsound(Reason::Short));
+        return Ok(Finding::Unsound(Reason::Short, FaultPlace::File));
     }
     match check_pages(alloc, &pages, header) {
-        Ok(()) => Ok(Verdict::Sound {
+        Ok(()) => Ok(Finding::Sound {
             records: header.records,
             pages: header.pages,
         }),
-        Err(Stop::Unsound(reason)) => Ok(Verdict::Unsound(reason)),
+        Err(Stop::Unsound(reason, place)) => Ok(Finding::Unsound(reason, place)),
         Err(Stop::Memory) => Err(CheckFault::Memory),
+    }
+}
+
+/// Examines a file: answers what `check_file` answers of it, and where a reason was met. It reads as `check_file` does, and has its faults.
+pub fn examine_file<R: Read>(alloc: Global, reader: &mut R) -> Result<Finding, CheckFault>
+    ensures right { IfSome (R.remaining reader.old) (λ bytes. IfOk result (λ finding. IsRight bytes (verdict_of finding))) }
+    ensures read { IfSome (R.remaining reader.old) (λ bytes. IfOk result (λ finding. IsReadFor bytes (R.remaining reader.new) (verdict_of finding))) }
+    ensures fault { IfSome (R.remaining reader.old) (λ bytes. IfErr result (GivesUp bytes (R.remaining reader.new))) }
+{
+    let mut first = [0; PAGE_SIZE];
+    if !read_page(reader, &mut first)? {
+        return Ok(Finding::Unsound(Reason::Short, FaultPlace::File));
+    }
+    match Header::read(&first) {
+        None => Ok(Finding::Unsound(refusal(reader, &first)?, FaultPlace::File)),
+        Some(header) => examine_accepted(alloc, reader, &first, &header),
     }
 }
 
@@ -83,12 +102,6 @@ pub fn check_file<R: Read>(alloc: Global, reader: &mut R) -> Result<Verdict, Che
     ensures read { IfSome (R.remaining reader.old) (λ bytes. IfOk result (IsReadFor bytes (R.remaining reader.new))) }
     ensures fault { IfSome (R.remaining reader.old) (λ bytes. IfErr result (GivesUp bytes (R.remaining reader.new))) }
 {
-    let mut first = [0; PAGE_SIZE];
-    if !read_page(reader, &mut first)? {
-        return Ok(Verdict::Unsound(Reason::Short));
-    }
-    match Header::read(&first) {
-        None => Ok(Verdict::Unsound(refusal(reader, &first)?)),
-        Some(header) => check_accepted(alloc, reader, &first, &header),
-    }
+    let finding = examine_file(alloc, reader)?;
+    Ok(finding.verdict())
 }

@@ -1,16 +1,19 @@
 //! The check of a file, whoever wrote it: whether its bytes stand for an indexed file of so many records.
 //!
 //! All counted pages are read into a list, once and in order. Walks find that each part of the file stands and that each page belongs to one part; then
-//! indexes and records are compared. Where the answer is Sound, the file can be opened, and no call on it will find damage.
+//! indexes and records are compared. Where the answer is Sound, the file can be opened, and no call on it will find damage. `examine_file` tells also where
+//! a reason was met.
 //!
 //! Read `specs/Sound.antt`, then `check`, then `parts`.
 #![tactic(auto)]
 
 mod check;
+mod finding;
 mod parts;
 mod reading;
 mod stop;
 mod verdict;
 
-pub use check::check_file;
+pub use check::{check_file, examine_file};
+pub use finding::Finding;
 pub use verdict::{CheckFault, Reason, Verdict};

@@ -15,7 +15,7 @@ use crate::verdict::Reason;
 use file_header::Header;
 use open_file::OpenFile;
 use page_bytes::PAGE_SIZE;
-use page_marks::mark;
+use page_marks::{FaultPlace, mark};
 use page_walks::{Leaf, walk_free, walk_tree};
 use record_heap::walk_heap;
 use row_checks::{check_alternate, check_rows};
@@ -51,6 +51,14 @@ fn is_page_lost(reached: &[bool]) -> bool
     reached.contains(&false)
 }
 
+/// The first page without a mark, or the file where there is none.
+fn first_lost(reached: &[bool]) -> FaultPlace {
+    match reached.iter().position(|is_reached| !*is_reached) {
+        Some(n) => u32::try_from(n).map_or(FaultPlace::File, FaultPlace::Page),
+        None => FaultPlace::File,
+    }
+}
+
 /// Checks the pages of a file, all that its header counts, where none is marked yet. Each part is walked, and its entries and records are compared, and in
 /// the end no page may be without a mark.
 fn check_parts(
@@ -73,7 +81,7 @@ fn check_parts(
     check_rows(alloc, pages, &file, &own, &primes)?;
     check_alternates(alloc, pages, &file, &primes, reached)?;
     if is_page_lost(reached) {
-        return Err(Stop::Unsound(Reason::Lost));
+        return Err(Stop::Unsound(Reason::Lost, first_lost(reached)));
     }
     Ok(())
 }

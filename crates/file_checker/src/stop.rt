@@ -1,7 +1,10 @@
 //! Why a check ends.
 
+ghost use Rattle.std.specs.Prelude.{◌≡◌};
+ghost use Rattle.file_checker.specs.Later.{IsMet, reason_by_walk};
+
 use crate::verdict::Reason;
-use page_marks::WalkFault;
+use page_marks::{FaultPlace, PageFault, WalkFault};
 use row_checks::RowFault;
 use thiserror::Error;
 
@@ -10,12 +13,26 @@ use thiserror::Error;
 pub enum Stop {
     #[error("out of memory")]
     Memory,
-    #[error("the file is not sound")]
-    Unsound(Reason),
+    /// The reason, and where it was met.
+    #[error("{1}: the file is not sound")]
+    Unsound(Reason, FaultPlace),
+}
+
+/// The reason by which a fault of a walk is told.
+fn reason_of(fault: PageFault) -> Reason
+    ensures value { result ≡ reason_by_walk fault }
+    ensures met { IsMet result }
+{
+    match fault {
+        PageFault::Shared => Reason::Shared,
+        PageFault::Node => Reason::Node,
+        PageFault::Order => Reason::Order,
+        PageFault::Chain => Reason::Heap,
+        PageFault::Count => Reason::Index,
+    }
 }
 
 impl From<WalkFault> for Stop {
-    ghost use Rattle.std.specs.Prelude.{◌≡◌};
     ghost use Rattle.file_checker.specs.Later.{StopsWalk, stop_by_walk};
 
     ghost from_gives = { λ fault stop. (stop ≡ stop_by_walk fault) × StopsWalk stop };
@@ -23,17 +40,12 @@ impl From<WalkFault> for Stop {
     fn from(fault: WalkFault) -> Stop {
         match fault {
             WalkFault::Memory => Stop::Memory,
-            WalkFault::Shared => Stop::Unsound(Reason::Shared),
-            WalkFault::Node => Stop::Unsound(Reason::Node),
-            WalkFault::Order => Stop::Unsound(Reason::Order),
-            WalkFault::Chain => Stop::Unsound(Reason::Heap),
-            WalkFault::Count => Stop::Unsound(Reason::Index),
+            WalkFault::At(fault, place) => Stop::Unsound(reason_of(fault), place),
         }
     }
 }
 
 impl From<RowFault> for Stop {
-    ghost use Rattle.std.specs.Prelude.{◌≡◌};
     ghost use Rattle.file_checker.specs.Later.{StopsWalk, stop_by_rows};
 
     ghost from_gives = { λ fault stop. (stop ≡ stop_by_rows fault) × StopsWalk stop };
@@ -41,7 +53,7 @@ impl From<RowFault> for Stop {
     fn from(fault: RowFault) -> Stop {
         match fault {
             RowFault::Memory => Stop::Memory,
-            RowFault::Index => Stop::Unsound(Reason::Index),
+            RowFault::Index(place) => Stop::Unsound(Reason::Index, place),
         }
     }
 }

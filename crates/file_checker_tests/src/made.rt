@@ -2,8 +2,9 @@
 
 use crate::files::made;
 use byteorder::{BigEndian, ByteOrder};
-use file_checker::{Reason, Verdict, check_file};
+use file_checker::{Finding, Reason, Verdict, check_file, examine_file};
 use page_bytes::PAGE_SIZE;
+use page_marks::FaultPlace;
 use std::alloc::Global;
 use std::process::Abort;
 use std::test::Fail;
@@ -96,5 +97,12 @@ fn entries_that_are_exchanged_are_out_of_order(rt: HostRuntime) -> Result<(), Fa
         bytes.swap(left, right);
     }
     assert_eq!(rt; check(alloc, &bytes)?, Verdict::Unsound(Reason::Order));
+    let page = u32::try_from(first / PAGE_SIZE).unwrap_or(0);
+    let place = FaultPlace::Entry { page, entry: 0 };
+    let mut reader = bytes.as_slice();
+    assert_eq!(rt;
+        examine_file(alloc, &mut reader)?,
+        Finding::Unsound(Reason::Order, place)
+    );
     Ok(())
 }

@@ -33,4 +33,4 @@ AreSound bytes = (records : ℕ) × (pages : ℕ) × IsSound bytes records pages
 -- It ends so: the text of a sound file was written; or nothing was, since a check tells this reason.
 abbrev pub EndsWith : List ℕ → (before behind : Option (List ℕ)) → FileStatisticsEnd → Type 0
 EndsWith bytes before behind Listed = WritesText bytes before behind
-EndsWith bytes before behind (Unsound reason) = IsRight bytes (IsRefused reason) × (behind ≡ before)
+EndsWith bytes before behind (Unsound reason place) = IsRight bytes (IsRefused reason) × (behind ≡ before)

@@ -4,9 +4,10 @@ ghost use Rattle.file_statistics.specs.Listing.{AreSound, IsTextFor, WritesText,
 
 use crate::counting::count_file;
 use crate::lines::statistics_lines;
-use file_checker::{CheckFault, Reason, Verdict, check_file};
+use file_checker::{CheckFault, Finding, Reason, examine_file};
 use file_header::Header;
 use page_bytes::PAGE_SIZE;
+use page_marks::FaultPlace;
 use std::alloc::{AllocError, Global};
 use std::io::Write;
 use thiserror::Error;
@@ -16,8 +17,8 @@ use thiserror::Error;
 pub enum FileStatisticsEnd {
     /// The lines were written.
     Listed,
-    /// The file is unsound, for the reason that a check tells. Nothing was written.
-    Unsound(Reason),
+    /// The file is unsound, for the reason that a check tells, which was met there. Nothing was written.
+    Unsound(Reason, FaultPlace),
 }
 
 /// Why nothing is told of a file, or not all.
@@ -73,12 +74,12 @@ pub fn list_statistics<W: Write>(
     ensures fault { IfErr result (λ fault. fault ≢ StatisticsFault.Output → W.contents out.new ≡ W.contents out.old) }
 {
     let mut reader = bytes;
-    match check_file(alloc, &mut reader) {
-        Ok(Verdict::Sound { .. }) => {
+    match examine_file(alloc, &mut reader) {
+        Ok(Finding::Sound { .. }) => {
             write_lines(alloc, bytes, out)?;
             Ok(FileStatisticsEnd::Listed)
         }
-        Ok(Verdict::Unsound(reason)) => Ok(FileStatisticsEnd::Unsound(reason)),
+        Ok(Finding::Unsound(reason, place)) => Ok(FileStatisticsEnd::Unsound(reason, place)),
         Err(CheckFault::Input) => Err(StatisticsFault::Input),
         Err(CheckFault::Memory) => Err(StatisticsFault::Memory),
     }

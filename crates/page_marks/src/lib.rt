@@ -6,10 +6,14 @@
 //! Read `specs/Marks.antt`, then `specs/Parted.antt`.
 #![tactic(auto)]
 
+mod fault_place;
 mod law;
 mod marks;
+mod page_fault;
 mod walk_fault;
 
+pub use fault_place::FaultPlace;
 pub use law::marks_part_the_pages;
 pub use marks::{all_marked, mark};
+pub use page_fault::PageFault;
 pub use walk_fault::WalkFault;

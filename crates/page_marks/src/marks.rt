@@ -3,16 +3,17 @@
 ghost use Rattle.std.specs.Prelude.{◌≡◌, ℕ, ◌<◌, ◌∷◌, [], true, IsTrue, OnOk, length};
 ghost use Rattle.page_marks.specs.Marks.{Marks, marked_in};
 
+use crate::page_fault::PageFault;
 use crate::walk_fault::WalkFault;
 
-/// Marks a page. Shared where it has its mark already, or none can be set.
+/// Marks a page. Shared, at this page, where it has its mark already, or none can be set.
 pub fn mark(reached: &mut [bool], n: u32) -> Result<(), WalkFault>
     ensures marked { OnOk result (Marks (marked_in reached.old) (marked_in reached.new) (n ∷ [])) }
     ensures long { length reached.new ≡ length reached.old }
 {
     let i = n as usize;
     if i >= reached.len() || reached[i] {
-        return Err(WalkFault::Shared);
+        return Err(WalkFault::of_page(PageFault::Shared, n));
     }
     reached[i] = true;
     Ok(())

@@ -1,5 +1,7 @@
 //! Why a walk ends.
 
+use crate::fault_place::FaultPlace;
+use crate::page_fault::PageFault;
 use thiserror::Error;
 
 /// Why a walk over the pages of a file gave up.
@@ -7,14 +9,19 @@ use thiserror::Error;
 pub enum WalkFault {
     #[error("out of memory")]
     Memory,
-    #[error("a page is reached twice")]
-    Shared,
-    #[error("a node is not what its place requires")]
-    Node,
-    #[error("tree keys are out of order")]
-    Order,
-    #[error("a chain of pages or slots is broken")]
-    Chain,
-    #[error("entries are not as many as they should be")]
-    Count,
+    /// What is wrong, and where.
+    #[error("{1}: {0}")]
+    At(PageFault, FaultPlace),
+}
+
+impl WalkFault {
+    /// A fault of a page.
+    pub fn of_page(fault: PageFault, page: u32) -> WalkFault {
+        WalkFault::At(fault, FaultPlace::Page(page))
+    }
+
+    /// A fault of an entry of a page.
+    pub fn of_entry(fault: PageFault, page: u32, entry: u32) -> WalkFault {
+        WalkFault::At(fault, FaultPlace::Entry { page, entry })
+    }
 }

@@ -11,7 +11,7 @@ ghost use Rattle.page_walks.specs.FreeWalk.{IsFreePageAt, FreeWalked};
 
 use byteorder::{BigEndian, ByteOrder};
 use page_bytes::PAGE_SIZE;
-use page_marks::{WalkFault, mark};
+use page_marks::{PageFault, WalkFault, mark};
 
 /// The first four bytes, as a number.
 const FREE: u32 = 0x4600_0000;
@@ -21,23 +21,24 @@ const NEXT: usize = 4;
 
 const NEXT_END: usize = 8;
 
-/// The page behind a free page.
-fn behind(pages: &[[u8; PAGE_SIZE]], n: u32) -> Result<u32, WalkFault>
+/// The page behind a free page, to which another page leads.
+fn behind(pages: &[[u8; PAGE_SIZE]], from: u32, n: u32) -> Result<u32, WalkFault>
     ensures { IfOk result (λ next. IsFreePageAt pages.now n next) }
 {
     if n == 0 || n as usize >= pages.len() {
-        return Err(WalkFault::Chain);
+        return Err(WalkFault::of_page(PageFault::Chain, from));
     }
     let page = &pages[n as usize];
     if BigEndian::read_u32(&page[..NEXT]) != FREE {
-        return Err(WalkFault::Chain);
+        return Err(WalkFault::of_page(PageFault::Chain, n));
     }
     Ok(BigEndian::read_u32(&page[NEXT..NEXT_END]))
 }
 
 /// Walks the chain of free pages, of which there are so many, over the pages of a file, as they were read, and marks them as reached.
 ///
-/// Shared where one of them was reached before; Chain where the pages are no such chain. At a fault some of its pages may be marked.
+/// Shared where one of them was reached before; Chain where the pages are no such chain: at a page that is not free, or at the page that leads nowhere or too
+/// far, which is page 0 for the first. At a fault some of its pages may be marked.
 pub fn walk_free(
     pages: &[[u8; PAGE_SIZE]],
     first: u32,
@@ -47,14 +48,16 @@ pub fn walk_free(
     ensures { OnOk result (FreeWalked pages.now first count
         (marked_in reached.old) (marked_in reached.new)) }
 {
+    let mut from = 0;
     let mut at = first;
     for _ in 0..count {
-        let next = behind(pages, at)?;
+        let next = behind(pages, from, at)?;
         mark(reached, at)?;
+        from = at;
         at = next;
     }
     if at != 0 {
-        return Err(WalkFault::Chain);
+        return Err(WalkFault::of_page(PageFault::Chain, from));
     }
     Ok(())
 }

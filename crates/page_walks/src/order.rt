@@ -1,6 +1,6 @@
 //! The order of a node's keys.
 
-ghost use Rattle.std.specs.Prelude.{◌≡◌, IsTrue, take};
+ghost use Rattle.std.specs.Prelude.{◌≡◌, IsTrue, OnOk, take};
 ghost use Rattle.std.specs.Option.{option_copied};
 ghost use Rattle.page_bytes.specs.Each.{Each};
 ghost use Rattle.tree_node.specs.Leaf.{IsLeaf, leaf_entries};
@@ -49,18 +49,18 @@ fn is_from(key: &[u8], low: Option<&[u8]>) -> bool
     }
 }
 
-/// The keys of a leaf rise, from the low bound on and below the high one.
-pub fn leaf_rises(
+/// Checks that the keys of a leaf rise, from the low bound on and below the high one. Else answers the last entry whose key is not below the key or the bound
+/// behind it, or entry 0 where its key is below the low bound.
+pub fn check_keys(
     page: &[u8; PAGE_SIZE],
     shape: Shape,
     low: Option<&[u8]>,
     high: Option<&[u8]>,
-) -> bool
+) -> Result<(), u32>
     requires leaf { IsLeaf shape page.now }
-    ensures rises { IsTrue result → Ascends shape.width (leaf_entries shape page.now) }
-    ensures inside { IsTrue result
-        → Each (λ e. NotBelow (option_copied low.entry) (take shape.width e)
-        × Below (option_copied high.entry) (take shape.width e)) (leaf_entries shape page.now) }
+    ensures rises { OnOk result (Ascends shape.width (leaf_entries shape page.now)) }
+    ensures inside { OnOk result (Each (λ e. NotBelow (option_copied low.entry) (take shape.width e)
+        × Below (option_copied high.entry) (take shape.width e)) (leaf_entries shape page.now)) }
 {
     let leaf = LeafView { page, shape };
     let mut above = high;
@@ -68,25 +68,31 @@ pub fn leaf_rises(
     'keys: while i > 0 {
         let key = leaf.key(i - 1);
         if !is_under(key, above) {
-            return false;
+            return Err((i - 1) as u32);
         }
         above = Some(key);
         i -= 1;
     }
-    leaf.count() == 0 || is_from(leaf.key(0), low)
+    if leaf.count() == 0 {
+        return Ok(());
+    }
+    if !is_from(leaf.key(0), low) {
+        return Err(0);
+    }
+    Ok(())
 }
 
-/// The separators of an inner node rise between the bounds.
-pub fn separators_rise(
+/// Checks that the separators of an inner node rise between the bounds. Else answers the last that is not below the separator or the bound behind it, or
+/// separator 0 where it is not above the low bound.
+pub fn check_separators(
     page: &[u8; PAGE_SIZE],
     shape: Shape,
     low: Option<&[u8]>,
     high: Option<&[u8]>,
-) -> bool
+) -> Result<(), u32>
     requires inner { IsInner shape page.now }
-    ensures rises { IsTrue result → Ascends shape.width (separators shape page.now) }
-    ensures between { IsTrue result
-        → AreBetween (option_copied low.entry) (separators shape page.now) (option_copied high.entry) }
+    ensures rises { OnOk result (Ascends shape.width (separators shape page.now)) }
+    ensures between { OnOk result (AreBetween (option_copied low.entry) (separators shape page.now) (option_copied high.entry)) }
 {
     let node = InnerView { page, shape };
     let mut above = high;
@@ -94,10 +100,16 @@ pub fn separators_rise(
     'keys: while i > 0 {
         let key = node.separator(i - 1);
         if !is_under(key, above) {
-            return false;
+            return Err((i - 1) as u32);
         }
         above = Some(key);
         i -= 1;
     }
-    node.count() == 0 || is_over(node.separator(0), low)
+    if node.count() == 0 {
+        return Ok(());
+    }
+    if !is_over(node.separator(0), low) {
+        return Err(0);
+    }
+    Ok(())
 }

@@ -10,55 +10,61 @@ ghost use Rattle.page_walks.specs.Spots.{entries_at, spots_in};
 ghost use Rattle.page_walks.specs.TreeWalk.{InnerFits, LeafFits, Walked, TreeWalked, reach_of};
 
 use crate::leaf::{Leaf, have_entries, push};
-use crate::order::{leaf_rises, separators_rise};
+use crate::order::{check_keys, check_separators};
 use bplus_tree::Tree;
 use page_bytes::PAGE_SIZE;
-use page_marks::{WalkFault, mark};
+use page_marks::{PageFault, WalkFault, mark};
 use std::alloc::Global;
 use tree_node::{InnerView, LeafView, Shape, is_inner, is_leaf};
 
-/// What the place of a node requires: how many entries or separators it has at least, and between which keys its own lie.
+/// What the place of a node requires: how many entries or separators it has at least, and between which keys its own lie; and the page that leads there.
 #[derive(Clone, Copy)]
 struct Limits<'a> {
+    parent: u32,
     least: usize,
     low: Option<&'a [u8]>,
     high: Option<&'a [u8]>,
 }
 
-/// The page is a leaf within the limits, whose keys rise.
-fn check_leaf(page: &[u8; PAGE_SIZE], shape: Shape, limits: Limits) -> Result<(), WalkFault>
+/// Page n is a leaf within the limits, whose keys rise.
+fn check_leaf(page: &[u8; PAGE_SIZE], n: u32, shape: Shape, limits: Limits) -> Result<(), WalkFault>
     ensures { OnOk result (LeafFits shape page.now limits.entry.least
         (option_copied limits.entry.low) (option_copied limits.entry.high)) }
 {
     if !is_leaf(page, shape) {
-        return Err(WalkFault::Node);
+        return Err(WalkFault::of_page(PageFault::Node, n));
     }
     let entries = LeafView { page, shape }.count();
     if entries < limits.least {
-        return Err(WalkFault::Node);
+        return Err(WalkFault::of_page(PageFault::Node, n));
     }
-    if !leaf_rises(page, shape, limits.low, limits.high) {
-        return Err(WalkFault::Order);
+    match check_keys(page, shape, limits.low, limits.high) {
+        Ok(()) => Ok(()),
+        Err(entry) => Err(WalkFault::of_entry(PageFault::Order, n, entry)),
     }
-    Ok(())
 }
 
-/// The page is an inner node within the limits, whose separators rise.
-fn check_inner(page: &[u8; PAGE_SIZE], shape: Shape, limits: Limits) -> Result<(), WalkFault>
+/// Page n is an inner node within the limits, whose separators rise.
+fn check_inner(
+    page: &[u8; PAGE_SIZE],
+    n: u32,
+    shape: Shape,
+    limits: Limits,
+) -> Result<(), WalkFault>
     ensures { OnOk result (InnerFits shape page.now limits.entry.least
         (option_copied limits.entry.low) (option_copied limits.entry.high)) }
 {
     if !is_inner(page, shape) {
-        return Err(WalkFault::Node);
+        return Err(WalkFault::of_page(PageFault::Node, n));
     }
     let separators = InnerView { page, shape }.count();
     if separators < limits.least {
-        return Err(WalkFault::Node);
+        return Err(WalkFault::of_page(PageFault::Node, n));
     }
-    if !separators_rise(page, shape, limits.low, limits.high) {
-        return Err(WalkFault::Order);
+    match check_separators(page, shape, limits.low, limits.high) {
+        Ok(()) => Ok(()),
+        Err(separator) => Err(WalkFault::of_entry(PageFault::Order, n, separator)),
     }
-    Ok(())
 }
 
 /// How many entries or separators a node must have that is not the root, with so many levels below it.
@@ -113,15 +119,15 @@ fn walk_below(
         (reach_of shape pages.now reached.new (spots_in leaves.new.items))) }
 {
     if page as usize >= pages.len() {
-        return Err(WalkFault::Node);
+        return Err(WalkFault::of_page(PageFault::Node, limits.parent));
     }
     mark(reached, page)?;
     let bytes = &pages[page as usize];
     if levels == 0 {
-        check_leaf(bytes, shape, limits)?;
+        check_leaf(bytes, page, shape, limits)?;
         return push_leaf(pages, shape, page, leaves);
     }
-    check_inner(bytes, shape, limits)?;
+    check_inner(bytes, page, shape, limits)?;
     let node = InnerView { page: bytes, shape };
     let count = node.count();
     let least = least_in(shape, levels - 1);
@@ -129,7 +135,12 @@ fn walk_below(
     let mut i = 0;
     'children: while i < count {
         let high = Some(node.separator(i));
-        let child = Limits { least, low, high };
+        let child = Limits {
+            parent: page,
+            least,
+            low,
+            high,
+        };
         walk_below(
             pages,
             shape,
@@ -143,6 +154,7 @@ fn walk_below(
         i += 1;
     }
     let last = Limits {
+        parent: page,
         least,
         low,
         high: limits.high,
@@ -160,8 +172,8 @@ fn walk_below(
 
 /// Walks a tree over the pages of a file, as they were read. Answers its leaves, in order, and marks its pages as reached.
 ///
-/// Memory; Shared where a page of the tree was reached before; Node, Order or Count where the pages are no such tree. At a fault some of its pages may be
-/// marked.
+/// Memory; Shared where a page of the tree was reached before; Node, Order or Count where the pages are no such tree. A root that is not there is told at page
+/// 0, a child at its parent, and the count at the root. At a fault some of its pages may be marked.
 pub fn walk_tree(
     alloc: Global,
     pages: &[[u8; PAGE_SIZE]],
@@ -173,6 +185,7 @@ pub fn walk_tree(
 {
     let mut leaves = Vec::new(alloc);
     let limits = Limits {
+        parent: 0,
         least: least_in_root(tree.levels),
         low: None,
         high: None,
@@ -187,7 +200,7 @@ pub fn walk_tree(
         &mut leaves,
     )?;
     if !have_entries(&leaves, tree.count) {
-        return Err(WalkFault::Count);
+        return Err(WalkFault::of_page(PageFault::Count, tree.root));
     }
     Ok(leaves)
 }

@@ -89,6 +89,19 @@ impl<'a> SlotMarks<'a> {
         }
     }
 
+    /// The first slot that is marked, in the order of these pages.
+    pub fn first(&self) -> Option<Place> {
+        for &page in self.own {
+            for slot in 0..self.room {
+                let place = Place { page, slot };
+                if self.has(place) {
+                    return Some(place);
+                }
+            }
+        }
+        None
+    }
+
     /// No slot is marked.
     pub fn are_none(&self) -> bool
         ensures { IsTrue result → (p : AnyPlace) → marked_slot self.now p ≡ false }

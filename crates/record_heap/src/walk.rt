@@ -16,20 +16,28 @@ use crate::slot_marks::SlotMarks;
 use crate::slots::{FIRST_SLOT, NEXT, NEXT_END, slot, start_of};
 use byteorder::{BigEndian, ByteOrder};
 use page_bytes::PAGE_SIZE;
-use page_marks::{WalkFault, mark};
+use page_marks::{FaultPlace, PageFault, WalkFault, mark};
 use std::alloc::Global;
 
-/// The page behind a heap page.
-fn page_behind(pages: &[[u8; PAGE_SIZE]], n: u32) -> Result<u32, WalkFault>
+/// The place of a slot.
+fn place_of(slot: Place) -> FaultPlace {
+    FaultPlace::Entry {
+        page: slot.page,
+        entry: u32::from(slot.slot),
+    }
+}
+
+/// The page behind a heap page, to which another page leads.
+fn page_behind(pages: &[[u8; PAGE_SIZE]], from: u32, n: u32) -> Result<u32, WalkFault>
     ensures { IfOk result (λ next. IsHeapAt (pages_in pages.now) n next) }
 {
     if n as usize >= pages.len() {
-        return Err(WalkFault::Chain);
+        return Err(WalkFault::of_page(PageFault::Chain, from));
     }
     let page = &pages[n as usize];
     let next = BigEndian::read_u32(&page[NEXT..NEXT_END]);
     if &page[..FIRST_SLOT] != &start_of(next)[..] {
-        return Err(WalkFault::Chain);
+        return Err(WalkFault::of_page(PageFault::Chain, n));
     }
     Ok(next)
 }
@@ -44,20 +52,24 @@ fn walk_pages(
     ensures { IfOk result (λ own. PagesWalked (pages_in pages.now) first 0 (marked_in reached.old) (marked_in reached.new) own.items) }
 {
     let mut own = Vec::new(alloc);
+    let mut from = 0;
     let mut at = first;
     for _ in 0..reached.len() {
         if at == 0 {
             return Ok(own);
         }
-        let next = page_behind(pages, at)?;
+        let next = page_behind(pages, from, at)?;
         mark(reached, at)?;
         match own.push(at) {
             Err(_) => return Err(WalkFault::Memory),
-            Ok(()) => at = next,
+            Ok(()) => {
+                from = at;
+                at = next;
+            }
         }
     }
     if at != 0 {
-        return Err(WalkFault::Chain);
+        return Err(WalkFault::of_page(PageFault::Chain, from));
     }
     Ok(own)
 }
@@ -75,13 +87,13 @@ fn mark_slot(
     match behind(bytes) {
         Some(_) => {
             if !marks.set(place, true) {
-                return Err(WalkFault::Chain);
+                return Err(WalkFault::At(PageFault::Chain, place_of(place)));
             }
             Ok(())
         }
         None => {
             if !is_used(bytes, shape) {
-                return Err(WalkFault::Chain);
+                return Err(WalkFault::At(PageFault::Chain, place_of(place)));
             }
             Ok(())
         }
@@ -120,30 +132,31 @@ fn mark_free(
 {
     for &n in own {
         if n as usize >= pages.len() {
-            return Err(WalkFault::Chain);
+            return Err(WalkFault::of_page(PageFault::Chain, n));
         }
         mark_page(&pages[n as usize], shape, n, marks)?;
     }
     Ok(())
 }
 
-/// Takes the mark of a free slot, and answers the place of the one behind it.
+/// Takes the mark of a free slot, to which another place leads, and answers the place of the one behind it.
 fn take_mark(
     pages: &[[u8; PAGE_SIZE]],
     shape: Shape,
+    from: FaultPlace,
     at: Place,
     marks: &mut SlotMarks,
 ) -> Result<Place, WalkFault>
     ensures taken { IfOk result (λ next. TakesMark shape (pages_in pages.now) at next marks.old marks.new) }
 {
     if at.slot as usize >= shape.room() || at.page as usize >= pages.len() {
-        return Err(WalkFault::Chain);
+        return Err(WalkFault::At(PageFault::Chain, from));
     }
     if !marks.has(at) || !marks.set(at, false) {
-        return Err(WalkFault::Chain);
+        return Err(WalkFault::At(PageFault::Chain, from));
     }
     match behind(slot(&pages[at.page as usize], shape, at.slot as usize)) {
-        None => Err(WalkFault::Chain),
+        None => Err(WalkFault::At(PageFault::Chain, place_of(at))),
         Some(next) => Ok(next),
     }
 }
@@ -158,17 +171,28 @@ fn walk_slots(
     ensures { OnOk result ((at : Place) × (at.page ≡ 0)
         × ((free : List Place) × SlotsWalked shape (pages_in pages.now) first at marks.old marks.new free)) }
 {
+    let mut from = FaultPlace::Page(0);
     let mut at = first;
     for _ in 0..marks.slots {
         if at.page == 0 {
             return Ok(());
         }
-        at = take_mark(pages, shape, at, marks)?;
+        let next = take_mark(pages, shape, from, at, marks)?;
+        from = place_of(at);
+        at = next;
     }
     if at.page != 0 {
-        return Err(WalkFault::Chain);
+        return Err(WalkFault::At(PageFault::Chain, from));
     }
     Ok(())
+}
+
+/// Where the first slot is that has a mark, or page 0.
+fn first_marked(marks: &SlotMarks) -> FaultPlace {
+    match marks.first() {
+        Some(slot) => place_of(slot),
+        None => FaultPlace::Page(0),
+    }
 }
 
 /// Finds each slot of these pages in use, or once in the chain of free slots.
@@ -185,7 +209,7 @@ fn walk_own(
     mark_free(pages, heap.shape, own, &mut marks)?;
     walk_slots(pages, heap.shape, heap.free, &mut marks)?;
     if !marks.are_none() {
-        return Err(WalkFault::Chain);
+        return Err(WalkFault::At(PageFault::Chain, first_marked(&marks)));
     }
     Ok(())
 }
@@ -193,7 +217,8 @@ fn walk_own(
 /// Walks the heap over the pages of a file, as they were read. Answers its own pages in the order of their chain, and marks them as reached; each slot of
 /// them is in use, or stands once in the chain of free slots.
 ///
-/// Memory; Shared where a heap page was reached before; Chain where the pages are no such heap. At a fault some of its pages may be marked.
+/// Memory; Shared where a heap page was reached before; Chain where the pages are no such heap: at a page or slot that is none, at a free slot that nothing leads
+/// to, or at the page or slot that leads on wrongly, which is page 0 for the first. At a fault some of its pages may be marked.
 pub fn walk_heap(
     alloc: Global,
     pages: &[[u8; PAGE_SIZE]],

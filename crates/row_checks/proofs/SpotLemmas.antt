@@ -1,10 +1,12 @@
 -- What is said of the entries of leaves.
-use Rattle.std.proofs.Common.{◌≡◌, ◌≢◌, ◌⊎◌, inl, inr, ℕ, zero, suc, ◌+◌, ◌<◌, true, false, List, [], ◌∷◌, ◌++◌, Option, Some, None, ap, subst, arith}
+use Rattle.std.proofs.Common.{◌≡◌, ◌≢◌, ◌⊎◌, inl, inr, ℕ, zero, suc, ◌+◌, ◌<◌, ◌≤◌, true, false, List, [], ◌∷◌, ◌++◌, Option, Some, None, length, slice_index_or, ap, subst, ◌∙◌, arith}
 use Rattle.std.specs.Prelude.{All, IfSome}
 use Rattle.std.proofs.lemmas.Bool.Decides.{eqb_tells}
+use Rattle.std.proofs.lemmas.List.{get_or_default}
 use Rattle.std.proofs.Math.Dec.{eqb}
 use Rattle.page_bytes.specs.Each.{Each}
 use Rattle.page_marks.proofs.EachLemmas.{each_join}
+use Rattle.page_marks.proofs.PartLemmas.{low_or_not}
 use Rattle.page_walks.specs.declared.leaf.Leaf.{Leaf}
 use Rattle.page_walks.specs.declared.spot.Spot.{Spot}
 use Rattle.page_walks.specs.Spots.{spots_below, spots_in}
@@ -22,6 +24,19 @@ module _ (P : Spot → Type 0) where
   each_in [] all = tt
   each_in (leaf ∷ leaves) all =
       each_join P (spots_below leaf.page leaf.count) (spots_in leaves) (all 0 leaf (omega arith)) (each_in leaves (λ k d within. all (suc k) d (omega (arith, within))))
+
+  -- of one leaf more
+  pub each_more : (leaves : List Leaf) (n : ℕ) (none : Leaf) → n < length leaves
+      → ((k : ℕ) (d : Leaf) → k < n → Each P (spots_below (slice_index_or leaves k d).page (slice_index_or leaves k d).count))
+      → Each P (spots_below (slice_index_or leaves n none).page (slice_index_or leaves n none).count)
+      → (k : ℕ) (d : Leaf) → k < n + 1 → Each P (spots_below (slice_index_or leaves k d).page (slice_index_or leaves k d).count)
+  each_more leaves n none within each more k d less = by_place (low_or_not k n)
+    where
+      by_place : (k < n) ⊎ (n ≤ k) → Each P (spots_below (slice_index_or leaves k d).page (slice_index_or leaves k d).count)
+      by_place (inl before) = each k d before
+      by_place (inr last) =
+          let same : n ≡ k = omega arith in
+          subst (λ (at : Leaf). Each P (spots_below at.page at.count)) (get_or_default leaves n none d within ∙ ap (λ (m : ℕ). slice_index_or leaves m d) same) more
 
 one_left : {X : Type 0} (xs ys : List X) (x : X) → IsOneOf xs x → IsOneOf (xs ++ ys) x
 one_left [] ys x one = absurd one

@@ -73,16 +73,16 @@ fn has_row(
 }
 
 /// Each entry of the leaf is what the index has of a row that the prime index leads to.
-fn leaf_has_rows(
+fn check_leaf(
     pages: &[[u8; PAGE_SIZE]],
     file: &OpenFile,
     primes: &[Leaf],
     index: AltIndex,
     leaf: Leaf,
-) -> bool
+) -> Result<(), RowFault>
     requires shaped { IsShaped file.now }
     requires index { IsIndexFor file.now.schema index }
-    ensures { IsTrue result → Each (HasRow file.now pages.now (spots_in primes.now) index) (spots_below leaf.page leaf.count) }
+    ensures { OnOk result (Each (HasRow file.now pages.now (spots_in primes.now) index) (spots_below leaf.page leaf.count)) }
 {
     for place in 0..leaf.count {
         let spot = Spot {
@@ -90,34 +90,34 @@ fn leaf_has_rows(
             place,
         };
         if !has_row(pages, file, primes, index, spot) {
-            return false;
+            return Err(RowFault::of_entry(spot));
         }
     }
-    true
+    Ok(())
 }
 
 /// Each entry of these leaves is what the index has of a row that the prime index leads to.
-fn all_have_rows(
+fn check_leaves(
     pages: &[[u8; PAGE_SIZE]],
     file: &OpenFile,
     primes: &[Leaf],
     index: AltIndex,
     leaves: &[Leaf],
-) -> bool
+) -> Result<(), RowFault>
     requires shaped { IsShaped file.now }
     requires index { IsIndexFor file.now.schema index }
-    ensures { IsTrue result
-        → All (λ leaf. Each (HasRow file.now pages.now (spots_in primes.now) index) (spots_below leaf.page leaf.count)) leaves.now }
+    ensures { OnOk result (All (λ leaf. Each (HasRow file.now pages.now (spots_in primes.now) index) (spots_below leaf.page leaf.count)) leaves.now) }
 {
-    leaves
-        .iter()
-        .all(|leaf| leaf_has_rows(pages, file, primes, index, *leaf))
+    for &leaf in leaves {
+        check_leaf(pages, file, primes, index, leaf)?;
+    }
+    Ok(())
 }
 
 /// Compares the index of an alternate key with the rows of a file. `primes` and `leaves` are the leaves of the prime index and of this one, each in
 /// their order, in the pages of the file as they were read.
 ///
-/// Index where an entry is that of no row.
+/// Index at an entry that is that of no row.
 pub fn check_alternate(
     pages: &[[u8; PAGE_SIZE]],
     file: &OpenFile,
@@ -131,8 +131,6 @@ pub fn check_alternate(
     requires rises { Ascends index.tree.shape.width (entries_at index.tree.shape pages.now (spots_in leaves.now)) }
     ensures { OnOk result (AlternateStands file.now pages.now (spots_in primes.now) index (spots_in leaves.now)) }
 {
-    if !all_have_rows(pages, file, primes, index, leaves) {
-        return Err(RowFault::Index);
-    }
+    check_leaves(pages, file, primes, index, leaves)?;
     Ok(())
 }

@@ -1,6 +1,6 @@
 //! The slots of the heap, each of which an entry of the prime index leads to, if it is in use.
 
-ghost use Rattle.std.specs.Prelude.{◌≡◌, ◌<◌, ℕ, IsTrue, IsSome, find};
+ghost use Rattle.std.specs.Prelude.{◌≡◌, ◌<◌, ℕ, IsTrue, IsSome, OnOk, find};
 ghost use Rattle.record_heap.specs.declared.shape.Place.{Place};
 ghost use Rattle.record_heap.specs.Slot.{room};
 ghost use Rattle.record_heap.specs.Walk.{slots_of};
@@ -13,6 +13,7 @@ ghost use Rattle.row_checks.specs.Leading.{HasEntry};
 use crate::entry::{entry, entry_near, place_in};
 use crate::record::stored_at;
 use crate::row::value;
+use crate::row_fault::RowFault;
 use open_file::OpenFile;
 use page_bytes::PAGE_SIZE;
 use page_walks::{Leaf, Spot};
@@ -43,9 +44,14 @@ fn leads_to(pages: &[[u8; PAGE_SIZE]], file: &OpenFile, spot: Spot, place: Place
 }
 
 /// Each slot of page n that is in use has its entry in the prime index.
-fn page_has_entries(pages: &[[u8; PAGE_SIZE]], file: &OpenFile, primes: &[Leaf], n: u32) -> bool
+fn check_page(
+    pages: &[[u8; PAGE_SIZE]],
+    file: &OpenFile,
+    primes: &[Leaf],
+    n: u32,
+) -> Result<(), RowFault>
     requires { IsShaped file.now }
-    ensures { IsTrue result → (p : Place) → p.page ≡ n → p.slot < room file.now.heap.shape → HasEntry file.now pages.now (spots_in primes.now) p }
+    ensures { OnOk result ((p : Place) → p.page ≡ n → p.slot < room file.now.heap.shape → HasEntry file.now pages.now (spots_in primes.now) p) }
 {
     for i in 0..file.heap.shape.room() {
         let place = Place {
@@ -53,27 +59,25 @@ fn page_has_entries(pages: &[[u8; PAGE_SIZE]], file: &OpenFile, primes: &[Leaf],
             slot: i as u16,
         };
         if !has_entry(pages, file, primes, place) {
-            return false;
+            return Err(RowFault::of_slot(place));
         }
     }
-    true
+    Ok(())
 }
 
 /// Each slot of the heap's own pages that is in use has its entry in the prime index.
-pub fn slots_have_entries(
+pub fn check_slots(
     pages: &[[u8; PAGE_SIZE]],
     file: &OpenFile,
     primes: &[Leaf],
     own: &[u32],
-) -> bool
+) -> Result<(), RowFault>
     requires { IsShaped file.now }
-    ensures { IsTrue result → (p : Place) → IsSome (slots_of file.now.heap.shape (pages_in pages.now) own.now p)
-        → IsSome (find (is_same p) (places_in file.now pages.now (spots_in primes.now))) }
+    ensures { OnOk result ((p : Place) → IsSome (slots_of file.now.heap.shape (pages_in pages.now) own.now p)
+        → IsSome (find (is_same p) (places_in file.now pages.now (spots_in primes.now)))) }
 {
     for &n in own {
-        if !page_has_entries(pages, file, primes, n) {
-            return false;
-        }
+        check_page(pages, file, primes, n)?;
     }
-    true
+    Ok(())
 }

@@ -11,7 +11,7 @@ ghost use Rattle.row_checks.specs.Rows.{RowsStand};
 ghost use Rattle.row_checks.specs.Leading.{LeadsToRow};
 
 use crate::entry::{entry, place_in};
-use crate::heap_slots::slots_have_entries;
+use crate::heap_slots::check_slots;
 use crate::record::stored_at;
 use crate::row::{is_row, value};
 use crate::row_fault::RowFault;
@@ -66,9 +66,14 @@ fn leads_to_row(pages: &[[u8; PAGE_SIZE]], file: &OpenFile, marks: &[bool], spot
 }
 
 /// Each entry of the leaf of the prime index leads to a row that has its value, in one of the marked pages.
-fn leaf_leads(pages: &[[u8; PAGE_SIZE]], file: &OpenFile, marks: &[bool], leaf: Leaf) -> bool
+fn check_leaf(
+    pages: &[[u8; PAGE_SIZE]],
+    file: &OpenFile,
+    marks: &[bool],
+    leaf: Leaf,
+) -> Result<(), RowFault>
     requires { IsShaped file.now }
-    ensures { IsTrue result → Each (LeadsToRow file.now pages.now marks.now) (spots_below leaf.page leaf.count) }
+    ensures { OnOk result (Each (LeadsToRow file.now pages.now marks.now) (spots_below leaf.page leaf.count)) }
 {
     for place in 0..leaf.count {
         let spot = Spot {
@@ -76,21 +81,26 @@ fn leaf_leads(pages: &[[u8; PAGE_SIZE]], file: &OpenFile, marks: &[bool], leaf: 
             place,
         };
         if !leads_to_row(pages, file, marks, spot) {
-            return false;
+            return Err(RowFault::of_entry(spot));
         }
     }
-    true
+    Ok(())
 }
 
 /// Each entry of these leaves of the prime index leads to a row that has its value, in one of the marked pages.
-fn all_lead(pages: &[[u8; PAGE_SIZE]], file: &OpenFile, marks: &[bool], primes: &[Leaf]) -> bool
+fn check_leaves(
+    pages: &[[u8; PAGE_SIZE]],
+    file: &OpenFile,
+    marks: &[bool],
+    primes: &[Leaf],
+) -> Result<(), RowFault>
     requires { IsShaped file.now }
-    ensures { IsTrue result
-        → All (λ leaf. Each (LeadsToRow file.now pages.now marks.now) (spots_below leaf.page leaf.count)) primes.now }
+    ensures { OnOk result (All (λ leaf. Each (LeadsToRow file.now pages.now marks.now) (spots_below leaf.page leaf.count)) primes.now) }
 {
-    primes
-        .iter()
-        .all(|leaf| leaf_leads(pages, file, marks, *leaf))
+    for &leaf in primes {
+        check_leaf(pages, file, marks, leaf)?;
+    }
+    Ok(())
 }
 
 /// Compares the prime index with the records, by marks on the heap's own pages.
@@ -107,16 +117,15 @@ fn compare(
     ensures { OnOk result (RowsStand file.now pages.now own.now (spots_in primes.now)) }
 {
     mark_all(marks, own)?;
-    if !all_lead(pages, file, marks, primes) || !slots_have_entries(pages, file, primes, own) {
-        return Err(RowFault::Index);
-    }
+    check_leaves(pages, file, marks, primes)?;
+    check_slots(pages, file, primes, own)?;
     Ok(())
 }
 
 /// Compares the prime index of a file with its records. `own` are the heap's own pages, and `primes` the leaves of the index, in their order, in the pages
 /// of the file as they were read.
 ///
-/// Memory; Index where an entry does not lead to a row that has its value, or a slot in use has no entry.
+/// Memory; Index at an entry that does not lead to a row that has its value, or at a slot in use that has no entry.
 pub fn check_rows(
     alloc: Global,
     pages: &[[u8; PAGE_SIZE]],

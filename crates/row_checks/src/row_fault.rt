@@ -1,6 +1,8 @@
 //! Why a check of rows ends.
 
-use page_marks::WalkFault;
+use page_marks::{FaultPlace, WalkFault};
+use page_walks::Spot;
+use record_heap::Place;
 use thiserror::Error;
 
 /// Why rows were not found to be those of a file.
@@ -8,15 +10,34 @@ use thiserror::Error;
 pub enum RowFault {
     #[error("out of memory")]
     Memory,
-    #[error("an index and the records do not agree")]
-    Index,
+    /// Where the entry is that leads to no row, or the slot in use that has no entry.
+    #[error("{0}: an index and the records do not agree")]
+    Index(FaultPlace),
+}
+
+impl RowFault {
+    /// The entry that stands there is that of no row.
+    pub fn of_entry(spot: Spot) -> RowFault {
+        RowFault::Index(FaultPlace::Entry {
+            page: spot.page,
+            entry: u32::from(spot.place),
+        })
+    }
+
+    /// The slot is in use, and has no entry.
+    pub fn of_slot(place: Place) -> RowFault {
+        RowFault::Index(FaultPlace::Entry {
+            page: place.page,
+            entry: u32::from(place.slot),
+        })
+    }
 }
 
 impl From<WalkFault> for RowFault {
     fn from(fault: WalkFault) -> RowFault {
         match fault {
             WalkFault::Memory => RowFault::Memory,
-            _ => RowFault::Index,
+            WalkFault::At(_, place) => RowFault::Index(place),
         }
     }
 }

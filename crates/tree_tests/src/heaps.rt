@@ -3,7 +3,7 @@
 use crate::checks::assert_equal;
 use crate::memory_pages::{MemoryPages, new_pages, put_byte};
 use io_state::Fault;
-use page_marks::WalkFault;
+use page_marks::{FaultPlace, PageFault, WalkFault};
 use record_heap::{Heap, Place, Shape, heap_laws, walk_heap};
 use std::process::Abort;
 use std::test::Fail;
@@ -257,27 +257,109 @@ fn a_walk_finds_the_pages_of_a_heap_and_what_is_lost(rt: HostRuntime) -> Result<
     assert_equal(&rt, own.as_slice(), [2, 1].as_slice());
     assert_equal(&rt, reached, [false, true, true]);
     let again = walk_heap(rt.alloc(), &pages.pages, &heap, &mut reached);
-    assert_equal(&rt, again.err(), Some(WalkFault::Shared));
-    let changes: [(usize, usize, u8, WalkFault, &str); 7] = [
-        (2, 7, 2, WalkFault::Shared, "a page that leads to itself"),
-        (2, 0, b'L', WalkFault::Chain, "a page of another kind"),
-        (1, 1, 1, WalkFault::Chain, "a byte that should be zero"),
-        (1, 7, 9, WalkFault::Chain, "a page that is not there"),
-        (1, 16, 2, WalkFault::Chain, "a mark that is none"),
+    assert_equal(
+        &rt,
+        again.err(),
+        Some(WalkFault::of_page(PageFault::Shared, 2)),
+    );
+    let changes = [
+        (
+            2,
+            7,
+            2,
+            PageFault::Shared,
+            FaultPlace::Page(2),
+            "a page that leads to itself",
+        ),
+        (
+            2,
+            0,
+            b'L',
+            PageFault::Chain,
+            FaultPlace::Page(2),
+            "a page of another kind",
+        ),
+        (
+            1,
+            1,
+            1,
+            PageFault::Chain,
+            FaultPlace::Page(1),
+            "a byte that should be zero",
+        ),
+        (
+            1,
+            7,
+            9,
+            PageFault::Chain,
+            FaultPlace::Page(1),
+            "a page that is not there",
+        ),
+        (
+            1,
+            16,
+            2,
+            PageFault::Chain,
+            FaultPlace::Entry { page: 1, entry: 0 },
+            "a mark that is none",
+        ),
         (
             1,
             16,
             0,
-            WalkFault::Chain,
+            PageFault::Chain,
+            FaultPlace::Entry { page: 1, entry: 0 },
             "a free slot that nothing leads to",
         ),
-        (1, 141, 9, WalkFault::Chain, "a link to a slot in use"),
+        (
+            1,
+            50,
+            0,
+            PageFault::Chain,
+            FaultPlace::Entry { page: 1, entry: 2 },
+            "another free slot that nothing leads to",
+        ),
+        (
+            1,
+            141,
+            9,
+            PageFault::Chain,
+            FaultPlace::Entry { page: 1, entry: 7 },
+            "a link to a slot in use",
+        ),
+        (
+            1,
+            139,
+            9,
+            PageFault::Chain,
+            FaultPlace::Entry { page: 1, entry: 7 },
+            "a link to a page that is not there",
+        ),
     ];
-    for (n, at, byte, fault, what) in changes {
+    for (n, at, byte, fault, place, what) in changes {
         let was = put_byte(&rt, &mut pages.pages, n, at, byte);
         let found = walk_heap(rt.alloc(), &pages.pages, &heap, &mut [false; 3]);
-        assert!(rt; found.err() == Some(fault), "{what}");
+        assert!(rt; found.err() == Some(WalkFault::At(fault, place)), "{what}");
         put_byte(&rt, &mut pages.pages, n, at, was);
+    }
+    Ok(())
+}
+
+// What the header tells of a heap is told at page 0.
+#[test]
+fn a_heap_that_begins_wrongly_is_told_at_the_first_page(rt: HostRuntime) -> Result<(), Fail> {
+    let mut pages = new_pages(rt.alloc(), 0, 1)?;
+    let mut heap = Heap::new(FIXED);
+    add(&rt, &mut heap, &mut pages, &numbered(0))?;
+    let away = Heap { first: 2, ..heap };
+    let in_use = Heap {
+        free: Place { page: 1, slot: 0 },
+        ..heap
+    };
+    for heap in [away, in_use] {
+        let found = walk_heap(rt.alloc(), &pages.pages, &heap, &mut [false; 2]);
+        let fault = WalkFault::of_page(PageFault::Chain, 0);
+        assert!(rt; found.err() == Some(fault), "{heap:?}");
     }
     Ok(())
 }

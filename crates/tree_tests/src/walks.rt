@@ -3,7 +3,7 @@
 use crate::checks::assert_equal;
 use crate::memory_pages::{new_pages, put_byte};
 use bplus_tree::Tree;
-use page_marks::{WalkFault, all_marked, mark};
+use page_marks::{FaultPlace, PageFault, WalkFault, all_marked, mark};
 use page_walks::{Leaf, Spot, trees_stay, walk_free, walk_tree, walks_part_the_file};
 use std::alloc::Global;
 use std::process::Abort;
@@ -151,60 +151,158 @@ fn a_tree_of_three_levels_is_walked(rt: HostRuntime) -> Result<(), Fail> {
     let six = put_byte(&rt, &mut pages, 2, 3, 6);
     let found = walk_tree(rt.alloc(), &pages, &tree(&rt, 1, 2, 60), &mut [false; 20]);
     assert!(rt;
-        found.err() == Some(WalkFault::Node),
+        found.err() == Some(WalkFault::of_page(PageFault::Node, 2)),
         "an inner node that has too little"
     );
     put_byte(&rt, &mut pages, 2, 3, six);
-    put_byte(&rt, &mut pages, 3, 20, 31);
-    let found = walk_tree(rt.alloc(), &pages, &tree(&rt, 1, 2, 64), &mut [false; 20]);
-    assert!(rt;
-        found.err() == Some(WalkFault::Order),
-        "a separator below the one above it"
-    );
+    let changes = [
+        (3, 20, 31, 0, "a separator below the one above it"),
+        (
+            2,
+            20 + 262 * 6,
+            32,
+            6,
+            "a separator not below the one above it",
+        ),
+        (3, 20 + 262 * 2, 48, 2, "a separator twice"),
+    ];
+    for (n, at, byte, separator, what) in changes {
+        let was = put_byte(&rt, &mut pages, n, at, byte);
+        let found = walk_tree(rt.alloc(), &pages, &tree(&rt, 1, 2, 64), &mut [false; 20]);
+        let fault = WalkFault::of_entry(PageFault::Order, n as u32, separator);
+        assert!(rt; found.err() == Some(fault), "{what}");
+        put_byte(&rt, &mut pages, n, at, was);
+    }
     Ok(())
 }
 
 #[test]
 fn each_damage_of_a_tree_has_its_fault(rt: HostRuntime) -> Result<(), Fail> {
     let mut pages = two_leaves(&rt, rt.alloc())?;
-    let changes: [(usize, usize, u8, WalkFault, &str); 13] = [
-        (1, 0, b'L', WalkFault::Node, "a leaf above leaves"),
-        (2, 0, b'I', WalkFault::Node, "an inner node among leaves"),
-        (3, 1, 3, WalkFault::Node, "a leaf of another key"),
-        (3, 4, 1, WalkFault::Node, "a byte that should be zero"),
-        (2, 3, 9, WalkFault::Node, "more entries than fit"),
-        (2, 3, 3, WalkFault::Node, "a leaf that has too little"),
-        (1, 3, 0, WalkFault::Node, "an inner root without separators"),
-        (1, 19, 4, WalkFault::Node, "a child that is not there"),
-        (1, 281, 2, WalkFault::Shared, "one child twice"),
-        (1, 19, 1, WalkFault::Shared, "a root that is its own child"),
-        (2, 524, 10, WalkFault::Order, "a key twice"),
+    let changes: [(usize, usize, u8, PageFault, FaultPlace, &str); 13] = [
+        (
+            1,
+            0,
+            b'L',
+            PageFault::Node,
+            FaultPlace::Page(1),
+            "a leaf above leaves",
+        ),
+        (
+            2,
+            0,
+            b'I',
+            PageFault::Node,
+            FaultPlace::Page(2),
+            "an inner node among leaves",
+        ),
+        (
+            3,
+            1,
+            3,
+            PageFault::Node,
+            FaultPlace::Page(3),
+            "a leaf of another key",
+        ),
+        (
+            3,
+            4,
+            1,
+            PageFault::Node,
+            FaultPlace::Page(3),
+            "a byte that should be zero",
+        ),
+        (
+            2,
+            3,
+            9,
+            PageFault::Node,
+            FaultPlace::Page(2),
+            "more entries than fit",
+        ),
+        (
+            2,
+            3,
+            3,
+            PageFault::Node,
+            FaultPlace::Page(2),
+            "a leaf that has too little",
+        ),
+        (
+            1,
+            3,
+            0,
+            PageFault::Node,
+            FaultPlace::Page(1),
+            "an inner root without separators",
+        ),
+        (
+            1,
+            19,
+            4,
+            PageFault::Node,
+            FaultPlace::Page(1),
+            "a child that is not there",
+        ),
+        (
+            1,
+            281,
+            2,
+            PageFault::Shared,
+            FaultPlace::Page(2),
+            "one child twice",
+        ),
+        (
+            1,
+            19,
+            1,
+            PageFault::Shared,
+            FaultPlace::Page(1),
+            "a root that is its own child",
+        ),
+        (
+            2,
+            524,
+            10,
+            PageFault::Order,
+            FaultPlace::Entry { page: 2, entry: 0 },
+            "a key twice",
+        ),
         (
             2,
             1540,
             20,
-            WalkFault::Order,
+            PageFault::Order,
+            FaultPlace::Entry { page: 2, entry: 3 },
             "a key that is not below its separator",
         ),
-        (3, 16, 19, WalkFault::Order, "a key below its separator"),
+        (
+            3,
+            16,
+            19,
+            PageFault::Order,
+            FaultPlace::Entry { page: 3, entry: 0 },
+            "a key below its separator",
+        ),
     ];
-    for (n, at, byte, fault, what) in changes {
+    for (n, at, byte, fault, place, what) in changes {
         let was = put_byte(&rt, &mut pages, n, at, byte);
         let found = walk_tree(rt.alloc(), &pages, &tree(&rt, 1, 1, 8), &mut [false; 4]);
-        assert!(rt; found.err() == Some(fault), "{what}");
+        assert!(rt; found.err() == Some(WalkFault::At(fault, place)), "{what}");
         put_byte(&rt, &mut pages, n, at, was);
     }
+    // A root that is not there is told at page 0.
     let others = [
-        (1, 1, 7, WalkFault::Count),
-        (1, 1, 9, WalkFault::Count),
-        (1, 0, 8, WalkFault::Node),
-        (1, 2, 8, WalkFault::Node),
-        (2, 0, 8, WalkFault::Count),
-        (0, 0, 0, WalkFault::Node),
-        (4, 0, 0, WalkFault::Node),
-        (1, 19, 8, WalkFault::Node),
+        (1, 1, 7, PageFault::Count, 1),
+        (1, 1, 9, PageFault::Count, 1),
+        (1, 0, 8, PageFault::Node, 1),
+        (1, 2, 8, PageFault::Node, 2),
+        (2, 0, 8, PageFault::Count, 2),
+        (0, 0, 0, PageFault::Node, 0),
+        (4, 0, 0, PageFault::Node, 0),
+        (1, 19, 8, PageFault::Node, 2),
     ];
-    for (root, levels, count, fault) in others {
+    for (root, levels, count, fault, page) in others {
         let found = walk_tree(
             rt.alloc(),
             &pages,
@@ -212,7 +310,7 @@ fn each_damage_of_a_tree_has_its_fault(rt: HostRuntime) -> Result<(), Fail> {
             &mut [false; 4],
         );
         assert!(rt;
-            found.err() == Some(fault),
+            found.err() == Some(WalkFault::of_page(fault, page)),
             "page {root}, {levels} levels, {count} entries"
         );
     }
@@ -233,23 +331,34 @@ fn the_free_pages_are_walked(rt: HostRuntime) -> Result<(), Fail> {
     assert_equal(
         &rt,
         walk_free(&pages, 3, 2, &mut reached),
-        Err(WalkFault::Shared),
+        Err(WalkFault::of_page(PageFault::Shared, 3)),
     );
     walk_free(&pages, 0, 0, &mut reached)?;
-    for (first, count) in [(3, 1), (3, 3), (0, 1), (2, 1), (4, 1), (3, u32::MAX)] {
+    // The chain is longer, or shorter, than it is told to be; or its first page is none, is not free, or is not there.
+    for (first, count, page) in [
+        (3, 1, 3),
+        (3, 3, 1),
+        (3, u32::MAX, 1),
+        (0, 1, 0),
+        (2, 1, 2),
+        (4, 1, 0),
+    ] {
         let found = walk_free(&pages, first, count, &mut [false; 4]);
-        assert!(rt; found == Err(WalkFault::Chain), "{count} from {first}");
+        let fault = WalkFault::of_page(PageFault::Chain, page);
+        assert!(rt; found == Err(fault), "{count} from {first}");
     }
     let changes = [
-        (3, 7, 3, WalkFault::Shared, "a page that leads to itself"),
-        (3, 7, 2, WalkFault::Chain, "a page that is not free"),
-        (1, 1, 1, WalkFault::Chain, "a byte that should be zero"),
-        (1, 7, 4, WalkFault::Chain, "a page that is not there"),
+        (3, 7, 3, PageFault::Shared, 3, "a page that leads to itself"),
+        (3, 7, 2, PageFault::Chain, 2, "a page that is not free"),
+        (1, 1, 1, PageFault::Chain, 1, "a byte that should be zero"),
+        (1, 7, 4, PageFault::Chain, 1, "a chain that does not end"),
+        (3, 7, 4, PageFault::Chain, 3, "a page that is not there"),
+        (3, 7, 0, PageFault::Chain, 3, "a chain that ends too early"),
     ];
-    for (n, at, byte, fault, what) in changes {
+    for (n, at, byte, fault, page, what) in changes {
         let was = put_byte(&rt, &mut pages, n, at, byte);
         assert!(rt;
-            walk_free(&pages, 3, 2, &mut [false; 4]) == Err(fault),
+            walk_free(&pages, 3, 2, &mut [false; 4]) == Err(WalkFault::of_page(fault, page)),
             "{what}"
         );
         put_byte(&rt, &mut pages, n, at, was);

@@ -1,4 +1,3 @@
-use Rattle.std.proofs.Common.{refl}
 use Rattle.page_walks.specs.Spots.{spots_in}
 use Rattle.row_checks.specs.Leading.{HasRow}
 use Rattle.row_checks.proofs.SpotLemmas.{each_in}
@@ -11,4 +10,4 @@ returns c =
     let list = c.args.pages.now in
     let primes = spots_in c.args.primes.now in
     let spots = spots_in c.args.leaves.now in
-    alternate_stands file list primes c.args.index spots (each_in (HasRow file list primes c.args.index) c.args.leaves.now (c.if-not-all_have_rows.ensures refl)) c.requires.many c.requires.rises
+    alternate_stands file list primes c.args.index spots (each_in (HasRow file list primes c.args.index) c.args.leaves.now c.in_ok-check_leaves.ensures) c.requires.many c.requires.rises

@@ -1,4 +1,4 @@
-use Rattle.std.proofs.Common.{◌≡◌, ◌<◌, ◌+◌, ℕ, true, false, suc, List, take, get_or, refl, sym, subst, arith}
+use Rattle.std.proofs.Common.{◌≡◌, ◌<◌, ◌+◌, ℕ, true, false, suc, List, take, get_or, sym, subst, arith}
 use Rattle.std.proofs.Math.Seq.{take-suc}
 use Rattle.std.proofs.lemmas.List.{take_all}
 use Rattle.page_marks.specs.PageList.{pages_in}
@@ -8,7 +8,7 @@ use Rattle.record_heap.specs.Walk.{is_one_of}
 use Rattle.page_walks.specs.Spots.{spots_in}
 use Rattle.row_checks.specs.Leading.{HasEntry}
 use Rattle.row_checks.proofs.SlotLemmas.{pages_more, own_slot}
-use Rattle.row_checks.proofs.heap_slots.slots_have_entries.Goals as goal
+use Rattle.row_checks.proofs.heap_slots.check_slots.Goals as goal
 
 pub loop-n-init : goal.loop-n-init
 loop-n-init c = λ p one within. (let bad : false ≡ true = one in absurd (cc))
@@ -22,9 +22,9 @@ loop-n-preserved c =
     let up : k + 1 ≡ suc k = omega arith in
     subst (λ (m : ℕ). (p : Place) → is_one_of (take m own) p.page ≡ true → p.slot < room shape → Has p) (sym up)
     (subst (λ (ms : List ℕ). (p : Place) → is_one_of ms p.page ≡ true → p.slot < room shape → Has p) (sym (take-suc own k 0 c.loop-n-test.true))
-    (pages_more shape Has (take k own) (get_or own k 0) c.loop-n.invariant (c.if-not-page_has_entries.ensures refl)))
+    (pages_more shape Has (take k own) (get_or own k 0) c.loop-n.invariant c.in_ok-check_page.ensures))
 
 pub returns : goal.returns
-returns c = λ yes p some.
+returns c = λ p some.
     let own = own_slot c.args.file.now.heap.shape (pages_in c.args.pages.now) c.args.own.now p some in
     c.loop-n.invariant p (subst (λ (ms : List ℕ). is_one_of ms p.page ≡ true) (sym (take_all c.loop-n.n-index c.args.own.now c.loop-n-test.false)) own.0) own.1 own.2

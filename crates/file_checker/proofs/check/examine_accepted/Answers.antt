@@ -6,7 +6,7 @@ use Rattle.file_checker.specs.Sound.{GivesUp, HasPages}
 use Rattle.file_checker.specs.declared.verdict.CheckFault.TheVariants.{Memory}
 use Rattle.file_checker.proofs.ReadLemmas.{first_pages, on_fault}
 use Rattle.file_checker.proofs.SoundLemmas.{first_is, first_read_alone, too_few, all_pages, is_sound, shown, not_short, gives_up, one_given, all_given, pages_read}
-use Rattle.file_checker.proofs.check.check_accepted.Goals as goal
+use Rattle.file_checker.proofs.check.examine_accepted.Goals as goal
 
 pub returns-then-not-branch : goal.returns-then-not-branch
 returns-then-not-branch g c = record {

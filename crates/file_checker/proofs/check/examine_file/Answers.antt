@@ -2,7 +2,7 @@ use Rattle.std.proofs.Common.{List, ℕ, Option, subst}
 use Rattle.std.specs.Io.KnownBytes.{Consumes}
 use Rattle.file_checker.specs.Sound.{HasReason}
 use Rattle.file_checker.proofs.SoundLemmas.{of_known}
-use Rattle.file_checker.proofs.check.check_file.Goals as goal
+use Rattle.file_checker.proofs.check.examine_file.Goals as goal
 
 pub returns-in_ok-refusal-in-None-clause-right : goal.returns-in_ok-refusal-in-None-clause-right
 returns-in_ok-refusal-in-None-clause-right g c =

@@ -2,7 +2,7 @@ use Rattle.std.proofs.Common.{refl}
 use Rattle.page_walks.specs.Spots.{spots_in}
 use Rattle.row_checks.specs.Leading.{HasRow}
 use Rattle.row_checks.proofs.SpotLemmas.{each_below}
-use Rattle.row_checks.proofs.alternate.leaf_has_rows.Goals as goal
+use Rattle.row_checks.proofs.alternate.check_leaf.Goals as goal
 
 pub loop-place-preserved : goal.loop-place-preserved
 loop-place-preserved c =

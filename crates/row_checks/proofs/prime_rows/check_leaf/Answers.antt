@@ -1,7 +1,7 @@
 use Rattle.std.proofs.Common.{refl}
 use Rattle.row_checks.specs.Leading.{LeadsToRow}
 use Rattle.row_checks.proofs.SpotLemmas.{each_below}
-use Rattle.row_checks.proofs.prime_rows.leaf_leads.Goals as goal
+use Rattle.row_checks.proofs.prime_rows.check_leaf.Goals as goal
 
 pub loop-place-preserved : goal.loop-place-preserved
 loop-place-preserved c =

@@ -2,7 +2,7 @@ use Rattle.std.proofs.Common.{◌≤◌, length}
 use Rattle.std.specs.Option.{option_copied}
 use Rattle.tree_node.specs.Leaf.{leaf_entries}
 use Rattle.page_walks.specs.Order.{Risen}
-use Rattle.page_walks.proofs.order.leaf_rises.Given as goal
+use Rattle.page_walks.proofs.order.check_keys.Given as goal
 
 abbrev pub invariant-keys : goal.invariant-keys
 invariant-keys l = record {

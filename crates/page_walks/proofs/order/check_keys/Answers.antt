@@ -3,7 +3,7 @@ use Rattle.std.specs.Option.{option_copied}
 use Rattle.tree_search.specs.Tree.{Below, NotBelow}
 use Rattle.tree_node.specs.Leaf.{leaf_entries}
 use Rattle.page_walks.proofs.RisenLemmas.{risen_more, from_low}
-use Rattle.page_walks.proofs.order.leaf_rises.Goals as goal
+use Rattle.page_walks.proofs.order.check_keys.Goals as goal
 
 pub keys-preserved : goal.keys-preserved
 keys-preserved c =
@@ -13,10 +13,10 @@ keys-preserved c =
     (subst (Below (option_copied c.keys.above)) c.key-key.ensures.value (c.if-not-is_under.ensures refl)) in
     record { within = omega arith; risen = rw c.key-key.ensures.value more }
 
-pub returns-else-count-eq0-clause-inside : goal.returns-else-count-eq0-clause-inside
-returns-else-count-eq0-clause-inside c so =
+pub returns-clause-inside : goal.returns-clause-inside
+returns-clause-inside c =
     let es = leaf_entries c.args.shape c.args.page.now in
     let zero' : c.keys.i ≡ 0 = omega arith in
     let risen = rw zero' at c.keys.invariant.risen in
     from_low c.args.shape.width (option_copied c.args.low) (option_copied c.args.high) es risen.rises risen.under (let n : c.count.result ≡ length es = c.count.ensures.value in omega arith)
-    (subst (NotBelow (option_copied c.args.low)) c.key.ensures.value (c.is_from.ensures so))
+    (subst (NotBelow (option_copied c.args.low)) c.key.ensures.value (c.if-not-is_from.ensures refl))

@@ -7,7 +7,7 @@ use Rattle.page_walks.proofs.RisenLemmas.{risen_more, between_keys}
 use Rattle.tree_search.specs.Tree.{Above}
 use Rattle.tree_search.proofs.DescentLemmas.{whole_keys}
 use Rattle.tree_node.specs.Inner.{branches}
-use Rattle.page_walks.proofs.order.separators_rise.Goals as goal
+use Rattle.page_walks.proofs.order.check_separators.Goals as goal
 
 pub keys-preserved : goal.keys-preserved
 keys-preserved c =
@@ -18,10 +18,10 @@ keys-preserved c =
     (subst (Below (option_copied c.keys.above)) (c.separator-key.ensures.value ∙ sym whole) (c.if-not-is_under.ensures refl)) in
     record { within = omega arith; risen = rw (c.separator-key.ensures.value ∙ sym whole) more }
 
-pub returns-else-count-eq0-clause-between : goal.returns-else-count-eq0-clause-between
-returns-else-count-eq0-clause-between c so =
+pub returns-clause-between : goal.returns-clause-between
+returns-clause-between c =
     let es = separators c.args.shape c.args.page.now in
     let none : c.keys.i ≡ 0 = omega arith in
     let risen = rw none at c.keys.invariant.risen in
     between_keys c.args.shape.width (option_copied c.args.low) (option_copied c.args.high) es (whole_keys c.args.shape.width (branches c.args.shape c.args.page.now)) risen.rises risen.under
-    (λ some. subst (Above (option_copied c.args.low)) c.separator.ensures.value (c.is_over.ensures so))
+    (λ some. subst (Above (option_copied c.args.low)) c.separator.ensures.value (c.if-not-is_over.ensures refl))
