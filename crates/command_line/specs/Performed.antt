@@ -92,7 +92,8 @@ pub record AskForLoad (words : List Text) : Type 0 where
   pub into : Bool
   pub pages : ℕ
   pub frames : ℕ
-  pub asked : AskLoad words deck folder file text into pages frames
+  pub quiet : Bool
+  pub asked : AskLoad words deck folder file text into pages frames quiet
 
 -- the words ask for records of a file
 pub record AskForRecords (words : List Text) : Type 0 where
@@ -102,7 +103,8 @@ pub record AskForRecords (words : List Text) : Type 0 where
   pub to : Option Text
   pub first : ℕ
   pub form : FormText
-  pub asked : AskList words file key from to first form
+  pub quiet : Bool
+  pub asked : AskList words file key from to first form quiet
 
 -- the words ask for a schema
 pub record AskForSchema (words : List Text) : Type 0 where
@@ -125,8 +127,8 @@ AskForNoForm words fault =
 -- fault for those that ask for one; a fault that is told of the words is theirs. The input, the output or memory may fail for any words.
 abbrev pub Did : List Text → Option Begun → Written → Result Outcome Fault → Type 0
 Did words None out (Ok Helped) = (text : Error) × AskHelp words text
-Did words None out (Ok (Checked verdict)) = (file : Text) × AskCheck words (file ∷ [])
-Did words None out (Ok (CheckedAll sound)) = (files : List Text) × AskCheck words files
+Did words None out (Ok (Checked verdict)) = (file : Text) × (quiet : Bool) × AskCheck words (file ∷ []) quiet
+Did words None out (Ok (CheckedAll sound)) = (files : List Text) × (quiet : Bool) × AskCheck words files quiet
 Did words None out (Ok Served) = (folder : Text) × (pages : ℕ) × (frames : ℕ) × AskServe words folder pages frames
 Did words None out (Ok SchemaTold) = (file : Text) × AskSchema words file None None
 Did words None out (Ok (SchemaCompared told)) = (schema : AskForSchema words) × IsDeckAsked schema.deck schema.name

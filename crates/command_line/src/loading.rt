@@ -10,6 +10,7 @@ use command_words::Limits;
 use file_commands::{deck_of, file_named, read_text};
 use file_control::FileDesc;
 use folder_shelf::{Disk, FolderShelf};
+use progress::Progress;
 use record_loading::Load;
 use shelf_loading::{ShelfEnd, ShelfFault, add_answer, load_on_shelf};
 use standard_input::StandardInput;
@@ -56,8 +57,8 @@ fn told_fault(fault: ShelfFault) -> Fault
     }
 }
 
-/// Loads a text into a file over a folder.
-fn load_over_folder<R: Files, D: Disk>(
+/// Loads a text into a file over a folder. It is told how many bytes of the text are written.
+fn load_over_folder<R: Files, D: Disk, P: Progress>(
     rt: &R,
     alloc: Global,
     folder: String,
@@ -65,6 +66,7 @@ fn load_over_folder<R: Files, D: Disk>(
     load: Load,
     text: &[u8],
     limits: Limits,
+    progress: &mut P,
 ) -> Result<ShelfEnd, Fault>
 where
     R::File: FileExt + LockFile,
@@ -81,7 +83,9 @@ where
         text,
         limits.pages,
         limits.frames,
+        progress,
     );
+    progress.wipe();
     match end {
         Ok(end) => Ok(end),
         Err(fault) => Err(told_fault(fault)),
@@ -107,13 +111,14 @@ fn write_answer<W: Write>(room: Vec<u8>, end: ShelfEnd, out: &mut W) -> Result<O
 #[tactic(auto, using(file_commands::proofs::DeckLemmas::not_there))]
 /// Loads a text into a file of the deck that the bytes are, over the files of a folder, and tells how that ended. `Deck`, `NoSuchFile`: nothing was read, written or
 /// changed.
-pub fn load_deck<R: Files, D: Disk, I: Read, W: Write>(
+pub fn load_deck<R: Files, D: Disk, I: Read, P: Progress, W: Write>(
     rt: &R,
     alloc: Global,
     bytes: &[u8],
     folder: String,
     asked: Loading<'_>,
     input: &mut StandardInput<I>,
+    progress: &mut P,
     out: &mut W,
 ) -> Result<Outcome, Fault>
 where
@@ -139,7 +144,7 @@ where
         Ok(room) => room,
         Err(_) => return Err(Fault::Memory),
     };
-    let end = load_over_folder::<R, D>(
+    let end = load_over_folder::<R, D, P>(
         rt,
         alloc,
         folder,
@@ -147,6 +152,7 @@ where
         load_of(asked.into),
         text.as_slice(),
         asked.limits,
+        progress,
     );
     match end {
         Ok(end) => write_answer(room, end, out),

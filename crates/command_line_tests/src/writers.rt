@@ -3,6 +3,7 @@
 use command_line::program;
 use command_outcomes::Fault;
 use folder_shelf::EmptyDisk;
+use progress::{Progress, Silent};
 use standard_input::StandardInput;
 use standard_output::StandardOutput;
 use std::fs;
@@ -14,7 +15,7 @@ use std::rt::Files;
 use std::test::Fail;
 use system_files::LockFile;
 
-const DECK: &str = "ENVIRONMENT DIVISION.
+pub const DECK: &str = "ENVIRONMENT DIVISION.
 INPUT-OUTPUT SECTION.
 FILE-CONTROL.
     SELECT CUST ASSIGN TO \"cust.dat\" INDEXED RECORD KEY IS CUST-ID.
@@ -30,7 +31,7 @@ PROCEDURE DIVISION.
 
 const TRANSCRIPT: &str = "OPEN OUTPUT CUST 00\nCLOSE CUST 00\n";
 
-const RUN: [&str; 4] = ["run", "cust.deck", "--folder", "."];
+pub const RUN: [&str; 4] = ["run", "cust.deck", "--folder", "."];
 
 /// A writer that takes so many bytes at a call, and so many in all.
 #[derive(Drop)]
@@ -61,14 +62,14 @@ impl Write for Narrow {
 
 /// How the program ended, and what it wrote.
 #[derive(Drop)]
-struct Ended {
+pub struct Ended {
     status: u8,
     out: Narrow,
     err: Narrow,
 }
 
 impl Ended {
-    fn is(&self, status: u8, out: &[u8], err: &[u8]) -> bool {
+    pub fn is(&self, status: u8, out: &[u8], err: &[u8]) -> bool {
         self.status == status
             && self.out.taken.as_slice() == out
             && self.err.taken.as_slice() == err
@@ -82,6 +83,21 @@ fn run<R: Files + AllocGlobal + Abort>(
     at_once: usize,
     out: usize,
     err: usize,
+) -> Result<Ended, Fail>
+where
+    R::File: FileExt + LockFile + AsRawFd,
+{
+    run_with(rt, words, at_once, out, err, &mut Silent)
+}
+
+/// The same, and it is told how far the command is.
+pub fn run_with<R: Files + AllocGlobal + Abort, P: Progress>(
+    rt: &R,
+    words: &[&str],
+    at_once: usize,
+    out: usize,
+    err: usize,
+    progress: &mut P,
 ) -> Result<Ended, Fail>
 where
     R::File: FileExt + LockFile + AsRawFd,
@@ -103,11 +119,12 @@ where
         room: err,
     };
     let nothing = BufReader::new(alloc, io::empty())?;
-    let (status, _ran) = program::<R, EmptyDisk, BufReader<Empty>, Narrow, Narrow>(
+    let (status, _ran) = program::<R, EmptyDisk, BufReader<Empty>, P, Narrow, Narrow>(
         rt,
         alloc,
         given.as_slice(),
         &mut StandardInput::new(nothing),
+        progress,
         &mut out,
         &mut err,
     );

@@ -29,14 +29,14 @@ simple_and_free app is = rw is has_known_faults
 -- what was met is what the words ask for
 pub met_asked : (words : List Text) (met : Option (Text × List Row)) (request : Request) → AreFaultless words → met ≡ subcommand_of program_app words → IsMet met request → Ask words request
 met_asked words met (Run deck folder limits) faultless is h = (faultless, rw (← is) h)
-met_asked words met (Check files) faultless is h = (faultless, rw (← is) h)
+met_asked words met (Check files quiet) faultless is h = (faultless, rw (← is) h)
 met_asked words met (Serve folder limits) faultless is h = (faultless, rw (← is) h)
 met_asked words met (Schema file deck name) faultless is h = (faultless, rw (← is) h)
 met_asked words met (Explain kind number) faultless is h = (faultless, rw (← is) h)
 met_asked words met (Deck deck) faultless is h = (faultless, rw (← is) h)
-met_asked words met (ListRecords file key from to first form) faultless is h = (faultless, rw (← is) h)
+met_asked words met (ListRecords file key from to first form quiet) faultless is h = (faultless, rw (← is) h)
 met_asked words met (Cobol deck fixed) faultless is h = (faultless, rw (← is) h)
-met_asked words met (Load deck folder file text into limits) faultless is h = (faultless, rw (← is) h)
+met_asked words met (Load deck folder file text into limits quiet) faultless is h = (faultless, rw (← is) h)
 met_asked words met (Stat file) faultless is h = (faultless, rw (← is) h)
 met_asked words met (Help text) faultless is h = absurd h
 

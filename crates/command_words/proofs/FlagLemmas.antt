@@ -1,12 +1,14 @@
 -- The truth values that are read of flags.
 use Rattle.std.proofs.Common.{◌≡◌, ℕ, Bool, true, false, List, Option, Some, None, Result, Ok, Err, refl, sym, ap, ◌∙◌}
+use Rattle.std.specs.Prelude.{codes}
+use Rattle.std.specs.Option.{IfSome}
 use Rattle.std.specs.Str.Parse.{ParsesBool}
 use Rattle.std.specs.declared.str.ParseBoolError.{ParseBoolError}
 use Rattle.clap.specs.Words.{Row, Text, one_of, one_text, rows_of}
 use Rattle.clap.specs.Matches.{ReadsOne}
 use Rattle.clap.specs.declared.parser.matches.Found.{Found}
 use Rattle.clap.proofs.WalkLemmas.{one_text-rows}
-use Rattle.command_words.specs.Asks.{IsFlag}
+use Rattle.command_words.specs.Asks.{IsFlag, IsQuiet}
 
 -- the text of this id is there, and this truth value
 abbrev pub GivenFlag : List Row → Text → Bool → Type 0
@@ -40,3 +42,11 @@ module _ (f : Found) (id : Text) where
   no_flag read some is flag given =
       let reads : ReadsOne {E = ParseBoolError} ParsesBool given.0 None = rw is at (some given.0 (one_text-rows f id ∙ given.1)) in
       no_flag_text flag given.0 reads.0 reads.1 given.2
+
+-- whether no progress is to be shown, where that was read
+pub quiet_read : (f : Found) (read : Option Bool) → (one_text f (codes "quiet") ≡ None → read ≡ None) → ((t : Text) → one_text f (codes "quiet") ≡ Some t → ReadsOne {E = ParseBoolError} ParsesBool t read)
+    → IfSome read (IsQuiet (rows_of f))
+quiet_read f None none some = tt
+quiet_read f (Some quiet) none some =
+    let given = flag_read f (codes "quiet") (Some quiet) none some quiet refl in
+    record { text = given.0; given = given.1; is = given.2 }

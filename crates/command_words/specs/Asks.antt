@@ -34,11 +34,23 @@ pub record IsRun (met : Option (Text × List Row)) (deck folder : Text) (pages f
   pub folder_given : first_of (codes "folder") rows ≡ Some folder
   pub limits : AreLimits rows pages frames
 
--- the subcommand that was met is the check of these files
-pub record IsCheck (met : Option (Text × List Row)) (files : List Text) : Type 0 where
+-- the text is this truth value
+abbrev pub IsFlag : Text → Bool → Type 0
+IsFlag text true = text ≡ codes "true"
+IsFlag text false = text ≡ codes "false"
+
+-- the values ask that no progress is shown, or do not
+pub record IsQuiet (rows : List Row) (quiet : Bool) : Type 0 where
+  pub text : Text
+  pub given : one_of (codes "quiet") rows ≡ Some text
+  pub is : IsFlag text quiet
+
+-- the subcommand that was met is the check of these files, with progress or not
+pub record IsCheck (met : Option (Text × List Row)) (files : List Text) (quiet : Bool) : Type 0 where
   pub rows : List Row
   pub is : met ≡ Some (codes "check", rows)
   pub files_given : all_of (codes "file") rows ≡ Some files
+  pub quiet_is : IsQuiet rows quiet
 
 -- the subcommand that was met is to serve the files of this folder, with these limits
 pub record IsServe (met : Option (Text × List Row)) (folder : Text) (pages frames : ℕ) : Type 0 where
@@ -90,8 +102,8 @@ pub record IsForm (rows : List Row) (form : FormText) : Type 0 where
   pub deck_is : first_of (codes "deck") rows ≡ form.deck
   pub name_is : first_of (codes "name") rows ≡ form.name
 
--- the subcommand that was met is to list records of this file in the order of a key, from a value on, to a value, and so many at most, in a form
-pub record IsList (met : Option (Text × List Row)) (file : Text) (key : ℕ) (from to : Option Text) (first : ℕ) (form : FormText) : Type 0 where
+-- the subcommand that was met is to list records of this file in the order of a key, from a value on, to a value, and so many at most, in a form, with progress or not
+pub record IsList (met : Option (Text × List Row)) (file : Text) (key : ℕ) (from to : Option Text) (first : ℕ) (form : FormText) (quiet : Bool) : Type 0 where
   pub rows : List Row
   pub is : met ≡ Some (codes "list", rows)
   pub file_given : first_of (codes "file") rows ≡ Some file
@@ -104,11 +116,7 @@ pub record IsList (met : Option (Text × List Row)) (file : Text) (key : ℕ) (f
   pub from_is : first_of (codes "from") rows ≡ from
   pub to_is : first_of (codes "to") rows ≡ to
   pub form_is : IsForm rows form
-
--- the text is this truth value
-abbrev pub IsFlag : Text → Bool → Type 0
-IsFlag text true = text ≡ codes "true"
-IsFlag text false = text ≡ codes "false"
+  pub quiet_is : IsQuiet rows quiet
 
 -- the subcommand that was met is to write this deck in COBOL, in fixed form or not
 pub record IsCobol (met : Option (Text × List Row)) (deck : Text) (fixed : Bool) : Type 0 where
@@ -119,8 +127,8 @@ pub record IsCobol (met : Option (Text × List Row)) (deck : Text) (fixed : Bool
   pub fixed_given : one_of (codes "fixed") rows ≡ Some fixed_text
   pub fixed_is : IsFlag fixed_text fixed
 
--- the subcommand that was met is to load the lines of this text into a file of this deck over this folder, into the one that is there or not, with these limits
-pub record IsLoad (met : Option (Text × List Row)) (deck folder file text : Text) (into : Bool) (pages frames : ℕ) : Type 0 where
+-- the subcommand that was met is to load the lines of this text into a file of this deck over this folder, into the one that is there or not, with these limits, with progress or not
+pub record IsLoad (met : Option (Text × List Row)) (deck folder file text : Text) (into : Bool) (pages frames : ℕ) (quiet : Bool) : Type 0 where
   pub rows : List Row
   pub is : met ≡ Some (codes "load", rows)
   pub deck_given : first_of (codes "deck") rows ≡ Some deck
@@ -131,6 +139,7 @@ pub record IsLoad (met : Option (Text × List Row)) (deck folder file text : Tex
   pub into_given : one_of (codes "into") rows ≡ Some into_text
   pub into_is : IsFlag into_text into
   pub limits : AreLimits rows pages frames
+  pub quiet_is : IsQuiet rows quiet
 
 -- the subcommand that was met is to count what this file has
 pub record IsStat (met : Option (Text × List Row)) (file : Text) : Type 0 where
@@ -141,14 +150,14 @@ pub record IsStat (met : Option (Text × List Row)) (file : Text) : Type 0 where
 -- the subcommand that was met, with its values, is what is asked for
 abbrev pub IsMet : Option (Text × List Row) → Request → Type 0
 IsMet met (Run deck folder limits) = IsRun met deck.now folder.now limits.pages limits.frames.value
-IsMet met (Check files) = IsCheck met (map (λ file. file.now) files.items)
+IsMet met (Check files quiet) = IsCheck met (map (λ file. file.now) files.items) quiet
 IsMet met (Serve folder limits) = IsServe met folder.now limits.pages limits.frames.value
 IsMet met (Schema file deck name) = IsSchema met file.now (option_map (λ text. text.now) deck) (option_map (λ text. text.now) name)
 IsMet met (Explain kind number) = IsExplain met kind.now number.now
 IsMet met (Deck deck) = IsDeck met deck.now
-IsMet met (ListRecords file key from to first form) = IsList met file.now key (option_map (λ text. text.now) from) (option_map (λ text. text.now) to) first (form_text form)
+IsMet met (ListRecords file key from to first form quiet) = IsList met file.now key (option_map (λ text. text.now) from) (option_map (λ text. text.now) to) first (form_text form) quiet
 IsMet met (Cobol deck fixed) = IsCobol met deck.now fixed
-IsMet met (Load deck folder file text into limits) = IsLoad met deck.now folder.now file.now text.now into limits.pages limits.frames.value
+IsMet met (Load deck folder file text into limits quiet) = IsLoad met deck.now folder.now file.now text.now into limits.pages limits.frames.value quiet
 IsMet met (Stat file) = IsStat met file.now
 IsMet met (Help text) = ⊥
 
@@ -162,16 +171,16 @@ pub record IsNoRunOrList (met : Option (Text × List Row)) : Type 0 where
 
 -- and no list of records, no program in COBOL, no load and no count
 pub record IsNoRecords (met : Option (Text × List Row)) : Type 0 where
-  pub no_list : (file : Text) (key : ℕ) (from to : Option Text) (first : ℕ) (form : FormText) → ¬ (IsList met file key from to first form)
+  pub no_list : (file : Text) (key : ℕ) (from to : Option Text) (first : ℕ) (form : FormText) (quiet : Bool) → ¬ (IsList met file key from to first form quiet)
   pub no_cobol : (deck : Text) (fixed : Bool) → ¬ (IsCobol met deck fixed)
-  pub no_load : (deck folder file text : Text) (into : Bool) (pages frames : ℕ) → ¬ (IsLoad met deck folder file text into pages frames)
+  pub no_load : (deck folder file text : Text) (into : Bool) (pages frames : ℕ) (quiet : Bool) → ¬ (IsLoad met deck folder file text into pages frames quiet)
   pub no_stat : (file : Text) → ¬ (IsStat met file)
 
 -- it is none of these, and no check
 pub record IsNone (met : Option (Text × List Row)) : Type 0 where
   pub no_run_or_list : IsNoRunOrList met
   pub no_records : IsNoRecords met
-  pub no_check : (files : List Text) → ¬ (IsCheck met files)
+  pub no_check : (files : List Text) (quiet : Bool) → ¬ (IsCheck met files quiet)
 
 -- the words have no fault
 abbrev pub AreFaultless : List Text → Type 0
@@ -189,9 +198,9 @@ IsShown text = (kind_of text ≡ DisplayHelp) ⊎ (kind_of text ≡ DisplayVersi
 abbrev pub AskRun : List Text → (deck folder : Text) (pages frames : ℕ) → Type 0
 AskRun words deck folder pages frames = AreFaultless words × IsRun (subcommand_of program_app words) deck folder pages frames
 
--- for the check of these files
-abbrev pub AskCheck : List Text → (files : List Text) → Type 0
-AskCheck words files = AreFaultless words × IsCheck (subcommand_of program_app words) files
+-- for the check of these files, with progress or not
+abbrev pub AskCheck : List Text → (files : List Text) (quiet : Bool) → Type 0
+AskCheck words files quiet = AreFaultless words × IsCheck (subcommand_of program_app words) files quiet
 
 -- to serve the files of this folder, with these limits
 abbrev pub AskServe : List Text → (folder : Text) (pages frames : ℕ) → Type 0
@@ -209,18 +218,18 @@ AskExplain words kind number = AreFaultless words × IsExplain (subcommand_of pr
 abbrev pub AskDeck : List Text → (deck : Text) → Type 0
 AskDeck words deck = AreFaultless words × IsDeck (subcommand_of program_app words) deck
 
--- to list records of this file in a form
-abbrev pub AskList : List Text → (file : Text) (key : ℕ) (from to : Option Text) (first : ℕ) (form : FormText) → Type 0
-AskList words file key from to first form = AreFaultless words × IsList (subcommand_of program_app words) file key from to first form
+-- to list records of this file in a form, with progress or not
+abbrev pub AskList : List Text → (file : Text) (key : ℕ) (from to : Option Text) (first : ℕ) (form : FormText) (quiet : Bool) → Type 0
+AskList words file key from to first form quiet = AreFaultless words × IsList (subcommand_of program_app words) file key from to first form quiet
 
 -- to write this deck in COBOL
 abbrev pub AskCobol : List Text → (deck : Text) (fixed : Bool) → Type 0
 AskCobol words deck fixed = AreFaultless words × IsCobol (subcommand_of program_app words) deck fixed
 
--- to load the lines of this text into a file of this deck
-abbrev pub AskLoad : List Text → (deck folder file text : Text) (into : Bool) (pages frames : ℕ) → Type 0
-AskLoad words deck folder file text into pages frames =
-    AreFaultless words × IsLoad (subcommand_of program_app words) deck folder file text into pages frames
+-- to load the lines of this text into a file of this deck, with progress or not
+abbrev pub AskLoad : List Text → (deck folder file text : Text) (into : Bool) (pages frames : ℕ) (quiet : Bool) → Type 0
+AskLoad words deck folder file text into pages frames quiet =
+    AreFaultless words × IsLoad (subcommand_of program_app words) deck folder file text into pages frames quiet
 
 -- to count what this file has
 abbrev pub AskStat : List Text → (file : Text) → Type 0
@@ -233,14 +242,14 @@ AskHelp words text = HaveFault words text × IsShown text
 -- for this
 abbrev pub Ask : List Text → Request → Type 0
 Ask words (Run deck folder limits) = AskRun words deck.now folder.now limits.pages limits.frames.value
-Ask words (Check files) = AskCheck words (map (λ file. file.now) files.items)
+Ask words (Check files quiet) = AskCheck words (map (λ file. file.now) files.items) quiet
 Ask words (Serve folder limits) = AskServe words folder.now limits.pages limits.frames.value
 Ask words (Schema file deck name) = AskSchema words file.now (option_map (λ text. text.now) deck) (option_map (λ text. text.now) name)
 Ask words (Explain kind number) = AskExplain words kind.now number.now
 Ask words (Deck deck) = AskDeck words deck.now
-Ask words (ListRecords file key from to first form) = AskList words file.now key (option_map (λ text. text.now) from) (option_map (λ text. text.now) to) first (form_text form)
+Ask words (ListRecords file key from to first form quiet) = AskList words file.now key (option_map (λ text. text.now) from) (option_map (λ text. text.now) to) first (form_text form) quiet
 Ask words (Cobol deck fixed) = AskCobol words deck.now fixed
-Ask words (Load deck folder file text into limits) = AskLoad words deck.now folder.now file.now text.now into limits.pages limits.frames.value
+Ask words (Load deck folder file text into limits quiet) = AskLoad words deck.now folder.now file.now text.now into limits.pages limits.frames.value quiet
 Ask words (Stat file) = AskStat words file.now
 Ask words (Help text) = AskHelp words text
 

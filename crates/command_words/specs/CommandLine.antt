@@ -51,9 +51,9 @@ run_shape = record (new_shape (codes "run")) {
       ∷ number_rule (codes "frames") 1 4096 (codes "64") ∷ [];
 }
 
--- `check FILE..`
+-- `check FILE.. [--quiet]`
 abbrev pub check_shape : Shape
-check_shape = record (new_shape (codes "check")) { rules = words_rule (codes "file") ∷ [] }
+check_shape = record (new_shape (codes "check")) { rules = words_rule (codes "file") ∷ flag_rule (codes "quiet") ∷ [] }
 
 -- `serve --folder DIR [--pages N] [--frames N]`
 abbrev pub serve_shape : Shape
@@ -75,24 +75,27 @@ explain_shape = record (new_shape (codes "explain")) { rules = word_rule (codes 
 abbrev pub deck_shape : Shape
 deck_shape = record (new_shape (codes "deck")) { rules = word_rule (codes "deck") ∷ [] }
 
--- `list FILE [--key N] [--from V] [--to V] [--first N] [--as FORM] [--cut N,N..] [--deck DECK --file NAME]`
+-- `[--first N]`
+abbrev pub first_rule : Rule
+first_rule = number_rule (codes "first") 0 18446744073709551615 (codes "18446744073709551615")
+
+-- `list FILE [--key N] [--from V] [--to V] [--first N] [--as FORM] [--cut N,N..] [--deck DECK --file NAME] [--quiet]`
 abbrev pub list_shape : Shape
 list_shape = record (new_shape (codes "list")) {
   rules = word_rule (codes "file") ∷ number_rule (codes "key") 0 8 (codes "0") ∷ text_rule (codes "from") ∷ text_rule (codes "to")
-      ∷ number_rule (codes "first") 0 18446744073709551615 (codes "18446744073709551615")
-      ∷ usual_rule (codes "as") (codes "text") ∷ text_rule (codes "cut") ∷ text_rule (codes "deck") ∷ name_rule ∷ [];
+      ∷ first_rule ∷ usual_rule (codes "as") (codes "text") ∷ text_rule (codes "cut") ∷ text_rule (codes "deck") ∷ name_rule ∷ flag_rule (codes "quiet") ∷ [];
 }
 
 -- `cobol DECK [--fixed]`
 abbrev pub cobol_shape : Shape
 cobol_shape = record (new_shape (codes "cobol")) { rules = word_rule (codes "deck") ∷ flag_rule (codes "fixed") ∷ [] }
 
--- `load DECK --folder DIR --file NAME TEXT [--into] [--pages N] [--frames N]`
+-- `load DECK --folder DIR --file NAME TEXT [--into] [--pages N] [--frames N] [--quiet]`
 abbrev pub load_shape : Shape
 load_shape = record (new_shape (codes "load")) {
   rules = word_rule (codes "deck") ∷ option_rule (codes "folder") ∷ option_rule (codes "file") ∷ word_rule (codes "text") ∷ flag_rule (codes "into")
       ∷ number_rule (codes "pages") 16 4294967295 (codes "1048576")
-      ∷ number_rule (codes "frames") 1 4096 (codes "64") ∷ [];
+      ∷ number_rule (codes "frames") 1 4096 (codes "64") ∷ flag_rule (codes "quiet") ∷ [];
 }
 
 -- `stat FILE`

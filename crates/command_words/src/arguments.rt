@@ -1,7 +1,7 @@
 //! The arguments of the subcommands.
 ghost use Rattle.std.specs.Prelude.{◌≡◌, false, codes};
 ghost use Rattle.clap.specs.Words.{rule_of};
-ghost use Rattle.command_words.specs.CommandLine.{word_rule, words_rule, option_rule, text_rule, usual_rule, name_rule, flag_rule, number_rule};
+ghost use Rattle.command_words.specs.CommandLine.{word_rule, words_rule, option_rule, text_rule, usual_rule, name_rule, flag_rule, number_rule, first_rule};
 
 use clap::builder::ValueParser;
 use clap::{Arg, ArgAction};
@@ -25,6 +25,22 @@ pub fn number<'a>(
         .default_value(default)
         .help(help)
         .value_parser(ValueParser::unsigned(least, most))
+}
+
+/// The option `--first`: the greatest number stands for no bound, so help does not show it.
+pub fn first<'a>(alloc: Global) -> Arg<'a>
+    ensures rule { rule_of result ≡ first_rule }
+    ensures local { result.global ≡ false }
+{
+    let first = number(
+        alloc,
+        "first",
+        0,
+        18_446_744_073_709_551_615,
+        "18446744073709551615",
+        "The most records that are listed; where it is not given, all of them",
+    );
+    first.hide_default_value(true)
 }
 
 /// A word that has to be given.

@@ -2,7 +2,7 @@
 ghost use Rattle.std.specs.Prelude.{◌≡◌, ℕ, Bool, List, Option, None, IfOk};
 ghost use Rattle.std.specs.Option.{IfSome};
 ghost use Rattle.clap.specs.Words.{found_of, rows_of, subcommand_rows_of};
-ghost use Rattle.command_words.specs.Asks.{AreLimits, IsRun, IsCheck, IsServe, IsSchema, IsExplain, IsDeck, FormText, form_text, IsForm, IsList, IsCobol, IsLoad, IsStat, IsMet, IsNoRunOrList, IsNoRecords, IsNone};
+ghost use Rattle.command_words.specs.Asks.{AreLimits, IsRun, IsQuiet, IsCheck, IsServe, IsSchema, IsExplain, IsDeck, FormText, form_text, IsForm, IsList, IsCobol, IsLoad, IsStat, IsMet, IsNoRunOrList, IsNoRecords, IsNone};
 
 use crate::form_words::FormWords;
 use crate::limits::Limits;
@@ -36,19 +36,31 @@ fn run_of<'a>(matches: &ArgMatches<'a>) -> Option<Request<'a>>
     })
 }
 
+/// Whether it is asked that no progress is shown.
+fn quiet_of(long: &ArgMatches<'_>) -> Option<bool>
+    ensures some { IfSome result (IsQuiet (rows_of (found_of long.now))) }
+    ensures none { result ≡ None → (quiet : Bool) → IsQuiet (rows_of (found_of long.now)) quiet → ⊥ }
+{
+    long.get_one("quiet")
+}
+
 /// The checks that the matches ask for, if they ask for some.
 fn check_of<'a>(alloc: Global, matches: &ArgMatches<'a>) -> Result<Option<Request<'a>>, AllocError>
     ensures some { IfOk result (λ found. IfSome found (IsMet (subcommand_rows_of matches.now))) }
-    ensures none { IfOk result (λ found. found ≡ None → (files : List (List ℕ)) → IsCheck (subcommand_rows_of matches.now) files → ⊥) }
+    ensures none { IfOk result (λ found. found ≡ None → (files : List (List ℕ)) (quiet : Bool) → IsCheck (subcommand_rows_of matches.now) files quiet → ⊥) }
 {
     let check = match matches.subcommand_matches("check") {
         Some(check) => check,
         None => return Ok(None),
     };
+    let quiet = match quiet_of(check) {
+        Some(quiet) => quiet,
+        None => return Ok(None),
+    };
     match check.get_strs("file") {
         Some(files) => {
             let files = files.to_vec(alloc)?;
-            Ok(Some(Request::Check { files }))
+            Ok(Some(Request::Check { files, quiet }))
         }
         None => Ok(None),
     }
@@ -117,14 +129,15 @@ fn form_of<'a>(list: &ArgMatches<'a>) -> Option<FormWords<'a>>
 /// The list that the matches ask for, if they ask for one.
 fn list_of<'a>(matches: &ArgMatches<'a>) -> Option<Request<'a>>
     ensures some { IfSome result (IsMet (subcommand_rows_of matches.now)) }
-    ensures none { result ≡ None → (file : List ℕ) (key : ℕ) (from to : Option (List ℕ)) (first : ℕ) (form : FormText)
-        → IsList (subcommand_rows_of matches.now) file key from to first form → ⊥ }
+    ensures none { result ≡ None → (file : List ℕ) (key : ℕ) (from to : Option (List ℕ)) (first : ℕ) (form : FormText) (quiet : Bool)
+        → IsList (subcommand_rows_of matches.now) file key from to first form quiet → ⊥ }
 {
     let list = matches.subcommand_matches("list")?;
     let file = list.get_str("file")?;
     let key = list.get_one("key")?;
     let first = list.get_one("first")?;
     let form = form_of(list)?;
+    let quiet = quiet_of(list)?;
     Some(Request::List {
         file,
         key,
@@ -132,6 +145,7 @@ fn list_of<'a>(matches: &ArgMatches<'a>) -> Option<Request<'a>>
         to: list.get_str("to"),
         first,
         form,
+        quiet,
     })
 }
 
@@ -149,8 +163,8 @@ fn cobol_of<'a>(matches: &ArgMatches<'a>) -> Option<Request<'a>>
 /// The load that the matches ask for, if they ask for one.
 fn load_of<'a>(matches: &ArgMatches<'a>) -> Option<Request<'a>>
     ensures some { IfSome result (IsMet (subcommand_rows_of matches.now)) }
-    ensures none { result ≡ None → (deck folder file text : List ℕ) (into : Bool) (pages frames : ℕ)
-        → IsLoad (subcommand_rows_of matches.now) deck folder file text into pages frames → ⊥ }
+    ensures none { result ≡ None → (deck folder file text : List ℕ) (into : Bool) (pages frames : ℕ) (quiet : Bool)
+        → IsLoad (subcommand_rows_of matches.now) deck folder file text into pages frames quiet → ⊥ }
 {
     let load = matches.subcommand_matches("load")?;
     let deck = load.get_str("deck")?;
@@ -159,6 +173,7 @@ fn load_of<'a>(matches: &ArgMatches<'a>) -> Option<Request<'a>>
     let text = load.get_str("text")?;
     let into = load.get_one("into")?;
     let limits = limits_of(load)?;
+    let quiet = quiet_of(load)?;
     Some(Request::Load {
         deck,
         folder,
@@ -166,6 +181,7 @@ fn load_of<'a>(matches: &ArgMatches<'a>) -> Option<Request<'a>>
         text,
         into,
         limits,
+        quiet,
     })
 }
 

@@ -21,9 +21,10 @@ pub enum Request<'a> {
         folder: &'a str,
         limits: Limits,
     },
-    /// The checks of the files of these paths.
+    /// The checks of the files of these paths, without progress where it is quiet.
     Check {
         files: Vec<&'a str>,
+        quiet: bool,
     },
     /// To perform verbs that are asked for on standard input, on the files of a folder.
     Serve {
@@ -45,7 +46,8 @@ pub enum Request<'a> {
     Deck {
         deck: &'a str,
     },
-    /// The records of the file of this path, in the order of a key: from this value on, to that one, and so many at most, in this form.
+    /// The records of the file of this path, in the order of a key: from this value on, to that one, and so many at most, in this form; without progress where it
+    /// is quiet.
     List {
         file: &'a str,
         key: u8,
@@ -53,6 +55,7 @@ pub enum Request<'a> {
         to: Option<&'a str>,
         first: u64,
         form: FormWords<'a>,
+        quiet: bool,
     },
     /// The deck in the file of this path as a program in COBOL: in fixed form, or in free form.
     Cobol {
@@ -60,7 +63,7 @@ pub enum Request<'a> {
         fixed: bool,
     },
     /// To write the lines of the text of this path, or of standard input where it is `-`, as records into the file of this name in the deck in the file of a path:
-    /// into the file that is there, or into a new one.
+    /// into the file that is there, or into a new one; without progress where it is quiet.
     Load {
         deck: &'a str,
         folder: &'a str,
@@ -68,6 +71,7 @@ pub enum Request<'a> {
         text: &'a str,
         into: bool,
         limits: Limits,
+        quiet: bool,
     },
     /// What the file of this path has: its pages, its slots, and the levels of its trees.
     Stat {
@@ -75,6 +79,18 @@ pub enum Request<'a> {
     },
     /// This text: help, or the version.
     Help(Error),
+}
+
+impl Request<'_> {
+    /// Whether it is asked that no progress is shown.
+    pub fn is_quiet(&self) -> bool {
+        match self {
+            Request::Check { quiet, .. }
+            | Request::List { quiet, .. }
+            | Request::Load { quiet, .. } => *quiet,
+            _ => false,
+        }
+    }
 }
 
 /// What an error of the parse means: it shows help, or tells a mistake.

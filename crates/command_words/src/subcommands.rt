@@ -2,9 +2,9 @@
 ghost use Rattle.std.specs.Prelude.{◌≡◌, [], false, codes, IfOk};
 ghost use Rattle.clap.specs.Words.{app_of, with_rule};
 ghost use Rattle.clap.specs.declared.builder.command.Command.TheViews.{out-Command};
-ghost use Rattle.command_words.specs.CommandLine.{word_rule, option_rule, text_rule, usual_rule, name_rule, flag_rule, number_rule, run_shape, check_shape, serve_shape, schema_shape, explain_shape, deck_shape, list_shape, cobol_shape, load_shape, stat_shape, program_shape, runs_app, lists_app, records_app, program_app};
+ghost use Rattle.command_words.specs.CommandLine.{word_rule, option_rule, text_rule, usual_rule, name_rule, flag_rule, number_rule, first_rule, run_shape, check_shape, serve_shape, schema_shape, explain_shape, deck_shape, list_shape, cobol_shape, load_shape, stat_shape, program_shape, runs_app, lists_app, records_app, program_app};
 
-use crate::arguments::{deck, flag, folder, name, number, option, text, usual, word, words};
+use crate::arguments::{deck, first, flag, folder, name, number, option, text, usual, word, words};
 use crate::help::{
     ANSWERS, COBOL, COUNTED, EXPLAINED, LISTED, LOADED, REASONS, RECORDS, SCHEMA, SERVING, VERSION,
 };
@@ -46,6 +46,19 @@ fn with_limits<'a>(alloc: Global, files: Command<'a>) -> Result<Command<'a>, All
     files.arg(pages)?.arg(frames)
 }
 
+/// `check`, `list` or `load` with the option by which it shows no progress.
+fn with_quiet<'a>(alloc: Global, long: Command<'a>) -> Result<Command<'a>, AllocError>
+    requires { (out-Command long).has_globals ≡ false }
+    ensures shape { IfOk result (λ command. app_of command ≡ with_rule (app_of long.entry) (flag_rule (codes "quiet"))) }
+    ensures local { IfOk result (λ command. (out-Command command).has_globals ≡ false) }
+{
+    long.arg(flag(
+        alloc,
+        "quiet",
+        "Shows no progress; without it a terminal shows some on standard error, after two seconds",
+    ))
+}
+
 /// `run`, with its words and options.
 fn run_command<'a>(alloc: Global) -> Result<Command<'a>, AllocError>
     ensures shape { IfOk result (λ command. app_of command ≡ record { top = run_shape; subs = [] }) }
@@ -71,7 +84,7 @@ fn check_command<'a>(alloc: Global) -> Result<Command<'a>, AllocError>
     let check = Command::new(alloc, "check")
         .about("Checks whether files stand for records")
         .after_help(REASONS);
-    check.arg(files)
+    with_quiet(alloc, check.arg(files)?)
 }
 
 /// `serve`.
@@ -146,7 +159,7 @@ fn deck_command<'a>(alloc: Global) -> Result<Command<'a>, AllocError>
     listed.arg(deck(alloc))
 }
 
-/// The options of a list.
+/// The bounds of a list.
 fn with_bounds<'a>(alloc: Global, list: Command<'a>) -> Result<Command<'a>, AllocError>
     requires { (out-Command list).has_globals ≡ false }
     ensures shape { IfOk result (λ command. app_of command ≡ with_rule (with_rule (with_rule (app_of list.entry) (number_rule (codes "key") 0 8 (codes "0")))
@@ -208,15 +221,8 @@ fn list_command<'a>(alloc: Global) -> Result<Command<'a>, AllocError>
         .about("Lists the records of a file, a line each, in the order of a key")
         .after_help(RECORDS);
     let bounded = with_bounds(alloc, list.arg(file)?)?;
-    let first = number(
-        alloc,
-        "first",
-        0,
-        18_446_744_073_709_551_615,
-        "18446744073709551615",
-        "The most records that are listed; where it is not given, all of them",
-    );
-    with_form(alloc, bounded.arg(first.hide_default_value(true))?)
+    let formed = with_form(alloc, bounded.arg(first(alloc))?)?;
+    with_quiet(alloc, formed)
 }
 
 /// `cobol`.
@@ -270,7 +276,8 @@ fn load_command<'a>(alloc: Global) -> Result<Command<'a>, AllocError>
     let load = Command::new(alloc, "load")
         .about("Writes the lines of a text as records into a file")
         .after_help(LOADED);
-    with_limits(alloc, with_text(alloc, with_files(alloc, load)?)?)
+    let limited = with_limits(alloc, with_text(alloc, with_files(alloc, load)?)?)?;
+    with_quiet(alloc, limited)
 }
 
 /// `stat`.

@@ -7,6 +7,7 @@ ghost use Rattle.command_outcomes.specs.Status.{status_of};
 use crate::file_bytes::read_file;
 use command_outcomes::{Fault, Outcome};
 use file_statistics::{FileStatisticsEnd, StatisticsFault, list_statistics};
+use progress::Silent;
 use std::alloc::Global;
 use std::io::Write;
 use std::rt::Files;
@@ -36,7 +37,7 @@ where
         × IsFrontOfInput 18446744073709551615 (R.File.remaining file) bytes × EndsWith bytes (W.contents out.old) (W.contents out.new) end)) }
     ensures fault { IfErr result (λ fault. status_of fault ≡ 4) }
 {
-    let bytes = match read_file(rt, alloc, path) {
+    let bytes = match read_file(rt, alloc, path, &mut Silent) {
         Ok(bytes) => bytes,
         Err(fault) => return Err(fault),
     };

@@ -6,8 +6,9 @@ ghost use Rattle.command_outcomes.specs.Status.{status_of};
 
 use command_outcomes::Fault;
 use file_control::DECK_LIMIT;
+use progress::{Progress, ProgressReader};
 use std::alloc::Global;
-use std::fs;
+use std::fs::{self, OpenFile};
 use std::io::{ErrorKind, Read};
 use std::rt::Files;
 use system_files::LockFile;
@@ -125,13 +126,44 @@ where
     Ok(file)
 }
 
-/// The bytes of the file of a path, as long as no run changes it: all of them, or as many as memory could ever hold.
-pub fn read_file<R: Files>(rt: &R, alloc: Global, path: &str) -> Result<Vec<u8>, Fault>
+/// A file as a reader that tells how many of its bytes have come.
+pub fn with_progress<F: OpenFile + Read, P: Progress>(
+    file: F,
+    progress: &mut P,
+) -> ProgressReader<'_, F, P>
+    ensures { result.reader ≡ file }
+{
+    let whole = system_files::measure(&file).unwrap_or(0);
+    ProgressReader::new(file, whole, progress)
+}
+
+/// The bytes of a file: all of them, or as many as memory could ever hold. It is told how many have come.
+fn read_all<F: OpenFile + Read + Drop, P: Progress>(
+    alloc: Global,
+    file: F,
+    progress: &mut P,
+) -> Result<Vec<u8>, Fault>
+    ensures bytes { IfOk result (λ bytes. IsFrontOfInput 18446744073709551615 (F.remaining file) bytes.items) }
+    ensures fault { IfErr result (λ fault. status_of fault ≡ 4) }
+{
+    let mut reader = with_progress(file, progress);
+    read_front(alloc, &mut reader, usize::MAX)
+}
+
+/// The bytes of the file of a path, as long as no run changes it: all of them, or as many as memory could ever hold. It is told how many have come.
+pub fn read_file<R: Files, P: Progress>(
+    rt: &R,
+    alloc: Global,
+    path: &str,
+    progress: &mut P,
+) -> Result<Vec<u8>, Fault>
 where
     R::File: LockFile,
     ensures bytes { IfOk result (λ bytes. (file : R.File) × IsFrontOfInput 18446744073709551615 (R.File.remaining file) bytes.items) }
     ensures fault { IfErr result (λ fault. status_of fault ≡ 4) }
 {
-    let mut file = open_shared(rt, path)?;
-    read_front(alloc, &mut file, usize::MAX)
+    let file = open_shared(rt, path)?;
+    let bytes = read_all(alloc, file, progress);
+    progress.wipe();
+    bytes
 }

@@ -12,6 +12,7 @@ use command_outcomes::{Fault, Outcome};
 use command_words::FormWords;
 use file_listing::{FileList, list_file_as};
 use io_state::Key;
+use progress::Progress;
 use record_listing::{Asked, ListFault};
 use std::alloc::Global;
 use std::io::{Read, Write};
@@ -80,14 +81,15 @@ fn ended(end: Result<FileList, ListFault>) -> Result<Outcome, Fault>
 }
 
 /// Writes the lines of the records of the file of a path that are asked for, in the form that is asked for. `LongValue`: nothing was read or written. `Form`, `Deck`,
-/// `NoSuchFile`: there is no such form, and the file was not read.
-pub fn list_records<R: Files, I: Read, W: Write>(
+/// `NoSuchFile`: there is no such form, and the file was not read. While it is read, it is told how many bytes have come.
+pub fn list_records<R: Files, I: Read, P: Progress, W: Write>(
     rt: &R,
     alloc: Global,
     path: &str,
     bounds: Bounds<'_>,
     form: FormWords<'_>,
     input: &mut I,
+    progress: &mut P,
     out: &mut W,
 ) -> Result<Outcome, Fault>
 where
@@ -109,7 +111,7 @@ where
         Ok(form) => form,
         Err(fault) => return Err(fault),
     };
-    let bytes = match read_file(rt, alloc, path) {
+    let bytes = match read_file(rt, alloc, path, progress) {
         Ok(bytes) => bytes,
         Err(fault) => return Err(fault),
     };

@@ -5,10 +5,12 @@ ghost use Rattle.file_checker.specs.Sound.{IsRight};
 ghost use Rattle.command_outcomes.specs.Status.{status_of};
 ghost use Rattle.file_commands.specs.Verdicts.{is_sound, AreVerdicts};
 
-use crate::file_bytes::open_shared;
+use crate::file_bytes::{open_shared, with_progress};
 use command_outcomes::{Fault, Outcome};
 use file_checker::{CheckFault, Verdict, check_file};
+use progress::Progress;
 use std::alloc::Global;
+use std::fs::OpenFile;
 use std::io::{self, Read, Write};
 use std::rt::Files;
 use system_files::LockFile;
@@ -41,22 +43,43 @@ fn write_named<W: Write>(path: &str, verdict: Verdict, out: &mut W) -> io::Resul
     write_line(verdict, out)
 }
 
-/// The verdict on the file of a path, as long as no run changes it.
-fn verdict_of<R: Files>(rt: &R, alloc: Global, path: &str) -> Result<Verdict, Fault>
+/// The verdict on a file. It is told how many bytes have come.
+fn check_all<F: OpenFile + Read + Drop, P: Progress>(
+    alloc: Global,
+    file: F,
+    progress: &mut P,
+) -> Result<Verdict, Fault>
+    ensures right { IfOk result (λ verdict. IfSome (F.remaining file) (λ bytes. IsRight bytes verdict)) }
+    ensures fault { IfErr result (λ fault. status_of fault ≡ 4) }
+{
+    let mut reader = with_progress(file, progress);
+    check(alloc, &mut reader)
+}
+
+/// The verdict on the file of a path, as long as no run changes it. It is told how many bytes have come.
+fn verdict_of<R: Files, P: Progress>(
+    rt: &R,
+    alloc: Global,
+    path: &str,
+    progress: &mut P,
+) -> Result<Verdict, Fault>
 where
     R::File: LockFile,
     ensures right { IfOk result (λ verdict. (file : R.File) × IfSome (R.File.remaining file) (λ bytes. IsRight bytes verdict)) }
     ensures fault { IfErr result (λ fault. status_of fault ≡ 4) }
 {
-    let mut file = open_shared(rt, path)?;
-    check(alloc, &mut file)
+    let file = open_shared(rt, path)?;
+    let verdict = check_all(alloc, file, progress);
+    progress.wipe();
+    verdict
 }
 
 /// Checks the file of a path, as long as no run changes it, and writes the verdict.
-pub fn check_path<R: Files, W: Write>(
+pub fn check_path<R: Files, P: Progress, W: Write>(
     rt: &R,
     alloc: Global,
     path: &str,
+    progress: &mut P,
     out: &mut W,
 ) -> Result<Outcome, Fault>
 where
@@ -65,7 +88,7 @@ where
         × ((file : R.File) × IfSome (R.File.remaining file) (λ bytes. IsRight bytes verdict))) }
     ensures fault { IfErr result (λ fault. status_of fault ≡ 4) }
 {
-    let verdict = verdict_of(rt, alloc, path)?;
+    let verdict = verdict_of(rt, alloc, path, progress)?;
     match write_line(verdict, out) {
         Ok(()) => Ok(Outcome::Checked(verdict)),
         Err(_) => Err(Fault::Output),
@@ -80,10 +103,11 @@ fn all_sound(verdict: Verdict, others: bool) -> bool
 }
 
 /// Checks the files of paths one after another, and writes each verdict behind the path: whether all of them are sound. A file that cannot be read ends it.
-fn check_files<R: Files, W: Write>(
+fn check_files<R: Files, P: Progress, W: Write>(
     rt: &R,
     alloc: Global,
     paths: &[&str],
+    progress: &mut P,
     out: &mut W,
 ) -> Result<bool, Fault>
 where
@@ -94,21 +118,22 @@ where
     match paths {
         [] => Ok(true),
         [first, rest @ ..] => {
-            let verdict = verdict_of(rt, alloc, first)?;
+            let verdict = verdict_of(rt, alloc, first, progress)?;
             if write_named(first, verdict, out).is_err() {
                 return Err(Fault::Output);
             }
-            let others = check_files(rt, alloc, rest, out)?;
+            let others = check_files(rt, alloc, rest, progress, out)?;
             Ok(all_sound(verdict, others))
         }
     }
 }
 
 /// Checks the files of several paths.
-pub fn check_paths<R: Files, W: Write>(
+pub fn check_paths<R: Files, P: Progress, W: Write>(
     rt: &R,
     alloc: Global,
     paths: &[&str],
+    progress: &mut P,
     out: &mut W,
 ) -> Result<Outcome, Fault>
 where
@@ -117,7 +142,7 @@ where
         × AreVerdicts (λ verdict. (file : R.File) × IfSome (R.File.remaining file) (λ bytes. IsRight bytes verdict)) (length paths.now) sound) }
     ensures fault { IfErr result (λ fault. status_of fault ≡ 4) }
 {
-    match check_files(rt, alloc, paths, out) {
+    match check_files(rt, alloc, paths, progress, out) {
         Ok(sound) => Ok(Outcome::CheckedAll(sound)),
         Err(fault) => Err(fault),
     }

@@ -12,6 +12,7 @@ use crate::end::{Load, LoadEnd, LoadFault, mode_of};
 use crate::writing::write_lines;
 use indexed_file::Library;
 use io_state::{Access, FileName, OpenMode};
+use progress::Progress;
 use record_layout::Schema;
 use std::alloc::{AllocError, Global};
 use verbs::Connector;
@@ -26,12 +27,13 @@ fn blank_area(alloc: Global, size: u16) -> Result<Vec<u8>, AllocError>
 }
 
 /// Loads the records into the file of unit 0, which is closed.
-fn load_attached<L: Library>(
+fn load_attached<L: Library, P: Progress>(
     lib: &mut L,
     schema: &Schema,
     mode: OpenMode,
     area: &mut [u8],
     text: &[u8],
+    progress: &mut P,
 ) -> LoadEnd
     requires attached { 0 < length (L.shown.world lib.old).units }
     requires closed { IsFalse (is_open (holding_at (L.shown.world lib.old) 0)) }
@@ -47,22 +49,24 @@ fn load_attached<L: Library>(
     if !opened.is_success() {
         return LoadEnd::NotOpened { status: opened };
     }
-    let lines = write_lines(&mut connector, lib, least, area, text);
+    let lines = write_lines(&mut connector, lib, least, area, text, progress);
     let closed = connector.close(lib, 0, false);
     LoadEnd::Opened { lines, closed }
 }
 
 /// Opens the file of a name, writes the record of each line of a text, and closes the file. The library has this name attached then, and no other. The first line that
 /// is the line of no record of the file, or whose WRITE is no success, ends it, and what was written before stays. Where a crash could leave no false file before the load, it can leave none at any moment of it.
+/// After each record it is told how many bytes of the text are written.
 ///
 /// `Memory`: nothing was done.
-pub fn load_records<L: Library>(
+pub fn load_records<L: Library, P: Progress>(
     alloc: Global,
     lib: &mut L,
     name: FileName,
     schema: &Schema,
     load: Load,
     text: &[u8],
+    progress: &mut P,
 ) -> Result<LoadEnd, LoadFault>
     ensures loads { IfOk result (λ end. IsTrue (L.shown.is_honest lib.new) → L.shown.IsShownTruly lib.old name.bytes
         → LoadsNamed name.bytes schema.now (mode_of load) text.now (L.shown.world lib.old) end (L.shown.world lib.new)) }
@@ -76,7 +80,14 @@ pub fn load_records<L: Library>(
         return Err(LoadFault::Memory);
     };
     match lib.attach(&[name]) {
-        Ok(()) => Ok(load_attached(lib, schema, mode_of(load), area.as_mut_slice(), text)),
+        Ok(()) => Ok(load_attached(
+            lib,
+            schema,
+            mode_of(load),
+            area.as_mut_slice(),
+            text,
+            progress,
+        )),
         Err(_) => Err(LoadFault::Memory),
     }
 }

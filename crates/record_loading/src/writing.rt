@@ -7,16 +7,24 @@ ghost use Rattle.record_loading.specs.Going.{GoesOn, LeavesLines};
 use crate::end::LinesEnd;
 use crate::line::read_record;
 use indexed_file::Library;
+use progress::Progress;
 use verbs::Connector;
 
+/// Tells how many bytes of a text are done, of which this is the rest.
+fn tell_progress<P: Progress>(progress: &mut P, text: &[u8], rest: &[u8]) {
+    let done = text.len().saturating_sub(rest.len());
+    progress.at(done as u64, text.len() as u64);
+}
+
 /// Writes the records of the lines of a text into the file of unit 0, one after another. The first line that is the line of no record of the file, or whose WRITE is no
-/// success, ends it.
-pub fn write_lines<L: Library>(
+/// success, ends it. After each line it is told how many bytes of the text are written.
+pub fn write_lines<L: Library, P: Progress>(
     connector: &mut Connector,
     lib: &mut L,
     least: u16,
     area: &mut [u8],
     text: &[u8],
+    progress: &mut P,
 ) -> LinesEnd
     requires fits { Fits connector.old (L.shown.world lib.old) 0 }
     requires least { least ≡ connector.old.connector.schema.least }
@@ -41,6 +49,7 @@ pub fn write_lines<L: Library>(
         }
         records += 1;
         rest = line.behind;
+        tell_progress(progress, text, rest);
     }
     LinesEnd::Loaded { records }
 }

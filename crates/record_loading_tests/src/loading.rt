@@ -2,6 +2,7 @@
 
 use io_state::{Fault, FileName, Key};
 use page_store::{MemShelf, Shelf};
+use progress::{Progress, Silent};
 use record_forms::Form;
 use record_layout::Schema;
 use record_listing::{Asked, ListEnd, list_records};
@@ -31,6 +32,17 @@ pub fn loads(
     load: Load,
     text: &str,
 ) -> Result<(MemShelf, String), Fail> {
+    loads_with(alloc, shelf, load, text, &mut Silent)
+}
+
+/// The same, and how far the load is, is told.
+pub fn loads_with<P: Progress>(
+    alloc: Global,
+    shelf: MemShelf,
+    load: Load,
+    text: &str,
+    progress: &mut P,
+) -> Result<(MemShelf, String), Fail> {
     let mut shelf = shelf;
     shelf.attach(&[])?;
     let schema = codes()?;
@@ -43,6 +55,7 @@ pub fn loads(
         text.as_bytes(),
         100,
         NonZeroUsize::MIN,
+        progress,
     );
     let told = match end? {
         ShelfEnd::IsThere => "is there".to_string(alloc)?,

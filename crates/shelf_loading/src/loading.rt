@@ -6,6 +6,7 @@ ghost use Rattle.shelf_loading.specs.Loaded.{Ends, EndsAnyhow, KeepsOthers, IsSa
 use crate::end::{ShelfEnd, ShelfFault, end_of, fault_by};
 use io_state::{Fault, FileName};
 use page_store::Shelf;
+use progress::Progress;
 use record_layout::Schema;
 use record_loading::{Load, load_records};
 use shelf_library::ShelfLibrary;
@@ -26,7 +27,7 @@ fn is_there<S: Shelf>(shelf: &mut S, name: FileName) -> Result<bool, Fault>
 }
 
 /// Loads records over a shelf to which no name is attached, whether or not the name has a file.
-fn load_over<S: Shelf>(
+fn load_over<S: Shelf, P: Progress>(
     alloc: Global,
     shelf: S,
     name: FileName,
@@ -35,6 +36,7 @@ fn load_over<S: Shelf>(
     text: &[u8],
     limit: u32,
     frames: NonZeroUsize,
+    progress: &mut P,
 ) -> (S, Result<ShelfEnd, ShelfFault>)
     requires names { (S.state shelf).names ≡ [] }
     requires limit { 16 ≤ limit }
@@ -44,12 +46,12 @@ fn load_over<S: Shelf>(
     ensures safe { IsSafe name.bytes (S.state shelf) (S.state result.0) }
 {
     let mut library = ShelfLibrary::new(alloc, shelf, limit, frames);
-    let end = load_records(alloc, &mut library, name, schema, load, text);
+    let end = load_records(alloc, &mut library, name, schema, load, text, progress);
     (library.into_shelf(), end_of(end))
 }
 
 /// Loads records into a new file, where the name has none.
-fn load_new<S: Shelf>(
+fn load_new<S: Shelf, P: Progress>(
     alloc: Global,
     shelf: S,
     name: FileName,
@@ -57,6 +59,7 @@ fn load_new<S: Shelf>(
     text: &[u8],
     limit: u32,
     frames: NonZeroUsize,
+    progress: &mut P,
 ) -> (S, Result<ShelfEnd, ShelfFault>)
     requires limit { 16 ≤ limit }
     ensures ends { IfOk result.1 (λ end. Ends name.bytes schema.now Load.New text.now (S.state shelf) end (S.state result.0)) }
@@ -67,7 +70,17 @@ fn load_new<S: Shelf>(
     let mut shelf = shelf;
     match is_there(&mut shelf, name) {
         Ok(true) => (shelf, Ok(ShelfEnd::IsThere)),
-        Ok(false) => load_over(alloc, shelf, name, schema, Load::New, text, limit, frames),
+        Ok(false) => load_over(
+            alloc,
+            shelf,
+            name,
+            schema,
+            Load::New,
+            text,
+            limit,
+            frames,
+            progress,
+        ),
         Err(fault) => (shelf, Err(fault_by(fault))),
     }
 }
@@ -77,10 +90,10 @@ fn load_new<S: Shelf>(
 ///
 /// A new file is made only where the name has none: otherwise that is told, and each file is as it was. Where the shelf is honest, the file represents what OPEN, the
 /// WRITEs and CLOSE leave of what it represented. The first line that is the line of no record of the file, or whose WRITE is no success, ends a load, and what was
-/// written before stays. No crash leaves a false file, where none could be left before.
+/// written before stays. No crash leaves a false file, where none could be left before. After each record it is told how many bytes of the text are written.
 ///
 /// `Input`: the device failed when it was asked for the file. `Memory`. Nothing was changed then.
-pub fn load_on_shelf<S: Shelf>(
+pub fn load_on_shelf<S: Shelf, P: Progress>(
     alloc: Global,
     shelf: S,
     name: FileName,
@@ -89,6 +102,7 @@ pub fn load_on_shelf<S: Shelf>(
     text: &[u8],
     limit: u32,
     frames: NonZeroUsize,
+    progress: &mut P,
 ) -> (S, Result<ShelfEnd, ShelfFault>)
     requires names { (S.state shelf).names ≡ [] }
     requires limit { 16 ≤ limit }
@@ -98,7 +112,17 @@ pub fn load_on_shelf<S: Shelf>(
     ensures safe { IsSafe name.bytes (S.state shelf) (S.state result.0) }
 {
     match load {
-        Load::New => load_new(alloc, shelf, name, schema, text, limit, frames),
-        Load::Into => load_over(alloc, shelf, name, schema, Load::Into, text, limit, frames),
+        Load::New => load_new(alloc, shelf, name, schema, text, limit, frames, progress),
+        Load::Into => load_over(
+            alloc,
+            shelf,
+            name,
+            schema,
+            Load::Into,
+            text,
+            limit,
+            frames,
+            progress,
+        ),
     }
 }

@@ -51,6 +51,7 @@ returns-in-List-clause-did g c =
       to = option_map (λ text. text.now) c.in-List.to;
       first = c.in-List.first;
       form = form_text c.in-List.form;
+      quiet = c.in-List.quiet;
       asked = asked;
     })
     _ c.list_records.result c.list_records.ensures.records c.list_records.ensures.fault
@@ -60,5 +61,5 @@ returns-clause-loaded g c =
     let words = map string_bytes c.args.words.now in
     let asked = subst (Ask words) c.in-Load.is c.in-Ok.ensures.asked in
     load_as _ _ c.load-loaded.result
-    (λ end loads. (c.in-Load.deck.now, c.in-Load.folder.now, c.in-Load.file.now, c.in-Load.text.now, c.in-Load.into, c.in-Load.limits.pages, c.in-Load.limits.frames.value, asked, loads))
+    (λ end loads. (c.in-Load.deck.now, c.in-Load.folder.now, c.in-Load.file.now, c.in-Load.text.now, c.in-Load.into, c.in-Load.limits.pages, c.in-Load.limits.frames.value, c.in-Load.quiet, asked, loads))
     c.load-loaded.ensures.loaded

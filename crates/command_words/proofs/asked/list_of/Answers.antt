@@ -3,7 +3,7 @@ use Rattle.std.specs.Prelude.{codes}
 use Rattle.std.specs.Str.Parse.{ParsesUnsigned, ExplainsUnsignedError, HasUnsignedDigitsIfOk}
 use Rattle.std.specs.declared.num.ParseIntError.{ParseIntError}
 use Rattle.clap.specs.Words.{Row, found_of, rows_of}
-use Rattle.command_words.specs.Asks.{IsForm}
+use Rattle.command_words.specs.Asks.{IsForm, IsQuiet}
 use Rattle.command_words.proofs.MetLemmas.{met_rows, no_text, same_rows, text_read}
 use Rattle.command_words.proofs.NumberLemmas.{Given, is_read, none_read}
 use Rattle.command_words.proofs.asked.list_of.Goals as goal
@@ -14,13 +14,13 @@ Gives bits text read = ParsesUnsigned bits 10 text read × ExplainsUnsignedError
 
 pub returns-in_err-file-clause-none : goal.returns-in_err-file-clause-none
 returns-in_err-file-clause-none c =
-    λ none file key from to first form list.
+    λ none file key from to first form quiet list.
     let f = found_of c.in_ok-list.list.now in
     no_text f (codes "file") c.get_str.result c.get_str.ensures c.in_err-file.was list.rows (same_rows c.args.matches.now (codes "list") (rows_of f) list.rows c.in_ok-list.ensures.rows list.is) file list.file_given
 
 pub returns-in_err-key-clause-none : goal.returns-in_err-key-clause-none
 returns-in_err-key-clause-none c =
-    λ none file key from to first form list.
+    λ none file key from to first form quiet list.
     let f = found_of c.in_ok-list.list.now in
     none_read f (codes "key") 8 (Gives 8) (λ t x g. g.0) c.get_one.result c.get_one.ensures.value c.in_err-key.was key
     (subst (λ (rows : List Row). Given rows (codes "key") 8 key) (same_rows c.args.matches.now (codes "list") (rows_of f) list.rows c.in_ok-list.ensures.rows list.is)
@@ -28,7 +28,7 @@ returns-in_err-key-clause-none c =
 
 pub returns-in_err-first-clause-none : goal.returns-in_err-first-clause-none
 returns-in_err-first-clause-none c =
-    λ none file key from to first form list.
+    λ none file key from to first form quiet list.
     let f = found_of c.in_ok-list.list.now in
     none_read f (codes "first") 64 (Gives 64) (λ t x g. g.0) c.get_one-2.result c.get_one-2.ensures.value c.in_err-first.was first
     (subst (λ (rows : List Row). Given rows (codes "first") 64 first) (same_rows c.args.matches.now (codes "list") (rows_of f) list.rows c.in_ok-list.ensures.rows list.is)
@@ -36,10 +36,17 @@ returns-in_err-first-clause-none c =
 
 pub returns-in_err-form-clause-none : goal.returns-in_err-form-clause-none
 returns-in_err-form-clause-none c =
-    λ none file key from to first form list.
+    λ none file key from to first form quiet list.
     let f = found_of c.in_ok-list.list.now in
     c.form_of.ensures.none c.in_err-form.was form
     (subst (λ (rows : List Row). IsForm rows form) (same_rows c.args.matches.now (codes "list") (rows_of f) list.rows c.in_ok-list.ensures.rows list.is) list.form_is)
+
+pub returns-in_err-quiet-clause-none : goal.returns-in_err-quiet-clause-none
+returns-in_err-quiet-clause-none c =
+    λ none file key from to first form quiet list.
+    let f = found_of c.in_ok-list.list.now in
+    c.quiet_of.ensures.none c.in_err-quiet.was quiet
+    (subst (λ (rows : List Row). IsQuiet rows quiet) (same_rows c.args.matches.now (codes "list") (rows_of f) list.rows c.in_ok-list.ensures.rows list.is) list.quiet_is)
 
 pub returns-clause-some : goal.returns-clause-some
 returns-clause-some c =
@@ -59,4 +66,5 @@ returns-clause-some c =
       from_is = text_read f (codes "from") _ c.get_str-2.ensures;
       to_is = text_read f (codes "to") _ c.get_str-3.ensures;
       form_is = c.in_ok-form.ensures.some;
+      quiet_is = c.in_ok-quiet.ensures.some;
     }

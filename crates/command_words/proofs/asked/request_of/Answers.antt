@@ -1,4 +1,4 @@
-use Rattle.std.proofs.Common.{◌≡◌, ℕ, List, None}
+use Rattle.std.proofs.Common.{◌≡◌, ℕ, Bool, List, None}
 use Rattle.std.proofs.lemmas.Result.{IfOk-weaker}
 use Rattle.clap.specs.Words.{subcommand_rows_of}
 use Rattle.command_words.specs.Asks.{IsCheck, IsNone}
@@ -7,7 +7,7 @@ use Rattle.command_words.proofs.asked.request_of.Goals as goal
 pub returns-clause-none : goal.returns-clause-none
 returns-clause-none c =
     let met = subcommand_rows_of c.args.matches.now in
-    IfOk-weaker c.check_of.result (λ found. found ≡ None → (files : List (List ℕ)) → IsCheck met files → ⊥) (λ found. found ≡ None → IsNone met)
+    IfOk-weaker c.check_of.result (λ found. found ≡ None → (files : List (List ℕ)) (quiet : Bool) → IsCheck met files quiet → ⊥) (λ found. found ≡ None → IsNone met)
     (λ found no_check none. record {
       no_run_or_list = c.run_or_list_of.ensures.none c.in_default.is;
       no_records = c.records_of.ensures.none c.in_default-records_of.is;

@@ -1,0 +1,235 @@
+//! How far a load is, as it is told and as a terminal shows it.
+
+use crate::loading::loads_with;
+use page_store::MemShelf;
+use progress::{Progress, ProgressReader, Silent, TerminalLine};
+use record_loading::Load;
+use std::alloc::Global;
+use std::cell::Cell;
+use std::io::{self, Read};
+use std::rt::Clock;
+use std::test::Fail;
+use std::time::Duration;
+
+/// What is told of progress.
+#[derive(Clone, Copy, PartialEq)]
+enum Told {
+    At(u64, u64),
+    Wiped,
+    Silenced,
+}
+
+/// Notes what is told, as far as there is memory.
+#[derive(Drop)]
+struct Noted {
+    told: Vec<Told>,
+    all: bool,
+}
+
+impl Noted {
+    fn new(alloc: Global) -> Noted {
+        Noted {
+            told: Vec::new(alloc),
+            all: true,
+        }
+    }
+
+    fn note(&mut self, told: Told) {
+        if self.told.push(told).is_err() {
+            self.all = false;
+        }
+    }
+
+    fn is(&self, told: &[Told]) -> bool {
+        self.all && self.told.as_slice() == told
+    }
+}
+
+impl Progress for Noted {
+    fn at(&mut self, done: u64, whole: u64) {
+        self.note(Told::At(done, whole));
+    }
+
+    fn wipe(&mut self) {
+        self.note(Told::Wiped);
+    }
+
+    fn silence(&mut self) {
+        self.note(Told::Silenced);
+    }
+}
+
+/// A clock that shows what the test sets: so many milliseconds, or that it cannot be read.
+#[derive(Drop)]
+struct SetClock {
+    milliseconds: Cell<Option<u64>>,
+}
+
+impl SetClock {
+    fn new() -> SetClock {
+        SetClock {
+            milliseconds: Cell::new(Some(0)),
+        }
+    }
+
+    fn set(&self, milliseconds: u64) {
+        self.milliseconds.set(Some(milliseconds));
+    }
+}
+
+impl Clock for SetClock {
+    fn monotonic(&self) -> io::Result<Duration> {
+        match self.milliseconds.get() {
+            Some(milliseconds) => Ok(Duration::from_millis(milliseconds)),
+            None => Err(io::ErrorKind::Unsupported.into()),
+        }
+    }
+
+    fn since_1970(&self) -> io::Result<Duration> {
+        self.monotonic()
+    }
+}
+
+// Each line has 9 bytes.
+const THREE: &str = "[0001AA]\n[0002BB]\n[0003CC]\n";
+
+#[test]
+fn a_load_tells_how_far_it_is(rt: HostRuntime) -> Result<(), Fail> {
+    let mut progress = Noted::new(rt.alloc());
+    let shelf = MemShelf::new(rt.alloc());
+    let (_, told) = loads_with(rt.alloc(), shelf, Load::New, THREE, &mut progress)?;
+    assert!(rt; told.as_str() == "loaded 3\n");
+    assert!(rt; progress.is(&[Told::At(9, 27), Told::At(18, 27), Told::At(27, 27)]));
+    Ok(())
+}
+
+#[test]
+fn a_load_that_is_refused_tells_of_no_more(rt: HostRuntime) -> Result<(), Fail> {
+    let mut progress = Noted::new(rt.alloc());
+    let shelf = MemShelf::new(rt.alloc());
+    let text = "[0001AA]\n[0001BB]\n[0003CC]\n";
+    let (_, told) = loads_with(rt.alloc(), shelf, Load::New, text, &mut progress)?;
+    assert!(rt; told.as_str() == "line 2: status 22\n");
+    assert!(rt; progress.is(&[Told::At(9, 27)]));
+    Ok(())
+}
+
+#[test]
+fn a_reader_gives_its_bytes_and_tells_how_many_came(rt: HostRuntime) -> Result<(), Fail> {
+    let mut progress = Noted::new(rt.alloc());
+    let mut bytes = Vec::new(rt.alloc());
+    {
+        let mut reader = ProgressReader::new(THREE.as_bytes(), 27, &mut progress);
+        let mut part = [0; 20];
+        'more: for _ in 0..3 {
+            let n = reader.read(&mut part)?;
+            bytes.extend_from_slice(&part[..n])?;
+        }
+    }
+    assert!(rt; bytes.as_slice() == THREE.as_bytes());
+    assert!(rt; progress.is(&[Told::At(20, 27), Told::At(27, 27), Told::At(27, 27)]));
+    Ok(())
+}
+
+/// What a terminal, or another writer, was given of a load of 27 bytes, whose parts of 9 bytes were done after so many milliseconds.
+fn shown(rt: &HostRuntime, is_terminal: bool, times: [u64; 3]) -> Result<Vec<u8>, Fail> {
+    let clock = SetClock::new();
+    let mut out = Vec::with_capacity(rt.alloc(), 1000)?;
+    {
+        let mut line = TerminalLine::new(&clock, &mut out, is_terminal);
+        for (done, milliseconds) in [(9, times[0]), (18, times[1]), (27, times[2])] {
+            clock.set(milliseconds);
+            line.at(done, 27);
+        }
+        line.wipe();
+        line.wipe();
+    }
+    Ok(out)
+}
+
+const SECOND: &[u8] = b"cobix: 18 of 27 bytes\r";
+
+const THIRD: &[u8] = b"cobix: 27 of 27 bytes\r";
+
+const WIPED: &[u8] = b"                     \r";
+
+#[test]
+fn the_line_is_written_after_two_seconds(rt: HostRuntime) -> Result<(), Fail> {
+    assert!(rt; shown(&rt, true, [0, 1000, 1999])?.is_empty());
+    let late = [THIRD, WIPED].concat(rt.alloc())?;
+    assert!(rt; shown(&rt, true, [0, 1999, 2000])?.as_slice() == late.as_slice());
+    Ok(())
+}
+
+#[test]
+fn the_line_is_written_twice_a_second_at_most(rt: HostRuntime) -> Result<(), Fail> {
+    let early = [SECOND, WIPED].concat(rt.alloc())?;
+    assert!(rt; shown(&rt, true, [0, 2000, 2499])?.as_slice() == early.as_slice());
+    let both = [SECOND, THIRD, WIPED].concat(rt.alloc())?;
+    assert!(rt; shown(&rt, true, [0, 2000, 2500])?.as_slice() == both.as_slice());
+    Ok(())
+}
+
+#[test]
+fn nothing_is_written_where_there_is_no_terminal(rt: HostRuntime) -> Result<(), Fail> {
+    assert!(rt; shown(&rt, false, [2000, 4000, 6000])?.is_empty());
+    Ok(())
+}
+
+#[test]
+fn nothing_is_written_once_it_is_silenced(rt: HostRuntime) -> Result<(), Fail> {
+    let clock = SetClock::new();
+    let mut out: Vec<u8> = Vec::with_capacity(rt.alloc(), 1000)?;
+    {
+        let mut line = TerminalLine::new(&clock, &mut out, true);
+        line.silence();
+        clock.set(4000);
+        line.at(9, 27);
+        line.wipe();
+    }
+    assert!(rt; out.is_empty());
+    Ok(())
+}
+
+#[test]
+fn a_clock_that_fails_shows_no_line(rt: HostRuntime) -> Result<(), Fail> {
+    let clock = SetClock::new();
+    let mut out: Vec<u8> = Vec::with_capacity(rt.alloc(), 1000)?;
+    {
+        let mut line = TerminalLine::new(&clock, &mut out, true);
+        clock.milliseconds.set(None);
+        line.at(9, 27);
+        line.wipe();
+    }
+    assert!(rt; out.is_empty());
+    Ok(())
+}
+
+#[test]
+fn more_bytes_than_were_known_are_told_alone(rt: HostRuntime) -> Result<(), Fail> {
+    let clock = SetClock::new();
+    let mut out: Vec<u8> = Vec::with_capacity(rt.alloc(), 1000)?;
+    {
+        let mut line = TerminalLine::new(&clock, &mut out, true);
+        clock.set(2000);
+        line.at(28, 27);
+        clock.set(3000);
+        line.at(u64::MAX, u64::MAX);
+        line.wipe();
+    }
+    let told = [
+        b"cobix: 28 bytes\r".as_slice(),
+        b"cobix: 18446744073709551615 of 18446744073709551615 bytes\r".as_slice(),
+        b"                                                         \r".as_slice(),
+    ];
+    assert!(rt; out.as_slice() == told.concat(rt.alloc())?.as_slice());
+    Ok(())
+}
+
+#[test]
+fn a_silent_load_is_answered_as_any_other(rt: HostRuntime) -> Result<(), Fail> {
+    let shelf = MemShelf::new(rt.alloc());
+    let (_, told) = loads_with(rt.alloc(), shelf, Load::New, THREE, &mut Silent)?;
+    assert!(rt; told.as_str() == "loaded 3\n");
+    Ok(())
+}
