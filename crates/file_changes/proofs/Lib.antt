@@ -9,6 +9,7 @@ pub mod LeftLemmas
 pub mod RemovedLemmas
 pub mod LevelLemmas
 pub mod AddedLemmas
+pub mod EndingLemmas
 pub mod ChangedLemmas
 pub mod SeenLemmas
 pub mod ChangingLemmas

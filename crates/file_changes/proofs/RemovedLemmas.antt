@@ -18,7 +18,9 @@ use Rattle.open_file.specs.InOrder.{alt_entries, prime_entries}
 use Rattle.open_file.specs.Parts.{Parts}
 use Rattle.open_file.specs.Stands.{Stands, IsShaped}
 use Rattle.file_changes.specs.Old.{IsOldAt}
-use Rattle.file_changes.specs.Removing.{HasRemovedRow, HasRowAndEntries, without_below}
+use Rattle.file_changes.specs.FileChange.{removal}
+use Rattle.file_changes.specs.Changes.{HasChanged}
+use Rattle.file_changes.specs.Removing.{HasRowAndEntries, without_below}
 use Rattle.open_file.specs.declared.open_file.OpenFile.{OpenFile}
 use Rattle.open_file.proofs.FirstLemmas.{first_passes, same_bytes}
 use Rattle.open_file.proofs.RowLemmas.{row_is_first, each_row}
@@ -108,7 +110,7 @@ pub has_removed : (u v : OpenFile) (before after : PageMap) (is_sound : Type 0) 
     → v ≡ record u { heap = v.heap; prime = v.prime; alternates = v.alternates; path = None }
     → Parts v.heap v.prime v.alternates.items after (put stands.slots place None) (without_prime (prime_of u.schema row.bytes) (prime_entries u.schema stands.places file.rows))
     (without_below u.schema row (length u.alternates.items) (λ j. alt_entries u.schema (j + 1) file.rows)) × is_sound
-    → HasRemovedRow v after is_sound u.schema prime file true
+    → HasChanged (Stands v after) is_sound (removal u.schema prime) file true
 has_removed u v before after is_sound file prime place row stands one two at rest parts =
     let schema = ap (λ (o : OpenFile). o.schema) rest in
     let stamp = ap (λ (o : OpenFile). o.next_stamp) rest in
@@ -121,7 +123,7 @@ has_removed u v before after is_sound file prime place row stands one two at res
 
 -- there was none
 pub none_removed : (u : OpenFile) (before after : PageMap) (is_sound : Type 0) (file : File) (prime : List ℕ) → Stands u before file → after ≡ before → row_of u.schema prime file ≡ None → is_sound
-    → HasRemovedRow u after is_sound u.schema prime file false
+    → HasChanged (Stands u after) is_sound (removal u.schema prime) file false
 none_removed u before after is_sound file prime stands same none sound = record {
   answers = sym (ap is_some none);
   stands = rw none (subst (λ p. Stands u p file) (sym same) stands);

@@ -23,7 +23,9 @@ use Rattle.file_changes.specs.Adding.{entry_of, stamp_in}
 use Rattle.open_file.specs.Parts.{Parts}
 use Rattle.open_file.specs.Stands.{Stands, IsShaped}
 use Rattle.file_changes.specs.Old.{IsOldAt}
-use Rattle.file_changes.specs.Replacing.{HasReplaced, stays, changed_in, changed_below, AreFreed, CanPutOver, next_after}
+use Rattle.file_changes.specs.FileChange.{replacement}
+use Rattle.file_changes.specs.Changes.{HasChanged}
+use Rattle.file_changes.specs.Replacing.{stays, changed_in, changed_below, AreFreed, CanPutOver, next_after}
 use Rattle.open_file.specs.declared.open_file.OpenFile.{OpenFile}
 use Rattle.open_file.proofs.OrderLemmas.{either}
 use Rattle.open_file.proofs.FirstLemmas.{same_bytes}
@@ -184,7 +186,7 @@ pub has_replaced : (u v : OpenFile) (before after : PageMap) (is_sound : Type 0)
     → answer ≡ replaced_answer_at u.schema bytes file (Some old)
     → Parts v.heap v.prime v.alternates.items after (put stands.slots place (Some (stored u.schema (changed_row u.schema u.next_stamp bytes old)))) (prime_entries u.schema stands.places file.rows)
     (changed_below u.schema u.next_stamp old bytes (length u.alternates.items) (λ j. alt_entries u.schema (j + 1) file.rows)) × is_sound
-    → HasReplaced v after is_sound u.schema bytes file answer
+    → HasChanged (Stands v after) is_sound (replacement u.schema bytes) file answer
 has_replaced u v before after is_sound bytes file place old answer stands one two at change clash limit rest told parts =
     let schema = ap (λ (o : OpenFile). o.schema) rest in
     let stamp = ap (λ (o : OpenFile). o.next_stamp) rest in
@@ -205,7 +207,7 @@ clashed schema bytes file old told =
 
 -- a clash changes nothing
 pub has_clashed : (u : OpenFile) (before after : PageMap) (is_sound : Type 0) (bytes : List ℕ) (file : File) (old : Row) → Stands u before file → after ≡ before → row_of u.schema (prime_of u.schema bytes) file ≡ Some old
-    → Clash ≡ replaced_answer_at u.schema bytes file (Some old) → is_sound → HasReplaced u after is_sound u.schema bytes file Clash
+    → Clash ≡ replaced_answer_at u.schema bytes file (Some old) → is_sound → HasChanged (Stands u after) is_sound (replacement u.schema bytes) file Clash
 has_clashed u before after is_sound bytes file old stands same is told sound = record {
   answers = told ∙ ap (replaced_answer_at u.schema bytes file) (sym is);
   stands = rw (is, clashed u.schema bytes file old told) (subst (λ p. Stands u p file) (sym same) stands);
@@ -214,7 +216,7 @@ has_clashed u before after is_sound bytes file old stands same is told sound = r
 
 -- there is no such row
 pub has_none : (u : OpenFile) (before after : PageMap) (is_sound : Type 0) (bytes : List ℕ) (file : File) → Stands u before file → after ≡ before → row_of u.schema (prime_of u.schema bytes) file ≡ None
-    → is_sound → HasReplaced u after is_sound u.schema bytes file Gone
+    → is_sound → HasChanged (Stands u after) is_sound (replacement u.schema bytes) file Gone
 has_none u before after is_sound bytes file stands same none sound = record {
   answers = sym (ap (replaced_answer_at u.schema bytes file) none);
   stands = rw none (subst (λ p. Stands u p file) (sym same) stands);

@@ -1,10 +1,11 @@
 -- What adding a record makes of an open file.
-use Rattle.std.specs.Prelude.{◌≡◌, ℕ, ◌+◌, ◌<◌, List, sum_by, None, Some, find, nat_lt, if◌then◌else◌}
+use Rattle.std.specs.Prelude.{◌≡◌, ℕ, ◌+◌, ◌<◌, List, sum_by, None, Some, find, nat_lt, IsTrue, Result, if◌then◌else◌}
+use Rattle.io_state.specs.declared.fault.Fault.{Fault}
+use Rattle.pages.specs.Answer.{IsAnswer}
+use Rattle.pages.specs.ShownPages.{ShownPages}
+use Rattle.file_changes.specs.InPages.{FileInPages}
+use Rattle.file_changes.specs.Contents.{Holds}
 use Rattle.record_layout.specs.Schema.{Schema, key_at, value_of, prime_of}
-use Rattle.indexed_file.specs.File.{File}
-use Rattle.indexed_file.specs.Change.{clashes, added}
-use Rattle.indexed_file.specs.Answers.{added_answer}
-use Rattle.indexed_file.specs.declared.answer.Added.{Added}
 use Rattle.pages.specs.PageMap.{PageMap}
 use Rattle.key_index.specs.declared.entry.AltEntry.{AltEntry}
 use Rattle.key_index.specs.declared.entry.PrimeEntry.{PrimeEntry}
@@ -16,18 +17,6 @@ use Rattle.record_heap.specs.declared.heap.Heap.{Heap}
 use Rattle.record_heap.specs.declared.shape.Place.{Place}
 use Rattle.record_heap.specs.Chain.{Slots, put}
 use Rattle.open_file.specs.Parts.{Parts}
-use Rattle.open_file.specs.Stands.{Stands}
-use Rattle.open_file.specs.declared.open_file.OpenFile.{OpenFile}
-
--- a clash changes nothing
-abbrev pub file_after_add : Schema → List ℕ → File → File
-file_after_add schema bytes file = if clashes schema bytes file.rows then file else added schema bytes file
-
--- the answer is the one of the definitions, and the pages stand for the file that they leave
-pub record HasAdded (new : OpenFile) (pages : PageMap) (is_sound : Type 0) (schema : Schema) (bytes : List ℕ) (file : File) (answer : Added) : Type 0 where
-  pub answers : answer ≡ added_answer schema bytes file
-  pub stands : Stands new pages (file_after_add schema bytes file)
-  pub sound : is_sound
 
 -- the stamp of a new record in alternate key j
 abbrev pub stamp_in : Schema → ℕ → ℕ → ℕ
@@ -54,3 +43,11 @@ levels_in indexes = sum_by (λ index. alt_height index + 1) indexes
 pub record RowPut (heap : Heap) (prime : PrimeIndex) (alternates : List AltIndex) (pages : PageMap) (slots : Slots) (primes : List PrimeEntry) (entries : ℕ → List AltEntry) (place : Place) (bytes : List ℕ) : Type 0 where
   pub free : slots place ≡ None
   pub parts : Parts heap prime alternates pages (put slots place (Some bytes)) primes entries
+
+-- where the parts were sound, a row of these bytes was put into the heap
+abbrev pub PutsRow : {S : Type 0} → ShownPages S → (before after : FileInPages S) → List ℕ → Result Place Fault → Type 0
+PutsRow shown before after bytes result =
+    IsTrue (shown.state after.pages).is_honest → IsTrue (shown.state before.pages).is_sound → (slots : Slots) (primes : List PrimeEntry) (entries : ℕ → List AltEntry)
+    → Holds shown before (record { slots = slots; primes = primes; entries = entries })
+    → IsAnswer result (λ place. RowPut after.file.heap after.file.prime after.file.alternates.items (shown.state after.pages).live slots primes entries place bytes
+    × IsTrue (shown.state after.pages).is_sound)

@@ -1,3 +1,7 @@
+pub mod FileChange
+pub mod Changes
+pub mod InPages
+pub mod Contents
 pub mod Adding
 pub mod Old
 pub mod Removing

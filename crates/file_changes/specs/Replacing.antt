@@ -1,36 +1,19 @@
 -- What replacing a record makes of an open file.
-use Rattle.std.specs.Prelude.{◌≡◌, ℕ, ◌+◌, ◌<◌, Bool, List, map, drop, find, bytes_eq, nat_lt, IsSome, IsFalse, Option, None, Some, if◌then◌else◌}
-use Rattle.record_layout.specs.Schema.{Schema, value_of, prime_of}
-use Rattle.indexed_file.specs.File.{Row, File, stamp_of}
-use Rattle.indexed_file.specs.Change.{row_of, replaced, takes_stamp, clashes_with_others}
+use Rattle.std.specs.Prelude.{◌≡◌, ℕ, ◌+◌, ◌<◌, Bool, List, map, drop, find, bytes_eq, nat_lt, IsSome, IsFalse, None, Some, if◌then◌else◌}
+use Rattle.record_layout.specs.Schema.{Schema, value_of}
+use Rattle.indexed_file.specs.File.{Row, stamp_of}
+use Rattle.indexed_file.specs.Change.{takes_stamp, changed_row}
 use Rattle.indexed_file.specs.Room.{need_of_changed}
-use Rattle.indexed_file.specs.Answers.{replaced_answer}
-use Rattle.indexed_file.specs.declared.answer.Replaced.{Replaced}
-use Rattle.pages.specs.PageMap.{PageMap}
 use Rattle.key_index.specs.declared.entry.AltEntry.{AltEntry}
 use Rattle.key_index.specs.declared.alt_index.AltIndex.{AltIndex}
 use Rattle.key_index.specs.Entries.{has_rank, with_alt, without_rank}
 use Rattle.key_index.specs.Standing.{alt_height}
 use Rattle.file_changes.specs.Adding.{stamp_in, entry_of}
 use Rattle.record_heap.specs.declared.shape.Place.{Place}
-use Rattle.record_heap.specs.Chain.{Slots}
+use Rattle.record_heap.specs.Chain.{Slots, put}
+use Rattle.open_file.specs.Stored.{stored}
+use Rattle.file_changes.specs.Contents.{Contents}
 use Rattle.file_changes.specs.Removing.{AreThere}
-use Rattle.open_file.specs.Stands.{Stands}
-use Rattle.open_file.specs.declared.open_file.OpenFile.{OpenFile}
-
--- where there is no row of the record's prime value, or a clash with another, nothing is changed
-abbrev pub file_with : Schema → List ℕ → File → Option Row → File
-file_with schema bytes file None = file
-file_with schema bytes file (Some row) = if clashes_with_others schema bytes file then file else replaced schema bytes row file
-
-abbrev pub file_after_replace : Schema → List ℕ → File → File
-file_after_replace schema bytes file = file_with schema bytes file (row_of schema (prime_of schema bytes) file)
-
--- the answer is the one of the definitions, and the pages stand for the file that they leave
-pub record HasReplaced (new : OpenFile) (pages : PageMap) (is_sound : Type 0) (schema : Schema) (bytes : List ℕ) (file : File) (answer : Replaced) : Type 0 where
-  pub answers : answer ≡ replaced_answer schema bytes file
-  pub stands : Stands new pages (file_after_replace schema bytes file)
-  pub sound : is_sound
 
 -- the value of alternate key j stays
 abbrev pub stays : Schema → List ℕ → List ℕ → ℕ → Bool
@@ -61,6 +44,27 @@ changed_below schema stamp old bytes i entries j = if nat_lt j i then changed_in
 -- the stamp in alternate key j after a change: the next one, where the value changes
 abbrev pub stamp_after : Schema → ℕ → List ℕ → ℕ → List ℕ → ℕ → ℕ
 stamp_after schema next old stamp new j = if stays schema old new j then stamp else next
+
+-- the slot of a row after a change
+abbrev pub slot_after : Schema → ℕ → Row → List ℕ → List ℕ
+slot_after schema stamp old bytes = stored schema (changed_row schema stamp bytes old)
+
+-- the parts with the new record in the place of the old row
+abbrev pub with_row : Schema → ℕ → Row → List ℕ → Place → ℕ → Contents → Contents
+with_row schema stamp old bytes place count held = record {
+  slots = put held.slots place (Some (slot_after schema stamp old bytes));
+  primes = held.primes;
+  entries = changed_below schema stamp old bytes count held.entries;
+}
+
+-- alternate index j has the entry of the old record, of this stamp, and without it none of the new record's value and stamp
+pub record CanChangeEntry (schema : Schema) (next : ℕ) (old : List ℕ) (stamp : ℕ) (bytes : List ℕ) (j : ℕ) (entries : List AltEntry) : Type 0 where
+  pub there : IsSome (find (has_rank (value_of schema (j + 1) old) stamp) entries)
+  pub freed : find (has_rank (value_of schema (j + 1) bytes) (stamp_in schema next j)) (without_rank (value_of schema (j + 1) old) stamp entries) ≡ None
+
+-- and then it has the new record's entry in the place of that one
+abbrev pub changed_entries : Schema → ℕ → List ℕ → ℕ → List ℕ → ℕ → List AltEntry → List AltEntry
+changed_entries schema next old stamp bytes j entries = with_alt (entry_of schema next bytes j) (without_rank (value_of schema (j + 1) old) stamp entries)
 
 -- the heap has the old row at this place, each alternate index has its entry, and where a value changes, room for the new record's
 pub record CanPutOver (schema : Schema) (stamp : ℕ) (old : Row) (bytes : List ℕ) (place : Place) (count : ℕ) (slots : Slots) (entries : ℕ → List AltEntry) : Type 0 where

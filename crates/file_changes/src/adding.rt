@@ -1,23 +1,26 @@
 //! Adding a record.
 
-ghost use Rattle.std.specs.Prelude.{⊤, false, ◌≡◌, ◌≢◌, ℕ, ◌+◌, ◌*◌, ◌-◌, ◌≤◌, ◌<◌, ◌^◌, ◌||◌, List, length, drop, None, Ok, Err, not, sum_by, IsTrue, IsFalse, IfOk, IfErr, OnOk, slice_index_or, slice_set, find};
+ghost use Rattle.std.specs.Prelude.{⊤, true, false, ◌≡◌, ◌+◌, ◌*◌, ◌-◌, ◌≤◌, ◌<◌, ◌^◌, length, drop, None, Ok, Err, not, sum_by, IsTrue, IfErr, slice_index_or, slice_set, find};
 ghost use Rattle.record_layout.specs.Schema.{value_of, prime_of};
 ghost use Rattle.indexed_file.specs.File.{File};
 ghost use Rattle.indexed_file.specs.Change.{clashes, added, new_row};
 ghost use Rattle.indexed_file.specs.Answers.{added_answer};
-ghost use Rattle.indexed_file.specs.Room.{need_of_add, is_full_to_add, most_to_change};
+ghost use Rattle.indexed_file.specs.Room.{need_of_add};
 ghost use Rattle.pages.specs.Answer.{IsAnswer};
 ghost use Rattle.pages.specs.Cause.{IsCaused};
 ghost use Rattle.pages.specs.PageCalls.{ReadsPages, WritesPages};
 ghost use Rattle.key_index.specs.Entries.{with_alt, with_prime, has_rank, has_prime};
 ghost use Rattle.key_index.specs.Standing.{prime_height, alt_height};
-ghost use Rattle.record_heap.specs.Chain.{Slots};
 ghost use Rattle.open_file.specs.Stored.{stored};
-ghost use Rattle.open_file.specs.Parts.{Parts, but_at};
-ghost use Rattle.open_file.specs.Stands.{Stands, IsShaped, heights_of, room_of};
-ghost use Rattle.open_file.specs.Faults.{IsCausedIn};
-ghost use Rattle.file_changes.specs.Adding.{HasAdded, stamp_in, entry_of, added_below, AreFree, levels_in, RowPut};
+ghost use Rattle.open_file.specs.Parts.{but_at};
+ghost use Rattle.open_file.specs.Stands.{Stands, IsShaped, heights_of};
+ghost use Rattle.file_changes.specs.FileChange.{addition};
+ghost use Rattle.file_changes.specs.Changes.{Changes, MayBreak};
+ghost use Rattle.file_changes.specs.Contents.{ChangesParts};
+ghost use Rattle.file_changes.specs.InPages.{in_pages, shown_in, IsReadyIn};
+ghost use Rattle.file_changes.specs.Adding.{stamp_in, entry_of, added_below, AreFree, levels_in, PutsRow};
 
+use crate::ending::breaks;
 use crate::room::is_full;
 use crate::stamps::new_stamps;
 use arrayvec::ArrayVec;
@@ -33,66 +36,28 @@ use record_heap::Place;
 ///
 /// Device, Memory, Damage, Broken, after which the file is broken; Full, where nothing is changed.
 pub fn add<P: Pages>(opened: &mut OpenFile, pages: &mut P, bytes: &[u8]) -> Result<Added, Fault>
-    requires ready { P.shown.IsReady pages.old }
-    requires shaped { IsShaped opened.old }
+    requires ready { IsReadyIn P.shown (in_pages opened.old pages.old) }
     requires least { opened.old.schema.least ≤ length bytes.now }
     requires greatest { length bytes.now ≤ opened.old.schema.greatest }
-    ensures added { IsTrue (P.shown.state pages.new).is_honest → IsTrue (P.shown.state pages.old).is_sound → (file : File)
-        → Stands opened.old (P.shown.state pages.old).live file
-        → IsAnswer result (HasAdded opened.new (P.shown.state pages.new).live (IsTrue (P.shown.state pages.new).is_sound) opened.old.schema bytes.now file) }
-    ensures clash { result ≡ Ok Added.Clash → (opened.new ≡ opened.old) × P.shown.Reads pages.old pages.new }
-    ensures gate { IfOk result (λ answer. answer ≢ Added.Clash → P.shown.CanChange pages.new) }
-    ensures room { IsTrue (P.shown.state pages.new).is_honest → (file : File) → Stands opened.old (P.shown.state pages.old).live file
-        → OnOk result (IsTrue (clashes opened.old.schema bytes.now file.rows
-        || not (is_full_to_add (room_of opened.old (P.shown.state pages.old).available) file))) }
-    ensures full { result ≡ Err Fault.Full → (opened.new ≡ opened.old) × P.shown.Reads pages.old pages.new
-        × (IsTrue (P.shown.state pages.new).is_honest → (file : File) → Stands opened.old (P.shown.state pages.old).live file
-        → IsFalse (clashes opened.old.schema bytes.now file.rows)
-        × IsTrue (is_full_to_add (room_of opened.old (P.shown.state pages.old).available) file)) }
-    ensures broken { IsTrue opened.old.broken → (result ≡ Err Fault.Broken) × (opened.new ≡ opened.old) × P.shown.Reads pages.old pages.new }
-    ensures breaks { IfErr result (λ e. e ≢ Fault.Full → IsTrue opened.new.broken) }
-    ensures unbroken { OnOk result (IsFalse opened.new.broken) }
-    ensures cause { IfErr result (IsCausedIn opened.old.broken (P.shown.HasFailed pages.old pages.new) (IsFalse opened.old.broken)) }
-    ensures schema { opened.new.schema ≡ opened.old.schema }
-    ensures shaped { IsShaped opened.new }
-    ensures begins { P.shown.Begins pages.old pages.new }
-    ensures asked { (P.shown.state pages.new).asked ≤ (P.shown.state pages.old).asked + most_to_change (room_of opened.old (P.shown.state pages.old).available) }
+    ensures adds { Changes (shown_in P.shown) (addition opened.old.schema bytes.now) (in_pages opened.old pages.old) (in_pages opened.new pages.new) result }
+    ensures breaks { MayBreak (shown_in P.shown) true (in_pages opened.old pages.old) (in_pages opened.new pages.new) result }
 {
     if opened.broken {
         return Err(Fault::Broken);
     }
     let added = try_add(opened, pages, bytes);
-    opened.broken = match added {
-        Ok(_) | Err(Fault::Full) => false,
-        Err(_) => true,
-    };
+    opened.broken = breaks(&added);
     added
 }
 
 /// What `add` does on a file that is not broken.
 fn try_add<P: Pages>(opened: &mut OpenFile, pages: &mut P, bytes: &[u8]) -> Result<Added, Fault>
-    requires ready { P.shown.IsReady pages.old }
-    requires shaped { IsShaped opened.old }
+    requires ready { IsReadyIn P.shown (in_pages opened.old pages.old) }
     requires least { opened.old.schema.least ≤ length bytes.now }
     requires greatest { length bytes.now ≤ opened.old.schema.greatest }
-    ensures added { IsTrue (P.shown.state pages.new).is_honest → IsTrue (P.shown.state pages.old).is_sound → (file : File)
-        → Stands opened.old (P.shown.state pages.old).live file
-        → IsAnswer result (HasAdded opened.new (P.shown.state pages.new).live (IsTrue (P.shown.state pages.new).is_sound) opened.old.schema bytes.now file) }
-    ensures clash { result ≡ Ok Added.Clash → (opened.new ≡ opened.old) × P.shown.Reads pages.old pages.new }
-    ensures gate { IfOk result (λ answer. answer ≢ Added.Clash → P.shown.CanChange pages.new) }
-    ensures room { IsTrue (P.shown.state pages.new).is_honest → (file : File) → Stands opened.old (P.shown.state pages.old).live file
-        → OnOk result (IsTrue (clashes opened.old.schema bytes.now file.rows
-        || not (is_full_to_add (room_of opened.old (P.shown.state pages.old).available) file))) }
-    ensures full { result ≡ Err Fault.Full → (opened.new ≡ opened.old) × P.shown.Reads pages.old pages.new
-        × (IsTrue (P.shown.state pages.new).is_honest → (file : File) → Stands opened.old (P.shown.state pages.old).live file
-        → IsFalse (clashes opened.old.schema bytes.now file.rows)
-        × IsTrue (is_full_to_add (room_of opened.old (P.shown.state pages.old).available) file)) }
-    ensures cause { IfErr result (IsCausedIn false (P.shown.HasFailed pages.old pages.new) ⊤) }
+    ensures adds { Changes (shown_in P.shown) (addition opened.old.schema bytes.now) (in_pages opened.old pages.old) (in_pages opened.new pages.new) result }
+    ensures cause { IfErr result (IsCaused (P.shown.HasFailed pages.old pages.new) ⊤) }
     ensures broken { opened.new.broken ≡ opened.old.broken }
-    ensures schema { opened.new.schema ≡ opened.old.schema }
-    ensures shaped { IsShaped opened.new }
-    ensures begins { P.shown.Begins pages.old pages.new }
-    ensures asked { (P.shown.state pages.new).asked ≤ (P.shown.state pages.old).asked + most_to_change (room_of opened.old (P.shown.state pages.old).available) }
 {
     let Added::Done { repeated } = adding(opened, pages, bytes)? else {
         return Ok(Added::Clash);
@@ -158,11 +123,8 @@ fn store<P: Pages>(opened: &mut OpenFile, pages: &mut P, bytes: &[u8]) -> Result
     requires shaped { IsShaped opened.old }
     requires least { opened.old.schema.least ≤ length bytes.now }
     requires greatest { length bytes.now ≤ opened.old.schema.greatest }
-    ensures put { IsTrue (P.shown.state pages.new).is_honest → IsTrue (P.shown.state pages.old).is_sound
-        → (slots : Slots) (primes : List PrimeEntry) (entries : ℕ → List AltEntry)
-        → Parts opened.old.heap opened.old.prime opened.old.alternates.items (P.shown.state pages.old).live slots primes entries
-        → IsAnswer result (λ place. RowPut opened.new.heap opened.new.prime opened.new.alternates.items (P.shown.state pages.new).live slots primes entries place
-        (stored opened.old.schema (new_row opened.old.schema opened.old.next_stamp bytes.now)) × IsTrue (P.shown.state pages.new).is_sound) }
+    ensures put { PutsRow P.shown (in_pages opened.old pages.old) (in_pages opened.new pages.new)
+        (stored opened.old.schema (new_row opened.old.schema opened.old.next_stamp bytes.now)) result }
     ensures rest { opened.new ≡ record opened.old { heap = opened.new.heap } }
     ensures shape { opened.new.heap.shape ≡ opened.old.heap.shape }
     ensures few { (P.shown.state pages.old).available ≤ (P.shown.state pages.new).available + 1 }
@@ -183,13 +145,9 @@ fn add_to_prime<P: Pages>(
     requires open { P.shown.CanChange pages.old }
     requires shaped { IsShaped opened.old }
     requires least { opened.old.schema.least ≤ length bytes.now }
-    ensures added { IsTrue (P.shown.state pages.new).is_honest → IsTrue (P.shown.state pages.old).is_sound
-        → (slots : Slots) (primes : List PrimeEntry) (entries : ℕ → List AltEntry)
-        → Parts opened.old.heap opened.old.prime opened.old.alternates.items (P.shown.state pages.old).live slots primes entries
-        → find (has_prime (prime_of opened.old.schema bytes.now)) primes ≡ None
-        → IsAnswer result (λ u. Parts opened.new.heap opened.new.prime opened.new.alternates.items (P.shown.state pages.new).live slots
-        (with_prime (record { value = record { items = prime_of opened.old.schema bytes.now }; place = place }) primes) entries
-        × IsTrue (P.shown.state pages.new).is_sound) }
+    ensures added { ChangesParts P.shown (in_pages opened.old pages.old) (in_pages opened.new pages.new)
+        (λ held. find (has_prime (prime_of opened.old.schema bytes.now)) held.primes ≡ None)
+        (λ held. record held { primes = with_prime (record { value = record { items = prime_of opened.old.schema bytes.now }; place = place }) held.primes }) result }
     ensures rest { opened.new ≡ record opened.old { prime = opened.new.prime } }
     ensures width { opened.new.prime.width ≡ opened.old.prime.width }
     ensures few { (P.shown.state pages.old).available ≤ (P.shown.state pages.new).available + (prime_height opened.old.prime + 1) }
@@ -213,13 +171,9 @@ fn add_to_alternates<P: Pages>(
     requires shaped { IsShaped opened.old }
     requires least { opened.old.schema.least ≤ length bytes.now }
     requires room { levels_in opened.old.alternates.items ≤ (P.shown.state pages.old).available }
-    ensures added { IsTrue (P.shown.state pages.new).is_honest → IsTrue (P.shown.state pages.old).is_sound
-        → (slots : Slots) (primes : List PrimeEntry) (entries : ℕ → List AltEntry)
-        → Parts opened.old.heap opened.old.prime opened.old.alternates.items (P.shown.state pages.old).live slots primes entries
-        → AreFree opened.old.schema opened.old.next_stamp bytes.now (length opened.old.alternates.items) entries
-        → IsAnswer result (λ u. Parts opened.new.heap opened.new.prime opened.new.alternates.items (P.shown.state pages.new).live slots primes
-        (added_below opened.old.schema opened.old.next_stamp bytes.now (length opened.old.alternates.items) entries)
-        × IsTrue (P.shown.state pages.new).is_sound) }
+    ensures added { ChangesParts P.shown (in_pages opened.old pages.old) (in_pages opened.new pages.new)
+        (λ held. AreFree opened.old.schema opened.old.next_stamp bytes.now (length opened.old.alternates.items) held.entries)
+        (λ held. record held { entries = added_below opened.old.schema opened.old.next_stamp bytes.now (length opened.old.alternates.items) held.entries }) result }
     ensures rest { opened.new ≡ record opened.old { alternates = opened.new.alternates } }
     ensures shaped { IsShaped opened.new }
     ensures writes { WritesPages P.shown (8 * levels_in opened.old.alternates.items) ⊥ pages.old pages.new result }
@@ -242,13 +196,9 @@ pub(crate) fn add_to_alternate<P: Pages>(
     requires shaped { IsShaped opened.old }
     requires index { j < length opened.old.alternates.items }
     requires least { opened.old.schema.least ≤ length bytes.now }
-    ensures added { IsTrue (P.shown.state pages.new).is_honest → IsTrue (P.shown.state pages.old).is_sound
-        → (slots : Slots) (primes : List PrimeEntry) (entries : ℕ → List AltEntry)
-        → Parts opened.old.heap opened.old.prime opened.old.alternates.items (P.shown.state pages.old).live slots primes entries
-        → find (has_rank (value_of opened.old.schema (j + 1) bytes.now) (stamp_in opened.old.schema opened.old.next_stamp j)) (entries j) ≡ None
-        → IsAnswer result (λ u. Parts opened.new.heap opened.new.prime opened.new.alternates.items (P.shown.state pages.new).live slots primes
-        (but_at j (with_alt (entry_of opened.old.schema opened.old.next_stamp bytes.now j) (entries j)) entries)
-        × IsTrue (P.shown.state pages.new).is_sound) }
+    ensures added { ChangesParts P.shown (in_pages opened.old pages.old) (in_pages opened.new pages.new)
+        (λ held. find (has_rank (value_of opened.old.schema (j + 1) bytes.now) (stamp_in opened.old.schema opened.old.next_stamp j)) (held.entries j) ≡ None)
+        (λ held. record held { entries = but_at j (with_alt (entry_of opened.old.schema opened.old.next_stamp bytes.now j) (held.entries j)) held.entries }) result }
     ensures rest { opened.new ≡ record opened.old { alternates = opened.new.alternates } }
     ensures shaped { IsShaped opened.new }
     ensures later { drop (j + 1) opened.new.alternates.items ≡ drop (j + 1) opened.old.alternates.items }

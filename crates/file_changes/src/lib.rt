@@ -4,11 +4,12 @@
 //! say afterwards. A fault leaves the file broken, but for Full, which leaves it as it was. What reads a file, makes one or writes its header is
 //! not here.
 //!
-//! Read `specs/Adding.antt`, then `adding`.
+//! Read `specs/FileChange.antt` for the three changes of a list of rows, `specs/Changes.antt` for what is promised of each, and then `adding`.
 #![tactic(auto)]
 
 mod adding;
 mod changed;
+mod ending;
 mod old_record;
 mod removing;
 mod replacing;

@@ -1,23 +1,24 @@
 //! Removing a record.
 
-ghost use Rattle.std.specs.Prelude.{◌≡◌, ◌≢◌, ℕ, ◌+◌, ◌-◌, ◌*◌, ◌≤◌, ◌<◌, true, false, List, length, drop, find, slice_index_or, None, Ok, Err, IsSome, IsTrue, IsFalse, IfErr, OnOk};
+ghost use Rattle.std.specs.Prelude.{◌≡◌, ◌≢◌, ℕ, ◌+◌, ◌-◌, ◌*◌, ◌≤◌, ◌<◌, true, false, length, drop, find, slice_index_or, None, Ok, Err, IsSome, IfErr, OnOk};
 ghost use Rattle.record_layout.specs.Schema.{value_of, prime_of};
-ghost use Rattle.indexed_file.specs.File.{File};
-ghost use Rattle.indexed_file.specs.Room.{most_to_change};
-ghost use Rattle.pages.specs.Answer.{IsAnswer};
 ghost use Rattle.pages.specs.Cause.{IsCaused};
 ghost use Rattle.pages.specs.PageCalls.{WritesPages};
 ghost use Rattle.key_index.specs.Entries.{has_prime, has_rank, without_prime, without_rank};
 ghost use Rattle.key_index.specs.Standing.{prime_height, alt_height};
-ghost use Rattle.record_heap.specs.Chain.{Slots, put};
-ghost use Rattle.open_file.specs.Parts.{Parts, but_at};
-ghost use Rattle.open_file.specs.Stands.{Stands, IsShaped, room_of};
-ghost use Rattle.open_file.specs.Faults.{IsCausedIn};
+ghost use Rattle.record_heap.specs.Chain.{put};
+ghost use Rattle.open_file.specs.Parts.{but_at};
+ghost use Rattle.open_file.specs.Stands.{IsShaped};
 ghost use Rattle.file_changes.specs.Adding.{levels_in};
 ghost use Rattle.file_changes.specs.Old.{row_with};
-ghost use Rattle.file_changes.specs.Removing.{HasRemovedRow, HasRowAndEntries, AreThere, without_below};
+ghost use Rattle.file_changes.specs.FileChange.{removal};
+ghost use Rattle.file_changes.specs.Changes.{Changes, MayBreak};
+ghost use Rattle.file_changes.specs.Contents.{ChangesParts};
+ghost use Rattle.file_changes.specs.InPages.{in_pages, shown_in, IsReadyIn};
+ghost use Rattle.file_changes.specs.Removing.{HasRowAndEntries, AreThere, without_below, without_row};
 
 use crate::adding::put_at;
+use crate::ending::breaks;
 use crate::old_record::{OldRecord, find_old, record_in};
 use io_state::{Fault, Key};
 use key_index::{AltEntry, AltIndex, PrimeEntry};
@@ -29,44 +30,23 @@ use record_heap::Place;
 ///
 /// Device, Memory, Damage, Broken, after which the file is broken.
 pub fn remove<P: Pages>(opened: &mut OpenFile, pages: &mut P, key: &Key) -> Result<bool, Fault>
-    requires ready { P.shown.IsReady pages.old }
-    requires shaped { IsShaped opened.old }
-    ensures removed { IsTrue (P.shown.state pages.new).is_honest → IsTrue (P.shown.state pages.old).is_sound → (file : File)
-        → Stands opened.old (P.shown.state pages.old).live file
-        → IsAnswer result (HasRemovedRow opened.new (P.shown.state pages.new).live (IsTrue (P.shown.state pages.new).is_sound) opened.old.schema key.now.items file) }
-    ensures gone { result ≡ Ok false → (opened.new ≡ opened.old) × P.shown.Reads pages.old pages.new }
-    ensures gate { result ≡ Ok true → P.shown.CanChange pages.new }
-    ensures broken { IsTrue opened.old.broken → (result ≡ Err Fault.Broken) × (opened.new ≡ opened.old) × P.shown.Reads pages.old pages.new }
-    ensures breaks { IfErr result (λ e. IsTrue opened.new.broken) }
-    ensures unbroken { OnOk result (IsFalse opened.new.broken) }
-    ensures cause { IfErr result (IsCausedIn opened.old.broken (P.shown.HasFailed pages.old pages.new) ⊥) }
-    ensures schema { opened.new.schema ≡ opened.old.schema }
-    ensures shaped { IsShaped opened.new }
-    ensures begins { P.shown.Begins pages.old pages.new }
-    ensures asked { (P.shown.state pages.new).asked ≤ (P.shown.state pages.old).asked + most_to_change (room_of opened.old (P.shown.state pages.old).available) }
+    requires ready { IsReadyIn P.shown (in_pages opened.old pages.old) }
+    ensures removes { Changes (shown_in P.shown) (removal opened.old.schema key.now.items) (in_pages opened.old pages.old) (in_pages opened.new pages.new) result }
+    ensures breaks { MayBreak (shown_in P.shown) false (in_pages opened.old pages.old) (in_pages opened.new pages.new) result }
 {
     if opened.broken {
         return Err(Fault::Broken);
     }
     let removed = try_remove(opened, pages, key.as_slice());
-    opened.broken = removed.is_err();
+    opened.broken = breaks(&removed);
     removed
 }
 
 /// What `remove` does on a file that is not broken.
 fn try_remove<P: Pages>(opened: &mut OpenFile, pages: &mut P, prime: &[u8]) -> Result<bool, Fault>
-    requires ready { P.shown.IsReady pages.old }
-    requires shaped { IsShaped opened.old }
-    ensures removed { IsTrue (P.shown.state pages.new).is_honest → IsTrue (P.shown.state pages.old).is_sound → (file : File)
-        → Stands opened.old (P.shown.state pages.old).live file
-        → IsAnswer result (HasRemovedRow opened.new (P.shown.state pages.new).live (IsTrue (P.shown.state pages.new).is_sound) opened.old.schema prime.now file) }
-    ensures gone { result ≡ Ok false → (opened.new ≡ opened.old) × P.shown.Reads pages.old pages.new }
-    ensures gate { result ≡ Ok true → P.shown.CanChange pages.new }
+    requires ready { IsReadyIn P.shown (in_pages opened.old pages.old) }
+    ensures removes { Changes (shown_in P.shown) (removal opened.old.schema prime.now) (in_pages opened.old pages.old) (in_pages opened.new pages.new) result }
     ensures cause { IfErr result (IsCaused (P.shown.HasFailed pages.old pages.new) ⊥) }
-    ensures schema { opened.new.schema ≡ opened.old.schema }
-    ensures shaped { IsShaped opened.new }
-    ensures begins { P.shown.Begins pages.old pages.new }
-    ensures asked { (P.shown.state pages.new).asked ≤ (P.shown.state pages.old).asked + most_to_change (room_of opened.old (P.shown.state pages.old).available) }
 {
     let mut slot = [0; 4064];
     let Some(old) = find_old(opened, pages, prime, &mut slot)? else {
@@ -90,14 +70,9 @@ fn take_out<P: Pages>(
     requires shaped { IsShaped opened.old }
     requires least { opened.old.schema.least ≤ length bytes.now }
     requires stamps { length old.now.stamps.items ≡ length opened.old.alternates.items }
-    ensures out { IsTrue (P.shown.state pages.new).is_honest → IsTrue (P.shown.state pages.old).is_sound
-        → (slots : Slots) (primes : List PrimeEntry) (entries : ℕ → List AltEntry)
-        → Parts opened.old.heap opened.old.prime opened.old.alternates.items (P.shown.state pages.old).live slots primes entries
-        → HasRowAndEntries opened.old.schema (row_with bytes.now old.now.stamps.items) old.now.place (length opened.old.alternates.items) slots primes entries
-        → IsAnswer result (λ u. Parts opened.new.heap opened.new.prime opened.new.alternates.items (P.shown.state pages.new).live
-        (put slots old.now.place None) (without_prime (prime_of opened.old.schema bytes.now) primes)
-        (without_below opened.old.schema (row_with bytes.now old.now.stamps.items) (length opened.old.alternates.items) entries)
-        × IsTrue (P.shown.state pages.new).is_sound) }
+    ensures out { ChangesParts P.shown (in_pages opened.old pages.old) (in_pages opened.new pages.new)
+        (λ held. HasRowAndEntries opened.old.schema (row_with bytes.now old.now.stamps.items) old.now.place (length opened.old.alternates.items) held.slots held.primes held.entries)
+        (without_row opened.old.schema (row_with bytes.now old.now.stamps.items) old.now.place (length opened.old.alternates.items)) result }
     ensures rest { opened.new ≡ record opened.old { heap = opened.new.heap; prime = opened.new.prime; alternates = opened.new.alternates; path = None } }
     ensures shaped { IsShaped opened.new }
     ensures writes { WritesPages P.shown (8 * ((prime_height opened.old.prime + 1) + levels_in opened.old.alternates.items) + 1) ⊥ pages.old pages.new result }
@@ -112,12 +87,9 @@ fn take_out<P: Pages>(
 fn free_slot<P: Pages>(opened: &mut OpenFile, pages: &mut P, place: Place) -> Result<(), Fault>
     requires ready { P.shown.IsReady pages.old }
     requires open { P.shown.CanChange pages.old }
-    ensures freed { IsTrue (P.shown.state pages.new).is_honest → IsTrue (P.shown.state pages.old).is_sound
-        → (slots : Slots) (primes : List PrimeEntry) (entries : ℕ → List AltEntry)
-        → Parts opened.old.heap opened.old.prime opened.old.alternates.items (P.shown.state pages.old).live slots primes entries
-        → IsSome (slots place)
-        → IsAnswer result (λ u. Parts opened.new.heap opened.new.prime opened.new.alternates.items (P.shown.state pages.new).live
-        (put slots place None) primes entries × IsTrue (P.shown.state pages.new).is_sound) }
+    ensures freed { ChangesParts P.shown (in_pages opened.old pages.old) (in_pages opened.new pages.new)
+        (λ held. IsSome (held.slots place))
+        (λ held. record held { slots = put held.slots place None }) result }
     ensures rest { opened.new ≡ record opened.old { heap = opened.new.heap } }
     ensures shape { opened.new.heap.shape ≡ opened.old.heap.shape }
     ensures writes { WritesPages P.shown 1 ⊥ pages.old pages.new result }
@@ -135,12 +107,9 @@ fn remove_from_prime<P: Pages>(
     requires open { P.shown.CanChange pages.old }
     requires shaped { IsShaped opened.old }
     requires least { opened.old.schema.least ≤ length bytes.now }
-    ensures removed { IsTrue (P.shown.state pages.new).is_honest → IsTrue (P.shown.state pages.old).is_sound
-        → (slots : Slots) (primes : List PrimeEntry) (entries : ℕ → List AltEntry)
-        → Parts opened.old.heap opened.old.prime opened.old.alternates.items (P.shown.state pages.old).live slots primes entries
-        → IsSome (find (has_prime (prime_of opened.old.schema bytes.now)) primes)
-        → IsAnswer result (λ u. Parts opened.new.heap opened.new.prime opened.new.alternates.items (P.shown.state pages.new).live slots
-        (without_prime (prime_of opened.old.schema bytes.now) primes) entries × IsTrue (P.shown.state pages.new).is_sound) }
+    ensures removed { ChangesParts P.shown (in_pages opened.old pages.old) (in_pages opened.new pages.new)
+        (λ held. IsSome (find (has_prime (prime_of opened.old.schema bytes.now)) held.primes))
+        (λ held. record held { primes = without_prime (prime_of opened.old.schema bytes.now) held.primes }) result }
     ensures rest { opened.new ≡ record opened.old { prime = opened.new.prime } }
     ensures width { opened.new.prime.width ≡ opened.old.prime.width }
     ensures writes { WritesPages P.shown (8 * (prime_height opened.old.prime + 1)) ⊥ pages.old pages.new result }
@@ -164,13 +133,9 @@ fn remove_from_alternates<P: Pages>(
     requires shaped { IsShaped opened.old }
     requires least { opened.old.schema.least ≤ length bytes.now }
     requires stamps { length stamps.now ≡ length opened.old.alternates.items }
-    ensures removed { IsTrue (P.shown.state pages.new).is_honest → IsTrue (P.shown.state pages.old).is_sound
-        → (slots : Slots) (primes : List PrimeEntry) (entries : ℕ → List AltEntry)
-        → Parts opened.old.heap opened.old.prime opened.old.alternates.items (P.shown.state pages.old).live slots primes entries
-        → AreThere opened.old.schema (row_with bytes.now stamps.now) (length opened.old.alternates.items) entries
-        → IsAnswer result (λ u. Parts opened.new.heap opened.new.prime opened.new.alternates.items (P.shown.state pages.new).live slots primes
-        (without_below opened.old.schema (row_with bytes.now stamps.now) (length opened.old.alternates.items) entries)
-        × IsTrue (P.shown.state pages.new).is_sound) }
+    ensures removed { ChangesParts P.shown (in_pages opened.old pages.old) (in_pages opened.new pages.new)
+        (λ held. AreThere opened.old.schema (row_with bytes.now stamps.now) (length opened.old.alternates.items) held.entries)
+        (λ held. record held { entries = without_below opened.old.schema (row_with bytes.now stamps.now) (length opened.old.alternates.items) held.entries }) result }
     ensures rest { opened.new ≡ record opened.old { alternates = opened.new.alternates } }
     ensures shaped { IsShaped opened.new }
     ensures writes { WritesPages P.shown (8 * levels_in opened.old.alternates.items) ⊥ pages.old pages.new result }
@@ -194,13 +159,9 @@ pub(crate) fn remove_from_alternate<P: Pages>(
     requires shaped { IsShaped opened.old }
     requires index { j < length opened.old.alternates.items }
     requires least { opened.old.schema.least ≤ length bytes.now }
-    ensures removed { IsTrue (P.shown.state pages.new).is_honest → IsTrue (P.shown.state pages.old).is_sound
-        → (slots : Slots) (primes : List PrimeEntry) (entries : ℕ → List AltEntry)
-        → Parts opened.old.heap opened.old.prime opened.old.alternates.items (P.shown.state pages.old).live slots primes entries
-        → IsSome (find (has_rank (value_of opened.old.schema (j + 1) bytes.now) stamp) (entries j))
-        → IsAnswer result (λ u. Parts opened.new.heap opened.new.prime opened.new.alternates.items (P.shown.state pages.new).live slots primes
-        (but_at j (without_rank (value_of opened.old.schema (j + 1) bytes.now) stamp (entries j)) entries)
-        × IsTrue (P.shown.state pages.new).is_sound) }
+    ensures removed { ChangesParts P.shown (in_pages opened.old pages.old) (in_pages opened.new pages.new)
+        (λ held. IsSome (find (has_rank (value_of opened.old.schema (j + 1) bytes.now) stamp) (held.entries j)))
+        (λ held. record held { entries = but_at j (without_rank (value_of opened.old.schema (j + 1) bytes.now) stamp (held.entries j)) held.entries }) result }
     ensures rest { opened.new ≡ record opened.old { alternates = opened.new.alternates } }
     ensures shaped { IsShaped opened.new }
     ensures others { (i : ℕ) (index : AltIndex) → i ≢ j

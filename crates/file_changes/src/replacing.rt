@@ -1,29 +1,31 @@
 //! Replacing a record.
 
-ghost use Rattle.std.specs.Prelude.{⊤, ◌≡◌, ◌≢◌, ℕ, ◌+◌, ◌*◌, ◌^◌, ◌≤◌, ◌<◌, ◌||◌, ◌&&◌, not, bytes_eq, List, length, drop, find, sum_by, slice_index, slice_index_or, None, Some, Ok, Err, IsSome, IsTrue, IsFalse, IfOk, IfErr, OnOk};
+ghost use Rattle.std.specs.Prelude.{⊤, true, ◌≡◌, ◌≢◌, ◌+◌, ◌*◌, ◌^◌, ◌≤◌, ◌<◌, ◌||◌, ◌&&◌, not, bytes_eq, length, drop, sum_by, slice_index, slice_index_or, None, Some, Ok, Err, IsSome, IsTrue, IsFalse, IfOk, IfErr, OnOk};
 ghost use Rattle.record_layout.specs.Schema.{key_at, value_of, prime_of};
 ghost use Rattle.indexed_file.specs.File.{Row, File};
-ghost use Rattle.indexed_file.specs.Change.{clashes_with_others, is_there, row_of, takes_stamp, changed_row};
+ghost use Rattle.indexed_file.specs.Change.{clashes_with_others, is_there, row_of, takes_stamp};
 ghost use Rattle.indexed_file.specs.Answers.{replaced_answer_at};
-ghost use Rattle.indexed_file.specs.Room.{most_to_change, is_full_to_replace};
+ghost use Rattle.indexed_file.specs.Room.{is_full_to_replace};
 ghost use Rattle.pages.specs.Answer.{IsAnswer};
 ghost use Rattle.pages.specs.Cause.{IsCaused};
 ghost use Rattle.pages.specs.PageCalls.{ReadsPages, WritesPages};
-ghost use Rattle.key_index.specs.Entries.{has_rank, with_alt, without_rank};
 ghost use Rattle.key_index.specs.Standing.{alt_height};
-ghost use Rattle.record_heap.specs.Chain.{Slots, put};
-ghost use Rattle.open_file.specs.Stored.{stored};
+ghost use Rattle.record_heap.specs.Chain.{put};
 ghost use Rattle.open_file.specs.InOrder.{prime_entries};
-ghost use Rattle.open_file.specs.Parts.{Parts, but_at};
+ghost use Rattle.open_file.specs.Parts.{but_at};
 ghost use Rattle.open_file.specs.Stands.{Stands, IsShaped, heights_of, room_of};
-ghost use Rattle.open_file.specs.Faults.{IsCausedIn};
-ghost use Rattle.file_changes.specs.Adding.{stamp_in, entry_of, levels_in};
+ghost use Rattle.file_changes.specs.Adding.{levels_in};
 ghost use Rattle.file_changes.specs.Old.{row_with, IsOldAt};
 ghost use Rattle.file_changes.specs.Removing.{AreThere};
-ghost use Rattle.file_changes.specs.Replacing.{HasReplaced, CanPutOver, AreFreed, changed_below, need_in_indexes, next_after};
+ghost use Rattle.file_changes.specs.FileChange.{replacement};
+ghost use Rattle.file_changes.specs.Changes.{Changes, MayBreak, HasChanged};
+ghost use Rattle.file_changes.specs.Contents.{ChangesParts};
+ghost use Rattle.file_changes.specs.InPages.{in_pages, shown_in, IsReadyIn};
+ghost use Rattle.file_changes.specs.Replacing.{CanPutOver, CanChangeEntry, AreFreed, changed_below, changed_entries, slot_after, with_row, need_in_indexes, next_after};
 
 use crate::adding::add_to_alternate;
 use crate::changed::{changed_stamps, differs, is_full_to_change, takes_stamp};
+use crate::ending::breaks;
 use crate::old_record::{OldRecord, find_old, record_in};
 use crate::removing::remove_from_alternate;
 use indexed_file::Replaced;
@@ -41,40 +43,17 @@ pub fn replace<P: Pages>(
     pages: &mut P,
     bytes: &[u8],
 ) -> Result<Replaced, Fault>
-    requires ready { P.shown.IsReady pages.old }
-    requires shaped { IsShaped opened.old }
+    requires ready { IsReadyIn P.shown (in_pages opened.old pages.old) }
     requires least { opened.old.schema.least ≤ length bytes.now }
     requires greatest { length bytes.now ≤ opened.old.schema.greatest }
-    ensures replaced { IsTrue (P.shown.state pages.new).is_honest → IsTrue (P.shown.state pages.old).is_sound → (file : File)
-        → Stands opened.old (P.shown.state pages.old).live file
-        → IsAnswer result (HasReplaced opened.new (P.shown.state pages.new).live (IsTrue (P.shown.state pages.new).is_sound) opened.old.schema bytes.now file) }
-    ensures clash { result ≡ Ok Replaced.Clash → (opened.new ≡ opened.old) × P.shown.Reads pages.old pages.new }
-    ensures gone { result ≡ Ok Replaced.Gone → (opened.new ≡ opened.old) × P.shown.Reads pages.old pages.new }
-    ensures gate { IfOk result (λ answer. answer ≢ Replaced.Clash → answer ≢ Replaced.Gone → P.shown.CanChange pages.new) }
-    ensures room { IsTrue (P.shown.state pages.new).is_honest → (file : File) → Stands opened.old (P.shown.state pages.old).live file
-        → OnOk result (IsTrue (clashes_with_others opened.old.schema bytes.now file
-        || not (is_full_to_replace (room_of opened.old (P.shown.state pages.old).available) opened.old.schema bytes.now file))) }
-    ensures full { result ≡ Err Fault.Full → (opened.new ≡ opened.old) × P.shown.Reads pages.old pages.new
-        × (IsTrue (P.shown.state pages.new).is_honest → (file : File) → Stands opened.old (P.shown.state pages.old).live file
-        → IsFalse (clashes_with_others opened.old.schema bytes.now file)
-        × IsTrue (is_full_to_replace (room_of opened.old (P.shown.state pages.old).available) opened.old.schema bytes.now file)) }
-    ensures broken { IsTrue opened.old.broken → (result ≡ Err Fault.Broken) × (opened.new ≡ opened.old) × P.shown.Reads pages.old pages.new }
-    ensures breaks { IfErr result (λ e. e ≢ Fault.Full → IsTrue opened.new.broken) }
-    ensures unbroken { OnOk result (IsFalse opened.new.broken) }
-    ensures cause { IfErr result (IsCausedIn opened.old.broken (P.shown.HasFailed pages.old pages.new) (IsFalse opened.old.broken)) }
-    ensures schema { opened.new.schema ≡ opened.old.schema }
-    ensures shaped { IsShaped opened.new }
-    ensures begins { P.shown.Begins pages.old pages.new }
-    ensures asked { (P.shown.state pages.new).asked ≤ (P.shown.state pages.old).asked + most_to_change (room_of opened.old (P.shown.state pages.old).available) }
+    ensures replaces { Changes (shown_in P.shown) (replacement opened.old.schema bytes.now) (in_pages opened.old pages.old) (in_pages opened.new pages.new) result }
+    ensures breaks { MayBreak (shown_in P.shown) true (in_pages opened.old pages.old) (in_pages opened.new pages.new) result }
 {
     if opened.broken {
         return Err(Fault::Broken);
     }
     let replaced = try_replace(opened, pages, bytes);
-    opened.broken = match replaced {
-        Ok(_) | Err(Fault::Full) => false,
-        Err(_) => true,
-    };
+    opened.broken = breaks(&replaced);
     replaced
 }
 
@@ -84,29 +63,12 @@ fn try_replace<P: Pages>(
     pages: &mut P,
     bytes: &[u8],
 ) -> Result<Replaced, Fault>
-    requires ready { P.shown.IsReady pages.old }
-    requires shaped { IsShaped opened.old }
+    requires ready { IsReadyIn P.shown (in_pages opened.old pages.old) }
     requires least { opened.old.schema.least ≤ length bytes.now }
     requires greatest { length bytes.now ≤ opened.old.schema.greatest }
-    ensures replaced { IsTrue (P.shown.state pages.new).is_honest → IsTrue (P.shown.state pages.old).is_sound → (file : File)
-        → Stands opened.old (P.shown.state pages.old).live file
-        → IsAnswer result (HasReplaced opened.new (P.shown.state pages.new).live (IsTrue (P.shown.state pages.new).is_sound) opened.old.schema bytes.now file) }
-    ensures clash { result ≡ Ok Replaced.Clash → (opened.new ≡ opened.old) × P.shown.Reads pages.old pages.new }
-    ensures gone { result ≡ Ok Replaced.Gone → (opened.new ≡ opened.old) × P.shown.Reads pages.old pages.new }
-    ensures gate { IfOk result (λ answer. answer ≢ Replaced.Clash → answer ≢ Replaced.Gone → P.shown.CanChange pages.new) }
-    ensures room { IsTrue (P.shown.state pages.new).is_honest → (file : File) → Stands opened.old (P.shown.state pages.old).live file
-        → OnOk result (IsTrue (clashes_with_others opened.old.schema bytes.now file
-        || not (is_full_to_replace (room_of opened.old (P.shown.state pages.old).available) opened.old.schema bytes.now file))) }
-    ensures full { result ≡ Err Fault.Full → (opened.new ≡ opened.old) × P.shown.Reads pages.old pages.new
-        × (IsTrue (P.shown.state pages.new).is_honest → (file : File) → Stands opened.old (P.shown.state pages.old).live file
-        → IsFalse (clashes_with_others opened.old.schema bytes.now file)
-        × IsTrue (is_full_to_replace (room_of opened.old (P.shown.state pages.old).available) opened.old.schema bytes.now file)) }
+    ensures replaces { Changes (shown_in P.shown) (replacement opened.old.schema bytes.now) (in_pages opened.old pages.old) (in_pages opened.new pages.new) result }
     ensures cause { IfErr result (IsCaused (P.shown.HasFailed pages.old pages.new) ⊤) }
     ensures broken { opened.new.broken ≡ opened.old.broken }
-    ensures schema { opened.new.schema ≡ opened.old.schema }
-    ensures shaped { IsShaped opened.new }
-    ensures begins { P.shown.Begins pages.old pages.new }
-    ensures asked { (P.shown.state pages.new).asked ≤ (P.shown.state pages.old).asked + most_to_change (room_of opened.old (P.shown.state pages.old).available) }
 {
     let mut slot = [0; 4064];
     let prime = opened.schema.value(bytes, 0);
@@ -135,7 +97,7 @@ fn replace_old<P: Pages>(
         → (stands : Stands opened.old (P.shown.state pages.old).live file)
         → IsOldAt opened.old.schema stands.slots (prime_entries opened.old.schema stands.places file.rows) file
         (prime_of opened.old.schema bytes.now) old.now.place (row_with before.now old.now.stamps.items)
-        → IsAnswer result (HasReplaced opened.new (P.shown.state pages.new).live (IsTrue (P.shown.state pages.new).is_sound) opened.old.schema bytes.now file) }
+        → IsAnswer result (HasChanged (Stands opened.new (P.shown.state pages.new).live) (IsTrue (P.shown.state pages.new).is_sound) (replacement opened.old.schema bytes.now) file) }
     ensures clash { result ≡ Ok Replaced.Clash → (opened.new ≡ opened.old) × P.shown.Reads pages.old pages.new }
     ensures some { IfOk result (λ answer. answer ≢ Replaced.Gone) }
     ensures gate { IfOk result (λ answer. answer ≢ Replaced.Clash → P.shown.CanChange pages.new) }
@@ -237,14 +199,9 @@ fn put_over<P: Pages>(
     requires greatest { length bytes.now ≤ opened.old.schema.greatest }
     requires room { need_in_indexes opened.old.schema before.now bytes.now opened.old.alternates.items ≤ (P.shown.state pages.old).available }
     requires stamps { IsTrue (takes_stamp opened.old.schema before.now bytes.now) → opened.old.next_stamp < 2 ^ 63 }
-    ensures over { IsTrue (P.shown.state pages.new).is_honest → IsTrue (P.shown.state pages.old).is_sound
-        → (slots : Slots) (primes : List PrimeEntry) (entries : ℕ → List AltEntry)
-        → Parts opened.old.heap opened.old.prime opened.old.alternates.items (P.shown.state pages.old).live slots primes entries
-        → CanPutOver opened.old.schema opened.old.next_stamp (row_with before.now old.now.stamps.items) bytes.now old.now.place (length opened.old.alternates.items) slots entries
-        → IsAnswer result (λ u. Parts opened.new.heap opened.new.prime opened.new.alternates.items (P.shown.state pages.new).live
-        (put slots old.now.place (Some (stored opened.old.schema (changed_row opened.old.schema opened.old.next_stamp bytes.now (row_with before.now old.now.stamps.items)))))
-        primes (changed_below opened.old.schema opened.old.next_stamp (row_with before.now old.now.stamps.items) bytes.now (length opened.old.alternates.items) entries)
-        × IsTrue (P.shown.state pages.new).is_sound) }
+    ensures over { ChangesParts P.shown (in_pages opened.old pages.old) (in_pages opened.new pages.new)
+        (λ held. CanPutOver opened.old.schema opened.old.next_stamp (row_with before.now old.now.stamps.items) bytes.now old.now.place (length opened.old.alternates.items) held.slots held.entries)
+        (with_row opened.old.schema opened.old.next_stamp (row_with before.now old.now.stamps.items) bytes.now old.now.place (length opened.old.alternates.items)) result }
     ensures rest { OnOk result (opened.new ≡ record opened.old {
       alternates = opened.new.alternates;
       path = None;
@@ -279,13 +236,9 @@ fn set_slot<P: Pages>(
     requires many { length old.now.stamps.items ≡ length opened.now.alternates.items }
     requires least { opened.now.schema.least ≤ length bytes.now }
     requires greatest { length bytes.now ≤ opened.now.schema.greatest }
-    ensures set { IsTrue (P.shown.state pages.new).is_honest → IsTrue (P.shown.state pages.old).is_sound
-        → (slots : Slots) (primes : List PrimeEntry) (entries : ℕ → List AltEntry)
-        → Parts opened.now.heap opened.now.prime opened.now.alternates.items (P.shown.state pages.old).live slots primes entries
-        → IsSome (slots old.now.place)
-        → IsAnswer result (λ u. Parts opened.now.heap opened.now.prime opened.now.alternates.items (P.shown.state pages.new).live
-        (put slots old.now.place (Some (stored opened.now.schema (changed_row opened.now.schema opened.now.next_stamp bytes.now (row_with before.now old.now.stamps.items)))))
-        primes entries × IsTrue (P.shown.state pages.new).is_sound) }
+    ensures set { ChangesParts P.shown (in_pages opened.now pages.old) (in_pages opened.now pages.new)
+        (λ held. IsSome (held.slots old.now.place))
+        (λ held. record held { slots = put held.slots old.now.place (Some (slot_after opened.now.schema opened.now.next_stamp (row_with before.now old.now.stamps.items) bytes.now)) }) result }
     ensures available { (P.shown.state pages.new).available ≡ (P.shown.state pages.old).available }
     ensures writes { WritesPages P.shown 1 ⊥ pages.old pages.new result }
 {
@@ -308,14 +261,10 @@ fn change_alternates<P: Pages>(
     requires stamps { length stamps.now ≡ length opened.old.alternates.items }
     requires least { opened.old.schema.least ≤ length bytes.now }
     requires room { need_in_indexes opened.old.schema old.now bytes.now opened.old.alternates.items ≤ (P.shown.state pages.old).available }
-    ensures changed { IsTrue (P.shown.state pages.new).is_honest → IsTrue (P.shown.state pages.old).is_sound
-        → (slots : Slots) (primes : List PrimeEntry) (entries : ℕ → List AltEntry)
-        → Parts opened.old.heap opened.old.prime opened.old.alternates.items (P.shown.state pages.old).live slots primes entries
-        → AreThere opened.old.schema (row_with old.now stamps.now) (length opened.old.alternates.items) entries
-        → AreFreed opened.old.schema opened.old.next_stamp (row_with old.now stamps.now) bytes.now (length opened.old.alternates.items) entries
-        → IsAnswer result (λ u. Parts opened.new.heap opened.new.prime opened.new.alternates.items (P.shown.state pages.new).live slots primes
-        (changed_below opened.old.schema opened.old.next_stamp (row_with old.now stamps.now) bytes.now (length opened.old.alternates.items) entries)
-        × IsTrue (P.shown.state pages.new).is_sound) }
+    ensures changed { ChangesParts P.shown (in_pages opened.old pages.old) (in_pages opened.new pages.new)
+        (λ held. AreThere opened.old.schema (row_with old.now stamps.now) (length opened.old.alternates.items) held.entries
+        × AreFreed opened.old.schema opened.old.next_stamp (row_with old.now stamps.now) bytes.now (length opened.old.alternates.items) held.entries)
+        (λ held. record held { entries = changed_below opened.old.schema opened.old.next_stamp (row_with old.now stamps.now) bytes.now (length opened.old.alternates.items) held.entries }) result }
     ensures rest { opened.new ≡ record opened.old { alternates = opened.new.alternates } }
     ensures shaped { IsShaped opened.new }
     ensures writes { WritesPages P.shown (16 * need_in_indexes opened.old.schema old.now bytes.now opened.old.alternates.items) ⊥ pages.old pages.new result }
@@ -343,16 +292,9 @@ fn change_alternate<P: Pages>(
     requires index { j < length opened.old.alternates.items }
     requires old { opened.old.schema.least ≤ length old.now }
     requires least { opened.old.schema.least ≤ length bytes.now }
-    ensures changed { IsTrue (P.shown.state pages.new).is_honest → IsTrue (P.shown.state pages.old).is_sound
-        → (slots : Slots) (primes : List PrimeEntry) (entries : ℕ → List AltEntry)
-        → Parts opened.old.heap opened.old.prime opened.old.alternates.items (P.shown.state pages.old).live slots primes entries
-        → IsSome (find (has_rank (value_of opened.old.schema (j + 1) old.now) stamp) (entries j))
-        → find (has_rank (value_of opened.old.schema (j + 1) bytes.now) (stamp_in opened.old.schema opened.old.next_stamp j))
-        (without_rank (value_of opened.old.schema (j + 1) old.now) stamp (entries j)) ≡ None
-        → IsAnswer result (λ u. Parts opened.new.heap opened.new.prime opened.new.alternates.items (P.shown.state pages.new).live slots primes
-        (but_at j (with_alt (entry_of opened.old.schema opened.old.next_stamp bytes.now j)
-        (without_rank (value_of opened.old.schema (j + 1) old.now) stamp (entries j))) entries)
-        × IsTrue (P.shown.state pages.new).is_sound) }
+    ensures changed { ChangesParts P.shown (in_pages opened.old pages.old) (in_pages opened.new pages.new)
+        (λ held. CanChangeEntry opened.old.schema opened.old.next_stamp old.now stamp bytes.now j (held.entries j))
+        (λ held. record held { entries = but_at j (changed_entries opened.old.schema opened.old.next_stamp old.now stamp bytes.now j (held.entries j)) held.entries }) result }
     ensures rest { opened.new ≡ record opened.old { alternates = opened.new.alternates } }
     ensures shaped { IsShaped opened.new }
     ensures later { drop (j + 1) opened.new.alternates.items ≡ drop (j + 1) opened.old.alternates.items }

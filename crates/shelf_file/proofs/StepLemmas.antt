@@ -1,9 +1,7 @@
 -- What a call on an open file leaves, from what it leaves of the file's parts and of its pages.
-use Rattle.std.proofs.Common.{◌≡◌, ℕ, Bool, IsTrue, Result, Ok, Err, refl, subst, sym}
+use Rattle.std.proofs.Common.{◌≡◌, ℕ, Bool, IsTrue, refl, subst, sym}
 use Rattle.indexed_file.specs.File.{File}
-use Rattle.io_state.specs.declared.fault.Fault.{Fault}
 use Rattle.page_store.specs.ShelfState.{ShelfState}
-use Rattle.pages.specs.Answer.{IsAnswer}
 use Rattle.page_alloc.specs.declared.paged_file.PagedFile.{PagedFile}
 use Rattle.page_alloc.specs.Steps.{ReadsPages}
 use Rattle.open_file.specs.declared.open_file.OpenFile.{OpenFile}
@@ -48,8 +46,3 @@ reads_same old new before after failed fails same reads =
     reads_but_path old new before after failed fails
     (subst (λ (file : OpenFile). file ≡ record old.file { path = file.path }) (sym same) refl)
     (λ honest rows s. subst (λ file. Stands file (live_of old before) rows) (sym same) s) reads
-
--- a weaker fact of an answer
-pub answer_map : {X : Type 0} (P Q : X → Type 0) → ((x : X) → P x → Q x) → (result : Result X Fault) → IsAnswer result P → IsAnswer result Q
-answer_map P Q f (Ok x) a = record { answer = f x a.answer; no_damage = a.no_damage }
-answer_map P Q f (Err e) a = record { answer = a.answer; no_damage = a.no_damage }

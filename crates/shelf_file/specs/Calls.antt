@@ -1,11 +1,12 @@
 -- What the calls on an open file leave.
-use Rattle.std.specs.Prelude.{◌≡◌, ℕ, Bool, IsTrue, IsFalse, Result}
+use Rattle.std.specs.Prelude.{◌≡◌, ℕ, true, IsTrue}
 use Rattle.indexed_file.specs.File.{File}
-use Rattle.io_state.specs.declared.fault.Fault.{Fault}
-use Rattle.pages.specs.Answer.{IsAnswer}
 use Rattle.page_store.specs.ShelfState.{ShelfState}
-use Rattle.page_alloc.specs.Steps.{ReadsPages}
-use Rattle.shelf_file.specs.Standing.{IsReady, StandsFor}
+use Rattle.page_alloc.specs.Joining.{HasFailed}
+use Rattle.page_alloc.specs.Steps.{ReadsPages, Moves, state_of}
+use Rattle.open_file.specs.Stands.{Stands}
+use Rattle.file_changes.specs.Changes.{ShownFile}
+use Rattle.shelf_file.specs.Standing.{IsReady, StandsFor, live_of, room_in}
 use Rattle.shelf_file.specs.declared.shelf_file.ShelfFile.{ShelfFile}
 
 -- a call that only reads: but for its path the file is as it was, and so are its pages
@@ -15,18 +16,28 @@ pub record OnlyReadsFile (old new : ShelfFile) (before after : ShelfState) (fail
   pub ready : IsReady old before → IsReady new after
   pub stands : IsTrue after.is_honest → (file : File) → StandsFor old before file → StandsFor new after file
 
--- the answer of a call that changes the file, and the file that it leaves
-pub record HasChanged {X : Type 0} (new : ShelfFile) (after : ShelfState) (answer : X) (file : File) (x : X) : Type 0 where
-  pub answers : x ≡ answer
-  pub stands : StandsFor new after file
+-- an open file on a shelf whose device has failed so often
+pub record FileOnShelf : Type 0 where
+  pub held : ShelfFile
+  pub shelf : ShelfState
+  pub faults : ℕ
 
--- where the shelf is honest and the pages stood for a file, the answer and the file after it are these
-abbrev pub ChangesShelfFile : {X : Type 0} → ShelfFile → ShelfFile → ShelfState → ShelfState → (File → X) → (File → File) → Result X Fault → Type 0
-ChangesShelfFile old new before after answer made result =
-    IsTrue after.is_honest → (file : File) → StandsFor old before file → IsAnswer result (HasChanged new after (answer file) (made file))
+abbrev pub on_shelf : ShelfFile → ShelfState → ℕ → FileOnShelf
+on_shelf held shelf faults = record { held = held; shelf = shelf; faults = faults }
 
--- the file lacks room for a change that does not clash, and nothing is changed
-pub record IsFull (old new : ShelfFile) (before after : ShelfState) (failed fails : ℕ) (clashes lacks : File → Bool) : Type 0 where
-  pub reads : OnlyReadsFile old new before after failed fails
-  pub no_clash : IsTrue after.is_honest → (file : File) → StandsFor old before file → IsFalse (clashes file)
-  pub lacks_room : IsTrue after.is_honest → (file : File) → StandsFor old before file → IsTrue (lacks file)
+-- what it shows
+abbrev pub shown_on_shelf : ShownFile FileOnShelf
+shown_on_shelf = record {
+  is_honest = λ at. at.shelf.is_honest;
+  IsSound = λ at. IsTrue (state_of at.held.pages at.shelf).is_sound;
+  StandsFor = λ at. Stands at.held.file (live_of at.held at.shelf);
+  is_broken = λ at. at.held.file.broken;
+  schema = λ at. at.held.file.schema;
+  room = λ at. room_in at.held;
+  asked = λ at. at.held.pages.cache.asked;
+  IsReady = λ at. IsReady at.held at.shelf;
+  CanChange = λ at. at.held.pages.changed ≡ true;
+  Reads = λ before after. OnlyReadsFile before.held after.held before.shelf after.shelf before.faults after.faults;
+  Begins = λ before after. Moves before.held.pages after.held.pages before.shelf after.shelf before.faults after.faults;
+  HasFailed = λ before after. HasFailed before.faults after.faults;
+}

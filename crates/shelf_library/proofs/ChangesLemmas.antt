@@ -2,7 +2,6 @@
 use Rattle.std.proofs.Common.{ℕ, ◌+◌, ◌≤◌, Bool, true, not, Some, Result, Ok, Err, IsTrue, IsFalse, OnOk, refl, sym, ap, subst, ◌∙◌}
 use Rattle.record_layout.specs.Schema.{Schema}
 use Rattle.indexed_file.proofs.TestLemmas.{either}
-use Rattle.indexed_file.specs.File.{File}
 use Rattle.indexed_file.specs.Room.{most_to_change}
 use Rattle.indexed_file.specs.World.{holding_at, name_at, is_broken}
 use Rattle.indexed_file.specs.Images.{Trace, ImagesGo, unfinished, trace_if, trace_of_change}
@@ -10,6 +9,7 @@ use Rattle.indexed_file.specs.Calls.{Keeps, SamePages, is_unmade}
 use Rattle.indexed_file.specs.UnitCalls.{ChangesUnit}
 use Rattle.io_state.specs.declared.fault.Fault.{Fault}
 use Rattle.io_state.specs.declared.fault.Fault.TheVariants.{Device, Memory, Full, Damage, Broken as BrokenFile}
+use Rattle.file_changes.specs.FileChange.{FileChange}
 use Rattle.shelf_file.specs.declared.shelf_file.ShelfFile.{ShelfFile}
 use Rattle.shelf_library.specs.State.{LibraryState, held_at}
 use Rattle.shelf_library.specs.Units.{world_of, room_of_held, asked_of}
@@ -25,15 +25,18 @@ use Rattle.shelf_library.proofs.ChangingLemmas.{broken_now, schema_before, schem
 
 module _
     {S X : Type 0} (state : S → LibraryState) (a b : S) (u : ℕ) (file after : ShelfFile) (call : MovesAt u file after (state a) (state b))
-    (is_made : X → Bool) (answer : Schema → File → X) (made : Schema → File → File) (LacksRoom : Type 0) where
+    (change_of : Schema → FileChange X) where
   abbrev old : LibraryState
   old = state a
 
   abbrev new : LibraryState
   new = state b
 
+  abbrev is_made : X → Bool
+  is_made = (change_of file.file.schema).is_made
+
   abbrev Change : Result X Fault → Type 0
-  Change result = ChangesFile is_made answer made LacksRoom file after old new result
+  Change result = ChangesFile change_of file after old new result
 
   abbrev Images : Trace → Type 0
   Images trace = ImagesGo (shown_by state).Throughout (name_at (world_of old.shelf old.held) u) trace a b
@@ -46,28 +49,28 @@ module _
   images_after (Ok x) change honest =
       either (is_made x) (Images (trace_if (is_made x)))
       (λ is. rw is (begun honest))
-      (λ none. rw none (reads_images state a b u file after (reads_at u file after old new call (change.rests none)) honest))
+      (λ none. rw none (reads_images state a b u file after (reads_at u file after old new call (change.changes.unmade none)) honest))
   images_after (Err Device) change honest = begun honest
   images_after (Err Memory) change honest = begun honest
-  images_after (Err Full) change honest = reads_images state a b u file after (reads_at u file after old new call (change.full refl)) honest
+  images_after (Err Full) change honest = reads_images state a b u file after (reads_at u file after old new call (change.changes.full refl)) honest
   images_after (Err Damage) change honest = begun honest
   images_after (Err BrokenFile) change honest =
-      reads_images state a b u file after (reads_at u file after old new call (change.broken (change.cause.broken refl)).1) honest
+      reads_images state a b u file after (reads_at u file after old new call (change.breaks.broken (change.breaks.cause.broken refl)).1) honest
 
   -- where nothing was made the pages are as they were
   pub unmade_after : (result : Result X Fault) → Change result → IsTrue (is_unmade is_made result) → SamePages (shown_by state) u a b
   unmade_after (Ok x) change none =
       either (is_made x) (SamePages (shown_by state) u a b)
       (λ is. let e : IsTrue (not true) = subst (λ (made : Bool). IsTrue (not made)) is none in absurd (cc))
-      (λ rests. reads_pages state a b u file after (reads_at u file after old new call (change.rests rests)))
+      (λ rests. reads_pages state a b u file after (reads_at u file after old new call (change.changes.unmade rests)))
   unmade_after (Err Device) change none = absurd (cc)
   unmade_after (Err Memory) change none = absurd (cc)
-  unmade_after (Err Full) change none = reads_pages state a b u file after (reads_at u file after old new call (change.full refl))
+  unmade_after (Err Full) change none = reads_pages state a b u file after (reads_at u file after old new call (change.changes.full refl))
   unmade_after (Err Damage) change none = absurd (cc)
-  unmade_after (Err BrokenFile) change none = reads_pages state a b u file after (reads_at u file after old new call (change.broken (change.cause.broken refl)).1)
+  unmade_after (Err BrokenFile) change none = reads_pages state a b u file after (reads_at u file after old new call (change.breaks.broken (change.breaks.cause.broken refl)).1)
 
   unbroken_after : (result : Result X Fault) → Change result → OnOk result (IsFalse (is_broken (holding_at (world_of new.shelf new.held) u)))
-  unbroken_after (Ok x) change = broken_now u file after old new call ∙ change.unbroken
+  unbroken_after (Ok x) change = broken_now u file after old new call ∙ change.breaks.unbroken
   unbroken_after (Err fault) change = tt
 
   keeps_after : (result : Result X Fault) → Change result → Keeps (shown_by state) a b
@@ -76,7 +79,7 @@ module _
       record {
         honest = (others u file after old new call).honest;
         truth = λ honest. truth_after u (Opened after) old.shelf new.shelf old.held new.held call.units at (λ truly.
-            truly_after u file after old new call is_made answer made LacksRoom result change honest
+            truly_after u file after old new call change_of result change honest
             (subst (λ (one : Held). IsTrulyHeld u one old.shelf) call.opened (held_truly u (Opened after) old.shelf new.shelf old.held new.held call.units at truly)));
         count = call.moves.faults;
         limit = ap Some call.limit;
@@ -87,16 +90,16 @@ module _
   changes_unit result change = record {
     asked = λ honest shown answered.
         subst (λ (one : Held). asked_of (held_at new.held u) ≤ asked_of one + most_to_change (room_of_held one)) (sym call.opened)
-        (subst (λ (one : Held). asked_of one ≤ asked_of (Opened file) + most_to_change (room_of_held (Opened file))) (sym (held_now u file after old new call)) change.asked);
+        (subst (λ (one : Held). asked_of one ≤ asked_of (Opened file) + most_to_change (room_of_held (Opened file))) (sym (held_now u file after old new call)) change.changes.keeps.asked);
     counted =
         subst (λ (one : Held). asked_of one ≤ asked_of (held_at new.held u)) (sym call.opened)
         (subst (λ (one : Held). file.pages.cache.asked ≤ asked_of one) (sym (held_now u file after old new call)) call.moves.asked);
-    broken = broken_told u file after old new call is_made answer made LacksRoom result change;
-    fault = fault_after u file after old new call is_made answer made LacksRoom result change;
+    broken = broken_told u file after old new call change_of result change;
+    fault = fault_after u file after old new call change_of result change;
     unbroken = unbroken_after result change;
     only = only_here u (Opened after) old.shelf new.shelf old.held new.held call.units (changes_at u file after old new call);
     opened = open_now u file after old new call;
-    schema = schema_now u file after old new call ∙ change.schema ∙ sym (schema_before u file after old new call);
+    schema = schema_now u file after old new call ∙ change.changes.keeps.schema ∙ sym (schema_before u file after old new call);
     unmade = unmade_after result change;
     images = λ honest shown. images_after result change honest;
     keeps = keeps_after result change;

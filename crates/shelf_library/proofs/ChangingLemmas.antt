@@ -10,6 +10,7 @@ use Rattle.indexed_file.specs.Calls.{OnlyReads as ReadsWorld, MayFail, LeavesBro
 use Rattle.io_state.specs.declared.fault.Fault.{Fault}
 use Rattle.io_state.specs.declared.fault.Fault.TheVariants.{Device, Memory, Full, Damage, Broken as BrokenFile}
 use Rattle.page_store.specs.ShelfState.{unit_file}
+use Rattle.file_changes.specs.FileChange.{FileChange}
 use Rattle.shelf_file.specs.declared.shelf_file.ShelfFile.{ShelfFile}
 use Rattle.shelf_file.specs.Named.{named_of}
 use Rattle.shelf_file.specs.Standing.{StandsFor, live_of, file_in, room_in}
@@ -100,17 +101,20 @@ module _ (u : ℕ) (file after : ShelfFile) (old new : LibraryState) (call : Mov
       ∙ ap (λ (n : Named). with_unit before u n (holding_at now u)) named
       ∙ ap (λ (h : Holding). with_unit before u Unsound h) holding
 
-  module _ {X : Type 0} (is_made : X → Bool) (answer : Schema → File → X) (made : Schema → File → File) (LacksRoom : Type 0) where
+  module _ {X : Type 0} (change_of : Schema → FileChange X) where
+    abbrev pub is_made : X → Bool
+    is_made = (change_of file.file.schema).is_made
+
     abbrev pub Change : Result X Fault → Type 0
-    Change result = ChangesFile is_made answer made LacksRoom file after old new result
+    Change result = ChangesFile change_of file after old new result
 
     -- a file that was broken answers so
     pub broken_told : (result : Result X Fault) → Change result → IsTrue (is_broken (holding_at before u)) → result ≡ Err BrokenFile
-    broken_told result change broken = (change.broken (sym broken_before ∙ broken)).0
+    broken_told result change broken = (change.breaks.broken (sym broken_before ∙ broken)).0
 
     unbroken_at_ok : (x : X) → Change (Ok x) → IsFalse file.file.broken
     unbroken_at_ok x change =
-        either file.file.broken (IsFalse file.file.broken) (λ is. let told = (change.broken is).0 in absurd (cc)) (λ works. works)
+        either file.file.broken (IsFalse file.file.broken) (λ is. let told = (change.breaks.broken is).0 in absurd (cc)) (λ works. works)
 
     -- what is shown of the unit is true where it was
     made_truly : (x : X) → Change (Ok x) → is_made x ≡ true → IsTrue new.shelf.is_honest → IsTrulyHeld u (Opened file) old.shelf → IsTrulyHeld u (Opened after) new.shelf
@@ -118,11 +122,11 @@ module _ (u : ℕ) (file after : ShelfFile) (old new : LibraryState) (call : Mov
       closed = closed_truly u file after old new call honest truly.closed;
       opened = λ held same unbroken.
           let was = truly.opened file refl (unbroken_at_ok x change) in
-          let has = (change.changes honest was.rows was.stands).answer in
+          let has = (change.changes.done honest was.stands.sound was.rows was.stands.stands).answer in
           subst (λ (h : ShelfFile). IsTrulyOpen new.shelf h (unit_file new.shelf u)) (opened_is after held same) (record {
-            rows = made file.file.schema was.rows;
-            stands = has.stands;
-            closed = λ unchanged. let begun = change.gate is in absurd (cc);
+            rows = (change_of file.file.schema).leaves was.rows;
+            stands = record { stands = has.stands; sound = has.sound };
+            closed = λ unchanged. let begun = change.changes.begun is in absurd (cc);
           });
     }
 
@@ -136,12 +140,12 @@ module _ (u : ℕ) (file after : ShelfFile) (old new : LibraryState) (call : Mov
     truly_after (Ok x) change honest truly =
         either (is_made x) (IsTrulyHeld u (Opened after) new.shelf)
         (λ is. made_truly x change is honest truly)
-        (λ none. truly_held u file after old new (reads_at u file after old new call (change.rests none)) honest truly)
-    truly_after (Err Device) change honest truly = broken_truly (change.breaks (λ e. cc)) honest truly
-    truly_after (Err Memory) change honest truly = broken_truly (change.breaks (λ e. cc)) honest truly
-    truly_after (Err Full) change honest truly = truly_held u file after old new (reads_at u file after old new call (change.full refl)) honest truly
-    truly_after (Err Damage) change honest truly = broken_truly (change.breaks (λ e. cc)) honest truly
-    truly_after (Err BrokenFile) change honest truly = broken_truly (change.breaks (λ e. cc)) honest truly
+        (λ none. truly_held u file after old new (reads_at u file after old new call (change.changes.unmade none)) honest truly)
+    truly_after (Err Device) change honest truly = broken_truly (change.breaks.breaks (λ e. cc)) honest truly
+    truly_after (Err Memory) change honest truly = broken_truly (change.breaks.breaks (λ e. cc)) honest truly
+    truly_after (Err Full) change honest truly = truly_held u file after old new (reads_at u file after old new call (change.changes.full refl)) honest truly
+    truly_after (Err Damage) change honest truly = broken_truly (change.breaks.breaks (λ e. cc)) honest truly
+    truly_after (Err BrokenFile) change honest truly = broken_truly (change.breaks.breaks (λ e. cc)) honest truly
 
     -- a fault other than Full
     pub fault_after : (result : Result X Fault) → Change result
@@ -149,43 +153,45 @@ module _ (u : ℕ) (file after : ShelfFile) (old new : LibraryState) (call : Mov
         × MayFail (is_broken (holding_at before u)) new.shelf.is_honest (IsShownTruly old.shelf old.held (name_at before u)) old.faults new.faults fault)
     fault_after (Ok x) change = tt
     fault_after (Err fault) change = λ other. (
-      leaves_broken (change.breaks other) change.schema,
+      leaves_broken (change.breaks.breaks other) change.changes.keeps.schema,
       subst (λ (b : Bool). MayFail b new.shelf.is_honest (IsShownTruly old.shelf old.held (name_at before u)) old.faults new.faults fault) (sym broken_before)
-          (may_fail file.file.broken new.shelf.is_honest (IsShownTruly old.shelf old.held (name_at before u)) LacksRoom old.faults new.faults fault change.cause
-          (λ broken. (change.broken broken).0) (no_damage fault change) other),
+          (may_fail file.file.broken new.shelf.is_honest (IsShownTruly old.shelf old.held (name_at before u)) _ old.faults new.faults fault change.breaks.cause
+          (λ broken. (change.breaks.broken broken).0) (no_damage fault change) other),
     )
       where
         no_damage : (fault : Fault) → Change (Err fault) → IsTrue new.shelf.is_honest → IsShownTruly old.shelf old.held (name_at before u) → fault ≢ Damage
         no_damage fault change honest shown =
             either file.file.broken (fault ≢ Damage)
-            (λ broken. let told : ◌≡◌ {A = Result X Fault} (Err fault) (Err BrokenFile) = (change.broken broken).0 in λ damage. cc)
-            (λ works. let is = known u file old call.units call.attached call.opened shown works in (change.changes honest is.rows is.stands).no_damage)
+            (λ broken. let told : ◌≡◌ {A = Result X Fault} (Err fault) (Err BrokenFile) = (change.breaks.broken broken).0 in λ damage. cc)
+            (λ works. let is = known u file old call.units call.attached call.opened shown works in (change.changes.done honest is.stands.sound is.rows is.stands.stands).no_damage)
 
     -- the answer is that of the file that is shown
     pub answers : (result : Result X Fault) → Change result → IsTrue new.shelf.is_honest → IsShownTruly old.shelf old.held (name_at before u)
-        → IfOk result (λ x. x ≡ answer (schema_at before u) (file_at before u))
+        → IfOk result (λ x. x ≡ (change_of (schema_at before u)).answer (file_at before u))
     answers (Ok x) change honest shown =
-        told u file old call.units call.attached call.opened (λ schema room rows. x ≡ answer schema rows) shown (unbroken_at_ok x change)
-        (λ rows stands. (change.changes honest rows stands).answer.answers)
+        told u file old call.units call.attached call.opened (λ schema room rows. x ≡ (change_of schema).answer rows) shown (unbroken_at_ok x change)
+        (λ rows stands. (change.changes.done honest stands.sound rows stands.stands).answer.answers)
     answers (Err fault) change honest shown = tt
 
     -- the world after a change that was made
     pub done_made : (x : X) → Change (Ok x) → is_made x ≡ true → IsTrue new.shelf.is_honest → IsShownTruly old.shelf old.held (name_at before u)
-        → now ≡ with_unit before u Unsound (HasOpened (schema_at before u) (made (schema_at before u) (file_at before u)))
+        → now ≡ with_unit before u Unsound (HasOpened (schema_at before u) ((change_of (schema_at before u)).leaves (file_at before u)))
     done_made x change is honest shown =
-        told u file old call.units call.attached call.opened (λ schema room rows. now ≡ with_unit before u Unsound (HasOpened (schema_at before u) (made schema rows))) shown
+        told u file old call.units call.attached call.opened (λ schema room rows. now ≡ with_unit before u Unsound (HasOpened (schema_at before u) ((change_of schema).leaves rows))) shown
         (unbroken_at_ok x change)
-        (λ rows stands. world_made honest (change.gate is) change.unbroken change.schema (made file.file.schema rows) (change.changes honest rows stands).answer.stands)
+        (λ rows stands.
+        let has = (change.changes.done honest stands.sound rows stands.stands).answer in
+        world_made honest (change.changes.begun is) change.breaks.unbroken change.changes.keeps.schema ((change_of file.file.schema).leaves rows) (record { stands = has.stands; sound = has.sound }))
 
     -- the world after an answer
     pub world_after : (x : X) → Change (Ok x) → IsTrue new.shelf.is_honest → IsShownTruly old.shelf old.held (name_at before u) → (b : Bool) → is_made x ≡ b
-        → now ≡ (if b then with_unit before u Unsound (HasOpened (schema_at before u) (made (schema_at before u) (file_at before u))) else before)
+        → now ≡ (if b then with_unit before u Unsound (HasOpened (schema_at before u) ((change_of (schema_at before u)).leaves (file_at before u))) else before)
     world_after x change honest shown true is = done_made x change is honest shown
-    world_after x change honest shown false none = (reads_world (λ library. library) old new u file after (reads_at u file after old new call (change.rests none))).same honest
+    world_after x change honest shown false none = (reads_world (λ library. library) old new u file after (reads_at u file after old new call (change.changes.unmade none))).same honest
 
     pub done_at_ok : (world : Schema → File → World)
-        → ((schema : Schema) (rows : File) (x : X) → x ≡ answer schema rows
-        → (if is_made x then with_unit before u Unsound (HasOpened schema (made schema rows)) else before) ≡ world schema rows)
+        → ((schema : Schema) (rows : File) (x : X) → x ≡ (change_of schema).answer rows
+        → (if is_made x then with_unit before u Unsound (HasOpened schema ((change_of schema).leaves rows)) else before) ≡ world schema rows)
         → (result : Result X Fault) → Change result → IsTrue new.shelf.is_honest → IsShownTruly old.shelf old.held (name_at before u)
         → OnOk result (now ≡ world (schema_at before u) (file_at before u))
     done_at_ok world is (Ok x) change honest shown =
@@ -204,8 +210,8 @@ module _ (u : ℕ) (file after : ShelfFile) (old new : LibraryState) (call : Mov
         → P (schema_at before u) (room_of_held (held_at old.held u)) (file_at before u)
     told_at_full P result change full shown is =
         told u file old call.units call.attached call.opened P shown
-        (either file.file.broken (IsFalse file.file.broken) (λ broken. let answer = (change.broken broken).0 in absurd (cc)) (λ works. works))
+        (either file.file.broken (IsFalse file.file.broken) (λ broken. let answer = (change.breaks.broken broken).0 in absurd (cc)) (λ works. works))
         is
 
     pub rests_at_full : (result : Result X Fault) → Change result → result ≡ Err Full → ReadsWorld u new.shelf.is_honest before now
-    rests_at_full result change full = reads_world (λ library. library) old new u file after (reads_at u file after old new call (change.full full))
+    rests_at_full result change full = reads_world (λ library. library) old new u file after (reads_at u file after old new call (change.changes.full full))

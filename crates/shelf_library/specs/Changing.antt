@@ -1,18 +1,15 @@
 -- A call that changes the open file of a unit.
-use Rattle.std.specs.Prelude.{◌≡◌, ◌≢◌, ℕ, ◌+◌, ◌<◌, ◌≤◌, Bool, true, false, length, slice_set, Result, Err, IsTrue, IsFalse, IfOk, IfErr, OnOk}
+use Rattle.std.specs.Prelude.{◌≡◌, ℕ, ◌<◌, length, slice_set, Result, IsTrue}
 use Rattle.record_layout.specs.Schema.{Schema}
-use Rattle.indexed_file.specs.File.{File}
-use Rattle.indexed_file.specs.Room.{most_to_change}
 use Rattle.io_state.specs.declared.fault.Fault.{Fault}
-use Rattle.io_state.specs.declared.fault.Fault.TheVariants.{Full, Broken as BrokenFile}
 use Rattle.page_store.specs.Images.{Leaves}
 use Rattle.page_store.specs.ShelfState.{unit_file}
-use Rattle.page_alloc.specs.Joining.{HasFailed}
 use Rattle.page_alloc.specs.Steps.{Moves}
-use Rattle.open_file.specs.Faults.{IsCausedIn}
+use Rattle.file_changes.specs.FileChange.{FileChange}
+use Rattle.file_changes.specs.Changes.{Changes, MayBreak}
 use Rattle.shelf_file.specs.declared.shelf_file.ShelfFile.{ShelfFile}
-use Rattle.shelf_file.specs.Calls.{OnlyReadsFile, ChangesShelfFile}
-use Rattle.shelf_file.specs.Standing.{IsReady, room_in}
+use Rattle.shelf_file.specs.Calls.{on_shelf, shown_on_shelf}
+use Rattle.shelf_file.specs.Standing.{IsReady}
 use Rattle.shelf_library.specs.State.{LibraryState, held_at}
 use Rattle.shelf_library.specs.OneUnit.{AreUnits}
 use Rattle.shelf_library.specs.declared.held.Held.TheVariants.{Opened}
@@ -32,16 +29,6 @@ pub record MovesAt (u : ℕ) (file after : ShelfFile) (old new : LibraryState) :
   pub image_after : IsTrue new.shelf.is_honest → Leaves (unit_file new.shelf u) (unit_file new.shelf u).seen
 
 -- what each of the calls that change records leaves of the file
-pub record ChangesFile {X : Type 0} (is_made : X → Bool) (answer : Schema → File → X) (made : Schema → File → File) (LacksRoom : Type 0)
-    (file after : ShelfFile) (old new : LibraryState) (result : Result X Fault) : Type 0 where
-  pub changes : ChangesShelfFile file after old.shelf new.shelf (answer file.file.schema) (made file.file.schema) result
-  pub gate : IfOk result (λ x. is_made x ≡ true → after.pages.changed ≡ true)
-  -- where nothing is changed it has only read
-  pub rests : IfOk result (λ x. is_made x ≡ false → OnlyReadsFile file after old.shelf new.shelf old.faults new.faults)
-  pub full : result ≡ Err Full → OnlyReadsFile file after old.shelf new.shelf old.faults new.faults
-  pub broken : IsTrue file.file.broken → (result ≡ Err BrokenFile) × OnlyReadsFile file after old.shelf new.shelf old.faults new.faults
-  pub breaks : IfErr result (λ e. e ≢ Full → IsTrue after.file.broken)
-  pub unbroken : OnOk result (IsFalse after.file.broken)
-  pub cause : IfErr result (IsCausedIn file.file.broken (HasFailed old.faults new.faults) LacksRoom)
-  pub schema : after.file.schema ≡ file.file.schema
-  pub asked : after.pages.cache.asked ≤ file.pages.cache.asked + most_to_change (room_in file)
+pub record ChangesFile {X : Type 0} (change : Schema → FileChange X) (file after : ShelfFile) (old new : LibraryState) (result : Result X Fault) : Type 0 where
+  pub changes : Changes shown_on_shelf (change file.file.schema) (on_shelf file old.shelf old.faults) (on_shelf after new.shelf new.faults) result
+  pub breaks : MayBreak shown_on_shelf (change file.file.schema).takes_pages (on_shelf file old.shelf old.faults) (on_shelf after new.shelf new.faults) result

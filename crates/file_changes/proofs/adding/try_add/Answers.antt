@@ -1,104 +1,154 @@
-use Rattle.std.proofs.Common.{◌^◌, ◌||◌, false, ap, sym, subst, ◌∙◌, arith}
+use Rattle.std.proofs.Common.{◌^◌, ◌||◌, ap, refl, sym, subst, ◌∙◌, arith}
 use Rattle.std.specs.Prelude.{nat_lt, nat_le}
 use Rattle.indexed_file.specs.Room.{need_of_add}
 use Rattle.indexed_file.specs.Change.{clashes}
 use Rattle.open_file.specs.Stands.{Stands, heights_of}
 use Rattle.pages.proofs.CauseLemmas.{fails_since}
-use Rattle.open_file.proofs.ExitLemmas.{fails, caused_in}
 use Rattle.open_file.proofs.LookLemmas.{done_is, clash_is, has_room}
+use Rattle.file_changes.proofs.EndingLemmas.{stopped, lacking, not_made, made}
 use Rattle.file_changes.proofs.LevelLemmas.{need_in, heights_few, levels_of_all}
 use Rattle.file_changes.proofs.adding.try_add.Goals as goal
 
-pub returns-in_err-repeated-clause-added : goal.returns-in_err-repeated-clause-added
-returns-in_err-repeated-clause-added g c honest sound file stands =
-    fails c.from_residual.result _ c.from_residual.ensures.1 (c.in_err-repeated.ensures.found honest file stands).no_damage _
+pub returns-in_err-repeated-clause-adds : goal.returns-in_err-repeated-clause-adds
+returns-in_err-repeated-clause-adds g c =
+    let start = c.args.pages.now in
+    let looked = c.adding.new.pages in
+    let begins = g.met.P.Pages.writes_begins start looked (g.met.P.Pages.reads_writes start looked c.adding.ensures.reads.step) in
+    stopped _ _ _ _ c.from_residual.result _ c.from_residual.ensures.1 c.in_err-repeated.ensures.reads.cause.full
+    (λ honest sound file stands. (c.in_err-repeated.ensures.found honest file stands).no_damage)
+    (record {
+      schema = refl;
+      ready = record { pages = g.met.P.Pages.begins_ready start looked begins c.requires.ready.pages; shaped = c.requires.ready.shaped };
+      begins = begins;
+      asked = omega (arith, c.adding.ensures.reads.asked, heights_few c.args.opened.now.prime c.args.opened.now.alternates.items, levels_of_all c.args.opened.now.prime c.args.opened.now.alternates.items);
+    })
 
-pub returns-in_err-repeated-clause-asked : goal.returns-in_err-repeated-clause-asked
-returns-in_err-repeated-clause-asked g c =
-    omega (arith, c.adding.ensures.reads.asked, heights_few c.args.opened.now.prime c.args.opened.now.alternates.items, levels_of_all c.args.opened.now.prime c.args.opened.now.alternates.items)
+pub returns-in_default-clause-adds : goal.returns-in_default-clause-adds
+returns-in_default-clause-adds g c =
+    let u = c.args.opened.now in
+    let start = c.args.pages.now in
+    let looked = c.adding.new.pages in
+    let step = c.adding.ensures.reads.step in
+    let begins = g.met.P.Pages.writes_begins start looked (g.met.P.Pages.reads_writes start looked step) in
+    not_made _ _ _ _ _ refl (refl, step)
+    (λ honest sound file stands.
+    let told = (rw c.in_default.is at c.in_ok-repeated.ensures.found honest file stands).answer in
+    let clash = clash_is u.schema c.args.bytes.now file told in
+    let still = subst (λ p. Stands u p file) (sym (g.met.P.Pages.reads_live start looked step honest)) stands in
+    record { answers = told; stands = rw clash still; sound = g.met.P.Pages.reads_sound start looked step honest ∙ sound })
+    (λ honest file stands.
+    let told = (rw c.in_default.is at c.in_ok-repeated.ensures.found honest file stands).answer in
+    let clash = clash_is u.schema c.args.bytes.now file told in
+    rw clash refl)
+    (record {
+      schema = refl;
+      ready = record { pages = g.met.P.Pages.begins_ready start looked begins c.requires.ready.pages; shaped = c.requires.ready.shaped };
+      begins = begins;
+      asked = omega (arith, c.adding.ensures.reads.asked, heights_few u.prime u.alternates.items, levels_of_all u.prime u.alternates.items);
+    })
 
-pub returns-in_default-clause-asked : goal.returns-in_default-clause-asked
-returns-in_default-clause-asked g c =
-    omega (arith, c.adding.ensures.reads.asked, heights_few c.args.opened.now.prime c.args.opened.now.alternates.items, levels_of_all c.args.opened.now.prime c.args.opened.now.alternates.items)
+pub returns-then-is_full-clause-adds : goal.returns-then-is_full-clause-adds
+returns-then-is_full-clause-adds g c =
+    let u = c.args.opened.now in
+    let start = c.args.pages.now in
+    let looked = c.adding.new.pages in
+    let step = c.adding.ensures.reads.step in
+    let begins = g.met.P.Pages.writes_begins start looked (g.met.P.Pages.reads_writes start looked step) in
+    let left = c.pages_left.ensures ∙ g.met.P.Pages.reads_available start looked step in
+    let full = ap (λ n. nat_lt n (need_of_add (heights_of u)) || nat_le (2 ^ 63) u.next_stamp) (sym left) ∙ sym c.is_full.ensures ∙ c.if-is_full.true in
+    lacking _ _ _ _ (refl, step)
+    (λ honest file stands.
+    let told = (rw c.in-Done.is at c.in_ok-repeated.ensures.found honest file stands).answer in (
+      done_is u.schema c.args.bytes.now file c.in-Done.repeated told,
+      ap (λ n. nat_lt (g.P.Pages.shown.state start).available (need_of_add (heights_of u)) || nat_le (2 ^ 63) n) (sym stands.stamp) ∙ full,
+    ))
+    (record {
+      schema = refl;
+      ready = record { pages = g.met.P.Pages.begins_ready start looked begins c.requires.ready.pages; shaped = c.requires.ready.shaped };
+      begins = begins;
+      asked = omega (arith, c.adding.ensures.reads.asked, heights_few u.prime u.alternates.items, levels_of_all u.prime u.alternates.items);
+    })
 
-pub returns-then-is_full-clause-asked : goal.returns-then-is_full-clause-asked
-returns-then-is_full-clause-asked g c =
-    omega (arith, c.adding.ensures.reads.asked, heights_few c.args.opened.now.prime c.args.opened.now.alternates.items, levels_of_all c.args.opened.now.prime c.args.opened.now.alternates.items)
+pub returns-in_err-begin-clause-adds : goal.returns-in_err-begin-clause-adds
+returns-in_err-begin-clause-adds g c =
+    let u = c.args.opened.now in
+    let start = c.args.pages.now in
+    let looked = c.adding.new.pages in
+    let begun = c.begin.new.self in
+    let begins = g.met.P.Pages.begins_on start looked begun (g.met.P.Pages.writes_begins start looked (g.met.P.Pages.reads_writes start looked c.adding.ensures.reads.step)) c.begin.ensures.begins in
+    stopped _ _ _ _ c.from_residual-in_err-begin.result _ c.from_residual-in_err-begin.ensures.1 c.in_err-begin.ensures.cause.full
+    (λ honest sound file stands. c.in_err-begin.ensures.damage)
+    (record {
+      schema = refl;
+      ready = record { pages = g.met.P.Pages.begins_ready start begun begins c.requires.ready.pages; shaped = c.requires.ready.shaped };
+      begins = begins;
+      asked = omega (arith, c.adding.ensures.reads.asked, c.begin.ensures.asked, heights_few u.prime u.alternates.items, levels_of_all u.prime u.alternates.items);
+    })
 
-pub returns-in_err-begin-clause-asked : goal.returns-in_err-begin-clause-asked
-returns-in_err-begin-clause-asked g c =
-    omega (arith, c.adding.ensures.reads.asked, c.begin.ensures.asked, heights_few c.args.opened.now.prime c.args.opened.now.alternates.items, levels_of_all c.args.opened.now.prime c.args.opened.now.alternates.items)
-
-pub returns-in_err-put_in-clause-asked : goal.returns-in_err-put_in-clause-asked
-returns-in_err-put_in-clause-asked g c =
-    omega (arith, c.adding.ensures.reads.asked, c.begin.ensures.asked, c.put_in.ensures.writes.asked, need_in c.args.opened.now.prime c.args.opened.now.alternates.items, heights_few c.args.opened.now.prime c.args.opened.now.alternates.items, levels_of_all c.args.opened.now.prime c.args.opened.now.alternates.items)
-
-pub returns-clause-asked : goal.returns-clause-asked
-returns-clause-asked g c =
-    omega (arith, c.adding.ensures.reads.asked, c.begin.ensures.asked, c.put_in.ensures.writes.asked, need_in c.args.opened.now.prime c.args.opened.now.alternates.items, heights_few c.args.opened.now.prime c.args.opened.now.alternates.items, levels_of_all c.args.opened.now.prime c.args.opened.now.alternates.items)
+pub returns-in_err-put_in-clause-adds : goal.returns-in_err-put_in-clause-adds
+returns-in_err-put_in-clause-adds g c =
+    let u = c.args.opened.now in
+    let start = c.args.pages.now in
+    let looked = c.adding.new.pages in
+    let begun = c.begin.new.self in
+    let last = c.put_in.new.pages in
+    let step = c.adding.ensures.reads.step in
+    let begins = g.met.P.Pages.begins_on start begun last
+    (g.met.P.Pages.begins_on start looked begun (g.met.P.Pages.writes_begins start looked (g.met.P.Pages.reads_writes start looked step)) c.begin.ensures.begins)
+    (g.met.P.Pages.writes_begins begun last c.put_in.ensures.writes.step) in
+    stopped _ _ _ _ c.from_residual-in_err-put_in.result _ c.from_residual-in_err-put_in.ensures.1 c.in_err-put_in.ensures.writes.cause.full
+    (λ honest sound file stands.
+    let h2 = g.met.P.Pages.writes_honestly begun last c.put_in.ensures.writes.step honest in
+    let h1 = g.met.P.Pages.begins_honestly looked begun c.begin.ensures.begins h2 in
+    let live = c.begin.ensures.rests.live h2 ∙ g.met.P.Pages.reads_live start looked step h1 in
+    let still = subst (λ p. Stands u p file) (sym live) stands in
+    let kept = c.begin.ensures.rests.sound h2 ∙ g.met.P.Pages.reads_sound start looked step h1 ∙ sound in
+    let told = (rw c.in-Done.is at c.in_ok-repeated.ensures.found h1 file stands).answer in
+    let free = done_is u.schema c.args.bytes.now file c.in-Done.repeated told in
+    (c.in_err-put_in.ensures.done honest kept file still free).no_damage)
+    (record {
+      schema = c.put_in.ensures.schema;
+      ready = record { pages = g.met.P.Pages.begins_ready start last begins c.requires.ready.pages; shaped = c.put_in.ensures.shaped };
+      begins = begins;
+      asked = omega (arith, c.adding.ensures.reads.asked, c.begin.ensures.asked, c.put_in.ensures.writes.asked, need_in u.prime u.alternates.items, heights_few u.prime u.alternates.items, levels_of_all u.prime u.alternates.items);
+    })
 
 pub returns-in_err-put_in-clause-cause : goal.returns-in_err-put_in-clause-cause
 returns-in_err-put_in-clause-cause g c =
     let moves = g.met.P.Pages.begins_on c.args.pages.now c.adding.new.pages c.begin.new.self
     (g.met.P.Pages.writes_begins c.args.pages.now c.adding.new.pages (g.met.P.Pages.reads_writes c.args.pages.now c.adding.new.pages c.adding.ensures.reads.step)) c.begin.ensures.begins in
-    caused_in c.from_residual-in_err-put_in.result false _ _ (fails_since c.from_residual-in_err-put_in.result _ _ _ _ _ c.from_residual-in_err-put_in.ensures.1
-    (λ failed. g.met.P.Pages.failed_later c.args.pages.now c.begin.new.self c.put_in.new.pages moves failed) (λ none. tt) c.in_err-put_in.ensures.writes.cause)
+    fails_since c.from_residual-in_err-put_in.result _ _ _ _ _ c.from_residual-in_err-put_in.ensures.1
+    (λ failed. g.met.P.Pages.failed_later c.args.pages.now c.begin.new.self c.put_in.new.pages moves failed) (λ none. tt) c.in_err-put_in.ensures.writes.cause
 
-pub returns-in_err-put_in-clause-added : goal.returns-in_err-put_in-clause-added
-returns-in_err-put_in-clause-added g c honest sound file stands =
+pub returns-clause-adds : goal.returns-clause-adds
+returns-clause-adds g c =
+    let u = c.args.opened.now in
     let start = c.args.pages.now in
     let looked = c.adding.new.pages in
     let begun = c.begin.new.self in
-    let h2 = g.met.P.Pages.writes_honestly begun c.put_in.new.pages c.put_in.ensures.writes.step honest in
+    let last = c.put_in.new.pages in
+    let step = c.adding.ensures.reads.step in
+    let begins = g.met.P.Pages.begins_on start begun last
+    (g.met.P.Pages.begins_on start looked begun (g.met.P.Pages.writes_begins start looked (g.met.P.Pages.reads_writes start looked step)) c.begin.ensures.begins)
+    (g.met.P.Pages.writes_begins begun last c.put_in.ensures.writes.step) in
+    made _ _ _ _ _ refl (g.met.P.Pages.writes_changing begun last c.put_in.ensures.writes.step c.in_ok-begin.ensures.open)
+    (λ honest sound file stands.
+    let h2 = g.met.P.Pages.writes_honestly begun last c.put_in.ensures.writes.step honest in
     let h1 = g.met.P.Pages.begins_honestly looked begun c.begin.ensures.begins h2 in
-    let live = c.begin.ensures.rests.live h2 ∙ g.met.P.Pages.reads_live start looked c.adding.ensures.reads.step h1 in
-    let still = subst (λ p. Stands c.args.opened.now p file) (sym live) stands in
-    let kept = c.begin.ensures.rests.sound h2 ∙ g.met.P.Pages.reads_sound start looked c.adding.ensures.reads.step h1 ∙ sound in
+    let live = c.begin.ensures.rests.live h2 ∙ g.met.P.Pages.reads_live start looked step h1 in
+    let still = subst (λ p. Stands u p file) (sym live) stands in
+    let kept = c.begin.ensures.rests.sound h2 ∙ g.met.P.Pages.reads_sound start looked step h1 ∙ sound in
     let told = (rw c.in-Done.is at c.in_ok-repeated.ensures.found h1 file stands).answer in
-    let free = done_is c.args.opened.now.schema c.args.bytes.now file c.in-Done.repeated told in
-    fails c.from_residual-in_err-put_in.result _ c.from_residual-in_err-put_in.ensures.1 (c.in_err-put_in.ensures.done honest kept file still free).no_damage _
-
-pub returns-clause-added : goal.returns-clause-added
-returns-clause-added g c honest sound file stands =
-    let start = c.args.pages.now in
-    let looked = c.adding.new.pages in
-    let begun = c.begin.new.self in
-    let h2 = g.met.P.Pages.writes_honestly begun c.put_in.new.pages c.put_in.ensures.writes.step honest in
-    let h1 = g.met.P.Pages.begins_honestly looked begun c.begin.ensures.begins h2 in
-    let live = c.begin.ensures.rests.live h2 ∙ g.met.P.Pages.reads_live start looked c.adding.ensures.reads.step h1 in
-    let still = subst (λ p. Stands c.args.opened.now p file) (sym live) stands in
-    let kept = c.begin.ensures.rests.sound h2 ∙ g.met.P.Pages.reads_sound start looked c.adding.ensures.reads.step h1 ∙ sound in
-    let told = (rw c.in-Done.is at c.in_ok-repeated.ensures.found h1 file stands).answer in
-    let free = done_is c.args.opened.now.schema c.args.bytes.now file c.in-Done.repeated told in
+    let free = done_is u.schema c.args.bytes.now file c.in-Done.repeated told in
     let done = (c.in_ok-put_in.ensures.done honest kept file still free).answer in
-    record { answer = record { answers = told; stands = rw free done.0; sound = done.1 }; no_damage = tt }
-
-pub returns-in_default-clause-added : goal.returns-in_default-clause-added
-returns-in_default-clause-added g c honest sound file stands =
-    let start = c.args.pages.now in
-    let looked = c.adding.new.pages in
-    let told = (rw c.in_default.is at c.in_ok-repeated.ensures.found honest file stands).answer in
-    let clash = clash_is c.args.opened.now.schema c.args.bytes.now file told in
-    let still = subst (λ p. Stands c.args.opened.now p file) (sym (g.met.P.Pages.reads_live start looked c.adding.ensures.reads.step honest)) stands in
-    record { answer = record { answers = told; stands = rw clash still; sound = g.met.P.Pages.reads_sound start looked c.adding.ensures.reads.step honest ∙ sound }; no_damage = tt }
-
-pub returns-in_err-put_in-clause-begins : goal.returns-in_err-put_in-clause-begins
-returns-in_err-put_in-clause-begins g c =
-    let begun = c.begin.new.self in
-    let moves = g.met.P.Pages.begins_on c.args.pages.now c.adding.new.pages begun
-    (g.met.P.Pages.writes_begins c.args.pages.now c.adding.new.pages (g.met.P.Pages.reads_writes c.args.pages.now c.adding.new.pages c.adding.ensures.reads.step)) c.begin.ensures.begins in
-    g.met.P.Pages.begins_on c.args.pages.now begun c.put_in.new.pages moves (g.met.P.Pages.writes_begins begun c.put_in.new.pages c.put_in.ensures.writes.step)
-
-pub returns-clause-room : goal.returns-clause-room
-returns-clause-room g c honest file stands =
-    let opened = c.args.opened.now in
-    let left = c.pages_left.ensures ∙ g.met.P.Pages.reads_available c.args.pages.now c.adding.new.pages c.adding.ensures.reads.step in
-    let room = ap (λ n. nat_lt n (need_of_add (heights_of opened)) || nat_le (2 ^ 63) opened.next_stamp) (sym left) ∙ sym c.is_full.ensures ∙ c.if-is_full.false in
-    has_room (heights_of opened) (g.P.Pages.shown.state c.args.pages.now).available opened.next_stamp (clashes opened.schema c.args.bytes.now file.rows) file stands.stamp room
-
-pub returns-clause-begins : goal.returns-clause-begins
-returns-clause-begins g c =
-    let begun = c.begin.new.self in
-    let moves = g.met.P.Pages.begins_on c.args.pages.now c.adding.new.pages begun
-    (g.met.P.Pages.writes_begins c.args.pages.now c.adding.new.pages (g.met.P.Pages.reads_writes c.args.pages.now c.adding.new.pages c.adding.ensures.reads.step)) c.begin.ensures.begins in
-    g.met.P.Pages.begins_on c.args.pages.now begun c.put_in.new.pages moves (g.met.P.Pages.writes_begins begun c.put_in.new.pages c.put_in.ensures.writes.step)
+    record { answers = told; stands = rw free done.0; sound = done.1 })
+    (λ honest file stands.
+    let left = c.pages_left.ensures ∙ g.met.P.Pages.reads_available start looked step in
+    let room = ap (λ n. nat_lt n (need_of_add (heights_of u)) || nat_le (2 ^ 63) u.next_stamp) (sym left) ∙ sym c.is_full.ensures ∙ c.if-is_full.false in
+    has_room (heights_of u) (g.P.Pages.shown.state start).available u.next_stamp (clashes u.schema c.args.bytes.now file.rows) file stands.stamp room)
+    (record {
+      schema = c.put_in.ensures.schema;
+      ready = record { pages = g.met.P.Pages.begins_ready start last begins c.requires.ready.pages; shaped = c.put_in.ensures.shaped };
+      begins = begins;
+      asked = omega (arith, c.adding.ensures.reads.asked, c.begin.ensures.asked, c.put_in.ensures.writes.asked, need_in u.prime u.alternates.items, heights_few u.prime u.alternates.items, levels_of_all u.prime u.alternates.items);
+    })

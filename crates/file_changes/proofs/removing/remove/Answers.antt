@@ -1,12 +1,19 @@
-use Rattle.open_file.proofs.ExitLemmas.{if_ok}
-use Rattle.file_changes.proofs.AddedLemmas.{broken_or_not}
+use Rattle.std.proofs.Common.{refl, arith}
+use Rattle.file_changes.proofs.EndingLemmas.{changes_marked, breaks_marked, broken_changes, broken_breaks}
 use Rattle.file_changes.proofs.removing.remove.Goals as goal
 
-pub returns-clause-removed : goal.returns-clause-removed
-returns-clause-removed g c honest sound file stands =
-    let removed = (rw c.as_slice.ensures.value at c.try_remove-removed.ensures.removed) honest sound file stands in
-    record {
-      answer = if_ok c.try_remove-removed.result _ _ (λ answer is.
-          record { answers = is.answers; stands = broken_or_not c.try_remove-removed.new.opened c.is_err-opened.result _ _ is.stands; sound = is.sound }) removed.answer;
-      no_damage = removed.no_damage;
-    }
+pub returns-then-opened-clause-removes : goal.returns-then-opened-clause-removes
+returns-then-opened-clause-removes g c =
+    let start = c.args.pages.now in
+    broken_changes _ _ _
+    (record { schema = refl; ready = c.requires.ready; begins = g.met.P.Pages.writes_begins start start (g.met.P.Pages.writes_nothing start); asked = omega arith })
+
+pub returns-then-opened-clause-breaks : goal.returns-then-opened-clause-breaks
+returns-then-opened-clause-breaks g c = broken_breaks _ _ c.if-opened.true _ (g.met.P.Pages.reads_nothing c.args.pages.now)
+
+pub returns-clause-removes : goal.returns-clause-removes
+returns-clause-removes g c = changes_marked _ _ c.try_remove-removed.new.opened _ _ c.if-opened.false _ _ c.breaks-opened.ensures (rw c.as_slice.ensures.value at c.try_remove-removed.ensures.removes)
+
+pub returns-clause-breaks : goal.returns-clause-breaks
+returns-clause-breaks g c =
+    breaks_marked _ _ c.try_remove-removed.new.opened _ _ c.if-opened.false _ _ _ (λ none. absurd none) _ c.breaks-opened.ensures c.try_remove-removed.ensures.cause

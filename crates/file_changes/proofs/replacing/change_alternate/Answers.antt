@@ -12,11 +12,11 @@ use Rattle.file_changes.proofs.ChangingLemmas.{but_here, but_twice}
 use Rattle.file_changes.proofs.replacing.change_alternate.Goals as goal
 
 pub returns-in_err-remove_from_alternate-clause-changed : goal.returns-in_err-remove_from_alternate-clause-changed
-returns-in_err-remove_from_alternate-clause-changed g c honest sound slots primes entries p there free =
-    fails c.from_residual.result _ c.from_residual.ensures.1 (c.in_err-remove_from_alternate.ensures.removed honest sound slots primes entries p there).no_damage _
+returns-in_err-remove_from_alternate-clause-changed g c honest sound slots primes entries p can =
+    fails c.from_residual.result _ c.from_residual.ensures.1 (c.in_err-remove_from_alternate.ensures.removed honest sound slots primes entries p can.there).no_damage _
 
 pub returns-clause-changed : goal.returns-clause-changed
-returns-clause-changed g c honest sound slots primes entries p there free =
+returns-clause-changed g c honest sound slots primes entries p can =
     let u = c.args.opened.now in
     let j = c.args.j in
     let now = c.remove_from_alternate.new.pages in
@@ -25,10 +25,10 @@ returns-clause-changed g c honest sound slots primes entries p there free =
     let before = g.met.P.Pages.writes_honestly now last c.add_to_alternate.ensures.goes honest in
     let left = without_rank (value_of u.schema (j + 1) c.args.old.now) c.args.stamp (entries j) in
     let entry = entry_of u.schema u.next_stamp c.args.bytes.now j in
-    let out = (c.in_ok-remove_from_alternate.ensures.removed before sound slots primes entries p there).answer in
+    let out = (c.in_ok-remove_from_alternate.ensures.removed before sound slots primes entries p can.there).answer in
     let schema = ap (λ (o : OpenFile). o.schema) c.remove_from_alternate.ensures.rest in
     let next = ap (λ (o : OpenFile). o.next_stamp) c.remove_from_alternate.ensures.rest in
-    let added = (rw (schema, next) at c.add_to_alternate.ensures.added) honest out.1 slots primes (but_at j left entries) out.0 (rw (but_here j left entries) free) in
+    let added = (rw (schema, next) at c.add_to_alternate.ensures.added) honest out.1 slots primes (but_at j left entries) out.0 (rw (but_here j left entries) can.freed) in
     record {
       answer = if_ok c.add_to_alternate.result _ _ (λ x done. (
         said_so new.heap new.prime new.alternates.items (g.P.Pages.shown.state last).live slots primes _ done.0 primes (but_at j (with_alt entry left) entries) refl

@@ -68,7 +68,7 @@ loop-j-preserved g c =
                 let had = inv.changed before sound slots primes entries p there free in
                 let was = changed_here u.schema u.next_stamp row bytes j entries in
                 let done = ((rw (schema, next, sym (stamp_in_key j row)) at w.in_ok-change_alternate.ensures.changed) honest had.1 slots primes (changed_below u.schema u.next_stamp row bytes j entries) had.0
-                (rw was (there j within)) (rw was (free j within moves))).answer in (
+                (record { there = rw was (there j within); freed = rw was (free j within moves) })).answer in (
                   said_so new.heap new.prime new.alternates.items (g.P.Pages.shown.state later).live slots primes _ done.0 primes
                       (changed_below u.schema u.next_stamp row bytes (j + 1) entries) refl (λ i _. changed_step u.schema u.next_stamp row bytes j entries moves i),
                   done.1,
@@ -99,7 +99,9 @@ loop-j-preserved g c =
     ]
 
 pub returns-in_err-change_alternate-clause-changed : goal.returns-in_err-change_alternate-clause-changed
-returns-in_err-change_alternate-clause-changed g c honest sound slots primes entries p there free =
+returns-in_err-change_alternate-clause-changed g c honest sound slots primes entries p asked =
+    let there = asked.0 in
+    let free = asked.1 in
     let u = c.args.opened.now in
     let now = c.loop-j.pages in
     let later = c.change_alternate.new.pages in
@@ -114,7 +116,7 @@ returns-in_err-change_alternate-clause-changed g c honest sound slots primes ent
     let had = inv.changed before sound slots primes entries p there free in
     let was = changed_here u.schema u.next_stamp row c.args.bytes.now j entries in
     let failed = (rw (schema, next, sym (stamp_in_key j row)) at c.in_err-change_alternate.ensures.changed) honest had.1 slots primes (changed_below u.schema u.next_stamp row c.args.bytes.now j entries) had.0
-    (rw was (there j within)) (rw was (free j within moves)) in
+    (record { there = rw was (there j within); freed = rw was (free j within moves) }) in
     fails c.from_residual.result _ c.from_residual.ensures.1 failed.no_damage _
 
 pub returns-in_err-change_alternate-clause-writes : goal.returns-in_err-change_alternate-clause-writes
@@ -138,6 +140,6 @@ returns-in_err-change_alternate-clause-writes g c =
     }
 
 pub returns-clause-changed : goal.returns-clause-changed
-returns-clause-changed g c honest sound slots primes entries p there free =
+returns-clause-changed g c honest sound slots primes entries p asked =
     let e : c.loop-j.j ≡ length c.args.opened.now.alternates.items = omega (arith, c.loop-j-test.false, c.loop-j.auto.j-end, c.len-j-end.ensures.value) in
-    record { answer = rw e at (c.loop-j.invariant.changed honest sound slots primes entries p there free); no_damage = tt }
+    record { answer = rw e at (c.loop-j.invariant.changed honest sound slots primes entries p asked.0 asked.1); no_damage = tt }

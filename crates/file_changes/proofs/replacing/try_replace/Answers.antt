@@ -5,8 +5,8 @@ use Rattle.indexed_file.specs.Room.{is_full_at}
 use Rattle.open_file.specs.InOrder.{prime_entries}
 use Rattle.file_changes.specs.Old.{IsOldAt, row_with}
 use Rattle.open_file.specs.Stands.{Stands, room_of}
-use Rattle.open_file.proofs.ExitLemmas.{fails}
 use Rattle.open_file.proofs.StampedLemmas.{few_stamps}
+use Rattle.file_changes.proofs.EndingLemmas.{stopped, not_made, replaced_begun, replaced_rests}
 use Rattle.file_changes.proofs.LevelLemmas.{heights_few, levels_of_all}
 use Rattle.file_changes.proofs.FoundLemmas.{old_at}
 use Rattle.pages.proofs.CauseLemmas.{caused_since}
@@ -15,79 +15,51 @@ use Rattle.file_changes.proofs.replacing.try_replace.Goals as goal
 
 pub record_in-before-requires-clause-room : goal.record_in-before-requires-clause-room
 record_in-before-requires-clause-room g c =
-    let shaped = c.requires.shaped in
+    let shaped = c.requires.ready.shaped in
     omega (arith, few_stamps c.args.opened.now.schema.keys shaped.is_schema.few, shaped.stamps, shaped.greatest, shaped.is_schema.limit, c.find_old.array_long)
 
-pub returns-in_err-old-clause-replaced : goal.returns-in_err-old-clause-replaced
-returns-in_err-old-clause-replaced g c honest sound file stands =
-    fails c.from_residual.result _ c.from_residual.ensures.1 (c.in_err-old.ensures.found honest file stands).no_damage _
-
-pub returns-in_default-clause-replaced : goal.returns-in_default-clause-replaced
-returns-in_default-clause-replaced g c honest sound file stands =
+pub returns-in_err-old-clause-replaces : goal.returns-in_err-old-clause-replaces
+returns-in_err-old-clause-replaces g c =
+    let u = c.args.opened.now in
     let start = c.args.pages.now in
-    let now = c.find_old.new.pages in
-    let none = (rw (c.value-prime.ensures.value, c.in_default.is) at c.in_ok-old.ensures.found honest file stands).answer in
-    record {
-      answer = has_none c.args.opened.now (g.P.Pages.shown.state start).live (g.P.Pages.shown.state now).live (IsTrue (g.P.Pages.shown.state now).is_sound) c.args.bytes.now file stands
-          (g.met.P.Pages.reads_live start now c.find_old.ensures.reads.step honest) none (g.met.P.Pages.reads_sound start now c.find_old.ensures.reads.step honest ∙ sound);
-      no_damage = tt;
-    }
+    let looked = c.find_old.new.pages in
+    let step = c.find_old.ensures.reads.step in
+    let begins = g.met.P.Pages.writes_begins start looked (g.met.P.Pages.reads_writes start looked step) in
+    stopped _ _ _ _ c.from_residual.result _ c.from_residual.ensures.1 c.in_err-old.ensures.reads.cause.full
+    (λ honest sound file stands. (c.in_err-old.ensures.found honest file stands).no_damage)
+    (record {
+      schema = refl;
+      ready = record { pages = g.met.P.Pages.begins_ready start looked begins c.requires.ready.pages; shaped = c.requires.ready.shaped };
+      begins = begins;
+      asked = omega (arith, c.find_old.ensures.reads.asked, heights_few u.prime u.alternates.items, levels_of_all u.prime u.alternates.items);
+    })
 
 or_true : (b : Bool) → (b || true) ≡ true
 or_true true = refl
 or_true false = refl
 
-pub returns-in_default-clause-room : goal.returns-in_default-clause-room
-returns-in_default-clause-room g c honest file stands =
+pub returns-in_default-clause-replaces : goal.returns-in_default-clause-replaces
+returns-in_default-clause-replaces g c =
     let u = c.args.opened.now in
+    let start = c.args.pages.now in
+    let looked = c.find_old.new.pages in
+    let step = c.find_old.ensures.reads.step in
+    let begins = g.met.P.Pages.writes_begins start looked (g.met.P.Pages.reads_writes start looked step) in
+    not_made _ _ _ _ _ refl (refl, step)
+    (λ honest sound file stands.
     let none = (rw (c.value-prime.ensures.value, c.in_default.is) at c.in_ok-old.ensures.found honest file stands).answer in
-    ap (λ row. clashes_with_others u.schema c.args.bytes.now file || not (is_full_at (room_of u (g.P.Pages.shown.state c.args.pages.now).available) u.schema c.args.bytes.now file row)) none
-    ∙ or_true (clashes_with_others u.schema c.args.bytes.now file)
-
-pub returns-clause-replaced : goal.returns-clause-replaced
-returns-clause-replaced g c honest sound file stands =
-    let u = c.args.opened.now in
-    let start = c.args.pages.now in
-    let looked = c.find_old.new.pages in
-    let prime = prime_of u.schema c.args.bytes.now in
-    let row = row_with c.record_in-before.result.now c.in-Some.old.stamps.items in
-    let h1 = g.met.P.Pages.begins_honestly looked c.replace_old.new.pages c.replace_old.ensures.begins honest in
-    let live = g.met.P.Pages.reads_live start looked c.find_old.ensures.reads.step h1 in
-    let kept = g.met.P.Pages.reads_sound start looked c.find_old.ensures.reads.step h1 ∙ sound in
-    let is = (rw (c.value-prime.ensures.value, c.in-Some.is) at c.in_ok-old.ensures.found h1 file stands).answer in
-    let at = old_at u.schema stands.slots (prime_entries u.schema stands.places file.rows) file prime c.find_old.new.slot c.record_in-before.result.now c.in-Some.old is c.record_in-before.ensures.bytes in
-    let moved = subst (λ p. (s : Stands u p file) × IsOldAt u.schema s.slots (prime_entries u.schema s.places file.rows) file prime c.in-Some.old.place row) (sym live) (stands, at) in
-    c.replace_old.ensures.replaced honest kept file moved.0 moved.1
-
-pub returns-clause-room : goal.returns-clause-room
-returns-clause-room g c honest file stands =
-    let u = c.args.opened.now in
-    let start = c.args.pages.now in
-    let looked = c.find_old.new.pages in
-    let prime = prime_of u.schema c.args.bytes.now in
-    let h1 = g.met.P.Pages.begins_honestly looked c.replace_old.new.pages c.replace_old.ensures.begins honest in
-    let still = subst (λ p. Stands u p file) (sym (g.met.P.Pages.reads_live start looked c.find_old.ensures.reads.step h1)) stands in
-    let is = (rw (c.value-prime.ensures.value, c.in-Some.is) at c.in_ok-old.ensures.found h1 file stands).answer in
-    let at = old_at u.schema stands.slots (prime_entries u.schema stands.places file.rows) file prime c.find_old.new.slot c.record_in-before.result.now c.in-Some.old is c.record_in-before.ensures.bytes in
-    rw (g.met.P.Pages.reads_available start looked c.find_old.ensures.reads.step) at (c.replace_old.ensures.room honest file still at.is_row)
-
-pub returns-clause-full : goal.returns-clause-full
-returns-clause-full g c e =
-    let u = c.args.opened.now in
-    let start = c.args.pages.now in
-    let looked = c.find_old.new.pages in
-    let last = c.replace_old.new.pages in
-    let prime = prime_of u.schema c.args.bytes.now in
-    let full = c.replace_old.ensures.full e in (
-      full.0,
-      g.met.P.Pages.reads_on start looked last c.find_old.ensures.reads.step full.1,
-      (λ honest file stands.
-          let h1 = g.met.P.Pages.begins_honestly looked last c.replace_old.ensures.begins honest in
-          let still = subst (λ p. Stands u p file) (sym (g.met.P.Pages.reads_live start looked c.find_old.ensures.reads.step h1)) stands in
-          let is = (rw (c.value-prime.ensures.value, c.in-Some.is) at c.in_ok-old.ensures.found h1 file stands).answer in
-          let at = old_at u.schema stands.slots (prime_entries u.schema stands.places file.rows) file prime c.find_old.new.slot c.record_in-before.result.now c.in-Some.old is c.record_in-before.ensures.bytes in
-          rw (g.met.P.Pages.reads_available start looked c.find_old.ensures.reads.step) at (full.2 honest file still at.is_row)),
-    )
+    has_none u (g.P.Pages.shown.state start).live (g.P.Pages.shown.state looked).live (IsTrue (g.P.Pages.shown.state looked).is_sound) c.args.bytes.now file stands
+    (g.met.P.Pages.reads_live start looked step honest) none (g.met.P.Pages.reads_sound start looked step honest ∙ sound))
+    (λ honest file stands.
+    let none = (rw (c.value-prime.ensures.value, c.in_default.is) at c.in_ok-old.ensures.found honest file stands).answer in
+    ap (λ row. clashes_with_others u.schema c.args.bytes.now file || not (is_full_at (room_of u (g.P.Pages.shown.state start).available) u.schema c.args.bytes.now file row)) none
+    ∙ or_true (clashes_with_others u.schema c.args.bytes.now file))
+    (record {
+      schema = refl;
+      ready = record { pages = g.met.P.Pages.begins_ready start looked begins c.requires.ready.pages; shaped = c.requires.ready.shaped };
+      begins = begins;
+      asked = omega (arith, c.find_old.ensures.reads.asked, heights_few u.prime u.alternates.items, levels_of_all u.prime u.alternates.items);
+    })
 
 pub returns-clause-cause : goal.returns-clause-cause
 returns-clause-cause g c =
@@ -95,13 +67,45 @@ returns-clause-cause g c =
     let looked = c.find_old.new.pages in
     caused_since c.replace_old.result _ _ _ _ (λ failed. g.met.P.Pages.failed_after start looked c.replace_old.new.pages (g.met.P.Pages.reads_writes start looked c.find_old.ensures.reads.step) failed) (λ x. x) c.replace_old.ensures.cause
 
-pub returns-clause-begins : goal.returns-clause-begins
-returns-clause-begins g c =
+pub returns-clause-replaces : goal.returns-clause-replaces
+returns-clause-replaces g c =
+    let u = c.args.opened.now in
     let start = c.args.pages.now in
     let looked = c.find_old.new.pages in
-    g.met.P.Pages.begins_on start looked c.replace_old.new.pages (g.met.P.Pages.writes_begins start looked (g.met.P.Pages.reads_writes start looked c.find_old.ensures.reads.step)) c.replace_old.ensures.begins
-
-pub returns-clause-asked : goal.returns-clause-asked
-returns-clause-asked g c =
-    let u = c.args.opened.now in
-    omega (arith, c.find_old.ensures.reads.asked, c.replace_old.ensures.asked, heights_few u.prime u.alternates.items, levels_of_all u.prime u.alternates.items)
+    let step = c.find_old.ensures.reads.step in
+    let last = c.replace_old.new.pages in
+    let prime = prime_of u.schema c.args.bytes.now in
+    let row = row_with c.record_in-before.result.now c.in-Some.old.stamps.items in
+    let begins = g.met.P.Pages.begins_on start looked last (g.met.P.Pages.writes_begins start looked (g.met.P.Pages.reads_writes start looked step)) c.replace_old.ensures.begins in
+    let reads = g.met.P.Pages.reads_on start looked last step in
+    record {
+      done = λ honest sound file stands.
+          let h1 = g.met.P.Pages.begins_honestly looked last c.replace_old.ensures.begins honest in
+          let live = g.met.P.Pages.reads_live start looked step h1 in
+          let kept = g.met.P.Pages.reads_sound start looked step h1 ∙ sound in
+          let is = (rw (c.value-prime.ensures.value, c.in-Some.is) at c.in_ok-old.ensures.found h1 file stands).answer in
+          let at = old_at u.schema stands.slots (prime_entries u.schema stands.places file.rows) file prime c.find_old.new.slot c.record_in-before.result.now c.in-Some.old is c.record_in-before.ensures.bytes in
+          let moved = subst (λ p. (s : Stands u p file) × IsOldAt u.schema s.slots (prime_entries u.schema s.places file.rows) file prime c.in-Some.old.place row) (sym live) (stands, at) in
+          c.replace_old.ensures.replaced honest kept file moved.0 moved.1;
+      unmade = replaced_rests _ c.replace_old.result (λ is. let clash = c.replace_old.ensures.clash is in (clash.0, reads clash.1)) c.replace_old.ensures.some;
+      begun = replaced_begun _ c.replace_old.result c.replace_old.ensures.gate c.replace_old.ensures.some;
+      room = λ honest file stands.
+          let h1 = g.met.P.Pages.begins_honestly looked last c.replace_old.ensures.begins honest in
+          let still = subst (λ p. Stands u p file) (sym (g.met.P.Pages.reads_live start looked step h1)) stands in
+          let is = (rw (c.value-prime.ensures.value, c.in-Some.is) at c.in_ok-old.ensures.found h1 file stands).answer in
+          let at = old_at u.schema stands.slots (prime_entries u.schema stands.places file.rows) file prime c.find_old.new.slot c.record_in-before.result.now c.in-Some.old is c.record_in-before.ensures.bytes in
+          rw (g.met.P.Pages.reads_available start looked step) at (c.replace_old.ensures.room honest file still at.is_row);
+      full = λ is. let full = c.replace_old.ensures.full is in (full.0, reads full.1);
+      lacks = λ is honest file stands.
+          let h1 = g.met.P.Pages.begins_honestly looked last c.replace_old.ensures.begins honest in
+          let still = subst (λ p. Stands u p file) (sym (g.met.P.Pages.reads_live start looked step h1)) stands in
+          let found = (rw (c.value-prime.ensures.value, c.in-Some.is) at c.in_ok-old.ensures.found h1 file stands).answer in
+          let at = old_at u.schema stands.slots (prime_entries u.schema stands.places file.rows) file prime c.find_old.new.slot c.record_in-before.result.now c.in-Some.old found c.record_in-before.ensures.bytes in
+          rw (g.met.P.Pages.reads_available start looked step) at ((c.replace_old.ensures.full is).2 honest file still at.is_row);
+      keeps = record {
+        schema = c.replace_old.ensures.schema;
+        ready = record { pages = g.met.P.Pages.begins_ready start last begins c.requires.ready.pages; shaped = c.replace_old.ensures.shaped };
+        begins = begins;
+        asked = omega (arith, c.find_old.ensures.reads.asked, c.replace_old.ensures.asked, heights_few u.prime u.alternates.items, levels_of_all u.prime u.alternates.items);
+      };
+    }

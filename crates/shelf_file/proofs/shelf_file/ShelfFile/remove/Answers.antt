@@ -1,28 +1,47 @@
-use Rattle.std.proofs.Common.{is_some}
-use Rattle.indexed_file.specs.Change.{row_of}
-use Rattle.file_changes.specs.Removing.{file_after_remove, HasRemovedRow}
-use Rattle.shelf_file.specs.Calls.{OnlyReadsFile, ChangesShelfFile}
-use Rattle.shelf_file.proofs.StepLemmas.{reads_same, answer_map, at_end}
+use Rattle.std.proofs.Common.{false}
+use Rattle.open_file.proofs.ExitLemmas.{if_ok}
+use Rattle.file_changes.specs.FileChange.{removal}
+use Rattle.file_changes.specs.Changes.{Changes, MayBreak}
+use Rattle.shelf_file.specs.Calls.{on_shelf, shown_on_shelf}
+use Rattle.shelf_file.proofs.StepLemmas.{reads_same, at_end}
 use Rattle.shelf_file.proofs.shelf_file.ShelfFile.remove.Goals as goal
 
-pub returns-clause-removed : goal.returns-clause-removed
-returns-clause-removed g c =
-    at_end (λ s. ChangesShelfFile c.args.self.now (record { file = c.remove.new.opened; pages = c.remove.new.pages.file.now }) (g.S.Shelf.state c.args.shelf.now) (g.S.Shelf.state s) (λ file. is_some (row_of c.args.self.now.file.schema c.args.key.now.items file)) (file_after_remove c.args.self.now.file.schema c.args.key.now.items) c.remove.result)
-    _ _ c.shelf-1.given.1 c.remove.ensures.begins.1
-    (λ honest file stood. answer_map (HasRemovedRow _ _ _ c.args.self.now.file.schema c.args.key.now.items file) _
-    (λ x has. record { answers = has.answers; stands = record { stands = has.stands; sound = has.sound } }) _ (c.remove.ensures.removed honest stood.sound file stood.stands))
+pub remove-requires : goal.remove-requires
+remove-requires g c = record { ready = record { pages = c.requires.ready.over; shaped = c.requires.ready.shaped } }
 
-pub returns-clause-gone : goal.returns-clause-gone
-returns-clause-gone g c =
-    λ is. at_end (λ s. OnlyReadsFile c.args.self.now (record { file = c.remove.new.opened; pages = c.remove.new.pages.file.now }) (g.S.Shelf.state c.args.shelf.now) (g.S.Shelf.state s) (g.S.Shelf.fault_count c.args.shelf.now) (g.S.Shelf.fault_count s))
-    _ _ c.shelf-1.given.1 c.remove.ensures.begins.1
-    (reads_same c.args.self.now (record { file = c.remove.new.opened; pages = c.remove.new.pages.file.now }) _ _ _ _ (c.remove.ensures.gone is).0 (c.remove.ensures.gone is).1.2)
+pub returns-clause-removes : goal.returns-clause-removes
+returns-clause-removes g c =
+    let old = c.args.self.now in
+    let change = removal old.file.schema c.args.key.now.items in
+    let made = c.remove.ensures.removes in
+    at_end (λ s. Changes shown_on_shelf change (on_shelf old (g.S.Shelf.state c.args.shelf.now) (g.S.Shelf.fault_count c.args.shelf.now))
+    (on_shelf (record { file = c.remove.new.opened; pages = c.remove.new.pages.file.now }) (g.S.Shelf.state s) (g.S.Shelf.fault_count s)) c.remove.result)
+    _ _ c.shelf-1.given.1 made.keeps.begins.1
+    (record {
+      done = made.done;
+      unmade = if_ok c.remove.result _ _ (λ x reads none. let r = reads none in reads_same old (record { file = c.remove.new.opened; pages = c.remove.new.pages.file.now }) _ _ _ _ r.0 r.1.2) made.unmade;
+      begun = made.begun;
+      room = made.room;
+      full = λ is. let r = made.full is in reads_same old (record { file = c.remove.new.opened; pages = c.remove.new.pages.file.now }) _ _ _ _ r.0 r.1.2;
+      lacks = made.lacks;
+      keeps = record {
+        schema = made.keeps.schema;
+        ready = record { over = made.keeps.ready.pages; shaped = made.keeps.ready.shaped };
+        begins = made.keeps.begins.2;
+        asked = made.keeps.asked;
+      };
+    })
 
-pub returns-clause-broken : goal.returns-clause-broken
-returns-clause-broken g c =
-    λ is. (
-      (c.remove.ensures.broken is).0,
-      at_end (λ s. OnlyReadsFile c.args.self.now (record { file = c.remove.new.opened; pages = c.remove.new.pages.file.now }) (g.S.Shelf.state c.args.shelf.now) (g.S.Shelf.state s) (g.S.Shelf.fault_count c.args.shelf.now) (g.S.Shelf.fault_count s))
-          _ _ c.shelf-1.given.1 c.remove.ensures.begins.1
-          (reads_same c.args.self.now (record { file = c.remove.new.opened; pages = c.remove.new.pages.file.now }) _ _ _ _ (c.remove.ensures.broken is).1 (c.remove.ensures.broken is).2.2),
-    )
+pub returns-clause-breaks : goal.returns-clause-breaks
+returns-clause-breaks g c =
+    let old = c.args.self.now in
+    let breaks = c.remove.ensures.breaks in
+    at_end (λ s. MayBreak shown_on_shelf false (on_shelf old (g.S.Shelf.state c.args.shelf.now) (g.S.Shelf.fault_count c.args.shelf.now))
+    (on_shelf (record { file = c.remove.new.opened; pages = c.remove.new.pages.file.now }) (g.S.Shelf.state s) (g.S.Shelf.fault_count s)) c.remove.result)
+    _ _ c.shelf-1.given.1 c.remove.ensures.removes.keeps.begins.1
+    (record {
+      broken = λ is. let b = breaks.broken is in (b.0, reads_same old (record { file = c.remove.new.opened; pages = c.remove.new.pages.file.now }) _ _ _ _ b.1.0 b.1.1.2);
+      breaks = breaks.breaks;
+      unbroken = breaks.unbroken;
+      cause = breaks.cause;
+    })

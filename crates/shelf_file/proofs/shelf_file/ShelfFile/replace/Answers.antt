@@ -1,55 +1,47 @@
-use Rattle.std.proofs.Common.{IsTrue, OnOk, not, ◌||◌}
-use Rattle.indexed_file.specs.File.{File}
-use Rattle.indexed_file.specs.Change.{clashes_with_others}
-use Rattle.indexed_file.specs.Answers.{replaced_answer}
-use Rattle.indexed_file.specs.Room.{is_full_to_replace}
-use Rattle.file_changes.specs.Replacing.{file_after_replace, HasReplaced}
-use Rattle.shelf_file.specs.Standing.{StandsFor, room_in}
-use Rattle.shelf_file.specs.Calls.{OnlyReadsFile, ChangesShelfFile, IsFull}
-use Rattle.shelf_file.proofs.StepLemmas.{reads_same, answer_map, at_end}
+use Rattle.std.proofs.Common.{true}
+use Rattle.open_file.proofs.ExitLemmas.{if_ok}
+use Rattle.file_changes.specs.FileChange.{replacement}
+use Rattle.file_changes.specs.Changes.{Changes, MayBreak}
+use Rattle.shelf_file.specs.Calls.{on_shelf, shown_on_shelf}
+use Rattle.shelf_file.proofs.StepLemmas.{reads_same, at_end}
 use Rattle.shelf_file.proofs.shelf_file.ShelfFile.replace.Goals as goal
 
-pub returns-clause-replaced : goal.returns-clause-replaced
-returns-clause-replaced g c =
-    at_end (λ s. ChangesShelfFile c.args.self.now (record { file = c.replace.new.opened; pages = c.replace.new.pages.file.now }) (g.S.Shelf.state c.args.shelf.now) (g.S.Shelf.state s) (replaced_answer c.args.self.now.file.schema c.args.bytes.now) (file_after_replace c.args.self.now.file.schema c.args.bytes.now) c.replace.result)
-    _ _ c.shelf-1.given.1 c.replace.ensures.begins.1
-    (λ honest file stood. answer_map (HasReplaced _ _ _ c.args.self.now.file.schema c.args.bytes.now file) _
-    (λ x has. record { answers = has.answers; stands = record { stands = has.stands; sound = has.sound } }) _ (c.replace.ensures.replaced honest stood.sound file stood.stands))
+pub replace-requires-clause-ready : goal.replace-requires-clause-ready
+replace-requires-clause-ready g c = record { pages = c.requires.ready.over; shaped = c.requires.ready.shaped }
 
-pub returns-clause-clash : goal.returns-clause-clash
-returns-clause-clash g c =
-    λ is. at_end (λ s. OnlyReadsFile c.args.self.now (record { file = c.replace.new.opened; pages = c.replace.new.pages.file.now }) (g.S.Shelf.state c.args.shelf.now) (g.S.Shelf.state s) (g.S.Shelf.fault_count c.args.shelf.now) (g.S.Shelf.fault_count s))
-    _ _ c.shelf-1.given.1 c.replace.ensures.begins.1
-    (reads_same c.args.self.now (record { file = c.replace.new.opened; pages = c.replace.new.pages.file.now }) _ _ _ _ (c.replace.ensures.clash is).0 (c.replace.ensures.clash is).1.2)
-
-pub returns-clause-gone : goal.returns-clause-gone
-returns-clause-gone g c =
-    λ is. at_end (λ s. OnlyReadsFile c.args.self.now (record { file = c.replace.new.opened; pages = c.replace.new.pages.file.now }) (g.S.Shelf.state c.args.shelf.now) (g.S.Shelf.state s) (g.S.Shelf.fault_count c.args.shelf.now) (g.S.Shelf.fault_count s))
-    _ _ c.shelf-1.given.1 c.replace.ensures.begins.1
-    (reads_same c.args.self.now (record { file = c.replace.new.opened; pages = c.replace.new.pages.file.now }) _ _ _ _ (c.replace.ensures.gone is).0 (c.replace.ensures.gone is).1.2)
-
-pub returns-clause-broken : goal.returns-clause-broken
-returns-clause-broken g c =
-    λ is. (
-      (c.replace.ensures.broken is).0,
-      at_end (λ s. OnlyReadsFile c.args.self.now (record { file = c.replace.new.opened; pages = c.replace.new.pages.file.now }) (g.S.Shelf.state c.args.shelf.now) (g.S.Shelf.state s) (g.S.Shelf.fault_count c.args.shelf.now) (g.S.Shelf.fault_count s))
-          _ _ c.shelf-1.given.1 c.replace.ensures.begins.1
-          (reads_same c.args.self.now (record { file = c.replace.new.opened; pages = c.replace.new.pages.file.now }) _ _ _ _ (c.replace.ensures.broken is).1 (c.replace.ensures.broken is).2.2),
-    )
-
-pub returns-clause-full : goal.returns-clause-full
-returns-clause-full g c =
-    λ is. at_end (λ s. IsFull c.args.self.now (record { file = c.replace.new.opened; pages = c.replace.new.pages.file.now }) (g.S.Shelf.state c.args.shelf.now) (g.S.Shelf.state s) (g.S.Shelf.fault_count c.args.shelf.now) (g.S.Shelf.fault_count s) (clashes_with_others c.args.self.now.file.schema c.args.bytes.now) (is_full_to_replace (room_in c.args.self.now) c.args.self.now.file.schema c.args.bytes.now))
-    _ _ c.shelf-1.given.1 c.replace.ensures.begins.1
-    (let e = c.replace.ensures.full is in record {
-      reads = reads_same c.args.self.now (record { file = c.replace.new.opened; pages = c.replace.new.pages.file.now }) _ _ _ _ e.0 e.1.2;
-      no_clash = λ honest file stood. (e.2 honest file stood.stands).0;
-      lacks_room = λ honest file stood. (e.2 honest file stood.stands).1;
+pub returns-clause-replaces : goal.returns-clause-replaces
+returns-clause-replaces g c =
+    let old = c.args.self.now in
+    let change = replacement old.file.schema c.args.bytes.now in
+    let made = c.replace.ensures.replaces in
+    at_end (λ s. Changes shown_on_shelf change (on_shelf old (g.S.Shelf.state c.args.shelf.now) (g.S.Shelf.fault_count c.args.shelf.now))
+    (on_shelf (record { file = c.replace.new.opened; pages = c.replace.new.pages.file.now }) (g.S.Shelf.state s) (g.S.Shelf.fault_count s)) c.replace.result)
+    _ _ c.shelf-1.given.1 made.keeps.begins.1
+    (record {
+      done = made.done;
+      unmade = if_ok c.replace.result _ _ (λ x reads none. let r = reads none in reads_same old (record { file = c.replace.new.opened; pages = c.replace.new.pages.file.now }) _ _ _ _ r.0 r.1.2) made.unmade;
+      begun = made.begun;
+      room = made.room;
+      full = λ is. let r = made.full is in reads_same old (record { file = c.replace.new.opened; pages = c.replace.new.pages.file.now }) _ _ _ _ r.0 r.1.2;
+      lacks = made.lacks;
+      keeps = record {
+        schema = made.keeps.schema;
+        ready = record { over = made.keeps.ready.pages; shaped = made.keeps.ready.shaped };
+        begins = made.keeps.begins.2;
+        asked = made.keeps.asked;
+      };
     })
 
-pub returns-clause-room : goal.returns-clause-room
-returns-clause-room g c =
-    at_end (λ s. IsTrue (g.S.Shelf.state s).is_honest → (file : File) → StandsFor c.args.self.now (g.S.Shelf.state c.args.shelf.now) file
-    → OnOk c.replace.result (IsTrue (clashes_with_others c.args.self.now.file.schema c.args.bytes.now file
-    || not (is_full_to_replace (room_in c.args.self.now) c.args.self.now.file.schema c.args.bytes.now file))))
-    _ _ c.shelf-1.given.1 c.replace.ensures.begins.1 (λ honest file stood. c.replace.ensures.room honest file stood.stands)
+pub returns-clause-breaks : goal.returns-clause-breaks
+returns-clause-breaks g c =
+    let old = c.args.self.now in
+    let breaks = c.replace.ensures.breaks in
+    at_end (λ s. MayBreak shown_on_shelf true (on_shelf old (g.S.Shelf.state c.args.shelf.now) (g.S.Shelf.fault_count c.args.shelf.now))
+    (on_shelf (record { file = c.replace.new.opened; pages = c.replace.new.pages.file.now }) (g.S.Shelf.state s) (g.S.Shelf.fault_count s)) c.replace.result)
+    _ _ c.shelf-1.given.1 c.replace.ensures.replaces.keeps.begins.1
+    (record {
+      broken = λ is. let b = breaks.broken is in (b.0, reads_same old (record { file = c.replace.new.opened; pages = c.replace.new.pages.file.now }) _ _ _ _ b.1.0 b.1.1.2);
+      breaks = breaks.breaks;
+      unbroken = breaks.unbroken;
+      cause = breaks.cause;
+    })

@@ -1,10 +1,8 @@
-use Rattle.std.proofs.Common.{is_some, arith}
+use Rattle.std.proofs.Common.{arith}
 use Rattle.std.specs.NonZero.{non_zero_usize_get}
 use Rattle.std.specs.Prelude.{slice_set}
 use Rattle.indexed_file.specs.Answers.{world_after_remove}
-use Rattle.indexed_file.specs.Change.{row_of}
-use Rattle.indexed_file.specs.Images.{is_removed}
-use Rattle.file_changes.specs.Removing.{file_after_remove}
+use Rattle.file_changes.specs.FileChange.{removal}
 use Rattle.shelf_library.specs.State.{LibraryState}
 use Rattle.shelf_library.specs.Changing.{MovesAt, ChangesFile}
 use Rattle.shelf_library.specs.Units.{world_of}
@@ -14,7 +12,7 @@ use Rattle.shelf_library.proofs.OpenedLemmas.{must_be_open, may_call}
 use Rattle.shelf_library.proofs.MovingLemmas.{moves_at}
 use Rattle.shelf_library.proofs.ChangingLemmas.{units_after, answers, done_at_ok}
 use Rattle.shelf_library.proofs.ChangesLemmas.{changes_unit}
-use Rattle.shelf_library.proofs.DoneLemmas.{removed_begun, removed_rests, breaks_always, never_full, not_at_full, after_removed}
+use Rattle.shelf_library.proofs.DoneLemmas.{never_full, after_removed}
 use Rattle.shelf_library.proofs.LimitLemmas.{limits_moved}
 use Rattle.shelf_library.proofs.library.ShelfLibraryLibrary.remove.Goals as goal
 
@@ -43,7 +41,7 @@ invariant_of-self g c =
     let call =
     moves_at (g.S.Shelf.state s.shelf) s.units.items c.args.u c.index_mut.result.now (record { many = s.many; distinct = s.distinct; looked = s.looked; ready = s.ready })
     c.requires.attached c.index_mut.ensures.value c.in-Opened.file c.in-Opened.is c.remove.new.self (g.S.Shelf.state c.remove.new.shelf)
-    (g.S.Shelf.fault_count s.shelf) (g.S.Shelf.fault_count c.remove.new.shelf) s.limit (non_zero_usize_get s.frames) c.remove.ensures.moves c.remove.ensures.ready
+    (g.S.Shelf.fault_count s.shelf) (g.S.Shelf.fault_count c.remove.new.shelf) s.limit (non_zero_usize_get s.frames) c.remove.ensures.removes.keeps.begins c.remove.ensures.removes.keeps.ready
     (g.met.S.Shelf.reads_an_image s.shelf) (g.met.S.Shelf.reads_an_image c.remove.new.shelf) in
     let after = units_after _ _ _ _ _ call in
     record { room = c.args.self.now.room; many = after.many; distinct = after.distinct; looked = after.looked; ready = after.ready; limits = limits_moved _ _ _ _ _ call _ _ s.limits }
@@ -65,37 +63,24 @@ call g c =
     let s = c.args.self.now in
     moves_at (g.S.Shelf.state s.shelf) s.units.items c.args.u c.index_mut.result.now (record { many = s.many; distinct = s.distinct; looked = s.looked; ready = s.ready })
     c.requires.attached c.index_mut.ensures.value c.in-Opened.file c.in-Opened.is c.remove.new.self (g.S.Shelf.state c.remove.new.shelf)
-    (g.S.Shelf.fault_count s.shelf) (g.S.Shelf.fault_count c.remove.new.shelf) s.limit (non_zero_usize_get s.frames) c.remove.ensures.moves c.remove.ensures.ready
+    (g.S.Shelf.fault_count s.shelf) (g.S.Shelf.fault_count c.remove.new.shelf) s.limit (non_zero_usize_get s.frames) c.remove.ensures.removes.keeps.begins c.remove.ensures.removes.keeps.ready
     (g.met.S.Shelf.reads_an_image s.shelf) (g.met.S.Shelf.reads_an_image c.remove.new.shelf)
 
-change : (g : _) (c : goal.After-self-in-Opened-1 g)
-    → ChangesFile is_removed (λ schema rows. is_some (row_of schema c.args.key.now.items rows)) (λ schema rows. file_after_remove schema c.args.key.now.items rows) ⊥
-    c.in-Opened.file c.remove.new.self (before g c) (later g c) c.remove.result
-change g c = record {
-  changes = c.remove.ensures.removed;
-  gate = removed_begun _ c.remove.result c.remove.ensures.gate;
-  rests = removed_rests _ c.remove.result c.remove.ensures.gone;
-  full = λ is. absurd (not_at_full c.remove.result (never_full c.in-Opened.file.file.broken _ c.remove.result c.remove.ensures.cause) is);
-  broken = c.remove.ensures.broken;
-  breaks = breaks_always _ c.remove.result c.remove.ensures.breaks;
-  unbroken = c.remove.ensures.unbroken;
-  cause = c.remove.ensures.cause;
-  schema = c.remove.ensures.schema;
-  asked = c.remove.ensures.asked;
-}
+change : (g : _) (c : goal.After-self-in-Opened-1 g) → ChangesFile (λ schema. removal schema c.args.key.now.items) c.in-Opened.file c.remove.new.self (before g c) (later g c) c.remove.result
+change g c = record { changes = c.remove.ensures.removes; breaks = c.remove.ensures.breaks }
 
 pub returns-clause-answer : goal.returns-clause-answer
-returns-clause-answer g c honest shown = answers _ _ _ _ _ (call g c) _ _ _ _ c.remove.result (change g c) honest shown
+returns-clause-answer g c honest shown = answers _ _ _ _ _ (call g c) _ c.remove.result (change g c) honest shown
 
 pub returns-clause-done : goal.returns-clause-done
 returns-clause-done g c honest shown =
-    done_at_ok _ _ _ _ _ (call g c) _ _ _ _ (λ schema rows. world_after_remove (world_of (before g c).shelf (before g c).held) c.args.u schema c.args.key.now.items rows)
+    done_at_ok _ _ _ _ _ (call g c) _ (λ schema rows. world_after_remove (world_of (before g c).shelf (before g c).held) c.args.u schema c.args.key.now.items rows)
     (λ schema rows x is. after_removed (world_of (before g c).shelf (before g c).held) c.args.u schema c.args.key.now.items rows x is) c.remove.result (change g c) honest shown
 
 pub returns-clause-not_full : goal.returns-clause-not_full
-returns-clause-not_full g c = never_full c.in-Opened.file.file.broken _ c.remove.result c.remove.ensures.cause
+returns-clause-not_full g c = never_full c.in-Opened.file.file.broken _ c.remove.result c.remove.ensures.breaks.cause
 
 pub returns-clause-changes : goal.returns-clause-changes
 returns-clause-changes g c =
     changes_unit (λ library. record { shelf = g.S.Shelf.state library.shelf; held = library.units.items; faults = g.S.Shelf.fault_count library.shelf; limit = library.limit; frames = non_zero_usize_get library.frames })
-    c.args.self.now _ c.args.u c.in-Opened.file c.remove.new.self (call g c) _ _ _ _ c.remove.result (change g c)
+    c.args.self.now _ c.args.u c.in-Opened.file c.remove.new.self (call g c) _ c.remove.result (change g c)

@@ -2,11 +2,10 @@ use Rattle.std.proofs.Common.{◌≤◌, ◌||◌, not, length, IsTrue, IsFalse,
 use Rattle.std.specs.NonZero.{non_zero_usize_get}
 use Rattle.std.specs.Prelude.{slice_set}
 use Rattle.record_layout.specs.Schema.{Schema}
-use Rattle.indexed_file.specs.Answers.{replaced_answer, world_after_replace}
+use Rattle.indexed_file.specs.Answers.{world_after_replace}
 use Rattle.indexed_file.specs.Change.{clashes_with_others}
-use Rattle.indexed_file.specs.Images.{is_replaced}
 use Rattle.indexed_file.specs.Room.{is_full_to_replace}
-use Rattle.file_changes.specs.Replacing.{file_after_replace}
+use Rattle.file_changes.specs.FileChange.{replacement}
 use Rattle.shelf_library.specs.State.{LibraryState}
 use Rattle.shelf_library.specs.Changing.{MovesAt, ChangesFile}
 use Rattle.shelf_library.specs.Units.{world_of}
@@ -16,7 +15,7 @@ use Rattle.shelf_library.proofs.OpenedLemmas.{must_be_open, schema_is, may_call}
 use Rattle.shelf_library.proofs.MovingLemmas.{moves_at}
 use Rattle.shelf_library.proofs.ChangingLemmas.{units_after, answers, told_at_ok, told_at_full, rests_at_full, done_at_ok}
 use Rattle.shelf_library.proofs.ChangesLemmas.{changes_unit}
-use Rattle.shelf_library.proofs.DoneLemmas.{replaced_begun, replaced_rests, after_replaced}
+use Rattle.shelf_library.proofs.DoneLemmas.{after_replaced}
 use Rattle.shelf_library.proofs.LimitLemmas.{limits_moved}
 use Rattle.shelf_library.proofs.library.ShelfLibraryLibrary.replace.Goals as goal
 
@@ -57,7 +56,7 @@ invariant_of-self g c =
     let call =
     moves_at (g.S.Shelf.state s.shelf) s.units.items c.args.u c.index_mut.result.now (record { many = s.many; distinct = s.distinct; looked = s.looked; ready = s.ready })
     c.requires.attached c.index_mut.ensures.value c.in-Opened.file c.in-Opened.is c.replace.new.self (g.S.Shelf.state c.replace.new.shelf)
-    (g.S.Shelf.fault_count s.shelf) (g.S.Shelf.fault_count c.replace.new.shelf) s.limit (non_zero_usize_get s.frames) c.replace.ensures.moves c.replace.ensures.ready
+    (g.S.Shelf.fault_count s.shelf) (g.S.Shelf.fault_count c.replace.new.shelf) s.limit (non_zero_usize_get s.frames) c.replace.ensures.replaces.keeps.begins c.replace.ensures.replaces.keeps.ready
     (g.met.S.Shelf.reads_an_image s.shelf) (g.met.S.Shelf.reads_an_image c.replace.new.shelf) in
     let after = units_after _ _ _ _ _ call in
     record { room = c.args.self.now.room; many = after.many; distinct = after.distinct; looked = after.looked; ready = after.ready; limits = limits_moved _ _ _ _ _ call _ _ s.limits }
@@ -79,48 +78,35 @@ call g c =
     let s = c.args.self.now in
     moves_at (g.S.Shelf.state s.shelf) s.units.items c.args.u c.index_mut.result.now (record { many = s.many; distinct = s.distinct; looked = s.looked; ready = s.ready })
     c.requires.attached c.index_mut.ensures.value c.in-Opened.file c.in-Opened.is c.replace.new.self (g.S.Shelf.state c.replace.new.shelf)
-    (g.S.Shelf.fault_count s.shelf) (g.S.Shelf.fault_count c.replace.new.shelf) s.limit (non_zero_usize_get s.frames) c.replace.ensures.moves c.replace.ensures.ready
+    (g.S.Shelf.fault_count s.shelf) (g.S.Shelf.fault_count c.replace.new.shelf) s.limit (non_zero_usize_get s.frames) c.replace.ensures.replaces.keeps.begins c.replace.ensures.replaces.keeps.ready
     (g.met.S.Shelf.reads_an_image s.shelf) (g.met.S.Shelf.reads_an_image c.replace.new.shelf)
 
-change : (g : _) (c : goal.After-self-in-Opened-1 g)
-    → ChangesFile is_replaced (λ schema rows. replaced_answer schema c.args.bytes.now rows) (λ schema rows. file_after_replace schema c.args.bytes.now rows) (IsFalse c.in-Opened.file.file.broken)
-    c.in-Opened.file c.replace.new.self (before g c) (later g c) c.replace.result
-change g c = record {
-  changes = c.replace.ensures.replaced;
-  gate = replaced_begun _ c.replace.result c.replace.ensures.gate;
-  rests = replaced_rests _ c.replace.result c.replace.ensures.clash c.replace.ensures.gone;
-  full = λ is. (c.replace.ensures.full is).reads;
-  broken = c.replace.ensures.broken;
-  breaks = c.replace.ensures.breaks;
-  unbroken = c.replace.ensures.unbroken;
-  cause = c.replace.ensures.cause;
-  schema = c.replace.ensures.schema;
-  asked = c.replace.ensures.asked;
-}
+change : (g : _) (c : goal.After-self-in-Opened-1 g) → ChangesFile (λ schema. replacement schema c.args.bytes.now) c.in-Opened.file c.replace.new.self (before g c) (later g c) c.replace.result
+change g c = record { changes = c.replace.ensures.replaces; breaks = c.replace.ensures.breaks }
 
 pub returns-clause-answer : goal.returns-clause-answer
-returns-clause-answer g c honest shown = answers _ _ _ _ _ (call g c) _ _ _ _ c.replace.result (change g c) honest shown
+returns-clause-answer g c honest shown = answers _ _ _ _ _ (call g c) _ c.replace.result (change g c) honest shown
 
 pub returns-clause-done : goal.returns-clause-done
 returns-clause-done g c honest shown =
-    done_at_ok _ _ _ _ _ (call g c) _ _ _ _ (λ schema rows. world_after_replace (world_of (before g c).shelf (before g c).held) c.args.u schema c.args.bytes.now rows)
+    done_at_ok _ _ _ _ _ (call g c) _ (λ schema rows. world_after_replace (world_of (before g c).shelf (before g c).held) c.args.u schema c.args.bytes.now rows)
     (λ schema rows x is. after_replaced (world_of (before g c).shelf (before g c).held) c.args.u schema c.args.bytes.now rows x is) c.replace.result (change g c) honest shown
 
 pub returns-clause-room : goal.returns-clause-room
 returns-clause-room g c honest shown =
-    told_at_ok _ _ _ _ _ (call g c) _ _ _ _ (λ schema room rows. IsTrue (clashes_with_others schema c.args.bytes.now rows || not (is_full_to_replace room schema c.args.bytes.now rows))) c.replace.result (change g c) shown
-    (c.replace.ensures.room honest)
+    told_at_ok _ _ _ _ _ (call g c) _ (λ schema room rows. IsTrue (clashes_with_others schema c.args.bytes.now rows || not (is_full_to_replace room schema c.args.bytes.now rows))) c.replace.result (change g c) shown
+    (λ rows stands. c.replace.ensures.replaces.room honest rows stands.stands)
 
 pub returns-clause-full : goal.returns-clause-full
 returns-clause-full g c is =
-    let told = c.replace.ensures.full is in (
-      rests_at_full _ _ _ _ _ (call g c) _ _ _ _ c.replace.result (change g c) is,
-      λ honest shown. told_at_full _ _ _ _ _ (call g c) _ _ _ _
+    let lacks = c.replace.ensures.replaces.lacks is in (
+      rests_at_full _ _ _ _ _ (call g c) _ c.replace.result (change g c) is,
+      λ honest shown. told_at_full _ _ _ _ _ (call g c) _
           (λ schema room rows. IsFalse (clashes_with_others schema c.args.bytes.now rows) × IsTrue (is_full_to_replace room schema c.args.bytes.now rows)) c.replace.result (change g c) is shown
-          (λ rows stands. (told.no_clash honest rows stands, told.lacks_room honest rows stands)),
+          (λ rows stands. lacks honest rows stands.stands),
     )
 
 pub returns-clause-changes : goal.returns-clause-changes
 returns-clause-changes g c =
     changes_unit (λ library. record { shelf = g.S.Shelf.state library.shelf; held = library.units.items; faults = g.S.Shelf.fault_count library.shelf; limit = library.limit; frames = non_zero_usize_get library.frames })
-    c.args.self.now _ c.args.u c.in-Opened.file c.replace.new.self (call g c) _ _ _ _ c.replace.result (change g c)
+    c.args.self.now _ c.args.u c.in-Opened.file c.replace.new.self (call g c) _ c.replace.result (change g c)

@@ -1,0 +1,186 @@
+-- How a change of an open file ends: it failed, it was not made, or it was made.
+use Rattle.std.proofs.Common.{◌≡◌, ◌≢◌, Bool, true, false, Result, Ok, Err, IsTrue, IsFalse, IfErr, IfOk, refl, sym, ◌∙◌}
+use Rattle.std.specs.Prelude.{IsErrAnd, not, ◌||◌}
+use Rattle.std.proofs.lemmas.Result.{err_from_is_err_and}
+use Rattle.io_state.specs.declared.fault.Fault.{Fault}
+use Rattle.io_state.specs.declared.fault.Fault.TheVariants.{Device, Memory, Full, Damage, Broken}
+use Rattle.indexed_file.specs.Calls.{is_answered}
+use Rattle.indexed_file.specs.File.{File}
+use Rattle.indexed_file.specs.Images.{is_replaced}
+use Rattle.indexed_file.specs.declared.answer.Replaced.{Replaced}
+use Rattle.indexed_file.specs.declared.answer.Replaced.TheVariants.{Done, Clash, Gone}
+use Rattle.pages.specs.Cause.{IsCaused}
+use Rattle.pages.specs.ShownPages.{ShownPages}
+use Rattle.open_file.specs.Stands.{Stands}
+use Rattle.open_file.specs.declared.open_file.OpenFile.{OpenFile}
+use Rattle.open_file.proofs.ExitLemmas.{if_ok}
+use Rattle.file_changes.specs.FileChange.{FileChange}
+use Rattle.file_changes.specs.Changes.{HasChanged, KeepsFile, Changes, MayBreak}
+use Rattle.file_changes.specs.InPages.{FileInPages, in_pages, shown_in}
+use Rattle.file_changes.proofs.AddedLemmas.{broken_or_not}
+
+both : (b : Bool) → b ≡ false → b ≡ true → ⊥
+both b fails passes = cc
+
+not_full : {X : Type 0} (fault : Fault) → fault ≢ Full → ◌≡◌ {A = Result X Fault} (Err fault) (Err Full) → ⊥
+not_full fault other is = other (cc)
+
+no_fault : {X : Type 0} (x : X) → ◌≡◌ {A = Result X Fault} (Ok x) (Err Full) → ⊥
+no_fault x is = cc
+
+module _ {S X : Type 0} (shown : ShownPages S) (change : FileChange X) (before after : FileInPages S) where
+  -- what is said of the answer, and of room, where the file stood for something
+  abbrev pub IsDone : X → Type 0
+  IsDone x = IsTrue (shown.state after.pages).is_honest → IsTrue (shown.state before.pages).is_sound → (file : File) → Stands before.file (shown.state before.pages).live file
+      → HasChanged (Stands after.file (shown.state after.pages).live) (IsTrue (shown.state after.pages).is_sound) change file x
+
+  abbrev pub HasRoom : Type 0
+  HasRoom = IsTrue (shown.state after.pages).is_honest → (file : File) → Stands before.file (shown.state before.pages).live file
+      → IsTrue (change.clashes file || not (change.lacks_room ((shown_in shown).room before) file))
+
+  abbrev pub LacksRoom : Type 0
+  LacksRoom = IsTrue (shown.state after.pages).is_honest → (file : File) → Stands before.file (shown.state before.pages).live file
+      → IsFalse (change.clashes file) × IsTrue (change.lacks_room ((shown_in shown).room before) file)
+
+  -- a fault other than Full
+  pub stopped : (r : Result X Fault) (fault : Fault) → IsErrAnd r (λ e. e ≡ fault) → fault ≢ Full
+      → (IsTrue (shown.state after.pages).is_honest → IsTrue (shown.state before.pages).is_sound → (file : File) → Stands before.file (shown.state before.pages).live file → fault ≢ Damage)
+      → KeepsFile (shown_in shown) before after → Changes (shown_in shown) change before after r
+  stopped r fault was other undamaged keeps =
+      let p = err_from_is_err_and r was in
+      rw (p.1, p.2) (record {
+        done = λ honest sound file stands. record { answer = tt; no_damage = undamaged honest sound file stands };
+        unmade = tt;
+        begun = tt;
+        room = λ honest file stands. tt;
+        full = λ is. absurd (not_full fault other is);
+        lacks = λ is. absurd (not_full fault other is);
+        keeps = keeps;
+      })
+
+  -- there is no room for it
+  pub lacking : (shown_in shown).Reads before after → LacksRoom → KeepsFile (shown_in shown) before after → Changes (shown_in shown) change before after (Err Full)
+  lacking reads lacks keeps = record {
+    done = λ honest sound file stands. record { answer = tt; no_damage = λ e. cc };
+    unmade = tt;
+    begun = tt;
+    room = λ honest file stands. tt;
+    full = λ is. reads;
+    lacks = λ is. lacks;
+    keeps = keeps;
+  }
+
+  -- nothing was changed
+  pub not_made : (x : X) → change.is_made x ≡ false → (shown_in shown).Reads before after → IsDone x → HasRoom → KeepsFile (shown_in shown) before after
+      → Changes (shown_in shown) change before after (Ok x)
+  not_made x none reads done room keeps = record {
+    done = λ honest sound file stands. record { answer = done honest sound file stands; no_damage = tt };
+    unmade = λ no. reads;
+    begun = λ is. absurd (both _ none is);
+    room = room;
+    full = λ is. absurd (no_fault x is);
+    lacks = λ is. absurd (no_fault x is);
+    keeps = keeps;
+  }
+
+  -- it was made
+  pub made : (x : X) → change.is_made x ≡ true → shown.CanChange after.pages → IsDone x → HasRoom → KeepsFile (shown_in shown) before after
+      → Changes (shown_in shown) change before after (Ok x)
+  made x is begun done room keeps = record {
+    done = λ honest sound file stands. record { answer = done honest sound file stands; no_damage = tt };
+    unmade = λ none. absurd (both _ none is);
+    begun = λ yes. begun;
+    room = room;
+    full = λ same. absurd (no_fault x same);
+    lacks = λ same. absurd (no_fault x same);
+    keeps = keeps;
+  }
+
+-- ---- the file is marked as broken, or is not
+
+is_unmarked : {X : Type 0} (fault : Fault) → ◌≡◌ {A = Result X Fault} (Err fault) (Err Full) → not (is_answered {X = X} (Err fault)) ≡ false
+is_unmarked Device same = absurd (cc)
+is_unmarked Memory same = absurd (cc)
+is_unmarked Full same = refl
+is_unmarked Damage same = absurd (cc)
+is_unmarked Broken same = absurd (cc)
+
+is_marked : (X : Type 0) (fault : Fault) → fault ≢ Full → not (is_answered {X = X} (Err fault)) ≡ true
+is_marked X Device other = refl
+is_marked X Memory other = refl
+is_marked X Full other = absurd (other refl)
+is_marked X Damage other = refl
+is_marked X Broken other = refl
+
+module _ {S : Type 0} (shown : ShownPages S) (before : FileInPages S) (file : OpenFile) (pages : S) (flag : Bool) (whole : before.file.broken ≡ false) where
+  abbrev marked : FileInPages S
+  marked = in_pages (record file { broken = flag }) pages
+
+  keeps_marked : KeepsFile (shown_in shown) before (in_pages file pages) → KeepsFile (shown_in shown) before marked
+  keeps_marked keeps = record { schema = keeps.schema; ready = record { pages = keeps.ready.pages; shaped = keeps.ready.shaped }; begins = keeps.begins; asked = keeps.asked }
+
+  same_marked : file ≡ before.file → flag ≡ false → record file { broken = flag } ≡ before.file
+  same_marked same works = λ i. record (same i) { broken = (works ∙ sym whole) i }
+
+  pub changes_marked : {X : Type 0} (change : FileChange X) (r : Result X Fault) → flag ≡ not (is_answered r) → Changes (shown_in shown) change before (in_pages file pages) r → Changes (shown_in shown) change before marked r
+  changes_marked change (Ok x) is changes = record {
+    done = λ honest sound rows stands.
+        let has = (changes.done honest sound rows stands).answer in
+        record { answer = record { answers = has.answers; stands = broken_or_not file flag _ _ has.stands; sound = has.sound }; no_damage = tt };
+    unmade = λ none. let reads = changes.unmade none in (same_marked reads.0 is, reads.1);
+    begun = changes.begun;
+    room = changes.room;
+    full = λ same. absurd (no_fault x same);
+    lacks = λ same. absurd (no_fault x same);
+    keeps = keeps_marked changes.keeps;
+  }
+  changes_marked change (Err fault) is changes = record {
+    done = λ honest sound rows stands. record { answer = tt; no_damage = (changes.done honest sound rows stands).no_damage };
+    unmade = tt;
+    begun = tt;
+    room = λ honest rows stands. tt;
+    full = λ same.
+        let reads = changes.full same in
+        let works : flag ≡ false = is ∙ is_unmarked fault same in (same_marked reads.0 works, reads.1);
+    lacks = changes.lacks;
+    keeps = keeps_marked changes.keeps;
+  }
+
+  pub breaks_marked : (X : Type 0) (takes_pages : Bool) (lacks : Type 0) → (lacks → IsTrue takes_pages) → (r : Result X Fault) → flag ≡ not (is_answered r) → IfErr r (IsCaused (shown.HasFailed before.pages pages) lacks)
+      → MayBreak (shown_in shown) takes_pages before marked r
+  breaks_marked X takes lacks needs (Ok x) is cause = record { broken = λ broken. absurd (both _ whole broken); breaks = tt; unbroken = is; cause = tt }
+  breaks_marked X takes lacks needs (Err fault) is cause = record {
+    broken = λ broken. absurd (both _ whole broken);
+    breaks = λ other. is ∙ is_marked X fault other;
+    unbroken = tt;
+    cause = record { device = cause.device; full = λ same. (needs (cause.full same), whole); broken = λ same. absurd (cause.not_broken same) };
+  }
+
+-- ---- a file that was broken before
+
+pub broken_changes : {S X : Type 0} (shown : ShownPages S) (change : FileChange X) (held : FileInPages S) → KeepsFile (shown_in shown) held held
+    → Changes (shown_in shown) change held held (Err Broken)
+broken_changes shown change held keeps = stopped shown change held held (Err Broken) Broken refl (λ same. cc) (λ honest sound file stands same. cc) keeps
+
+pub broken_breaks : {S X : Type 0} (shown : ShownPages S) (held : FileInPages S) → held.file.broken ≡ true → (takes_pages : Bool) → shown.Reads held.pages held.pages
+    → MayBreak {X = X} (shown_in shown) takes_pages held held (Err Broken)
+broken_breaks shown held broken takes reads = record {
+  broken = λ is. (refl, (refl, reads));
+  breaks = λ other. broken;
+  unbroken = tt;
+  cause = record { device = λ same. absurd (cc); full = λ same. absurd (cc); broken = λ same. broken };
+}
+
+-- ---- whether a record was replaced, by the answer
+
+pub replaced_begun : (P : Type 0) (r : Result Replaced Fault) → IfOk r (λ x. x ≢ Clash → P) → IfOk r (λ x. x ≢ Gone) → IfOk r (λ x. is_replaced x ≡ true → P)
+replaced_begun P (Ok (Done repeated)) begun some = λ is. begun (λ same. cc)
+replaced_begun P (Ok Clash) begun some = λ is. absurd (cc)
+replaced_begun P (Ok Gone) begun some = λ is. absurd (cc)
+replaced_begun P (Err fault) begun some = tt
+
+pub replaced_rests : (P : Type 0) (r : Result Replaced Fault) → (r ≡ Ok Clash → P) → IfOk r (λ x. x ≢ Gone) → IfOk r (λ x. is_replaced x ≡ false → P)
+replaced_rests P (Ok (Done repeated)) clash some = λ none. absurd (cc)
+replaced_rests P (Ok Clash) clash some = λ none. clash refl
+replaced_rests P (Ok Gone) clash some = λ none. absurd (some refl)
+replaced_rests P (Err fault) clash some = tt

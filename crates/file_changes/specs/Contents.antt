@@ -1,0 +1,27 @@
+-- What the parts of an open file hold, and a step on them.
+use Rattle.std.specs.Prelude.{ℕ, List, IsTrue, Result}
+use Rattle.io_state.specs.declared.fault.Fault.{Fault}
+use Rattle.pages.specs.Answer.{IsAnswer}
+use Rattle.pages.specs.ShownPages.{ShownPages}
+use Rattle.key_index.specs.declared.entry.AltEntry.{AltEntry}
+use Rattle.key_index.specs.declared.entry.PrimeEntry.{PrimeEntry}
+use Rattle.record_heap.specs.Chain.{Slots}
+use Rattle.open_file.specs.Parts.{Parts}
+use Rattle.file_changes.specs.InPages.{FileInPages}
+
+-- the records of the heap, the entries of the prime index, and those of alternate index j
+pub record Contents : Type 0 where
+  pub slots : Slots
+  pub primes : List PrimeEntry
+  pub entries : ℕ → List AltEntry
+
+-- the parts hold this
+abbrev pub Holds : {S : Type 0} → ShownPages S → FileInPages S → Contents → Type 0
+Holds shown held what = Parts held.file.heap held.file.prime held.file.alternates.items (shown.state held.pages).live what.slots what.primes what.entries
+
+-- where the parts held what the step asks for, they hold what it leaves
+abbrev pub ChangesParts : {S : Type 0} → ShownPages S → (before after : FileInPages S) → (Asks : Contents → Type 0) → (leaves : Contents → Contents) → Result Unit Fault → Type 0
+ChangesParts shown before after Asks leaves result =
+    IsTrue (shown.state after.pages).is_honest → IsTrue (shown.state before.pages).is_sound → (slots : Slots) (primes : List PrimeEntry) (entries : ℕ → List AltEntry)
+    → Holds shown before (record { slots = slots; primes = primes; entries = entries }) → Asks (record { slots = slots; primes = primes; entries = entries })
+    → IsAnswer result (λ u. Holds shown after (leaves (record { slots = slots; primes = primes; entries = entries })) × IsTrue (shown.state after.pages).is_sound)
