@@ -2,9 +2,9 @@ pub mod PageLemmas
 pub mod PairLemmas
 pub mod SpreadLemmas
 pub mod ShareLemmas
-pub mod MendLemmas
+pub mod RebalanceLemmas
 pub mod RemoveLemmas
-pub mod CrownLemmas
+pub mod CollapseLemmas
 pub mod TreeLemmas
 pub mod ReadOffLemmas
 pub mod CountLemmas
@@ -13,5 +13,5 @@ pub mod CursorLemmas
 pub mod WithEntryLemmas
 pub mod GrowLemmas
 pub mod InsertLemmas
-pub mod RaiseLemmas
+pub mod GrowRootLemmas
 pub mod RootLemmas

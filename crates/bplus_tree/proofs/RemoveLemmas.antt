@@ -30,7 +30,7 @@ use Rattle.bplus_tree.specs.Edits.{without_key}
 use Rattle.pages.specs.Answer.{IsAnswer}
 use Rattle.tree_search.specs.Calls.{entry_of, IsTree, IsWhole}
 use Rattle.tree_search.specs.Descent.{IsDescentStep, Steps, IsLook}
-use Rattle.bplus_tree.specs.Remove.{Becomes, BecomesShort, HasRemovedBelow, Removes, HasTaken, HasTakenIf, TakesBelow, IsTakenIf, HasTakenInPlace, HasTakenInPlaceIf, TakesInPlace, AreFullBut, IsHalfFullWithRoot, LacksOne, Mends, TakesOut, OutOfLeaf}
+use Rattle.bplus_tree.specs.Remove.{Becomes, BecomesShort, HasRemovedBelow, Removes, HasTaken, HasTakenIf, TakesBelow, IsTakenIf, HasTakenInPlace, HasTakenInPlaceIf, TakesInPlace, AreFullBut, IsHalfFullWithRoot, LacksOne, Rebalances, TakesOut, OutOfLeaf}
 use Rattle.tree_search.proofs.FindLemmas.{differs, differs_back, found_past, missed_at, apart_behind}
 use Rattle.tree_search.proofs.RowLemmas.{RowAt, Inside, Each-append}
 use Rattle.bplus_tree.proofs.PageLemmas.{written_same, apart_left, apart_right, change_within, pages_live, rows_still}
@@ -409,12 +409,12 @@ module _ (shape : Shape) (h k page : ℕ) (key : List ℕ) (one : h ≡ suc k) w
         not_short : (size room : ℕ) (short : Bool) → short ≡ false → IsTrue short ↔ (size < room) → room ≤ size
         not_short size room short enough is = le_or room size (room ≤ size) (λ h. h) (λ h. let yes = is.1 h in absurd (cc (yes, enough)))
 
-    -- the child lacked one, and the node was mended
-    pub child_mended : (after late : PageMap) (is_sound : Type 0) (was_sound : Type 0) (entry : ArrayVec ℕ) (short : Bool) (mended : Result Bool Fault) → short ≡ true
-        → Removes shape mid after was_sound k step.child key (Ok (Taken entry short)) → (was_sound → Mends shape after late is_sound k page step.place mended)
+    -- the child lacked one, and the node was rebalanced
+    pub child_rebalanced : (after late : PageMap) (is_sound : Type 0) (was_sound : Type 0) (entry : ArrayVec ℕ) (short : Bool) (rebalanced : Result Bool Fault) → short ≡ true
+        → Removes shape mid after was_sound k step.child key (Ok (Taken entry short)) → (was_sound → Rebalances shape after late is_sound k page step.place rebalanced)
         → (t : TreeOf (suc k)) (low high : Bound) → IsWhole shape before (suc k) page low high t
-        → IsAnswer mended (λ few. HasRemovedBelow shape before late (suc k) page low high key t (Taken entry few) × is_sound)
-    child_mended after late is_sound was_sound entry short mended lacks removes mends t low high whole =
+        → IsAnswer rebalanced (λ few. HasRemovedBelow shape before late (suc k) page low high key t (Taken entry few) × is_sound)
+    child_rebalanced after late is_sound was_sound entry short rebalanced lacks removes rebalances t low high whole =
         let child = child_at low high t whole in
         let a = (below_answer after was_sound (Ok (Taken entry short)) low high t whole removes).answer in
         let new = a.0.1.becomes in
@@ -425,10 +425,10 @@ module _ (shape : Shape) (h k page : ℕ) (key : List ℕ) (one : h ≡ suc k) w
         let one_less : least shape k ≡ size_of k new.tree + 1 = omega arith in
         let xs = child.row.front ++ new.tree ∷ child.row.back in
         let but = but_here (IsHalfFullWithRoot shape k) (LacksOne shape k) child.row.front new.tree child.row.back step.place child.row.at child.in_front (one_less, new.filled) child.behind in
-        let m = mends a.1 (page, t.1, xs) low high w.put.stands w.put.changes.apart but whole.rooted in
+        let m = rebalances a.1 (page, t.1, xs) low high w.put.stands w.put.changes.apart but whole.rooted in
         record {
           no_damage = m.no_damage;
-          answer = if_ok mended (λ few. BecomesShort shape after late (suc k) page low high (page ∷ flat_map (pages_of k) xs) (length t.1 - 1) (flat_map (entries_of k) xs) few × is_sound)
+          answer = if_ok rebalanced (λ few. BecomesShort shape after late (suc k) page low high (page ∷ flat_map (pages_of k) xs) (length t.1 - 1) (flat_map (entries_of k) xs) few × is_sound)
               (λ few. HasRemovedBelow shape before late (suc k) page low high key t (Taken entry few) × is_sound)
               (λ few done.
               let b = done.0.becomes in (
@@ -455,18 +455,18 @@ module _ (shape : Shape) (h k page : ℕ) (key : List ℕ) (one : h ≡ suc k) w
         if_ok (Ok x) P Q f h = f x h
         if_ok (Err e) P Q f h = tt
 
-    pub mended_ok : (after late : PageMap) (is_sound was_sound : Type 0) (entry : ArrayVec ℕ) (short few : Bool) → short ≡ true
-        → Removes shape mid after was_sound k step.child key (Ok (Taken entry short)) → (was_sound → Mends shape after late is_sound k page step.place (Ok few))
+    pub rebalanced_ok : (after late : PageMap) (is_sound was_sound : Type 0) (entry : ArrayVec ℕ) (short few : Bool) → short ≡ true
+        → Removes shape mid after was_sound k step.child key (Ok (Taken entry short)) → (was_sound → Rebalances shape after late is_sound k page step.place (Ok few))
         → Removes shape before late is_sound h page key (Ok (Taken entry few))
-    mended_ok after late is_sound was_sound entry short few lacks removes mends = at_one before late is_sound (Ok (Taken entry few)) (λ t low high whole.
-        record { answer = (child_mended after late is_sound was_sound entry short (Ok few) lacks removes mends t low high whole).answer; no_damage = tt })
+    rebalanced_ok after late is_sound was_sound entry short few lacks removes rebalances = at_one before late is_sound (Ok (Taken entry few)) (λ t low high whole.
+        record { answer = (child_rebalanced after late is_sound was_sound entry short (Ok few) lacks removes rebalances t low high whole).answer; no_damage = tt })
 
-    pub mend_fails : (after late : PageMap) (is_sound was_sound : Type 0) (entry : ArrayVec ℕ) (short : Bool) (fault : Fault) (out : Result Shrunk Fault) → short ≡ true
-        → Removes shape mid after was_sound k step.child key (Ok (Taken entry short)) → (was_sound → Mends shape after late is_sound k page step.place (Err fault)) → IsErrAnd out (λ e. e ≡ fault)
+    pub rebalance_fails : (after late : PageMap) (is_sound was_sound : Type 0) (entry : ArrayVec ℕ) (short : Bool) (fault : Fault) (out : Result Shrunk Fault) → short ≡ true
+        → Removes shape mid after was_sound k step.child key (Ok (Taken entry short)) → (was_sound → Rebalances shape after late is_sound k page step.place (Err fault)) → IsErrAnd out (λ e. e ≡ fault)
         → Removes shape before late is_sound h page key out
-    mend_fails after late is_sound was_sound entry short fault out lacks removes mends was = at_one before late is_sound out (λ t low high whole.
+    rebalance_fails after late is_sound was_sound entry short fault out lacks removes rebalances was = at_one before late is_sound out (λ t low high whole.
         fails out fault (λ shrunk. HasRemovedBelow shape before late (suc k) page low high key t shrunk × is_sound) was
-        (child_mended after late is_sound was_sound entry short (Err fault) lacks removes mends t low high whole).no_damage)
+        (child_rebalanced after late is_sound was_sound entry short (Err fault) lacks removes rebalances t low high whole).no_damage)
 
 -- ---- one entry less
 

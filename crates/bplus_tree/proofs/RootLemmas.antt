@@ -4,14 +4,14 @@ use Rattle.arrayvec.specs.ArrayVec.{ArrayVec}
 use Rattle.pages.specs.PageMap.{PageMap}
 use Rattle.pages.specs.Owners.{ChangesPages}
 use Rattle.bplus_tree.specs.declared.tree.Tree.{Tree}
-use Rattle.bplus_tree.specs.declared.crown.Base.{Base}
+use Rattle.bplus_tree.specs.declared.collapse.Base.{Base}
 use Rattle.node_balance.specs.declared.separator.Separator.{Separator}
 use Rattle.bplus_tree.specs.declared.insert.Grown.TheVariants.{Present, Added}
 use Rattle.tree_search.specs.Tree.{entries_of, pages_of}
 use Rattle.bplus_tree.specs.Edits.{with_entry}
 use Rattle.tree_search.specs.Calls.{entry_of}
 use Rattle.bplus_tree.specs.Insert.{HasInsertedBelow}
-use Rattle.bplus_tree.specs.Raise.{Raises}
+use Rattle.bplus_tree.specs.GrowRoot.{GrowsRoot}
 use Rattle.bplus_tree.specs.Standing.{TreeStands, HasInserted}
 use Rattle.bplus_tree.proofs.WithEntryLemmas.{one_more}
 
@@ -22,10 +22,10 @@ module _ (old : Tree) (e : List ℕ) (before : PageMap) (entries : List (List �
       (subst (λ (es : List (List ℕ)). entry_of old.shape.width (take old.shape.width e) es ≡ Some found.items) stands.has h.0, h.1, refl)
 
   pub inserted_one : (mid late : PageMap) (is_sound : Type 0) (up : Option Separator) (base : Base) (count changes : ℕ) (low : base.levels < 20) → count ≡ old.count + 1
-      → HasInsertedBelow old.shape before mid old.levels old.root None None e stands.value (Added up) → Raises old.shape mid late is_sound old.levels old.root up (Ok base)
+      → HasInsertedBelow old.shape before mid old.levels old.root None None e stands.value (Added up) → GrowsRoot old.shape mid late is_sound old.levels old.root up (Ok base)
       → HasInserted before late old (record { shape = old.shape; root = base.root; levels = base.levels; count = count; changes = changes; low = low }) e entries own None × is_sound
-  inserted_one mid late is_sound up base count changes low count_is h raises =
-      let r = (raises before stands.value (with_entry old.shape.width e (entries_of old.levels stands.value)) stands.whole.rooted h.1).answer in
+  inserted_one mid late is_sound up base count changes low count_is h grows =
+      let r = (grows before stands.value (with_entry old.shape.width e (entries_of old.levels stands.value)) stands.whole.rooted h.1).answer in
       let none = subst (λ (es : List (List ℕ)). entry_of old.shape.width (take old.shape.width e) es ≡ None) stands.has h.0 in
       let more = one_more old.shape.width e entries in
       let counted = stands.count in (

@@ -14,7 +14,7 @@ use Rattle.node_balance.specs.Fill.{least}
 use Rattle.tree_search.specs.Tree.{TreeOf, page_of, entries_of, pages_of, pages_below, size_of, IsHalfFull, Bound, NotBelow, Above, Below, IsRow, IsOrdered}
 use Rattle.tree_search.specs.Stored.{Holds, IsLeafAt, IsInnerAt}
 use Rattle.tree_search.specs.Calls.{IsTree}
-use Rattle.node_balance.specs.Even.{LeavesJoined, LeavesShared, InnersJoined, InnersShared, AreJoined, AreShared}
+use Rattle.node_balance.specs.Balance.{LeavesJoined, LeavesShared, InnersJoined, InnersShared, AreJoined, AreShared}
 use Rattle.tree_search.proofs.RowLemmas.{Inside, Each-append, NotBelow-trans, above_not_below, Below-trans, row_split, row_rises}
 use Rattle.tree_search.proofs.RowLemmas.{each_left, each_right, ascends_join}
 use Rattle.bplus_tree.proofs.PageLemmas.{each_both, rows_still}

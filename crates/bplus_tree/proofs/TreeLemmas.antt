@@ -3,13 +3,13 @@ use Rattle.std.proofs.Common.{◌≡◌, ◌≢◌, ℕ, ◌+◌, ◌-◌, ◌<�
 use Rattle.arrayvec.specs.ArrayVec.{ArrayVec}
 use Rattle.pages.specs.PageMap.{PageMap}
 use Rattle.bplus_tree.specs.declared.tree.Tree.{Tree}
-use Rattle.bplus_tree.specs.declared.crown.Base.{Base}
+use Rattle.bplus_tree.specs.declared.collapse.Base.{Base}
 use Rattle.bplus_tree.specs.declared.remove.Shrunk.TheVariants.{Absent, Taken}
 use Rattle.tree_search.specs.Tree.{entries_of, pages_of}
 use Rattle.pages.specs.Owners.{ChangesPages}
 use Rattle.bplus_tree.specs.Edits.{without_key}
 use Rattle.tree_search.specs.Calls.{entry_of}
-use Rattle.bplus_tree.specs.Crown.{Settles}
+use Rattle.bplus_tree.specs.Collapse.{Collapses}
 use Rattle.bplus_tree.specs.Remove.{HasRemovedBelow, HasTaken}
 use Rattle.pages.specs.PageMap.{Takes}
 use Rattle.tree_node.specs.declared.shape.Shape.{Shape}
@@ -23,11 +23,11 @@ removed_absent before after old key entries own stands h =
     (subst (λ (es : List (List ℕ)). entry_of old.shape.width key es ≡ None) stands.has h.0, h.1, refl)
 
 pub removed_some : (before mid late : PageMap) (is_sound : Type 0) (old : Tree) (key : List ℕ) (entries : List (List ℕ)) (own : List ℕ) (stands : TreeStands old before entries own) (entry : ArrayVec ℕ) (short : Bool) (base : Base) (n changes : ℕ) (low : base.levels < 20) → n ≡ old.count - 1
-    → HasRemovedBelow old.shape before mid old.levels old.root None None key stands.value (Taken entry short) → Settles old.shape mid late is_sound old.levels old.root (Ok base)
+    → HasRemovedBelow old.shape before mid old.levels old.root None None key stands.value (Taken entry short) → Collapses old.shape mid late is_sound old.levels old.root (Ok base)
     → HasRemoved before late old (record { shape = old.shape; root = base.root; levels = base.levels; count = n; changes = changes; low = low }) key entries own (Some entry) × is_sound
-removed_some before mid late is_sound old key entries own stands entry short base n changes low is_n h settles =
+removed_some before mid late is_sound old key entries own stands entry short base n changes low is_n h collapses =
     let b = h.1.becomes in
-    let s = (settles b.tree b.stands b.changes.apart b.filled).answer in
+    let s = (collapses b.tree b.stands b.changes.apart b.filled).answer in
     let was = subst (λ (es : List (List ℕ)). entry_of old.shape.width key es ≡ Some entry.items) stands.has h.0 in
     let has : entries_of base.levels s.0.tree ≡ without_key old.shape.width key entries = s.0.has ∙ b.has ∙ ap (without_key old.shape.width key) stands.has in
     let fewer : length (without_key old.shape.width key entries) + 1 ≡ length entries =

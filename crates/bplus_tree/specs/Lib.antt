@@ -1,7 +1,7 @@
 pub mod Edits
-pub mod Mend
+pub mod Rebalance
 pub mod Remove
-pub mod Crown
+pub mod Collapse
 pub mod Standing
 pub mod Within
 pub mod ReadOff
@@ -12,4 +12,4 @@ pub mod Start
 pub mod Split
 pub mod Grow
 pub mod Insert
-pub mod Raise
+pub mod GrowRoot

@@ -55,8 +55,8 @@ abbrev pub LacksOne : Shape → (h : ℕ) → TreeOf h → Type 0
 LacksOne shape h t = (least shape h ≡ size_of h t + 1) × IsHalfFull shape h t
 
 -- a node one of whose children lacks one
-abbrev pub Mends : Shape → PageMap → PageMap → Type 0 → ℕ → ℕ → ℕ → Result Bool Fault → Type 0
-Mends shape before after is_sound k page place result =
+abbrev pub Rebalances : Shape → PageMap → PageMap → Type 0 → ℕ → ℕ → ℕ → Result Bool Fault → Type 0
+Rebalances shape before after is_sound k page place result =
     (t : TreeOf (suc k)) (low high : Bound) → IsTree shape before (suc k) page low high t → AreApart (pages_of (suc k) t)
     → AreFullBut (IsHalfFullWithRoot shape k) (LacksOne shape k) place t.2 → 1 ≤ length t.1
     → IsAnswer result (λ short. BecomesShort shape before after (suc k) page low high (pages_of (suc k) t) (length t.1 - 1) (entries_of (suc k) t) short × is_sound)

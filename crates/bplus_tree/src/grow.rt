@@ -7,7 +7,7 @@ ghost use Rattle.pages.specs.PageCalls.{WritesPages};
 ghost use Rattle.bplus_tree.specs.Split.{HasWidth};
 ghost use Rattle.bplus_tree.specs.Grow.{AddsToLeaf, AddsToInner, IsRootOver, AddsRoot};
 
-use crate::split::write_parts;
+use crate::two_parts::write_parts;
 use io_state::Fault;
 use node_balance::{Separator, put_in_inner, put_in_leaf};
 use page_bytes::PAGE_SIZE;

@@ -8,17 +8,17 @@
 //! What an entry says besides its key is not known here. Read `specs/Standing.antt`, then `tree`.
 #![tactic(auto)]
 
-mod crown;
+mod collapse;
 mod cursor;
+mod empty_leaf;
 mod grow;
+mod grow_root;
 mod insert;
 mod law;
-mod mend;
-mod raise;
+mod rebalance;
 mod remove;
-mod split;
-mod start;
 mod tree;
+mod two_parts;
 
 pub use cursor::Cursor;
 pub use law::{have_many_entries, reads_its_entries};

@@ -7,7 +7,7 @@ ghost use Rattle.node_balance.specs.Fill.{least};
 ghost use Rattle.pages.specs.PageCalls.{WritesPages};
 ghost use Rattle.bplus_tree.specs.Remove.{Removes, TakesOut, OutOfLeaf, TakesBelow, TakesInPlace, IsTakenIf};
 
-use crate::mend::mend;
+use crate::rebalance::rebalance;
 use io_state::Fault;
 use page_bytes::PAGE_SIZE;
 use pages::Pages;
@@ -46,7 +46,7 @@ pub fn remove_below<P: Pages>(
         Shrunk::Absent => Ok(Shrunk::Absent),
         Shrunk::Taken { entry, short } => {
             if short {
-                let short = mend(pages, shape, page, levels - 1, down.place)?;
+                let short = rebalance(pages, shape, page, levels - 1, down.place)?;
                 Ok(Shrunk::Taken { entry, short })
             } else {
                 let short = is_few(down.count, shape);

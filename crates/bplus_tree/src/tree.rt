@@ -3,11 +3,11 @@
 ghost use Rattle.std.specs.Prelude.{◌≡◌, ◌≢◌, ◌+◌, ◌-◌, ◌*◌, ◌^◌, ◌<◌, ◌≤◌, IsTrue, IsSome, IfOk, OnOk, Ok, Err, None, length, take};
 ghost use Rattle.pages.specs.PageCalls.{ReadsPages, WritesPages};
 
-use crate::crown::settle;
+use crate::collapse::collapse;
+use crate::empty_leaf::write_empty_leaf;
+use crate::grow_root::grow_root;
 use crate::insert::{Grown, insert_below, put_below};
-use crate::raise::raise;
 use crate::remove::{Shrunk, remove_below, take_below};
-use crate::start::start;
 use io_state::Fault;
 use pages::Pages;
 use tree_node::{Entry, Shape};
@@ -52,7 +52,7 @@ impl Tree {
         ensures writes { WritesPages P.shown 2 ((P.shown.state pages.old).available ≡ 0) pages.old pages.new result }
     {
         let root = pages.take()?;
-        start(pages, shape, root)?;
+        write_empty_leaf(pages, shape, root)?;
         Ok(Tree {
             shape,
             root,
@@ -222,7 +222,7 @@ impl Tree {
         match insert_below(pages, self.shape, self.root, self.levels, entry)? {
             Grown::Present(found) => Ok(Some(found)),
             Grown::Added(up) => {
-                let base = raise(pages, self.shape, self.root, self.levels, up)?;
+                let base = grow_root(pages, self.shape, self.root, self.levels, up)?;
                 *self = Tree {
                     shape: self.shape,
                     root: base.root,
@@ -253,11 +253,11 @@ impl Tree {
             self.changes = self.changes.saturating_add(1);
             return Ok(Some(entry));
         }
-        self.remove_or_mend(pages, key)
+        self.remove_or_rebalance(pages, key)
     }
 
-    /// The same, whether a leaf has enough still or has to be mended.
-    fn remove_or_mend<P: Pages>(
+    /// The same, whether a leaf has enough still or has to be rebalanced.
+    fn remove_or_rebalance<P: Pages>(
         &mut self,
         pages: &mut P,
         key: &[u8],
@@ -275,7 +275,7 @@ impl Tree {
         match remove_below(pages, self.shape, self.root, self.levels, key)? {
             Shrunk::Absent => Ok(None),
             Shrunk::Taken { entry, short: _ } => {
-                let base = settle(pages, self.shape, self.root, self.levels)?;
+                let base = collapse(pages, self.shape, self.root, self.levels)?;
                 *self = Tree {
                     shape: self.shape,
                     root: base.root,

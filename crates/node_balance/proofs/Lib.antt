@@ -1,1 +1,1 @@
-pub mod EvenLemmas
+pub mod BalanceLemmas

@@ -1,3 +1,3 @@
-pub mod Even
+pub mod Balance
 pub mod Fill
 pub mod Put

@@ -4,7 +4,7 @@ ghost use Rattle.std.specs.Prelude.{◌≡◌, ◌+◌, ◌-◌, ◌*◌, ◌<�
 ghost use Rattle.tree_node.specs.Leaf.{IsLeaf, leaf_entries, leaf_room};
 ghost use Rattle.tree_node.specs.Inner.{IsInner, separators, children, inner_room};
 ghost use Rattle.node_balance.specs.Fill.{least};
-ghost use Rattle.node_balance.specs.Even.{LosesSeparator, HasSeparator, LeavesJoined, LeavesShared, InnersJoined, InnersShared, Joins, Shares, Evens};
+ghost use Rattle.node_balance.specs.Balance.{LosesSeparator, HasSeparator, LeavesJoined, LeavesShared, InnersJoined, InnersShared, Joins, Shares, Balances};
 
 use page_bytes::PAGE_SIZE;
 use tree_node::{
@@ -42,7 +42,7 @@ fn join_leaves(left: &mut [u8; PAGE_SIZE], right: &[u8; PAGE_SIZE], shape: Shape
 }
 
 /// The first entry of the leaf to the right goes over to the left one.
-#[tactic(auto, using(crate::proofs::EvenLemmas::lengths))]
+#[tactic(auto, using(crate::proofs::BalanceLemmas::lengths))]
 fn fill_left_leaf(left: &mut [u8; PAGE_SIZE], right: &mut [u8; PAGE_SIZE], shape: Shape)
     requires left { IsLeaf shape left.old }
     requires right { IsLeaf shape right.old }
@@ -71,7 +71,7 @@ fn fill_right_leaf(left: &mut [u8; PAGE_SIZE], right: &mut [u8; PAGE_SIZE], shap
 }
 
 /// Two leaves share their entries anew, or become one. The answer is whether they did.
-fn even_leaves(
+fn balance_leaves(
     node: &mut [u8; PAGE_SIZE],
     left: &mut [u8; PAGE_SIZE],
     right: &mut [u8; PAGE_SIZE],
@@ -80,7 +80,7 @@ fn even_leaves(
 ) -> Option<bool>
     requires inner { IsInner shape node.old }
     requires place { at < length (separators shape node.old) }
-    ensures { Evens shape 0 at node.old left.old right.old node.new left.new right.new result }
+    ensures { Balances shape 0 at node.old left.old right.old node.new left.new right.new result }
 {
     if !is_leaf(left, shape) || !is_leaf(right, shape) {
         return None;
@@ -182,7 +182,7 @@ fn set(node: &mut [u8; PAGE_SIZE], shape: Shape, at: usize, key: &[u8])
 }
 
 /// Two inner nodes share their children anew, or become one. The answer is whether they did.
-fn even_inners(
+fn balance_inners(
     node: &mut [u8; PAGE_SIZE],
     left: &mut [u8; PAGE_SIZE],
     right: &mut [u8; PAGE_SIZE],
@@ -191,7 +191,7 @@ fn even_inners(
 ) -> Option<bool>
     requires inner { IsInner shape node.old }
     requires place { at < length (separators shape node.old) }
-    ensures { Evens shape 1 at node.old left.old right.old node.new left.new right.new result }
+    ensures { Balances shape 1 at node.old left.old right.old node.new left.new right.new result }
 {
     if !is_inner(left, shape) || !is_inner(right, shape) {
         return None;
@@ -218,7 +218,7 @@ fn even_inners(
 }
 
 /// Two children of a node, with this many levels below them, share what they have, or become one. The answer is whether they did.
-pub fn even(
+pub fn balance(
     levels: u8,
     node: &mut [u8; PAGE_SIZE],
     left: &mut [u8; PAGE_SIZE],
@@ -228,11 +228,11 @@ pub fn even(
 ) -> Option<bool>
     requires inner { IsInner shape node.old }
     requires place { at < length (separators shape node.old) }
-    ensures { Evens shape levels at node.old left.old right.old node.new left.new right.new result }
+    ensures { Balances shape levels at node.old left.old right.old node.new left.new right.new result }
 {
     if levels == 0 {
-        even_leaves(node, left, right, shape, at)
+        balance_leaves(node, left, right, shape, at)
     } else {
-        even_inners(node, left, right, shape, at)
+        balance_inners(node, left, right, shape, at)
     }
 }

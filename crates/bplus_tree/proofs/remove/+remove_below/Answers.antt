@@ -1,7 +1,7 @@
 use Rattle.std.proofs.Common.{◌≡◌, ℕ, ◌-◌, suc, Ok, subst, sym, arith, Bool, IsTrue}
 use Rattle.bplus_tree.specs.declared.remove.Shrunk.{Shrunk}
 use Rattle.bplus_tree.specs.Remove.{Removes}
-use Rattle.bplus_tree.proofs.RemoveLemmas.{down_fails, child_fails, child_absent, child_taken, mended_ok, mend_fails}
+use Rattle.bplus_tree.proofs.RemoveLemmas.{down_fails, child_fails, child_absent, child_taken, rebalanced_ok, rebalance_fails}
 use Rattle.bplus_tree.proofs.remove.+remove_below.Goals as goal
 
 pub returns-then-levels-eq0-clause-removed : goal.returns-then-levels-eq0-clause-removed
@@ -50,28 +50,28 @@ returns-else-short-clause-removed g t c honest sound =
 pub returns-in_ok-short-in-Taken-clause-removed : goal.returns-in_ok-short-in-Taken-clause-removed
 returns-in_ok-short-in-Taken-clause-removed g t c honest sound =
     let one : c.args.levels ≡ suc (c.args.levels - 1) = omega arith in
-    let h2 = g.met.P.Pages.writes_honestly c.remove_below.new.pages c.mend.new.pages c.mend.ensures.writes.step honest in
+    let h2 = g.met.P.Pages.writes_honestly c.remove_below.new.pages c.rebalance.new.pages c.rebalance.ensures.writes.step honest in
     let h1 = g.met.P.Pages.writes_honestly c.descend.new.pages c.remove_below.new.pages c.remove_below.ensures.writes.step h2 in
     let mid = (g.P.Pages.shown.state c.descend.new.pages).live in
     let after = (g.P.Pages.shown.state c.remove_below.new.pages).live in
     let was_sound = IsTrue (g.P.Pages.shown.state c.remove_below.new.pages).is_sound in
     let removes = subst (λ (s : Shrunk). Removes c.args.shape mid after was_sound (c.args.levels - 1) c.in_ok-down.down.child c.args.key.now (Ok s)) c.in-Taken.is
     (c.in_ok-remove_below.ensures.removed h2 (subst (λ (b : Bool). IsTrue b) (sym (g.met.P.Pages.reads_sound c.args.pages.now c.descend.new.pages c.descend.ensures.reads.step h1)) sound)) in
-    mended_ok c.args.shape c.args.levels (c.args.levels - 1) c.args.page c.args.key.now one ((g.P.Pages.shown.state c.args.pages.now).live) mid (g.met.P.Pages.reads_live c.args.pages.now c.descend.new.pages c.descend.ensures.reads.step h1)
-    c.in_ok-down.down (c.in_ok-down.ensures.down h1) after ((g.P.Pages.shown.state c.mend.new.pages).live) (IsTrue (g.P.Pages.shown.state c.mend.new.pages).is_sound) was_sound c.in-Taken.entry c.in-Taken.short c.in_ok-short-in-Taken.short
-    c.if-short.true removes (c.in_ok-short-in-Taken.ensures.mended honest)
+    rebalanced_ok c.args.shape c.args.levels (c.args.levels - 1) c.args.page c.args.key.now one ((g.P.Pages.shown.state c.args.pages.now).live) mid (g.met.P.Pages.reads_live c.args.pages.now c.descend.new.pages c.descend.ensures.reads.step h1)
+    c.in_ok-down.down (c.in_ok-down.ensures.down h1) after ((g.P.Pages.shown.state c.rebalance.new.pages).live) (IsTrue (g.P.Pages.shown.state c.rebalance.new.pages).is_sound) was_sound c.in-Taken.entry c.in-Taken.short c.in_ok-short-in-Taken.short
+    c.if-short.true removes (c.in_ok-short-in-Taken.ensures.rebalanced honest)
 
 pub returns-in_err-short-in-Taken-clause-removed :
     goal.returns-in_err-short-in-Taken-clause-removed
 returns-in_err-short-in-Taken-clause-removed g t c honest sound =
     let one : c.args.levels ≡ suc (c.args.levels - 1) = omega arith in
-    let h2 = g.met.P.Pages.writes_honestly c.remove_below.new.pages c.mend.new.pages c.mend.ensures.writes.step honest in
+    let h2 = g.met.P.Pages.writes_honestly c.remove_below.new.pages c.rebalance.new.pages c.rebalance.ensures.writes.step honest in
     let h1 = g.met.P.Pages.writes_honestly c.descend.new.pages c.remove_below.new.pages c.remove_below.ensures.writes.step h2 in
     let mid = (g.P.Pages.shown.state c.descend.new.pages).live in
     let after = (g.P.Pages.shown.state c.remove_below.new.pages).live in
     let was_sound = IsTrue (g.P.Pages.shown.state c.remove_below.new.pages).is_sound in
     let removes = subst (λ (s : Shrunk). Removes c.args.shape mid after was_sound (c.args.levels - 1) c.in_ok-down.down.child c.args.key.now (Ok s)) c.in-Taken.is
     (c.in_ok-remove_below.ensures.removed h2 (subst (λ (b : Bool). IsTrue b) (sym (g.met.P.Pages.reads_sound c.args.pages.now c.descend.new.pages c.descend.ensures.reads.step h1)) sound)) in
-    mend_fails c.args.shape c.args.levels (c.args.levels - 1) c.args.page c.args.key.now one ((g.P.Pages.shown.state c.args.pages.now).live) mid (g.met.P.Pages.reads_live c.args.pages.now c.descend.new.pages c.descend.ensures.reads.step h1)
-    c.in_ok-down.down (c.in_ok-down.ensures.down h1) after ((g.P.Pages.shown.state c.mend.new.pages).live) (IsTrue (g.P.Pages.shown.state c.mend.new.pages).is_sound) was_sound c.in-Taken.entry c.in-Taken.short _
-    c.from_residual-in_err-short-in-Taken.result c.if-short.true removes (c.in_err-short-in-Taken.ensures.mended honest) c.from_residual-in_err-short-in-Taken.ensures.1
+    rebalance_fails c.args.shape c.args.levels (c.args.levels - 1) c.args.page c.args.key.now one ((g.P.Pages.shown.state c.args.pages.now).live) mid (g.met.P.Pages.reads_live c.args.pages.now c.descend.new.pages c.descend.ensures.reads.step h1)
+    c.in_ok-down.down (c.in_ok-down.ensures.down h1) after ((g.P.Pages.shown.state c.rebalance.new.pages).live) (IsTrue (g.P.Pages.shown.state c.rebalance.new.pages).is_sound) was_sound c.in-Taken.entry c.in-Taken.short _
+    c.from_residual-in_err-short-in-Taken.result c.if-short.true removes (c.in_err-short-in-Taken.ensures.rebalanced honest) c.from_residual-in_err-short-in-Taken.ensures.1

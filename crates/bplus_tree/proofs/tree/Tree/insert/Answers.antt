@@ -3,7 +3,7 @@ use Rattle.pages.specs.PageMap.{PageMap}
 use Rattle.bplus_tree.specs.Insert.{HasPutIf}
 use Rattle.bplus_tree.specs.Standing.{Inserts}
 use Rattle.tree_search.proofs.AnswerLemmas.{fails}
-use Rattle.bplus_tree.proofs.RaiseLemmas.{raises_none}
+use Rattle.bplus_tree.proofs.GrowRootLemmas.{grows_none}
 use Rattle.bplus_tree.proofs.RootLemmas.{inserted_one}
 use Rattle.bplus_tree.proofs.DepthLemmas.{never_deep, never_full}
 use Rattle.bplus_tree.proofs.tree.Tree.insert.Goals as goal
@@ -22,7 +22,7 @@ returns-then-branch-clause-inserted g c honest sound entries own stands =
     let h = subst (λ (b : Bool). HasPutIf old.shape before new.live old.levels old.root None None c.args.entry.now stands.value b) c.if-branch.true a.0 in
     record {
       answer = inserted_one old c.args.entry.now before entries own stands new.live new.live (IsTrue new.is_sound) None (record { root = old.root; levels = old.levels }) _ _ _ refl h
-          (raises_none old.shape old.levels old.root new.live new.live (IsTrue new.is_sound) refl a.1);
+          (grows_none old.shape old.levels old.root new.live new.live (IsTrue new.is_sound) refl a.1);
       no_damage = tt;
     }
 

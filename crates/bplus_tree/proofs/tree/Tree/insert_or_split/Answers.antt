@@ -25,22 +25,22 @@ returns-in_err-base-in-Added-clause-inserted g c honest sound entries own stands
     let old = c.args.self.now in
     let before = (g.P.Pages.shown.state c.args.pages.now).live in
     let mid = (g.P.Pages.shown.state c.insert_below.new.pages).live in
-    let h1 = g.met.P.Pages.writes_honestly c.insert_below.new.pages c.raise.new.pages c.raise.ensures.writes.step honest in
+    let h1 = g.met.P.Pages.writes_honestly c.insert_below.new.pages c.grow_root.new.pages c.grow_root.ensures.writes.step honest in
     let a = (c.in_ok-found.ensures.inserted h1 sound stands.value None None stands.whole tt tt).answer in
     let h = subst (λ (s : Grown). HasInsertedBelow old.shape before mid old.levels old.root None None c.args.entry.now stands.value s) c.in-Added.is a.0 in
     fails c.from_residual-in_err-base-in-Added.result _ _ c.from_residual-in_err-base-in-Added.ensures.1
-    (c.in_err-base-in-Added.ensures.raised honest a.1 before stands.value (with_entry old.shape.width c.args.entry.now (entries_of old.levels stands.value)) stands.whole.rooted h.1).no_damage
+    (c.in_err-base-in-Added.ensures.grown honest a.1 before stands.value (with_entry old.shape.width c.args.entry.now (entries_of old.levels stands.value)) stands.whole.rooted h.1).no_damage
 
 pub returns-in_ok-base-in-Added-clause-inserted : goal.returns-in_ok-base-in-Added-clause-inserted
 returns-in_ok-base-in-Added-clause-inserted g c honest sound entries own stands =
     let old = c.args.self.now in
     let before = (g.P.Pages.shown.state c.args.pages.now).live in
     let mid = (g.P.Pages.shown.state c.insert_below.new.pages).live in
-    let late = g.P.Pages.shown.state c.raise.new.pages in
-    let h1 = g.met.P.Pages.writes_honestly c.insert_below.new.pages c.raise.new.pages c.raise.ensures.writes.step honest in
+    let late = g.P.Pages.shown.state c.grow_root.new.pages in
+    let h1 = g.met.P.Pages.writes_honestly c.insert_below.new.pages c.grow_root.new.pages c.grow_root.ensures.writes.step honest in
     let a = (c.in_ok-found.ensures.inserted h1 sound stands.value None None stands.whole tt tt).answer in
     let h = subst (λ (s : Grown). HasInsertedBelow old.shape before mid old.levels old.root None None c.args.entry.now stands.value s) c.in-Added.is a.0 in
     record {
-      answer = inserted_one old c.args.entry.now before entries own stands mid late.live (IsTrue late.is_sound) c.in-Added.up c.in_ok-base-in-Added.base _ _ _ refl h (c.in_ok-base-in-Added.ensures.raised honest a.1);
+      answer = inserted_one old c.args.entry.now before entries own stands mid late.live (IsTrue late.is_sound) c.in-Added.up c.in_ok-base-in-Added.base _ _ _ refl h (c.in_ok-base-in-Added.ensures.grown honest a.1);
       no_damage = tt;
     }

@@ -28,10 +28,10 @@ returns-clause-removed g c honest sound entries own stands =
     let old = c.args.self.now in
     let before = (g.P.Pages.shown.state c.args.pages.now).live in
     let mid = g.P.Pages.shown.state c.take_below.new.pages in
-    let new = g.P.Pages.shown.state c.remove_or_mend.new.pages in
-    let h1 = g.met.P.Pages.writes_honestly c.take_below.new.pages c.remove_or_mend.new.pages c.remove_or_mend.ensures.writes.step honest in
+    let new = g.P.Pages.shown.state c.remove_or_rebalance.new.pages in
+    let h1 = g.met.P.Pages.writes_honestly c.take_below.new.pages c.remove_or_rebalance.new.pages c.remove_or_rebalance.ensures.writes.step honest in
     let a = (c.in_ok-take_below.ensures.taken h1 sound stands.value None None stands.whole).answer in
     let same : mid.live ≡ before =
     subst (λ (b : Bool). HasTakenIf old.shape before mid.live old.levels old.root None None c.args.key.now stands.value c.take_below.new.to.items b) c.if-branch.false a.0 in
-    (subst (λ (m : PageMap). Removes m new.live (IsTrue new.is_sound) old c.remove_or_mend.new.self c.args.key.now c.remove_or_mend.result) same
-    (c.remove_or_mend.ensures.removed honest a.1)) entries own stands
+    (subst (λ (m : PageMap). Removes m new.live (IsTrue new.is_sound) old c.remove_or_rebalance.new.self c.args.key.now c.remove_or_rebalance.result) same
+    (c.remove_or_rebalance.ensures.removed honest a.1)) entries own stands

@@ -1,0 +1,110 @@
+-- A new root above two trees.
+use Rattle.std.proofs.Common.{◌≡◌, ◌≢◌, ℕ, zero, suc, ◌≤◌, List, [], ◌∷◌, ◌++◌, Some, None, Ok, IsSome, refl, ap, sym, subst, ◌∙◌, arith, flat_map}
+use Rattle.std.proofs.lemmas.List.{append-nil}
+use Rattle.page_bytes.specs.Each.{Each}
+use Rattle.tree_node.specs.declared.shape.Shape.{Shape}
+use Rattle.tree_node.proofs.OrderLemmas.{Each-weaker}
+use Rattle.pages.specs.PageMap.{PageMap}
+use Rattle.pages.specs.Owners.{IsOutside, ChangesPages}
+use Rattle.node_balance.specs.declared.separator.Separator.{Separator}
+use Rattle.tree_search.specs.Tree.{TreeOf, page_of, entries_of, pages_of, size_of, IsRooted}
+use Rattle.tree_search.specs.Stored.{Holds, IsInnerAt}
+use Rattle.tree_search.specs.Calls.{IsWhole}
+use Rattle.bplus_tree.specs.Remove.{Becomes}
+use Rattle.bplus_tree.specs.Grow.{HasRoot, AddsRoot}
+use Rattle.bplus_tree.specs.Insert.{BecomesTwo}
+use Rattle.bplus_tree.specs.GrowRoot.{HasGrownRoot, GrowsRoot}
+use Rattle.bplus_tree.proofs.PageLemmas.{pages_live, holds_still}
+use Rattle.tree_search.proofs.RowLemmas.{Each-append}
+
+rooted_still : (h : ℕ) (t new : TreeOf h) → IsRooted h t → size_of h t ≤ size_of h new → IsRooted h new
+rooted_still zero t new rooted large = tt
+rooted_still (suc h) t new rooted large = omega arith
+
+-- the root was not split
+pub grown_same : (shape : Shape) (before mid : PageMap) (h root : ℕ) (t : TreeOf h) (entries : List (List ℕ)) → IsRooted h t
+    → Becomes shape before mid h root None None (pages_of h t) (size_of h t) entries → HasGrownRoot shape before mid (pages_of h t) entries (record { root = root; levels = h })
+grown_same shape before mid h root t entries rooted b =
+    record {
+      tree = b.tree;
+      whole = record { stands = b.stands; apart = b.changes.apart; filled = b.filled; rooted = rooted_still h t b.tree rooted b.large };
+      has = b.has;
+      changes = b.changes;
+    }
+
+module _ (shape : Shape) (before mid after : PageMap) (h root : ℕ) (own : List ℕ) (entries : List (List ℕ)) (separator : Separator) (new : ℕ)
+    (two : BecomesTwo shape before mid h root None None own entries separator) (put : HasRoot shape mid after root separator new) where
+  fresh : (n : ℕ) → IsSome (mid n) → n ≢ new
+  fresh n here e = let no : IsSome (mid new) = subst (λ m. IsSome (mid m)) e here in let free = put.free in cc (no, free)
+
+  kept : (t : TreeOf h) → Holds shape mid h t → Each (λ n. after n ≡ mid n) (pages_of h t)
+  kept t holds =
+      Each-weaker (λ n. IsSome (mid n)) (λ n. after n ≡ mid n)
+      (λ n here. put.others n (fresh n here)) (pages_of h t) (pages_live shape mid h t holds)
+
+  abbrev below : List ℕ
+  below = flat_map (pages_of h) (two.left ∷ two.right ∷ [])
+
+  below_is : below ≡ pages_of h two.left ++ pages_of h two.right
+  below_is = ap (λ (l : List ℕ). pages_of h two.left ++ l) (append-nil (pages_of h two.right))
+
+  changed : ChangesPages before mid own below
+  changed = subst (ChangesPages before mid own) (sym below_is) two.changes
+
+  live : Each (λ n. IsSome (mid n)) below
+  live = subst (Each (λ n. IsSome (mid n))) (sym below_is)
+      (Each-append (λ n. IsSome (mid n)) (pages_of h two.left) (pages_of h two.right) (pages_live shape mid h two.left two.left_stands.holds) (pages_live shape mid h two.right two.right_stands.holds))
+
+  above_all : IsOutside below new
+  above_all = Each-weaker (λ n. IsSome (mid n)) (λ n. new ≢ n) (λ n here e. fresh n here (sym e)) below live
+
+  abbrev tree : TreeOf (suc h)
+  tree = (new, separator.key.items ∷ [], two.left ∷ two.right ∷ [])
+
+  node : IsInnerAt shape after new (separator.key.items ∷ []) (page_of h two.left ∷ page_of h two.right ∷ [])
+  node = subst (λ (n : ℕ). IsInnerAt shape after new (separator.key.items ∷ []) (n ∷ page_of h two.right ∷ [])) (sym two.left_stands.root)
+      (subst (λ (n : ℕ). IsInnerAt shape after new (separator.key.items ∷ []) (root ∷ n ∷ [])) (sym two.right_stands.root) put.inner)
+
+  whole : IsWhole shape after (suc h) new None None tree
+  whole = record {
+    stands = record {
+      holds = (
+        node,
+        (
+          holds_still shape mid after h two.left two.left_stands.holds (kept two.left two.left_stands.holds),
+          (holds_still shape mid after h two.right two.right_stands.holds (kept two.right two.right_stands.holds), tt),
+        ),
+      );
+      root = refl;
+      ordered = ((tt, tt), (two.under, two.over, two.left_stands.ordered, two.right_stands.ordered));
+    };
+    apart = (above_all, changed.apart);
+    filled = (two.left_full, (two.right_full, tt));
+    rooted = omega arith;
+  }
+
+  frame : ChangesPages before after own (new ∷ below)
+  frame = record {
+    others = λ n here out.
+        let c = changed.others n here out in
+        let ne = fresh n (rw c.0 here) in
+        (put.others n ne ∙ c.0, (ne, c.1));
+    no_stray = λ n here out. changed.no_stray n (rw (← put.others n out.0) here) out.1;
+    apart = (above_all, changed.apart);
+  }
+
+  -- two trees come under a new root
+  pub grown_above : (levels : ℕ) → levels ≡ suc h → HasGrownRoot shape before after own entries (record { root = new; levels = levels })
+  grown_above levels one = subst (λ (n : ℕ). HasGrownRoot shape before after own entries (record { root = new; levels = n })) (sym one)
+      (record { tree = tree; whole = whole; has = ap (λ (l : List (List ℕ)). entries_of h two.left ++ l) (append-nil (entries_of h two.right)) ∙ two.has; changes = frame })
+
+module _ (shape : Shape) (h root : ℕ) where
+  pub grows_none : (mid after : PageMap) (is_sound : Type 0) → after ≡ mid → is_sound → GrowsRoot shape mid after is_sound h root None (Ok (record { root = root; levels = h }))
+  grows_none mid after is_sound same sound before t entries rooted grown =
+      record { answer = (subst (λ (m : PageMap). HasGrownRoot shape before m (pages_of h t) entries (record { root = root; levels = h })) (sym same) (grown_same shape before mid h root t entries rooted grown), sound); no_damage = tt }
+
+  pub grows_above : (mid after : PageMap) (is_sound : Type 0) (separator : Separator) (new levels : ℕ) → levels ≡ suc h → AddsRoot shape mid after is_sound root separator (Ok new)
+      → GrowsRoot shape mid after is_sound h root (Some separator) (Ok (record { root = new; levels = levels }))
+  grows_above mid after is_sound separator new levels one adds before t entries rooted grown =
+      let a = adds.answer in
+      record { answer = (grown_above shape before mid after h root (pages_of h t) entries separator new grown a.0 levels one, a.1); no_damage = tt }

@@ -1,0 +1,25 @@
+-- The root after an insert.
+use Rattle.std.specs.Prelude.{◌≡◌, ℕ, List, None, Option, Result}
+use Rattle.io_state.specs.declared.fault.Fault.{Fault}
+use Rattle.tree_node.specs.declared.shape.Shape.{Shape}
+use Rattle.pages.specs.PageMap.{PageMap}
+use Rattle.pages.specs.Owners.{ChangesPages}
+use Rattle.bplus_tree.specs.declared.collapse.Base.{Base}
+use Rattle.node_balance.specs.declared.separator.Separator.{Separator}
+use Rattle.tree_search.specs.Tree.{TreeOf, entries_of, pages_of, size_of, IsRooted}
+use Rattle.pages.specs.Answer.{IsAnswer}
+use Rattle.tree_search.specs.Calls.{IsWhole}
+use Rattle.bplus_tree.specs.Insert.{HasGrown}
+
+-- a tree of these entries stands below the root
+pub record HasGrownRoot (shape : Shape) (before after : PageMap) (own : List ℕ) (entries : List (List ℕ)) (base : Base) : Type 0 where
+  pub tree : TreeOf base.levels
+  pub whole : IsWhole shape after base.levels base.root None None tree
+  pub has : entries_of base.levels tree ≡ entries
+  pub changes : ChangesPages before after own (pages_of base.levels tree)
+
+-- of a tree that has grown since an earlier state of the pages
+abbrev pub GrowsRoot : Shape → PageMap → PageMap → Type 0 → ℕ → ℕ → Option Separator → Result Base Fault → Type 0
+GrowsRoot shape mid after is_sound h root up result =
+    (before : PageMap) (t : TreeOf h) (entries : List (List ℕ)) → IsRooted h t → HasGrown shape before mid h root None None (pages_of h t) (size_of h t) entries up
+    → IsAnswer result (λ base. HasGrownRoot shape before after (pages_of h t) entries base × is_sound)

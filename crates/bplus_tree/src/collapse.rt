@@ -1,0 +1,73 @@
+//! The root after a removal.
+
+ghost use Rattle.std.specs.Prelude.{◌≡◌, ◌<◌, ◌≤◌, IsTrue, IfOk};
+ghost use Rattle.pages.specs.PageCalls.{ReadsPages, WritesPages};
+ghost use Rattle.bplus_tree.specs.Collapse.{Sees, CollapsesInner, Collapses};
+
+use io_state::Fault;
+use pages::Pages;
+use tree_node::{InnerView, Shape, is_inner};
+
+/// A root, and how many levels are above the leaves.
+#[derive(Clone, Copy)]
+pub struct Base {
+    pub root: u32,
+    pub levels: u8,
+}
+
+/// Gives the root back where it has one child only, which is the root then.
+pub fn collapse<P: Pages>(pages: &mut P, shape: Shape, root: u32, levels: u8) -> Result<Base, Fault>
+    requires ready { P.shown.IsReady pages.old }
+    requires open { P.shown.CanChange pages.old }
+    ensures collapsed { IsTrue (P.shown.state pages.new).is_honest → IsTrue (P.shown.state pages.old).is_sound
+        → Collapses shape (P.shown.state pages.old).live (P.shown.state pages.new).live (IsTrue (P.shown.state pages.new).is_sound) levels root result }
+    ensures height { IfOk result (λ base. base.levels ≤ levels) }
+    ensures few { (P.shown.state pages.old).available ≤ (P.shown.state pages.new).available }
+    ensures writes { WritesPages P.shown 2 ⊥ pages.old pages.new result }
+{
+    if levels == 0 {
+        return Ok(Base { root, levels });
+    }
+    match collapse_inner(pages, shape, root)? {
+        None => Ok(Base { root, levels }),
+        Some(child) => Ok(Base {
+            root: child,
+            levels: levels - 1,
+        }),
+    }
+}
+
+/// Gives an inner node back that has one child only, and answers the child.
+fn collapse_inner<P: Pages>(pages: &mut P, shape: Shape, page: u32) -> Result<Option<u32>, Fault>
+    requires ready { P.shown.IsReady pages.old }
+    requires open { P.shown.CanChange pages.old }
+    ensures inner_collapsed { IsTrue (P.shown.state pages.new).is_honest → IsTrue (P.shown.state pages.old).is_sound
+        → CollapsesInner shape (P.shown.state pages.old).live (P.shown.state pages.new).live (IsTrue (P.shown.state pages.new).is_sound) page result }
+    ensures few { (P.shown.state pages.old).available ≤ (P.shown.state pages.new).available }
+    ensures writes { WritesPages P.shown 2 ⊥ pages.old pages.new result }
+{
+    match only_child(pages, shape, page)? {
+        None => Ok(None),
+        Some(child) => {
+            pages.give(page)?;
+            Ok(Some(child))
+        }
+    }
+}
+
+/// The child of an inner node that has no separator.
+fn only_child<P: Pages>(pages: &mut P, shape: Shape, page: u32) -> Result<Option<u32>, Fault>
+    requires ready { P.shown.IsReady pages.old }
+    ensures child { IsTrue (P.shown.state pages.new).is_honest → Sees shape (P.shown.state pages.old).live page result }
+    ensures reads { ReadsPages P.shown 1 pages.old pages.new result }
+{
+    let bytes = pages.page(page)?;
+    if !is_inner(bytes, shape) {
+        return Err(Fault::Damage);
+    }
+    let node = InnerView { page: bytes, shape };
+    if node.count() > 0 {
+        return Ok(None);
+    }
+    Ok(Some(node.child(0)))
+}

@@ -1,0 +1,153 @@
+//! A node one of whose children has too little.
+
+ghost use Rattle.std.specs.Prelude.{◌≡◌, ◌≢◌, ◌+◌, ◌*◌, ◌<◌, ◌≤◌, ◌↔◌, IsTrue, IsSome, IfOk, OnOk, length, slice_index};
+ghost use Rattle.tree_node.specs.Inner.{IsInner, separators, children};
+ghost use Rattle.pages.specs.PageCalls.{ReadsPages, WritesPages};
+ghost use Rattle.node_balance.specs.Balance.{Balances};
+ghost use Rattle.node_balance.specs.Fill.{least};
+ghost use Rattle.bplus_tree.specs.Rebalance.{EndsJoined, EndsShared, IsPairAt, ReadsPair};
+ghost use Rattle.bplus_tree.specs.Remove.{Rebalances};
+
+use io_state::Fault;
+use node_balance::balance;
+use page_bytes::PAGE_SIZE;
+use pages::{Pages, copy, store};
+use tree_node::{InnerView, Shape, is_inner};
+
+/// Two children side by side: the number of the separator between them, and their pages.
+#[derive(Clone, Copy)]
+struct Pair {
+    at: usize,
+    lower: u32,
+    upper: u32,
+}
+
+/// Child `place` of a node and a neighbour, where it has one.
+fn pair_at(node: &[u8; PAGE_SIZE], shape: Shape, place: usize) -> Option<Pair>
+    ensures { IsPairAt shape place node.now result }
+{
+    if !is_inner(node, shape) {
+        return None;
+    }
+    let view = InnerView { page: node, shape };
+    let count = view.count();
+    if count == 0 {
+        return None;
+    }
+    let at = place.min(count - 1);
+    Some(Pair {
+        at,
+        lower: view.child(at),
+        upper: view.child(at + 1),
+    })
+}
+
+/// The second of two children has become part of the first.
+fn end_joined<P: Pages>(
+    pages: &mut P,
+    page: u32,
+    node: &[u8; PAGE_SIZE],
+    pair: Pair,
+    left: &[u8; PAGE_SIZE],
+) -> Result<(), Fault>
+    requires ready { P.shown.IsReady pages.old }
+    requires open { P.shown.CanChange pages.old }
+    ensures ended { IsTrue (P.shown.state pages.new).is_honest → IsTrue (P.shown.state pages.old).is_sound
+        → EndsJoined (P.shown.state pages.old).live (P.shown.state pages.new).live (IsTrue (P.shown.state pages.new).is_sound) page node.now pair.lower left.now pair.upper result }
+    ensures few { (P.shown.state pages.old).available ≤ (P.shown.state pages.new).available }
+    ensures writes { WritesPages P.shown 3 ⊥ pages.old pages.new result }
+{
+    store(pages, page, node)?;
+    store(pages, pair.lower, left)?;
+    pages.give(pair.upper)?;
+    Ok(())
+}
+
+/// Two children have other entries, or other children.
+fn end_shared<P: Pages>(
+    pages: &mut P,
+    page: u32,
+    node: &[u8; PAGE_SIZE],
+    pair: Pair,
+    left: &[u8; PAGE_SIZE],
+    right: &[u8; PAGE_SIZE],
+) -> Result<(), Fault>
+    requires ready { P.shown.IsReady pages.old }
+    requires open { P.shown.CanChange pages.old }
+    ensures ended { IsTrue (P.shown.state pages.new).is_honest → IsTrue (P.shown.state pages.old).is_sound
+        → EndsShared (P.shown.state pages.old).live (P.shown.state pages.new).live (IsTrue (P.shown.state pages.new).is_sound) page node.now pair.lower left.now pair.upper right.now result }
+    ensures few { (P.shown.state pages.old).available ≤ (P.shown.state pages.new).available }
+    ensures writes { WritesPages P.shown 3 ⊥ pages.old pages.new result }
+{
+    store(pages, page, node)?;
+    store(pages, pair.lower, left)?;
+    store(pages, pair.upper, right)?;
+    Ok(())
+}
+
+/// Balances out the children of a node, with this many levels below them, where child `place` has too little. The answer is whether the node has
+/// too little now.
+pub fn rebalance<P: Pages>(
+    pages: &mut P,
+    shape: Shape,
+    page: u32,
+    levels: u8,
+    place: usize,
+) -> Result<bool, Fault>
+    requires ready { P.shown.IsReady pages.old }
+    requires open { P.shown.CanChange pages.old }
+    ensures rebalanced { IsTrue (P.shown.state pages.new).is_honest → IsTrue (P.shown.state pages.old).is_sound
+        → Rebalances shape (P.shown.state pages.old).live (P.shown.state pages.new).live (IsTrue (P.shown.state pages.new).is_sound) levels page place result }
+    ensures few { (P.shown.state pages.old).available ≤ (P.shown.state pages.new).available }
+    ensures writes { WritesPages P.shown 6 ⊥ pages.old pages.new result }
+{
+    let mut node = [0; PAGE_SIZE];
+    let mut left = [0; PAGE_SIZE];
+    let mut right = [0; PAGE_SIZE];
+    let pair = read_pair(pages, shape, page, place, &mut node, &mut left, &mut right)?;
+    match balance(levels, &mut node, &mut left, &mut right, shape, pair.at) {
+        None => Err(Fault::Damage),
+        Some(true) => {
+            let short = is_short(&node, shape);
+            end_joined(pages, page, &node, pair, &left)?;
+            Ok(short)
+        }
+        Some(false) => {
+            let short = is_short(&node, shape);
+            end_shared(pages, page, &node, pair, &left, &right)?;
+            Ok(short)
+        }
+    }
+}
+
+/// Copies a node, its child `place`, and a neighbour of that one.
+fn read_pair<P: Pages>(
+    pages: &mut P,
+    shape: Shape,
+    page: u32,
+    place: usize,
+    node: &mut [u8; PAGE_SIZE],
+    left: &mut [u8; PAGE_SIZE],
+    right: &mut [u8; PAGE_SIZE],
+) -> Result<Pair, Fault>
+    requires ready { P.shown.IsReady pages.old }
+    ensures inner { IfOk result (λ pair. IsInner shape node.new × (pair.at < length (separators shape node.new))) }
+    ensures read { IsTrue (P.shown.state pages.new).is_honest → ReadsPair shape (P.shown.state pages.old).live page place node.new left.new right.new result }
+    ensures reads { ReadsPages P.shown 3 pages.old pages.new result }
+{
+    copy(pages, page, node)?;
+    let Some(pair) = pair_at(node, shape, place) else {
+        return Err(Fault::Damage);
+    };
+    copy(pages, pair.lower, left)?;
+    copy(pages, pair.upper, right)?;
+    Ok(pair)
+}
+
+/// An inner node has too little for one below another node.
+fn is_short(node: &[u8; PAGE_SIZE], shape: Shape) -> bool
+    requires inner { IsInner shape node.now }
+    ensures { IsTrue result ↔ (length (separators shape node.now) < least shape 1) }
+{
+    InnerView { page: node, shape }.count() < shape.inner_room() / 2
+}
