@@ -1,5 +1,6 @@
 # cobix: `make try` runs a deck over the files of DIR without the proofs, in one to two minutes;
-# `make run` proves and builds the program, and runs a deck; `make test` proves and tests everything,
+# `make run` proves and builds the program, JOBS crates side by side, and runs a deck;
+# `make test` proves and tests everything,
 # runs the examples, the cases and some of them out of memory, and checks the documents;
 # `make gnucobol` runs COBOL programs over it, where cobc is there;
 # `make install` puts the program that `make run` or `make test` built into PREFIX/bin, its manual page,
@@ -11,12 +12,13 @@ DECK = examples/payroll.deck
 DIR = files
 PREFIX = /usr/local
 PROGRAM = crates/cobix/out/cobix
+JOBS = 2
 
 try: | $(DIR)
 	@cd crates/cobix && rt try --data deck=$(abspath $(DECK)) -- run deck --folder $(abspath $(DIR))
 
 run: | $(DIR)
-	@cd crates/cobix && rt run -- run $(abspath $(DECK)) --folder $(abspath $(DIR))
+	@cd crates/cobix && rt all check --jobs $(JOBS) >&2 && rt run -- run $(abspath $(DECK)) --folder $(abspath $(DIR))
 
 $(DIR):
 	mkdir -p $@
