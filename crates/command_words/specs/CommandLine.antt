@@ -107,7 +107,6 @@ abbrev pub program_shape : Shape
 program_shape = record (new_shape (codes "cobix")) {
   has_version = true;
   subcommand_required = true;
-  disable_help_subcommand = true;
 }
 
 -- to run, check and serve

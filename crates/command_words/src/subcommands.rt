@@ -306,7 +306,6 @@ fn program<'a>(alloc: Global) -> Command<'a>
         .about("Indexed files of COBOL")
         .version(VERSION)
         .subcommand_required(true)
-        .disable_help_subcommand(true)
 }
 
 /// The program with the subcommands that run, check and serve.
