@@ -1,15 +1,18 @@
--- What was done for words that ask for a list, a schema or a run.
-use Rattle.std.proofs.Common.{◌≡◌, ℕ, List, Option, Some, None, Result, Ok, Err, IfOk, IfErr, inl, inr, sym, subst}
+-- What was done for words that ask for a list, a schema, a load or a run.
+use Rattle.std.proofs.Common.{◌≡◌, ℕ, List, Option, Some, None, Result, Ok, Err, IfOk, IfErr, inl, inr, refl, sym, subst}
 use Rattle.clap.specs.Words.{Text}
 use Rattle.file_listing.specs.declared.listing.FileList.{FileList}
 use Rattle.command_words.specs.Asks.{AskSchema, AskRun}
 use Rattle.file_commands.specs.Forms.{IsFormRefused, IsListRefused}
 use Rattle.file_commands.specs.Schema.{IsSchemaDone, IsSchemaFault}
-use Rattle.command_line.specs.Performed.{Begun, Written, CameToEnd, AskForRecords, AskForSchema, Did}
+use Rattle.file_commands.specs.DeckFile.{IsDeckFault}
+use Rattle.shelf_loading.specs.declared.end.ShelfEnd.{ShelfEnd}
+use Rattle.command_line.specs.LoadForm.{IsLoadFault}
+use Rattle.command_line.specs.Performed.{Begun, Written, CameToEnd, AskForLoad, AskForRecords, AskForSchema, Did}
 use Rattle.command_outcomes.specs.declared.fault.Fault.{Fault}
 use Rattle.command_outcomes.specs.declared.fault.Fault.TheVariants.{Deck, NoSuchFile, Form as NoForm, Input, Output, Memory}
 use Rattle.command_outcomes.specs.declared.outcome.Outcome.{Outcome}
-use Rattle.command_outcomes.specs.declared.outcome.Outcome.TheVariants.{Ended, SchemaTold, SchemaCompared, SchemaRefused, Records}
+use Rattle.command_outcomes.specs.declared.outcome.Outcome.TheVariants.{Ended, SchemaTold, SchemaCompared, SchemaRefused, Records, Loaded}
 
 -- the words ask for a list
 module _ (words : List Text) (out : Written) (list : AskForRecords words) where
@@ -37,11 +40,26 @@ module _ (words : List Text) (out : Written) (schema : AskForSchema words) where
   did_schema (Ok outcome) done fault = absurd done
   did_schema (Err (Deck fault)) done h = inr (inr (schema, h))
   did_schema (Err NoSuchFile) done h = inr (inr (schema, h))
-  did_schema (Err (NoForm fault)) done h = inr (schema, h.0, h.1)
+  did_schema (Err (NoForm fault)) done h = inr (inl (schema, h.0, h.1))
   did_schema (Err Input) done h = tt
   did_schema (Err Output) done h = tt
   did_schema (Err Memory) done h = tt
   did_schema (Err fault) done h = absurd h
+
+-- the words ask for a load
+module _ (words : List Text) (out : Written) (load : AskForLoad words) where
+  load_refused : (fault : Fault) → IsDeckFault fault → Did words None out (Err fault)
+  load_refused (Deck fault) h = inl load
+  load_refused NoSuchFile h = inl load
+  load_refused Input h = tt
+  load_refused Output h = tt
+  load_refused Memory h = tt
+  load_refused fault h = absurd h
+
+  pub did_load : (P : ShelfEnd → Type 0) (result : Result Outcome Fault) → IfOk result (λ outcome. (end : ShelfEnd) × (outcome ≡ Loaded end) × P end) → IfErr result (IsLoadFault load.form) → Did words None out result
+  did_load P (Ok outcome) done fault = subst (λ (o : Outcome). Did words None out (Ok o)) (sym done.1) load
+  did_load P (Err f) done (inl none) = subst (λ (x : Fault). Did words None out (Err x)) (sym none.0) (inr (inr (load, refl, none.1)))
+  did_load P (Err f) done (inr refused) = load_refused f refused
 
 -- the words ask for a run
 module _ (words : List Text) (deck folder : Text) (pages frames : ℕ) (asked : AskRun words deck folder pages frames) where

@@ -6,6 +6,7 @@ use Rattle.folder_shelf.specs.Replay.{Unseen}
 use Rattle.page_store.specs.ShelfState.{ShelfState}
 use Rattle.record_layout.specs.Schema.{Schema}
 use Rattle.shelf_run.specs.ShelfRun.{LeavesFiles}
+use Rattle.record_loading.specs.Loading.{Listing}
 use Rattle.record_loading.specs.declared.end.Load.{Load}
 use Rattle.shelf_loading.specs.Loaded.{Ends, KeepsOthers, IsSafe}
 use Rattle.shelf_loading.specs.declared.end.ShelfEnd.{ShelfEnd}
@@ -17,7 +18,7 @@ use Rattle.command_outcomes.specs.declared.fault.Fault.{Fault}
 
 -- a load over the folder of a path, before whose first call no name was attached, with the names and the calls behind it
 module _ (disk : List ℕ → Unseen) (path : List ℕ) (names : List ArrayString) (calls : List Event) (no_names : names ≡ []) (no_calls : calls ≡ in_folder path ∷ [])
-    (names_behind : List ArrayString) (calls_behind : List Event) (name : List ℕ) (schema : Schema) (load : Load) (text : List ℕ) where
+    (names_behind : List ArrayString) (calls_behind : List Event) (name : List ℕ) (schema : Schema) (load : Load) (list : Listing) where
   abbrev pub first : ShelfState
   first = folder_after disk names calls
 
@@ -28,17 +29,17 @@ module _ (disk : List ℕ → Unseen) (path : List ℕ) (names : List ArrayStrin
   from_first : (IsSo : ShelfState → ShelfState → Type 0) → IsSo first last → IsSo (folder_at_first disk path) last
   from_first IsSo = subst (λ (old : ShelfState). IsSo old last) (untouched disk path names calls no_names no_calls)
 
-  pub load_ended : (end : ShelfEnd) → Ends name schema load text first end last → KeepsOthers name first last → IsSafe name first last → LoadsFolder disk path name schema load text (Ok end)
+  pub load_ended : (end : ShelfEnd) → Ends name schema load list first end last → KeepsOthers name first last → IsSafe name first last → LoadsFolder disk path name schema load list (Ok end)
   load_ended end ends others safe = record {
     names = names_behind;
     calls = calls_behind;
-    ends = from_first (λ old new. Ends name schema load text old end new) ends;
+    ends = from_first (λ old new. Ends name schema load list old end new) ends;
     nothing = tt;
     others = from_first (KeepsOthers name) others;
     safe = from_first (IsSafe name) safe;
   }
 
-  pub load_failed : (fault : Fault) → LeavesFiles first last → KeepsOthers name first last → IsSafe name first last → LoadsFolder disk path name schema load text (Err fault)
+  pub load_failed : (fault : Fault) → LeavesFiles first last → KeepsOthers name first last → IsSafe name first last → LoadsFolder disk path name schema load list (Err fault)
   load_failed fault nothing others safe = record {
     names = names_behind;
     calls = calls_behind;
@@ -61,13 +62,15 @@ text_at_first remaining old new deck path text unread other is = record {
 }
 
 -- what else is known of the text of a load
-pub loads_as : {A B : List ℕ → Type 0} {disk : List ℕ → Unseen} {bytes folder name : List ℕ} {into : Bool} {before behind : Option (List ℕ)} {end : ShelfEnd}
-    → ((text : List ℕ) → A text → B text) → LoadsDeck disk A bytes folder name into before behind end → LoadsDeck disk B bytes folder name into before behind end
+pub loads_as : {A B : List ℕ → Type 0} {disk : List ℕ → Unseen} {bytes folder name word : List ℕ} {into : Bool} {before behind : Option (List ℕ)} {end : ShelfEnd}
+    → ((text : List ℕ) → A text → B text) → LoadsDeck disk A bytes folder name word into before behind end → LoadsDeck disk B bytes folder name word into before behind end
 loads_as so known = record {
   deck = known.deck;
   is_deck = known.is_deck;
   file = known.file;
   named = known.named;
+  form = known.form;
+  is_form = known.is_form;
   text = known.text;
   is_text = so known.text known.is_text;
   loads = known.loads;

@@ -9,6 +9,8 @@ use Rattle.file_control.specs.Description.{FileDesc}
 use Rattle.deck_reader.specs.declared.deck.Deck.{Deck}
 use Rattle.deck_reader.specs.Deck.{IsDeck}
 use Rattle.shelf_run.specs.ShelfRun.{LeavesFiles}
+use Rattle.record_forms.specs.declared.form.Form.{Form}
+use Rattle.record_loading.specs.Loading.{Listing, listing}
 use Rattle.record_loading.specs.declared.end.Load.{Load}
 use Rattle.record_loading.specs.declared.end.Load.TheVariants.{New, Into}
 use Rattle.shelf_loading.specs.Answer.{answer_of}
@@ -16,6 +18,7 @@ use Rattle.shelf_loading.specs.Loaded.{Ends, KeepsOthers, IsSafe}
 use Rattle.shelf_loading.specs.declared.end.ShelfEnd.{ShelfEnd}
 use Rattle.shelf_loading.specs.declared.end.ShelfEnd.TheVariants.{IsThere, Loaded}
 use Rattle.command_line.specs.Folder.{OverFolder}
+use Rattle.command_line.specs.LoadForm.{IsFormOf}
 use Rattle.file_commands.specs.DeckFile.{IsFileOf}
 use Rattle.command_outcomes.specs.declared.fault.Fault.{Fault}
 
@@ -26,10 +29,10 @@ load_of false = New
 
 -- a load of a text into the file of a name in the folder of this path: how it ended, and what it left where it came to nothing; all other names stand for what they
 -- stood for; and no crash leaves a false file
-pub record LoadsFolder (disk : List ℕ → Unseen) (folder name : List ℕ) (schema : Schema) (load : Load) (text : List ℕ) (result : Result ShelfEnd Fault) : Type 0 where
+pub record LoadsFolder (disk : List ℕ → Unseen) (folder name : List ℕ) (schema : Schema) (load : Load) (list : Listing) (result : Result ShelfEnd Fault) : Type 0 where
   pub names : List ArrayString
   pub calls : List Event
-  pub ends : OverFolder disk folder names calls (λ first last. IfOk result (λ end. Ends name schema load text first end last))
+  pub ends : OverFolder disk folder names calls (λ first last. IfOk result (λ end. Ends name schema load list first end last))
   pub nothing : OverFolder disk folder names calls (λ first last. OnErr result (LeavesFiles first last))
   pub others : OverFolder disk folder names calls (KeepsOthers name)
   pub safe : OverFolder disk folder names calls (IsSafe name)
@@ -39,14 +42,16 @@ abbrev pub WritesAnswer : ShelfEnd → (before behind : Option (List ℕ)) → T
 WritesAnswer IsThere before behind = behind ≡ before
 WritesAnswer (Loaded end) before behind = Appends before behind (answer_of end)
 
--- the bytes are a deck that has a file of this name, a text was loaded into that file in this folder, and it was told how that ended
+-- the bytes are a deck that has a file of this name, a text was loaded into that file in this folder, in the form that a word asks for, and it was told how that ended
 pub record LoadsDeck
-    (disk : List ℕ → Unseen) (IsTheText : List ℕ → Type 0) (bytes folder name : List ℕ) (into : Bool) (before behind : Option (List ℕ)) (end : ShelfEnd) : Type 0 where
+    (disk : List ℕ → Unseen) (IsTheText : List ℕ → Type 0) (bytes folder name word : List ℕ) (into : Bool) (before behind : Option (List ℕ)) (end : ShelfEnd) : Type 0 where
   pub deck : Deck
   pub is_deck : IsDeck bytes deck
   pub file : FileDesc
   pub named : IsFileOf deck.files name file
+  pub form : Form
+  pub is_form : IsFormOf word file form
   pub text : List ℕ
   pub is_text : IsTheText text
-  pub loads : LoadsFolder disk folder file.file file.schema (load_of into) text (Ok end)
+  pub loads : LoadsFolder disk folder file.file file.schema (load_of into) (listing form text) (Ok end)
   pub told : WritesAnswer end before behind

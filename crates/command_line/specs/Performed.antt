@@ -12,11 +12,12 @@ use Rattle.deck_runner.specs.declared.run_end.RunEnd.{RunEnd}
 use Rattle.shelf_run.specs.ShelfRun.{OnShelf, IsExactRun, Runs, BreaksOff, LeavesFiles, StaysSound}
 use Rattle.command_words.specs.Asks.{FormText, AskRun, AskCheck, AskServe, AskSchema, AskExplain, AskDeck, AskList, AskCobol, AskLoad, AskStat, AskHelp, AskNothing}
 use Rattle.command_line.specs.Folder.{OverFolder}
+use Rattle.command_line.specs.LoadForm.{IsNoFormWord}
 use Rattle.file_commands.specs.DeckFile.{IsDeckAsked, IsHalf}
 use Rattle.file_commands.specs.Forms.{HasFormFault}
 use Rattle.command_outcomes.specs.Status.{status_of}
 use Rattle.command_outcomes.specs.declared.form_fault.FormFault.{FormFault}
-use Rattle.command_outcomes.specs.declared.form_fault.FormFault.TheVariants.{HalfDeck}
+use Rattle.command_outcomes.specs.declared.form_fault.FormFault.TheVariants.{Kind, HalfDeck}
 use Rattle.command_outcomes.specs.declared.fault.Fault.{Fault}
 use Rattle.command_outcomes.specs.declared.fault.Fault.TheVariants.{Deck, NotListed, NoSuchFile, Form as NoForm, Unexplained, LongValue, Usage, Input, Output, Memory}
 use Rattle.command_outcomes.specs.declared.outcome.Outcome.{Outcome}
@@ -89,11 +90,12 @@ pub record AskForLoad (words : List Text) : Type 0 where
   pub folder : Text
   pub file : Text
   pub text : Text
+  pub form : Text
   pub into : Bool
   pub pages : ℕ
   pub frames : ℕ
   pub quiet : Bool
-  pub asked : AskLoad words deck folder file text into pages frames quiet
+  pub asked : AskLoad words deck folder file text form into pages frames quiet
 
 -- the words ask for records of a file
 pub record AskForRecords (words : List Text) : Type 0 where
@@ -118,10 +120,11 @@ abbrev pub AskOfFile : List Text → Type 0
 AskOfFile words =
     AskForLoad words ⊎ ((list : AskForRecords words) × IsDeckAsked list.form.deck list.form.name) ⊎ ((schema : AskForSchema words) × IsDeckAsked schema.deck schema.name)
 
--- the words ask for a form that has this fault, or for a schema beside half of what is to be held against it
+-- the words ask for a list in a form that has this fault, for a schema beside half of what is to be held against it, or for a load by a word that asks for no form
 abbrev pub AskForNoForm : List Text → FormFault → Type 0
 AskForNoForm words fault =
     ((list : AskForRecords words) × HasFormFault list.form fault) ⊎ ((schema : AskForSchema words) × IsHalf schema.deck schema.name × (fault ≡ HalfDeck))
+    ⊎ ((load : AskForLoad words) × (fault ≡ Kind) × IsNoFormWord load.form)
 
 -- what was done for the words: help was written for those that ask for it, files checked for those that ask for that, records listed for those that ask for them, a program written for those that ask for one in COBOL, a text loaded for those that ask for that, the pages of a file counted for those that ask for that, requests answered for those that ask for a session, a schema told, compared or refused for those that ask for one, and a run came to its end or to a
 -- fault for those that ask for one; a fault that is told of the words is theirs. The input, the output or memory may fail for any words.

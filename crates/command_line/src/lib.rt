@@ -12,6 +12,7 @@
 #![tactic(auto)]
 
 mod explaining;
+mod load_form;
 mod loading;
 mod performing;
 mod session;

@@ -2,16 +2,22 @@
 ghost use Rattle.std.specs.Prelude.{◌≡◌, ◌≢◌, [], true, false, string_bytes, codes, IfOk, IfErr};
 ghost use Rattle.file_commands.specs.Front.{IsTextNamed};
 ghost use Rattle.file_commands.specs.DeckFile.{IsDeckFault};
+ghost use Rattle.record_reading.specs.Whole.{IsWhole};
+ghost use Rattle.record_loading.specs.Loading.{listing};
+ghost use Rattle.command_line.specs.LoadForm.{word_of};
 ghost use Rattle.command_line.specs.Loaded.{load_of, LoadsFolder, WritesAnswer, LoadsDeck};
 ghost use Rattle.command_outcomes.specs.Status.{status_of};
 
+use crate::load_form::{FormKind, form_of};
 use command_outcomes::{Fault, Outcome};
 use command_words::Limits;
 use file_commands::{deck_of, file_named, read_text};
 use file_control::FileDesc;
 use folder_shelf::{Disk, FolderShelf};
 use progress::Progress;
+use record_forms::Form;
 use record_loading::Load;
+use record_reading::items_are_whole;
 use shelf_loading::{ShelfEnd, ShelfFault, add_answer, load_on_shelf};
 use standard_input::StandardInput;
 use std::alloc::Global;
@@ -23,11 +29,12 @@ use system_files::LockFile;
 /// The most bytes of an answer: two lines, with a number and two statuses.
 const MOST_BYTES: usize = 64;
 
-/// What is asked of a load: the name of a file in the deck, the path of a text, whether the file is there, and the limits of its pages.
+/// What is asked of a load: the name of a file in the deck, the path of a text, the word for its form, whether the file is there, and the limits of its pages.
 #[derive(Clone, Copy)]
 pub struct Loading<'a> {
     pub file: &'a str,
     pub text: &'a str,
+    pub form: &'a str,
     pub into: bool,
     pub limits: Limits,
 }
@@ -57,20 +64,22 @@ fn told_fault(fault: ShelfFault) -> Fault
     }
 }
 
-/// Loads a text into a file over a folder. It is told how many bytes of the text are written.
+/// Loads a text in a form into a file over a folder. It is told how many bytes of the text are written.
 fn load_over_folder<R: Files, D: Disk, P: Progress>(
     rt: &R,
     alloc: Global,
     folder: String,
     file: &FileDesc,
     load: Load,
+    form: &Form,
     text: &[u8],
     limits: Limits,
     progress: &mut P,
 ) -> Result<ShelfEnd, Fault>
 where
     R::File: FileExt + LockFile,
-    ensures loads { LoadsFolder D.Disk.unseen (string_bytes folder) file.now.file file.now.schema load text.now result }
+    requires whole { IsWhole form.now file.now.schema.greatest }
+    ensures loads { LoadsFolder D.Disk.unseen (string_bytes folder) file.now.file file.now.schema load (listing form.now text.now) result }
     ensures fault { IfErr result (λ fault. status_of fault ≡ 4) }
 {
     let shelf: FolderShelf<&R, D> = FolderShelf::new(rt, alloc, folder);
@@ -80,6 +89,7 @@ where
         file.file,
         &file.schema,
         load,
+        form,
         text,
         limits.pages,
         limits.frames,
@@ -109,13 +119,14 @@ fn write_answer<W: Write>(room: Vec<u8>, end: ShelfEnd, out: &mut W) -> Result<O
 }
 
 #[tactic(auto, using(file_commands::proofs::DeckLemmas::not_there))]
-/// Loads a text into a file of the deck that the bytes are, over the files of a folder, and tells how that ended. `Deck`, `NoSuchFile`: nothing was read, written or
-/// changed.
+/// Loads a text of this kind into a file of the deck that the bytes are, over the files of a folder, and tells how that ended. `Deck`, `NoSuchFile`: nothing was read,
+/// written or changed.
 pub fn load_deck<R: Files, D: Disk, I: Read, P: Progress, W: Write>(
     rt: &R,
     alloc: Global,
     bytes: &[u8],
     folder: String,
+    kind: FormKind,
     asked: Loading<'_>,
     input: &mut StandardInput<I>,
     progress: &mut P,
@@ -125,7 +136,7 @@ where
     R::File: FileExt + LockFile,
     ensures loaded { IfOk result (λ outcome. (end : _) × (outcome ≡ Outcome.Loaded end)
         × LoadsDeck D.Disk.unseen (IsTextNamed R.File.remaining (I.remaining input.old.reader) asked.entry.text.now)
-        bytes.now (string_bytes folder) asked.entry.file.now asked.entry.into (W.contents out.old) (W.contents out.new) end) }
+        bytes.now (string_bytes folder) asked.entry.file.now (word_of kind) asked.entry.into (W.contents out.old) (W.contents out.new) end) }
     ensures untouched { IfErr result (λ fault. status_of fault ≢ 4 → out.new ≡ out.old) }
     ensures fault { IfErr result IsDeckFault }
 {
@@ -135,6 +146,12 @@ where
     };
     let Some(file) = file_named(deck.files.as_slice(), asked.file) else {
         return Err(Fault::NoSuchFile);
+    };
+    // This brings that the columns are the whole of a record.
+    items_are_whole();
+    let form = match form_of(alloc, kind, file) {
+        Ok(form) => form,
+        Err(fault) => return Err(fault),
     };
     let text = match read_text(rt, alloc, asked.text, input) {
         Ok(text) => text,
@@ -150,6 +167,7 @@ where
         folder,
         file,
         load_of(asked.into),
+        &form,
         text.as_slice(),
         asked.limits,
         progress,

@@ -36,7 +36,7 @@ met_asked words met (Explain kind number) faultless is h = (faultless, rw (← i
 met_asked words met (Deck deck) faultless is h = (faultless, rw (← is) h)
 met_asked words met (ListRecords file key from to first form quiet) faultless is h = (faultless, rw (← is) h)
 met_asked words met (Cobol deck fixed) faultless is h = (faultless, rw (← is) h)
-met_asked words met (Load deck folder file text into limits quiet) faultless is h = (faultless, rw (← is) h)
+met_asked words met (Load deck folder file text form into limits quiet) faultless is h = (faultless, rw (← is) h)
 met_asked words met (Stat file) faultless is h = (faultless, rw (← is) h)
 met_asked words met (Help text) faultless is h = absurd h
 

@@ -127,14 +127,15 @@ pub record IsCobol (met : Option (Text × List Row)) (deck : Text) (fixed : Bool
   pub fixed_given : one_of (codes "fixed") rows ≡ Some fixed_text
   pub fixed_is : IsFlag fixed_text fixed
 
--- the subcommand that was met is to load the lines of this text into a file of this deck over this folder, into the one that is there or not, with these limits, with progress or not
-pub record IsLoad (met : Option (Text × List Row)) (deck folder file text : Text) (into : Bool) (pages frames : ℕ) (quiet : Bool) : Type 0 where
+-- the subcommand that was met is to load the lines of this text, in a form, into a file of this deck over this folder, into the one that is there or not, with these limits, with progress or not
+pub record IsLoad (met : Option (Text × List Row)) (deck folder file text form : Text) (into : Bool) (pages frames : ℕ) (quiet : Bool) : Type 0 where
   pub rows : List Row
   pub is : met ≡ Some (codes "load", rows)
   pub deck_given : first_of (codes "deck") rows ≡ Some deck
   pub folder_given : first_of (codes "folder") rows ≡ Some folder
   pub file_given : first_of (codes "file") rows ≡ Some file
   pub text_given : first_of (codes "text") rows ≡ Some text
+  pub form_given : first_of (codes "as") rows ≡ Some form
   pub into_text : Text
   pub into_given : one_of (codes "into") rows ≡ Some into_text
   pub into_is : IsFlag into_text into
@@ -157,7 +158,7 @@ IsMet met (Explain kind number) = IsExplain met kind.now number.now
 IsMet met (Deck deck) = IsDeck met deck.now
 IsMet met (ListRecords file key from to first form quiet) = IsList met file.now key (option_map (λ text. text.now) from) (option_map (λ text. text.now) to) first (form_text form) quiet
 IsMet met (Cobol deck fixed) = IsCobol met deck.now fixed
-IsMet met (Load deck folder file text into limits quiet) = IsLoad met deck.now folder.now file.now text.now into limits.pages limits.frames.value quiet
+IsMet met (Load deck folder file text form into limits quiet) = IsLoad met deck.now folder.now file.now text.now form.now into limits.pages limits.frames.value quiet
 IsMet met (Stat file) = IsStat met file.now
 IsMet met (Help text) = ⊥
 
@@ -173,7 +174,7 @@ pub record IsNoRunOrList (met : Option (Text × List Row)) : Type 0 where
 pub record IsNoRecords (met : Option (Text × List Row)) : Type 0 where
   pub no_list : (file : Text) (key : ℕ) (from to : Option Text) (first : ℕ) (form : FormText) (quiet : Bool) → ¬ (IsList met file key from to first form quiet)
   pub no_cobol : (deck : Text) (fixed : Bool) → ¬ (IsCobol met deck fixed)
-  pub no_load : (deck folder file text : Text) (into : Bool) (pages frames : ℕ) (quiet : Bool) → ¬ (IsLoad met deck folder file text into pages frames quiet)
+  pub no_load : (deck folder file text form : Text) (into : Bool) (pages frames : ℕ) (quiet : Bool) → ¬ (IsLoad met deck folder file text form into pages frames quiet)
   pub no_stat : (file : Text) → ¬ (IsStat met file)
 
 -- it is none of these, and no check
@@ -226,10 +227,10 @@ AskList words file key from to first form quiet = AreFaultless words × IsList (
 abbrev pub AskCobol : List Text → (deck : Text) (fixed : Bool) → Type 0
 AskCobol words deck fixed = AreFaultless words × IsCobol (subcommand_of program_app words) deck fixed
 
--- to load the lines of this text into a file of this deck, with progress or not
-abbrev pub AskLoad : List Text → (deck folder file text : Text) (into : Bool) (pages frames : ℕ) (quiet : Bool) → Type 0
-AskLoad words deck folder file text into pages frames quiet =
-    AreFaultless words × IsLoad (subcommand_of program_app words) deck folder file text into pages frames quiet
+-- to load the lines of this text, in a form, into a file of this deck, with progress or not
+abbrev pub AskLoad : List Text → (deck folder file text form : Text) (into : Bool) (pages frames : ℕ) (quiet : Bool) → Type 0
+AskLoad words deck folder file text form into pages frames quiet =
+    AreFaultless words × IsLoad (subcommand_of program_app words) deck folder file text form into pages frames quiet
 
 -- to count what this file has
 abbrev pub AskStat : List Text → (file : Text) → Type 0
@@ -249,7 +250,7 @@ Ask words (Explain kind number) = AskExplain words kind.now number.now
 Ask words (Deck deck) = AskDeck words deck.now
 Ask words (ListRecords file key from to first form quiet) = AskList words file.now key (option_map (λ text. text.now) from) (option_map (λ text. text.now) to) first (form_text form) quiet
 Ask words (Cobol deck fixed) = AskCobol words deck.now fixed
-Ask words (Load deck folder file text into limits quiet) = AskLoad words deck.now folder.now file.now text.now into limits.pages limits.frames.value quiet
+Ask words (Load deck folder file text form into limits quiet) = AskLoad words deck.now folder.now file.now text.now form.now into limits.pages limits.frames.value quiet
 Ask words (Stat file) = AskStat words file.now
 Ask words (Help text) = AskHelp words text
 

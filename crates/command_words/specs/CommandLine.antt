@@ -90,10 +90,11 @@ list_shape = record (new_shape (codes "list")) {
 abbrev pub cobol_shape : Shape
 cobol_shape = record (new_shape (codes "cobol")) { rules = word_rule (codes "deck") ∷ flag_rule (codes "fixed") ∷ [] }
 
--- `load DECK --folder DIR --file NAME TEXT [--into] [--pages N] [--frames N] [--quiet]`
+-- `load DECK --folder DIR --file NAME TEXT [--as FORM] [--into] [--pages N] [--frames N] [--quiet]`
 abbrev pub load_shape : Shape
 load_shape = record (new_shape (codes "load")) {
-  rules = word_rule (codes "deck") ∷ option_rule (codes "folder") ∷ option_rule (codes "file") ∷ word_rule (codes "text") ∷ flag_rule (codes "into")
+  rules = word_rule (codes "deck") ∷ option_rule (codes "folder") ∷ option_rule (codes "file") ∷ word_rule (codes "text") ∷ usual_rule (codes "as") (codes "text")
+      ∷ flag_rule (codes "into")
       ∷ number_rule (codes "pages") 16 4294967295 (codes "1048576")
       ∷ number_rule (codes "frames") 1 4096 (codes "64") ∷ flag_rule (codes "quiet") ∷ [];
 }

@@ -163,14 +163,15 @@ fn cobol_of<'a>(matches: &ArgMatches<'a>) -> Option<Request<'a>>
 /// The load that the matches ask for, if they ask for one.
 fn load_of<'a>(matches: &ArgMatches<'a>) -> Option<Request<'a>>
     ensures some { IfSome result (IsMet (subcommand_rows_of matches.now)) }
-    ensures none { result ≡ None → (deck folder file text : List ℕ) (into : Bool) (pages frames : ℕ) (quiet : Bool)
-        → IsLoad (subcommand_rows_of matches.now) deck folder file text into pages frames quiet → ⊥ }
+    ensures none { result ≡ None → (deck folder file text form : List ℕ) (into : Bool) (pages frames : ℕ) (quiet : Bool)
+        → IsLoad (subcommand_rows_of matches.now) deck folder file text form into pages frames quiet → ⊥ }
 {
     let load = matches.subcommand_matches("load")?;
     let deck = load.get_str("deck")?;
     let folder = load.get_str("folder")?;
     let file = load.get_str("file")?;
     let text = load.get_str("text")?;
+    let form = load.get_str("as")?;
     let into = load.get_one("into")?;
     let limits = limits_of(load)?;
     let quiet = quiet_of(load)?;
@@ -179,6 +180,7 @@ fn load_of<'a>(matches: &ArgMatches<'a>) -> Option<Request<'a>>
         folder,
         file,
         text,
+        form,
         into,
         limits,
         quiet,

@@ -141,8 +141,14 @@ Exit status:
 
 /// What a load answers.
 pub const LOADED: &str =
-    "Each line is a record in brackets, as 'cobix list' writes it. The lines are read first, and then written one after another, up to the first that is refused.
+    "TEXT is what 'cobix list' writes in the same form. The lines are read first, and then written one after another, up to the first that is refused.
 Without '--into' a file that is there is left as it is, whatever it is.
+
+Forms:
+  text  a record in brackets
+  csv   line 1 has the names of the columns, and each other line the columns of a record: in quotes, with commas between, and CRLF at the end
+  json  an object on a line for each record, with a string for each column
+The columns are the elementary items of the record of NAME, as 'cobix list' has them by that deck. No value is padded, cut or converted.
 
 Exit status:
   0   'loaded N': the records of all N lines were written
@@ -150,7 +156,7 @@ Exit status:
       'open: status S' or 'close: status S': OPEN or CLOSE answered S
       'cobix: the file is there already': nothing was done
   2   the deck is refused: 'cobix: line L: fault C'
-  3   the command line is not understood, or the deck has no file NAME
+  3   the command line is not understood, there is no such form, or the deck has no file NAME
   4   the deck or TEXT could not be read, both are '-', or DIR is no folder ('cobix: input'), the answer could not be written ('cobix: output'), or memory ran out ('cobix: memory')";
 
 /// What a deck is in COBOL.

@@ -62,13 +62,14 @@ pub enum Request<'a> {
         deck: &'a str,
         fixed: bool,
     },
-    /// To write the lines of the text of this path, or of standard input where it is `-`, as records into the file of this name in the deck in the file of a path:
-    /// into the file that is there, or into a new one; without progress where it is quiet.
+    /// To write the lines of the text of this path, or of standard input where it is `-`, which are in this form, as records into the file of this name in the deck in
+    /// the file of a path: into the file that is there, or into a new one; without progress where it is quiet.
     Load {
         deck: &'a str,
         folder: &'a str,
         file: &'a str,
         text: &'a str,
+        form: &'a str,
         into: bool,
         limits: Limits,
         quiet: bool,

@@ -244,8 +244,8 @@ fn cobol_command<'a>(alloc: Global) -> Result<Command<'a>, AllocError>
 /// The options of a load, and its text.
 fn with_text<'a>(alloc: Global, load: Command<'a>) -> Result<Command<'a>, AllocError>
     requires { (out-Command load).has_globals ≡ false }
-    ensures shape { IfOk result (λ command. app_of command ≡ with_rule (with_rule (with_rule (app_of load.entry) (option_rule (codes "file")))
-        (word_rule (codes "text"))) (flag_rule (codes "into"))) }
+    ensures shape { IfOk result (λ command. app_of command ≡ with_rule (with_rule (with_rule (with_rule (app_of load.entry) (option_rule (codes "file")))
+        (word_rule (codes "text"))) (usual_rule (codes "as") (codes "text"))) (flag_rule (codes "into"))) }
     ensures local { IfOk result (λ command. (out-Command command).has_globals ≡ false) }
 {
     let file = option(
@@ -260,12 +260,19 @@ fn with_text<'a>(alloc: Global, load: Command<'a>) -> Result<Command<'a>, AllocE
         "TEXT",
         "The file of the lines, or '-' for standard input",
     );
+    let form = usual(
+        alloc,
+        "as",
+        "FORM",
+        "text",
+        "How the lines are written: 'text', 'csv' or 'json'",
+    );
     let into = flag(
         alloc,
         "into",
         "Writes them into the file that is there; where it is not given, a new file is made",
     );
-    load.arg(file)?.arg(text)?.arg(into)
+    load.arg(file)?.arg(text)?.arg(form)?.arg(into)
 }
 
 /// `load`.

@@ -14,8 +14,8 @@ use Rattle.verbs.specs.Fits.{Fits}
 use Rattle.verbs.specs.Performed.{FileInMemory, IsPerformed, Trusted, in_memory, state_in}
 use Rattle.verbs.proofs.WorldLemmas.{only_twice}
 use Rattle.record_listing.proofs.WorldLemmas.{keeps_self, keeps_both, still_true}
-use Rattle.record_loading.specs.ReadLine.{ReadsRecord}
-use Rattle.record_loading.specs.Loading.{IsWrittenUpTo, IsRefusedAt}
+use Rattle.record_reading.specs.ReadLine.{ReadsRecord}
+use Rattle.record_loading.specs.Loading.{Listing, IsWrittenUpTo, IsRefusedAt}
 use Rattle.record_loading.specs.Going.{GoesOn}
 use Rattle.record_loading.proofs.RealLemmas.{real_goes, real_both}
 use Rattle.record_loading.proofs.WrittenLemmas.{written_here, refused_here}
@@ -72,19 +72,19 @@ module _ {S : Type 0} (shown : Shown S) where
     }
 
   -- a record was read, and WRITE was answered so
-  module _ (a : FileInMemory S) (held after : Held) (library later : S) (area area_now : List ℕ) (n : ℕ) (status : Status) (text rest behind : List ℕ) (count : ℕ)
+  module _ (a : FileInMemory S) (held after : Held) (library later : S) (area area_now : List ℕ) (n : ℕ) (status : Status) (list : Listing) (rest behind : List ℕ) (count : ℕ)
       (some : 0 < length (shown.world a.library).units) (goes : GoesOn shown (in_memory a.held a.library []) (in_memory held library []))
       (does : IsPerformed shown 0 Write n (in_memory held library area_now) (silent status) (in_memory after later area_now))
-      (so_far : Trusted shown 0 (in_memory a.held a.library []) (in_memory held library []) (IsWrittenUpTo a.held.connector.schema text count rest (state_in shown 0 a) (state_in shown 0 (in_memory held library area))))
-      (reads : ReadsRecord rest a.held.connector.schema.least area area_now n behind) (whole : length area ≡ a.held.connector.schema.greatest) (same : length area_now ≡ length area) where
+      (so_far : Trusted shown 0 (in_memory a.held a.library []) (in_memory held library []) (IsWrittenUpTo a.held.connector.schema list count rest (state_in shown 0 a) (state_in shown 0 (in_memory held library area))))
+      (reads : ReadsRecord list.form rest a.held.connector.schema.least area area_now n behind) (whole : length area ≡ a.held.connector.schema.greatest) (same : length area_now ≡ length area) where
     pub written : is_successful status ≡ true → Trusted shown 0 (in_memory a.held a.library []) (in_memory after later [])
-        (IsWrittenUpTo a.held.connector.schema text (count + 1) behind (state_in shown 0 a) (state_in shown 0 (in_memory after later area_now)))
+        (IsWrittenUpTo a.held.connector.schema list (count + 1) behind (state_in shown 0 a) (state_in shown 0 (in_memory after later area_now)))
     written success honest truly standing =
-        written_here a.held.connector.schema rest (state_in shown 0 (in_memory held library area)) area_now n behind same reads whole (so_far (does.keeps.honest honest) truly standing)
+        written_here list a.held.connector.schema rest (state_in shown 0 (in_memory held library area)) area_now n behind same reads whole (so_far (does.keeps.honest honest) truly standing)
         (trusted (in_memory a.held a.library []) (in_memory held library []) (in_memory after later []) some goes _ does.keeps does.step honest truly standing) success
 
     pub refused : is_successful status ≡ false → Trusted shown 0 (in_memory a.held a.library []) (in_memory after later [])
-        (IsRefusedAt a.held.connector.schema text count status (state_in shown 0 a) (state_in shown 0 (in_memory after later area_now)))
+        (IsRefusedAt a.held.connector.schema list count status (state_in shown 0 a) (state_in shown 0 (in_memory after later area_now)))
     refused failed honest truly standing =
-        refused_here a.held.connector.schema rest (state_in shown 0 (in_memory held library area)) area_now n behind same reads whole (so_far (does.keeps.honest honest) truly standing)
+        refused_here list a.held.connector.schema rest (state_in shown 0 (in_memory held library area)) area_now n behind same reads whole (so_far (does.keeps.honest honest) truly standing)
         (trusted (in_memory a.held a.library []) (in_memory held library []) (in_memory after later []) some goes _ does.keeps does.step honest truly standing) failed

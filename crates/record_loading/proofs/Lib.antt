@@ -1,5 +1,4 @@
-pub mod ShownLemmas
-pub mod LineLemmas
+pub mod HeaderLemmas
 pub mod WrittenLemmas
 pub mod RealLemmas
 pub mod GoingLemmas

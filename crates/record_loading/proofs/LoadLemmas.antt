@@ -16,7 +16,7 @@ use Rattle.verbs.specs.Performed.{IsPerformedWithoutRecord, Trusted, in_memory, 
 use Rattle.verbs.specs.Verbs.{perform}
 use Rattle.record_loading.specs.declared.end.LinesEnd.{LinesEnd}
 use Rattle.record_loading.specs.declared.end.LoadEnd.TheVariants.{NotOpened, Opened}
-use Rattle.record_loading.specs.Loading.{LinesLeave}
+use Rattle.record_loading.specs.Loading.{Listing, LinesLeave}
 use Rattle.record_loading.specs.Going.{GoesOn, LeavesLines, LoadsUnit}
 use Rattle.record_loading.proofs.WrittenLemmas.{success_step}
 use Rattle.record_loading.proofs.GoingLemmas.{goes_performed, goes_both, trusted}
@@ -31,10 +31,10 @@ pub opens_at_start : {S : Type 0} (shown : Shown S) (schema copied : Schema) (mo
 opens_at_start shown schema copied mode start begun connector opened status copy new opens =
     subst (λ (h : Held). IsPerformedWithoutRecord shown 0 (Open mode) (in_memory h start []) status (in_memory opened begun [])) (new ∙ ap at_start copy) opens
 
-module _ {S : Type 0} (shown : Shown S) (schema : Schema) (mode : OpenMode) (text area : List ℕ) (start begun : S) (opened : Held) (status : Status)
+module _ {S : Type 0} (shown : Shown S) (schema : Schema) (mode : OpenMode) (list : Listing) (area : List ℕ) (start begun : S) (opened : Held) (status : Status)
     (opens : IsPerformedWithoutRecord shown 0 (Open mode) (in_memory (at_start schema) start []) status (in_memory opened begun [])) where
   -- OPEN was no success
-  pub not_opened : is_successful status ≡ false → Believed shown 0 start begun (LoadsUnit shown schema mode text area start (NotOpened status) begun)
+  pub not_opened : is_successful status ≡ false → Believed shown 0 start begun (LoadsUnit shown schema mode list area start (NotOpened status) begun)
   not_opened failed honest truly = record {
     after = state_in shown 0 (in_memory opened begun area);
     loads = (failed, (opens 0 area).step honest truly tt);
@@ -47,7 +47,7 @@ module _ {S : Type 0} (shown : Shown S) (schema : Schema) (mode : OpenMode) (tex
   -- the lines were written, and the file was closed
   module _ (joins : JoinsStretches shown.Throughout) (ends : EndsNow shown.Throughout) (some : 0 < length (shown.world start).units) (success : is_successful status ≡ true) (between end : S) (written closed : Held) (lines : LinesEnd) (answer : Status)
       (goes : GoesOn shown (in_memory opened begun []) (in_memory written between []))
-      (does : Trusted shown 0 (in_memory opened begun []) (in_memory written between []) (LeavesLines shown text lines (in_memory opened begun area) (in_memory written between [])))
+      (does : Trusted shown 0 (in_memory opened begun []) (in_memory written between []) (LeavesLines shown list lines (in_memory opened begun area) (in_memory written between [])))
       (closes : IsPerformedWithoutRecord shown 0 (Close false) (in_memory written between []) answer (in_memory closed end [])) where
     goes_lines : GoesOn shown (in_memory (at_start schema) start []) (in_memory written between [])
     goes_lines = goes_both shown (in_memory (at_start schema) start []) (in_memory opened begun []) (in_memory written between []) some goes_open joins ends goes
@@ -57,7 +57,7 @@ module _ {S : Type 0} (shown : Shown S) (schema : Schema) (mode : OpenMode) (tex
         goes_both shown (in_memory (at_start schema) start []) (in_memory written between []) (in_memory closed end []) some goes_lines joins ends
         (goes_performed shown (Close false) 0 (in_memory written between []) (silent answer) (in_memory closed end []) (closes 0 []))
 
-    pub loaded : Believed shown 0 start end (LoadsUnit shown schema mode text area start (Opened lines answer) end)
+    pub loaded : Believed shown 0 start end (LoadsUnit shown schema mode list area start (Opened lines answer) end)
     loaded honest truly =
         let shut = closes 0 [] in
         let before = shut.keeps.honest honest in
@@ -65,14 +65,14 @@ module _ {S : Type 0} (shown : Shown S) (schema : Schema) (mode : OpenMode) (tex
         = success_step (Open mode) 0 (state_in shown 0 (in_memory (at_start schema) start area)) status (state_in shown 0 (in_memory opened begun area)) success
         ((opens 0 area).step (goes.keeps.honest before) truly tt) in
         let lines_are = trusted shown (in_memory (at_start schema) start []) (in_memory opened begun []) (in_memory written between []) some goes_open
-        (LeavesLines shown text lines (in_memory opened begun area) (in_memory written between [])) goes.keeps does before truly tt in
+        (LeavesLines shown list lines (in_memory opened begun area) (in_memory written between [])) goes.keeps does before truly tt in
         record {
           after = state_in shown 0 (in_memory closed end lines_are.0);
           loads = record {
             opened = subst (λ (o : Outcome). IsTrue (is_successful o.status)) (sym should) success;
             written = state_in shown 0 (in_memory written between lines_are.0);
-            lines_are = subst (λ (o : Outcome). LinesLeave schema text o.next lines (state_in shown 0 (in_memory written between lines_are.0))) (sym should)
-                (subst (λ (s : Schema). LinesLeave s text (state_in shown 0 (in_memory opened begun area)) lines (state_in shown 0 (in_memory written between lines_are.0))) goes_open.schema lines_are.1);
+            lines_are = subst (λ (o : Outcome). LinesLeave schema list o.next lines (state_in shown 0 (in_memory written between lines_are.0))) (sym should)
+                (subst (λ (s : Schema). LinesLeave s list (state_in shown 0 (in_memory opened begun area)) lines (state_in shown 0 (in_memory written between lines_are.0))) goes_open.schema lines_are.1);
             close = trusted shown (in_memory (at_start schema) start []) (in_memory written between []) (in_memory closed end []) some goes_lines _ shut.keeps
                 (closes 0 lines_are.0).step honest truly tt;
           };

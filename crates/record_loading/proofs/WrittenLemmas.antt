@@ -14,9 +14,10 @@ use Rattle.verbs.specs.Faults.{is_unclean}
 use Rattle.verbs.specs.Marred.{Step}
 use Rattle.verbs.specs.Verbs.{perform}
 use Rattle.deck_runner.proofs.CleanLemmas.{clean_step}
-use Rattle.record_listing.specs.Lines.{line_of}
-use Rattle.record_loading.specs.ReadLine.{ReadsRecord}
-use Rattle.record_loading.specs.Loading.{CanBeRecord, with_record, write_of, AreWritten, IsWrittenUpTo, IsRefusedAt}
+use Rattle.record_forms.specs.declared.form.Form.{Form}
+use Rattle.record_forms.specs.Lines.{line_in, header_in}
+use Rattle.record_reading.specs.ReadLine.{ReadsRecord}
+use Rattle.record_loading.specs.Loading.{Listing, CanBeRecord, with_record, write_of, AreWritten, IsWrittenUpTo, IsRefusedAt}
 
 -- ---- a step that was a success
 
@@ -52,7 +53,7 @@ success_step statement n s status next success step = clean_step statement n s (
 
 -- ---- a record
 
-module _ (schema : Schema) (text : List ℕ) (s : FileState) (area : List ℕ) (n : ℕ) (behind : List ℕ) (same : length area ≡ length s.area) (reads : ReadsRecord text schema.least s.area area n behind) where
+module _ (list : Listing) (schema : Schema) (text : List ℕ) (s : FileState) (area : List ℕ) (n : ℕ) (behind : List ℕ) (same : length area ≡ length s.area) (reads : ReadsRecord list.form text schema.least s.area area n behind) where
   length_read : length (take n area) ≡ n
   length_read = let within = reads.line.within in length-take-le n area (omega (arith, same, within))
 
@@ -79,30 +80,32 @@ module _ (schema : Schema) (text : List ℕ) (s : FileState) (area : List ℕ) (
       }
 
   -- its WRITE was no success
-  pub refused_here : {first_text : List ℕ} {count : ℕ} {before next : FileState} {status : Status} → length s.area ≡ schema.greatest → IsWrittenUpTo schema first_text count text before s
-      → Step Write n (record s { area = area }) (answers status next) → is_successful status ≡ false → IsRefusedAt schema first_text count status before next
-  refused_here {first_text} {count} {before} {next} {status} whole so_far step failed = record {
+  pub refused_here : {count : ℕ} {before next : FileState} {status : Status} → length s.area ≡ schema.greatest → IsWrittenUpTo schema list count text before s
+      → Step Write n (record s { area = area }) (answers status next) → is_successful status ≡ false → IsRefusedAt schema list count status before next
+  refused_here {count} {before} {next} {status} whole so_far step failed = record {
     bytes = take n area;
     rest = behind;
     between = s;
-    first = subst (λ (l : List ℕ). IsWrittenUpTo schema first_text count l before s) reads.line.line so_far;
+    first = subst (λ (l : List ℕ). IsWrittenUpTo schema list count l before s) reads.line.line so_far;
     can_be = can_be whole;
     step = step_is (answers status next) step;
     no_success = failed;
   }
 
   -- it was written
-  pub written_here : {first_text : List ℕ} {count : ℕ} {before next : FileState} {status : Status} → length s.area ≡ schema.greatest → IsWrittenUpTo schema first_text count text before s
-      → Step Write n (record s { area = area }) (answers status next) → is_successful status ≡ true → IsWrittenUpTo schema first_text (count + 1) behind before next
-  written_here {first_text} {count} {before} {next} {status} whole so_far step success =
+  pub written_here : {count : ℕ} {before next : FileState} {status : Status} → length s.area ≡ schema.greatest → IsWrittenUpTo schema list count text before s
+      → Step Write n (record s { area = area }) (answers status next) → is_successful status ≡ true → IsWrittenUpTo schema list (count + 1) behind before next
+  written_here {count} {before} {next} {status} whole so_far step success =
       let bytes = take n area in
       let records = so_far.records in
+      let line : List ℕ → List ℕ = line_in list.form in
       let should : write_of bytes s ≡ answers status next = success_step Write (length bytes) (with_record bytes s) status next success (step_is (answers status next) step) in
       record {
         records = records ++ bytes ∷ [];
-        text_is = so_far.text_is ∙ ap (λ (l : List ℕ). flat_map line_of records ++ l) reads.line.line
-            ∙ sym (append_assoc (flat_map line_of records) (line_of bytes) behind)
-            ∙ ap (λ (l : List ℕ). l ++ behind) (sym (flat_map-append line_of records (bytes ∷ []) ∙ ap (λ (l : List ℕ). flat_map line_of records ++ l) (append-nil (line_of bytes))));
+        text_is = so_far.text_is ∙ ap (λ (l : List ℕ). header_in list.form ++ l)
+            (ap (λ (l : List ℕ). flat_map line records ++ l) reads.line.line
+            ∙ sym (append_assoc (flat_map line records) (line bytes) behind)
+            ∙ ap (λ (l : List ℕ). l ++ behind) (sym (flat_map-append line records (bytes ∷ []) ∙ ap (λ (l : List ℕ). flat_map line records ++ l) (append-nil (line bytes)))));
         count_is = (let one = length-append records (bytes ∷ []) in let many = so_far.count_is in omega (arith, one, many));
         written = written_more records before so_far.written (can_be whole) (subst (λ (o : Outcome). IsTrue (is_successful o.status)) (sym should) success) (ap (λ (o : Outcome). o.next) should);
       }

@@ -1,4 +1,3 @@
-pub mod ReadLine
 pub mod Loading
 pub mod Real
 pub mod Going

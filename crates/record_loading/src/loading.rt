@@ -4,15 +4,18 @@ ghost use Rattle.indexed_file.specs.World.{named_in, holding_at, is_open, OnlyAt
 ghost use Rattle.indexed_file.specs.Believed.{Believed};
 ghost use Rattle.indexed_file.specs.Calls.{Keeps};
 ghost use Rattle.deck_runner.specs.Beginning.{IsUntouched};
-ghost use Rattle.record_loading.specs.Loading.{mode_of, LoadsNamed};
+ghost use Rattle.record_forms.specs.Lines.{header_in};
+ghost use Rattle.record_reading.specs.Whole.{IsWhole};
+ghost use Rattle.record_loading.specs.Loading.{listing, mode_of, LoadsNamed};
 ghost use Rattle.record_loading.specs.Going.{LoadsUnit};
 ghost use Rattle.record_loading.specs.Real.{AllStayReal};
 
 use crate::end::{Load, LoadEnd, LoadFault, mode_of};
-use crate::writing::write_lines;
+use crate::writing::write_listing;
 use indexed_file::Library;
 use io_state::{Access, FileName, OpenMode};
 use progress::Progress;
+use record_forms::{Form, append_header};
 use record_layout::Schema;
 use std::alloc::{AllocError, Global};
 use verbs::Connector;
@@ -26,19 +29,32 @@ fn blank_area(alloc: Global, size: u16) -> Result<Vec<u8>, AllocError>
     Ok(area)
 }
 
+/// What stands before the first record of a text in a form.
+fn header_of(alloc: Global, form: &Form) -> Result<Vec<u8>, AllocError>
+    ensures { IfOk result (λ header. header.items ≡ header_in form.now) }
+{
+    let mut header = Vec::new(alloc);
+    append_header(&mut header, form)?;
+    Ok(header)
+}
+
 /// Loads the records into the file of unit 0, which is closed.
 fn load_attached<L: Library, P: Progress>(
     lib: &mut L,
     schema: &Schema,
     mode: OpenMode,
     area: &mut [u8],
+    form: &Form,
+    header: &[u8],
     text: &[u8],
     progress: &mut P,
 ) -> LoadEnd
     requires attached { 0 < length (L.shown.world lib.old).units }
     requires closed { IsFalse (is_open (holding_at (L.shown.world lib.old) 0)) }
     requires area { length area.old ≡ schema.now.greatest }
-    ensures loads { Believed L.shown 0 lib.old lib.new (LoadsUnit L.shown schema.now mode text.now area.old lib.old result lib.new) }
+    requires whole { IsWhole form.now (length area.old) }
+    requires header { header.now ≡ header_in form.now }
+    ensures loads { Believed L.shown 0 lib.old lib.new (LoadsUnit L.shown schema.now mode (listing form.now text.now) area.old lib.old result lib.new) }
     ensures real { Believed L.shown 0 lib.old lib.new (AllStayReal L.shown lib.old lib.new) }
     ensures only { OnlyAt 0 (L.shown.world lib.old) (L.shown.world lib.new) }
     ensures keeps { Keeps L.shown lib.old lib.new }
@@ -49,13 +65,23 @@ fn load_attached<L: Library, P: Progress>(
     if !opened.is_success() {
         return LoadEnd::NotOpened { status: opened };
     }
-    let lines = write_lines(&mut connector, lib, least, area, text, progress);
+    let lines = write_listing(
+        &mut connector,
+        lib,
+        least,
+        area,
+        form,
+        header,
+        text,
+        progress,
+    );
     let closed = connector.close(lib, 0, false);
     LoadEnd::Opened { lines, closed }
 }
 
-/// Opens the file of a name, writes the record of each line of a text, and closes the file. The library has this name attached then, and no other. The first line that
-/// is the line of no record of the file, or whose WRITE is no success, ends it, and what was written before stays. Where a crash could leave no false file before the load, it can leave none at any moment of it.
+/// Opens the file of a name, writes the record of each line of a text in a form, and closes the file. The library has this name attached then, and no other. The first line
+/// that is the line of no record of the file, or whose WRITE is no success, ends it, and what was written before stays. Line 1 is no record's where the form has a header
+/// and the text does not begin with it. Where a crash could leave no false file before the load, it can leave none at any moment of it.
 /// After each record it is told how many bytes of the text are written.
 ///
 /// `Memory`: nothing was done.
@@ -65,11 +91,13 @@ pub fn load_records<L: Library, P: Progress>(
     name: FileName,
     schema: &Schema,
     load: Load,
+    form: &Form,
     text: &[u8],
     progress: &mut P,
 ) -> Result<LoadEnd, LoadFault>
+    requires whole { IsWhole form.now schema.now.greatest }
     ensures loads { IfOk result (λ end. IsTrue (L.shown.is_honest lib.new) → L.shown.IsShownTruly lib.old name.bytes
-        → LoadsNamed name.bytes schema.now (mode_of load) text.now (L.shown.world lib.old) end (L.shown.world lib.new)) }
+        → LoadsNamed name.bytes schema.now (mode_of load) (listing form.now text.now) (L.shown.world lib.old) end (L.shown.world lib.new)) }
     ensures real { IsTrue (L.shown.is_honest lib.new) → L.shown.IsShownTruly lib.old name.bytes → AllStayReal L.shown lib.old lib.new }
     ensures others { (other : List ℕ) → bytes_eq name.bytes other ≡ false
         → named_in (L.shown.world lib.new) other ≡ named_in (L.shown.world lib.old) other }
@@ -79,12 +107,17 @@ pub fn load_records<L: Library, P: Progress>(
     let Ok(mut area) = blank_area(alloc, schema.greatest()) else {
         return Err(LoadFault::Memory);
     };
+    let Ok(header) = header_of(alloc, form) else {
+        return Err(LoadFault::Memory);
+    };
     match lib.attach(&[name]) {
         Ok(()) => Ok(load_attached(
             lib,
             schema,
             mode_of(load),
             area.as_mut_slice(),
+            form,
+            header.as_slice(),
             text,
             progress,
         )),

@@ -1,13 +1,17 @@
 //! The records of lines are written into an open file.
-ghost use Rattle.std.specs.Prelude.{◌≡◌, ◌≤◌, length, []};
+ghost use Rattle.std.specs.Prelude.{◌≡◌, ◌≤◌, ◌++◌, length, []};
+ghost use Rattle.record_forms.specs.Lines.{header_in};
 ghost use Rattle.verbs.specs.Fits.{Fits};
 ghost use Rattle.verbs.specs.Performed.{Trusted, in_memory};
+ghost use Rattle.record_reading.specs.Whole.{IsWhole};
+ghost use Rattle.record_loading.specs.Loading.{listing};
 ghost use Rattle.record_loading.specs.Going.{GoesOn, LeavesLines};
 
 use crate::end::LinesEnd;
-use crate::line::read_record;
 use indexed_file::Library;
 use progress::Progress;
+use record_forms::Form;
+use record_reading::{behind_header, header_lines, read_record};
 use verbs::Connector;
 
 /// Tells how many bytes of a text are done, of which this is the rest.
@@ -16,34 +20,40 @@ fn tell_progress<P: Progress>(progress: &mut P, text: &[u8], rest: &[u8]) {
     progress.at(done as u64, text.len() as u64);
 }
 
-/// Writes the records of the lines of a text into the file of unit 0, one after another. The first line that is the line of no record of the file, or whose WRITE is no
-/// success, ends it. After each line it is told how many bytes of the text are written.
-pub fn write_lines<L: Library, P: Progress>(
+/// Writes the records of lines, which are all of the text behind its header, into the file of unit 0, one after another. The first line that is the line of no record of
+/// the file, or whose WRITE is no success, ends it. After each line it is told how many bytes of the text are written.
+fn write_lines<L: Library, P: Progress>(
     connector: &mut Connector,
     lib: &mut L,
     least: u16,
     area: &mut [u8],
+    form: &Form,
     text: &[u8],
+    lines: &[u8],
     progress: &mut P,
 ) -> LinesEnd
     requires fits { Fits connector.old (L.shown.world lib.old) 0 }
     requires least { least ≡ connector.old.connector.schema.least }
     requires area { length area.old ≡ connector.old.connector.schema.greatest }
-    requires short { length area.old ≤ 4000 }
+    requires whole { IsWhole form.now (length area.old) × (length area.old ≤ 4000) }
+    requires lines { text.now ≡ header_in form.now ++ lines.now }
     ensures goes { GoesOn L.shown (in_memory connector.old lib.old []) (in_memory connector.new lib.new []) }
     ensures lines { Trusted L.shown 0 (in_memory connector.old lib.old []) (in_memory connector.new lib.new [])
-        (LeavesLines L.shown text.now result (in_memory connector.old lib.old area.old) (in_memory connector.new lib.new [])) }
+        (LeavesLines L.shown (listing form.now text.now) result (in_memory connector.old lib.old area.old) (in_memory connector.new lib.new [])) }
 {
-    let mut rest = text;
+    let mut rest = lines;
     let mut records = 0;
+    let before = header_lines(form);
     'more: while !rest.is_empty() {
-        let Some(line) = read_record(rest, least, area) else {
-            return LinesEnd::NoRecord { line: records + 1 };
+        let Some(line) = read_record(form, rest, least, area) else {
+            return LinesEnd::NoRecord {
+                line: records + 1 + before,
+            };
         };
         let status = connector.write(lib, 0, area, line.length as u16);
         if !status.is_success() {
             return LinesEnd::Refused {
-                line: records + 1,
+                line: records + 1 + before,
                 status,
             };
         }
@@ -52,4 +62,31 @@ pub fn write_lines<L: Library, P: Progress>(
         tell_progress(progress, text, rest);
     }
     LinesEnd::Loaded { records }
+}
+
+/// Writes the records of a text into the file of unit 0, one after another. The first line that is the line of no record of the file, or whose WRITE is no success, ends
+/// it; and so does the first one, where the text does not begin with its header. After each line it is told how many bytes of the text are written.
+pub fn write_listing<L: Library, P: Progress>(
+    connector: &mut Connector,
+    lib: &mut L,
+    least: u16,
+    area: &mut [u8],
+    form: &Form,
+    header: &[u8],
+    text: &[u8],
+    progress: &mut P,
+) -> LinesEnd
+    requires fits { Fits connector.old (L.shown.world lib.old) 0 }
+    requires least { least ≡ connector.old.connector.schema.least }
+    requires area { length area.old ≡ connector.old.connector.schema.greatest }
+    requires whole { IsWhole form.now (length area.old) × (length area.old ≤ 4000) }
+    requires header { header.now ≡ header_in form.now }
+    ensures goes { GoesOn L.shown (in_memory connector.old lib.old []) (in_memory connector.new lib.new []) }
+    ensures lines { Trusted L.shown 0 (in_memory connector.old lib.old []) (in_memory connector.new lib.new [])
+        (LeavesLines L.shown (listing form.now text.now) result (in_memory connector.old lib.old area.old) (in_memory connector.new lib.new [])) }
+{
+    let Some(lines) = behind_header(text, header) else {
+        return LinesEnd::NoRecord { line: 1 };
+    };
+    write_lines(connector, lib, least, area, form, text, lines, progress)
 }

@@ -52,6 +52,7 @@ pub fn loads_with<P: Progress>(
         name(),
         &schema,
         load,
+        &Form::Text,
         text.as_bytes(),
         100,
         NonZeroUsize::MIN,

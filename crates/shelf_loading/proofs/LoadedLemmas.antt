@@ -13,7 +13,7 @@ use Rattle.shelf_run.specs.Files.{files_of, reads_of, Represents, IsSoundImage}
 use Rattle.shelf_run.specs.ShelfRun.{shown_in}
 use Rattle.shelf_run.proofs.FilesLemmas.{world_at_first, named_is, sound_of, shown_truly, represents_sound, image_passes, image_sound}
 use Rattle.shelf_run.proofs.RunLemmas.{stays_sound}
-use Rattle.record_loading.specs.Loading.{Loads, LoadsNamed, mode_of}
+use Rattle.record_loading.specs.Loading.{Listing, Loads, LoadsNamed, mode_of}
 use Rattle.record_loading.specs.Real.{AllStayReal}
 use Rattle.record_loading.specs.declared.end.Load.{Load}
 use Rattle.record_loading.specs.declared.end.LoadEnd.{LoadEnd}
@@ -31,17 +31,17 @@ module _ (old new : LibraryState) (none : old.shelf.names ≡ []) (empty : old.h
   truly : IsSoundImage (old.shelf.file name).seen → IsShownTruly old.shelf old.held name
   truly sound = rw empty (shown_truly old.shelf name none sound)
 
-  pub leaves : (schema : Schema) (load : Load) (text : List ℕ) (end : LoadEnd)
+  pub leaves : (schema : Schema) (load : Load) (list : Listing) (end : LoadEnd)
       → (IsTrue new.shelf.is_honest → IsShownTruly old.shelf old.held name
-      → LoadsNamed name schema (mode_of load) text (world_of old.shelf old.held) end (world_of new.shelf new.held))
-      → Leaves name schema load text old.shelf end new.shelf
-  leaves schema load text end loads honest named is =
+      → LoadsNamed name schema (mode_of load) list (world_of old.shelf old.held) end (world_of new.shelf new.held))
+      → Leaves name schema load list old.shelf end new.shelf
+  leaves schema load list end loads honest named is =
       let sound = sound_of (reads_of old.shelf name) named is in
       let done = loads honest (truly sound) in
       let was : named_in (world_of old.shelf old.held) name ≡ named = ap (λ (world : World). named_in world name) first_world ∙ named_is (reads_of old.shelf name) named is in
       record {
         after = done.after;
-        loads = subst (λ (n : Named). Loads schema (mode_of load) text (file_at_first n schema) end done.after) was done.loads;
+        loads = subst (λ (n : Named). Loads schema (mode_of load) list (file_at_first n schema) end done.after) was done.loads;
         represents =
             subst (λ (n : Named). Represents (reads_of new.shelf name) n) (sym (named_anywhere new.shelf new.held name many) ∙ done.named)
             (represents_sound (reads_of new.shelf name) (stays_sound old new none empty many keeps an_image honest name sound));

@@ -11,6 +11,7 @@ use Rattle.shelf_file.specs.Named.{named_of}
 use Rattle.shelf_library.specs.Crashes.{Passes}
 use Rattle.shelf_run.specs.Files.{IsSoundImage, AllSound}
 use Rattle.shelf_run.specs.ShelfRun.{LeavesFiles}
+use Rattle.record_loading.specs.Loading.{Listing}
 use Rattle.record_loading.specs.declared.end.Load.TheVariants.{New}
 use Rattle.shelf_loading.specs.declared.end.ShelfEnd.{ShelfEnd}
 use Rattle.shelf_loading.specs.declared.end.ShelfFault.{ShelfFault}
@@ -73,10 +74,10 @@ module _ (first then last : ShelfState) (same : then.file ≡ first.file) where
   }
 
   -- where the name had no file, what was loaded was loaded into a new one
-  pub anew : (name : List ℕ) (schema : Schema) (text : List ℕ) (there : Bool) → there ≡ false → (IsTrue then.is_honest → there ≡ is_some (first.file name).seen)
-      → (IsTrue last.is_honest → IsTrue then.is_honest) → (end : ShelfEnd) → EndsAnyhow name schema New text then end last → Ends name schema New text first end last
-  anew name schema text there lacks tells before IsThere is = absurd is
-  anew name schema text there lacks tells before (Loaded end) is = λ honest.
+  pub anew : (name : List ℕ) (schema : Schema) (list : Listing) (there : Bool) → there ≡ false → (IsTrue then.is_honest → there ≡ is_some (first.file name).seen)
+      → (IsTrue last.is_honest → IsTrue then.is_honest) → (end : ShelfEnd) → EndsAnyhow name schema New list then end last → Ends name schema New list first end last
+  anew name schema list there lacks tells before IsThere is = absurd is
+  anew name schema list there lacks tells before (Loaded end) is = λ honest.
       let absent : (first.file name).seen ≡ None = none_there (first.file name).seen (sym lacks ∙ tells (before honest)) in
       record {
         absent = absent;

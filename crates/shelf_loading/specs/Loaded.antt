@@ -9,7 +9,7 @@ use Rattle.page_store.specs.ShelfState.{ShelfState}
 use Rattle.verbs.specs.Connector.{FileState, closed_connector}
 use Rattle.shelf_run.specs.Files.{files_of, reads_of, Represents, AllSound, AreSoundThroughout}
 use Rattle.shelf_run.specs.ShelfRun.{StaysSound}
-use Rattle.record_loading.specs.Loading.{Loads, mode_of}
+use Rattle.record_loading.specs.Loading.{Listing, Loads, mode_of}
 use Rattle.record_loading.specs.declared.end.Load.{Load}
 use Rattle.record_loading.specs.declared.end.Load.TheVariants.{New, Into}
 use Rattle.record_loading.specs.declared.end.LoadEnd.{LoadEnd}
@@ -42,25 +42,25 @@ file_at_first named schema = record {
 }
 
 -- OPEN, the WRITEs and CLOSE of a load of the lines of a text, where the name stood for this, leave what a read then gives
-pub record LeavesFile (schema : Schema) (load : Load) (text : List ℕ) (named : Named) (end : LoadEnd) (seen : Option (List ℕ)) : Type 0 where
+pub record LeavesFile (schema : Schema) (load : Load) (list : Listing) (named : Named) (end : LoadEnd) (seen : Option (List ℕ)) : Type 0 where
   pub after : FileState
-  pub loads : Loads schema (mode_of load) text (file_at_first named schema) end after
+  pub loads : Loads schema (mode_of load) list (file_at_first named schema) end after
   pub represents : Represents seen after.named
 
 -- so it leaves the file of a name, whatever that represented, over a shelf that has not lied by then
-abbrev pub Leaves : (name : List ℕ) → Schema → Load → (text : List ℕ) → (old : ShelfState) → LoadEnd → (new : ShelfState) → Type 0
-Leaves name schema load text old end new =
-    IsTrue new.is_honest → (named : Named) → Represents (reads_of old name) named → LeavesFile schema load text named end (reads_of new name)
+abbrev pub Leaves : (name : List ℕ) → Schema → Load → (list : Listing) → (old : ShelfState) → LoadEnd → (new : ShelfState) → Type 0
+Leaves name schema load list old end new =
+    IsTrue new.is_honest → (named : Named) → Represents (reads_of old name) named → LeavesFile schema load list named end (reads_of new name)
 
 -- a load that looked for no file before
-abbrev pub EndsAnyhow : (name : List ℕ) → Schema → Load → (text : List ℕ) → (old : ShelfState) → ShelfEnd → (new : ShelfState) → Type 0
-EndsAnyhow name schema load text old IsThere new = ⊥
-EndsAnyhow name schema load text old (Loaded end) new = Leaves name schema load text old end new
+abbrev pub EndsAnyhow : (name : List ℕ) → Schema → Load → (list : Listing) → (old : ShelfState) → ShelfEnd → (new : ShelfState) → Type 0
+EndsAnyhow name schema load list old IsThere new = ⊥
+EndsAnyhow name schema load list old (Loaded end) new = Leaves name schema load list old end new
 
 -- a load into a new file: the name had none
-pub record LoadsAnew (name : List ℕ) (schema : Schema) (text : List ℕ) (old : ShelfState) (end : LoadEnd) (new : ShelfState) : Type 0 where
+pub record LoadsAnew (name : List ℕ) (schema : Schema) (list : Listing) (old : ShelfState) (end : LoadEnd) (new : ShelfState) : Type 0 where
   pub absent : reads_of old name ≡ None
-  pub leaves : LeavesFile schema New text Absent end (reads_of new name)
+  pub leaves : LeavesFile schema New list Absent end (reads_of new name)
 
 -- a new file was not made, since the name has a file: each file is as it was
 pub record IsLeftThere (name : List ℕ) (old new : ShelfState) : Type 0 where
@@ -68,10 +68,10 @@ pub record IsLeftThere (name : List ℕ) (old new : ShelfState) : Type 0 where
   pub same : new.file ≡ old.file
 
 -- how a load ends
-abbrev pub Ends : (name : List ℕ) → Schema → Load → (text : List ℕ) → (old : ShelfState) → ShelfEnd → (new : ShelfState) → Type 0
-Ends name schema New text old IsThere new = IsLeftThere name old new
-Ends name schema New text old (Loaded end) new = IsTrue new.is_honest → LoadsAnew name schema text old end new
-Ends name schema Into text old end new = EndsAnyhow name schema Into text old end new
+abbrev pub Ends : (name : List ℕ) → Schema → Load → (list : Listing) → (old : ShelfState) → ShelfEnd → (new : ShelfState) → Type 0
+Ends name schema New list old IsThere new = IsLeftThere name old new
+Ends name schema New list old (Loaded end) new = IsTrue new.is_honest → LoadsAnew name schema list old end new
+Ends name schema Into list old end new = EndsAnyhow name schema Into list old end new
 
 -- every other name stands for what it stood for
 abbrev pub KeepsOthers : (name : List ℕ) → (old new : ShelfState) → Type 0

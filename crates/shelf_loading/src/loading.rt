@@ -1,12 +1,15 @@
 //! The loading.
 ghost use Rattle.std.specs.Prelude.{◌≡◌, ◌≤◌, [], is_some, IsTrue, IfOk, OnOk, OnErr};
 ghost use Rattle.shelf_run.specs.ShelfRun.{LeavesFiles};
+ghost use Rattle.record_reading.specs.Whole.{IsWhole};
+ghost use Rattle.record_loading.specs.Loading.{listing};
 ghost use Rattle.shelf_loading.specs.Loaded.{Ends, EndsAnyhow, KeepsOthers, IsSafe};
 
 use crate::end::{ShelfEnd, ShelfFault, end_of, fault_by};
 use io_state::{Fault, FileName};
 use page_store::Shelf;
 use progress::Progress;
+use record_forms::Form;
 use record_layout::Schema;
 use record_loading::{Load, load_records};
 use shelf_library::ShelfLibrary;
@@ -33,6 +36,7 @@ fn load_over<S: Shelf, P: Progress>(
     name: FileName,
     schema: &Schema,
     load: Load,
+    form: &Form,
     text: &[u8],
     limit: u32,
     frames: NonZeroUsize,
@@ -40,13 +44,23 @@ fn load_over<S: Shelf, P: Progress>(
 ) -> (S, Result<ShelfEnd, ShelfFault>)
     requires names { (S.state shelf).names ≡ [] }
     requires limit { 16 ≤ limit }
-    ensures ends { IfOk result.1 (λ end. EndsAnyhow name.bytes schema.now load text.now (S.state shelf) end (S.state result.0)) }
+    requires whole { IsWhole form.now schema.now.greatest }
+    ensures ends { IfOk result.1 (λ end. EndsAnyhow name.bytes schema.now load (listing form.now text.now) (S.state shelf) end (S.state result.0)) }
     ensures nothing { OnErr result.1 (LeavesFiles (S.state shelf) (S.state result.0)) }
     ensures others { KeepsOthers name.bytes (S.state shelf) (S.state result.0) }
     ensures safe { IsSafe name.bytes (S.state shelf) (S.state result.0) }
 {
     let mut library = ShelfLibrary::new(alloc, shelf, limit, frames);
-    let end = load_records(alloc, &mut library, name, schema, load, text, progress);
+    let end = load_records(
+        alloc,
+        &mut library,
+        name,
+        schema,
+        load,
+        form,
+        text,
+        progress,
+    );
     (library.into_shelf(), end_of(end))
 }
 
@@ -56,13 +70,15 @@ fn load_new<S: Shelf, P: Progress>(
     shelf: S,
     name: FileName,
     schema: &Schema,
+    form: &Form,
     text: &[u8],
     limit: u32,
     frames: NonZeroUsize,
     progress: &mut P,
 ) -> (S, Result<ShelfEnd, ShelfFault>)
     requires limit { 16 ≤ limit }
-    ensures ends { IfOk result.1 (λ end. Ends name.bytes schema.now Load.New text.now (S.state shelf) end (S.state result.0)) }
+    requires whole { IsWhole form.now schema.now.greatest }
+    ensures ends { IfOk result.1 (λ end. Ends name.bytes schema.now Load.New (listing form.now text.now) (S.state shelf) end (S.state result.0)) }
     ensures nothing { OnErr result.1 (LeavesFiles (S.state shelf) (S.state result.0)) }
     ensures others { KeepsOthers name.bytes (S.state shelf) (S.state result.0) }
     ensures safe { IsSafe name.bytes (S.state shelf) (S.state result.0) }
@@ -76,6 +92,7 @@ fn load_new<S: Shelf, P: Progress>(
             name,
             schema,
             Load::New,
+            form,
             text,
             limit,
             frames,
@@ -85,7 +102,7 @@ fn load_new<S: Shelf, P: Progress>(
     }
 }
 
-/// Loads the record of each line of a text into the file of a name on a shelf to which no name is attached, and gives the shelf back. A file has at most `limit` pages
+/// Loads the record of each line of a text in a form into the file of a name on a shelf to which no name is attached, and gives the shelf back. A file has at most `limit` pages
 /// of 4,096 bytes, of which at most `frames` are held in memory while it is open.
 ///
 /// A new file is made only where the name has none: otherwise that is told, and each file is as it was. Where the shelf is honest, the file represents what OPEN, the
@@ -99,6 +116,7 @@ pub fn load_on_shelf<S: Shelf, P: Progress>(
     name: FileName,
     schema: &Schema,
     load: Load,
+    form: &Form,
     text: &[u8],
     limit: u32,
     frames: NonZeroUsize,
@@ -106,19 +124,23 @@ pub fn load_on_shelf<S: Shelf, P: Progress>(
 ) -> (S, Result<ShelfEnd, ShelfFault>)
     requires names { (S.state shelf).names ≡ [] }
     requires limit { 16 ≤ limit }
-    ensures ends { IfOk result.1 (λ end. Ends name.bytes schema.now load text.now (S.state shelf) end (S.state result.0)) }
+    requires whole { IsWhole form.now schema.now.greatest }
+    ensures ends { IfOk result.1 (λ end. Ends name.bytes schema.now load (listing form.now text.now) (S.state shelf) end (S.state result.0)) }
     ensures nothing { OnErr result.1 (LeavesFiles (S.state shelf) (S.state result.0)) }
     ensures others { KeepsOthers name.bytes (S.state shelf) (S.state result.0) }
     ensures safe { IsSafe name.bytes (S.state shelf) (S.state result.0) }
 {
     match load {
-        Load::New => load_new(alloc, shelf, name, schema, text, limit, frames, progress),
+        Load::New => load_new(
+            alloc, shelf, name, schema, form, text, limit, frames, progress,
+        ),
         Load::Into => load_over(
             alloc,
             shelf,
             name,
             schema,
             Load::Into,
+            form,
             text,
             limit,
             frames,

@@ -1,14 +1,25 @@
 use Rattle.std.proofs.Common.{◌≡◌, ◌≢◌, ℕ, List, find, Some, Ok, string_bytes, sym, subst}
 use Rattle.std.proofs.lemmas.Result.{IfOk-weaker, IfErr-weaker}
 use Rattle.file_control.specs.Description.{FileDesc}
+use Rattle.record_loading.specs.Loading.{listing}
 use Rattle.record_loading.specs.declared.end.Load.{Load}
 use Rattle.shelf_loading.specs.declared.end.ShelfEnd.{ShelfEnd}
 use Rattle.file_commands.specs.Front.{IsTextNamed}
 use Rattle.file_commands.specs.DeckFile.{is_named, IsFileOf}
+use Rattle.command_line.specs.LoadForm.{word_of}
+use Rattle.command_line.proofs.LoadFormLemmas.{laid_in, form_is_whole}
 use Rattle.command_line.specs.Loaded.{LoadsFolder, LoadsDeck, WritesAnswer, load_of}
 use Rattle.command_outcomes.specs.Status.{status_of}
 use Rattle.command_outcomes.specs.declared.outcome.Outcome.TheVariants.{Loaded}
 use Rattle.command_line.proofs.loading.load_deck.Goals as goal
+
+pub load_over_folder-end-requires : goal.load_over_folder-end-requires
+load_over_folder-end-requires g c =
+    let file = c.in-Some.file.now in
+    let named : IsFileOf c.in-Ok.deck.files c.args.asked.file.now file =
+    sym (subst (λ (files : List FileDesc). Some file ≡ find (is_named c.args.asked.file.now) files) c.as_slice.ensures c.in-Some.ensures) in
+    form_is_whole c.items_are_whole.ensures (word_of c.args.kind) file (laid_in c.args.bytes.now c.in-Ok.deck c.args.asked.file.now file c.in-Ok.ensures.deck named)
+    c.in-Ok-form_of.form c.in-Ok-form_of.ensures.form
 
 pub returns-in-Ok-end-clause-loaded : goal.returns-in-Ok-end-clause-loaded
 returns-in-Ok-end-clause-loaded g c =
@@ -18,13 +29,13 @@ returns-in-Ok-end-clause-loaded g c =
     let behind = g.W.Write.contents c.write_answer.new.out in
     let named : IsFileOf c.in-Ok.deck.files c.args.asked.file.now file =
     sym (subst (λ (files : List FileDesc). Some file ≡ find (is_named c.args.asked.file.now) files) c.as_slice.ensures c.in-Some.ensures) in
-    let loads_as : Load → List ℕ → Type 0 = λ load text. LoadsFolder g.D.Disk.unseen (string_bytes c.args.folder) file.file file.schema load text (Ok end) in
+    let loads_as : Load → List ℕ → Type 0 = λ load text. LoadsFolder g.D.Disk.unseen (string_bytes c.args.folder) file.file file.schema load (listing c.in-Ok-form_of.form text) (Ok end) in
     let loads : loads_as (load_of c.args.asked.into) c.in-Ok-read_text.text.items =
     subst (loads_as (load_of c.args.asked.into)) c.as_slice-2.ensures.value (subst (λ (load : Load). loads_as load c.as_slice-2.result.now) c.load_of.ensures c.in-Ok-end.ensures.loads) in
     IfOk-weaker c.write_answer.result (λ outcome. (outcome ≡ Loaded end) × WritesAnswer end before behind)
     (λ outcome. (e : ShelfEnd) × (outcome ≡ Loaded e) × LoadsDeck g.D.Disk.unseen
     (IsTextNamed g.R.File.Read.remaining (g.I.Read.remaining c.args.input.now.reader) c.args.asked.text.now)
-    c.args.bytes.now (string_bytes c.args.folder) c.args.asked.file.now c.args.asked.into before behind e)
+    c.args.bytes.now (string_bytes c.args.folder) c.args.asked.file.now (word_of c.args.kind) c.args.asked.into before behind e)
     (λ outcome done. (
       end,
       done.0,
@@ -33,6 +44,8 @@ returns-in-Ok-end-clause-loaded g c =
         is_deck = c.in-Ok.ensures.deck;
         file = file;
         named = named;
+        form = c.in-Ok-form_of.form;
+        is_form = c.in-Ok-form_of.ensures.form;
         text = c.in-Ok-read_text.text.items;
         is_text = c.in-Ok-read_text.ensures.bytes;
         loads = loads;

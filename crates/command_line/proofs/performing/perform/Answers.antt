@@ -1,7 +1,7 @@
 use Rattle.std.proofs.Common.{map, option_map, string_bytes, subst}
 use Rattle.command_words.specs.Asks.{Ask, form_text}
 use Rattle.command_line.proofs.AskedSessionLemmas.{as_asked}
-use Rattle.command_line.proofs.DidLemmas.{did_list, did_schema, did_run}
+use Rattle.command_line.proofs.DidLemmas.{did_list, did_schema, did_load, did_run}
 use Rattle.command_line.proofs.PerformLemmas.{no_verdict, of_no_deck, load_as}
 use Rattle.command_outcomes.specs.declared.outcome.Outcome.TheVariants.{Records, Counted}
 use Rattle.command_line.proofs.performing.perform.Goals as goal
@@ -56,10 +56,29 @@ returns-in-List-clause-did g c =
     })
     _ c.list_records.result c.list_records.ensures.records c.list_records.ensures.fault
 
+pub returns-clause-did : goal.returns-clause-did
+returns-clause-did g c =
+    let words = map string_bytes c.args.words.now in
+    let asked = subst (Ask words) c.in-Load.is c.in-Ok.ensures.asked in
+    did_load words (record { before = g.W.Write.contents c.args.out.now; behind = g.W.Write.contents c.load-loaded.new.out })
+    (record {
+      deck = c.in-Load.deck.now;
+      folder = c.in-Load.folder.now;
+      file = c.in-Load.file.now;
+      text = c.in-Load.text.now;
+      form = c.in-Load.form.now;
+      into = c.in-Load.into;
+      pages = c.in-Load.limits.pages;
+      frames = c.in-Load.limits.frames.value;
+      quiet = c.in-Load.quiet;
+      asked = asked;
+    })
+    _ c.load-loaded.result c.load-loaded.ensures.loaded c.load-loaded.ensures.fault
+
 pub returns-clause-loaded : goal.returns-clause-loaded
 returns-clause-loaded g c =
     let words = map string_bytes c.args.words.now in
     let asked = subst (Ask words) c.in-Load.is c.in-Ok.ensures.asked in
     load_as _ _ c.load-loaded.result
-    (λ end loads. (c.in-Load.deck.now, c.in-Load.folder.now, c.in-Load.file.now, c.in-Load.text.now, c.in-Load.into, c.in-Load.limits.pages, c.in-Load.limits.frames.value, c.in-Load.quiet, asked, loads))
+    (λ end loads. (c.in-Load.deck.now, c.in-Load.folder.now, c.in-Load.file.now, c.in-Load.text.now, c.in-Load.form.now, c.in-Load.into, c.in-Load.limits.pages, c.in-Load.limits.frames.value, c.in-Load.quiet, asked, loads))
     c.load-loaded.ensures.loaded

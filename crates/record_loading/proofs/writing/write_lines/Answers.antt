@@ -2,8 +2,9 @@ use Rattle.std.proofs.Common.{ℕ, [], arith, sym, ◌∙◌, subst, refl}
 use Rattle.io_state.specs.declared.statement.FileStatement.TheVariants.{Write}
 use Rattle.verbs.specs.Held.{silent}
 use Rattle.verbs.specs.Performed.{in_memory}
-use Rattle.record_loading.specs.ReadLine.{ReadsRecord}
-use Rattle.record_loading.proofs.LineLemmas.{shorter}
+use Rattle.record_reading.specs.ReadLine.{ReadsRecord}
+use Rattle.record_loading.specs.Loading.{listing}
+use Rattle.record_loading.proofs.HeaderLemmas.{shorter}
 use Rattle.record_loading.proofs.GoingLemmas.{goes_both, goes_performed, written, refused}
 use Rattle.record_loading.proofs.writing.write_lines.Goals as goal
 
@@ -13,13 +14,13 @@ returns-then-not-is_success-clause-lines g c honest truly standing =
     let rest = c.more.rest.now in
     let line = c.in-Some.line in
     let area = c.read_record.new.area in
-    let reads = subst (λ (least : ℕ). ReadsRecord rest least c.more.area area line.length line.behind.now) c.requires.least c.in-Some.ensures.read in (
+    let reads = subst (λ (least : ℕ). ReadsRecord c.args.form.now rest least c.more.area area line.length line.behind.now) c.requires.least c.in-Some.ensures.read in (
       area,
       (
         c.more.records,
         refl,
         refused shown (in_memory c.args.connector.now c.args.lib.now c.args.area.now) c.more.connector c.write-status.new.self c.more.lib c.write-status.new.lib c.more.area area line.length c.write-status.result
-            c.args.text.now rest line.behind.now c.more.records c.requires.fits.attached c.more.invariant.goes c.write-status.ensures c.more.invariant.so_far reads
+            (listing c.args.form.now c.args.text.now) rest line.behind.now c.more.records c.requires.fits.attached c.more.invariant.goes c.write-status.ensures c.more.invariant.so_far reads
             (c.more.auto.area ∙ c.requires.area) c.read_record.auto.area (sym c.is_success.ensures ∙ c.if-not-is_success.true) honest truly standing,
       ),
     )
@@ -30,14 +31,14 @@ more-preserved g c =
     let rest = c.more.rest.now in
     let line = c.in-Some.line in
     let area = c.read_record.new.area in
-    let reads = subst (λ (least : ℕ). ReadsRecord rest least c.more.area area line.length line.behind.now) c.requires.least c.in-Some.ensures.read in
-    let fewer = shorter rest c.more.area area line.length line.behind.now reads.line in
+    let reads = subst (λ (least : ℕ). ReadsRecord c.args.form.now rest least c.more.area area line.length line.behind.now) c.requires.least c.in-Some.ensures.read in
+    let fewer = shorter c.args.form.now rest c.more.area area line.length line.behind.now reads.line in
     record {
       goes = goes_both shown (in_memory c.args.connector.now c.args.lib.now []) (in_memory c.more.connector c.more.lib []) (in_memory c.write-status.new.self c.write-status.new.lib []) c.requires.fits.attached c.more.invariant.goes g.met.L.Library.joins g.met.L.Library.ends
           (goes_performed shown Write line.length (in_memory c.more.connector c.more.lib area) (silent c.write-status.result) (in_memory c.write-status.new.self c.write-status.new.lib area) c.write-status.ensures);
       few = (let before = c.more.invariant.few in omega (arith, fewer, before));
       so_far = written shown (in_memory c.args.connector.now c.args.lib.now c.args.area.now) c.more.connector c.write-status.new.self c.more.lib c.write-status.new.lib c.more.area area line.length c.write-status.result
-          c.args.text.now rest line.behind.now c.more.records c.requires.fits.attached c.more.invariant.goes c.write-status.ensures c.more.invariant.so_far reads
+          (listing c.args.form.now c.args.text.now) rest line.behind.now c.more.records c.requires.fits.attached c.more.invariant.goes c.write-status.ensures c.more.invariant.so_far reads
           (c.more.auto.area ∙ c.requires.area) c.read_record.auto.area (sym c.is_success.ensures ∙ c.if-not-is_success.false);
     }
 

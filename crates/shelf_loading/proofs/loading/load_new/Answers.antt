@@ -1,4 +1,5 @@
 use Rattle.std.proofs.lemmas.Result.{IfOk-weaker}
+use Rattle.record_loading.specs.Loading.{listing}
 use Rattle.record_loading.specs.declared.end.Load.TheVariants.{New}
 use Rattle.shelf_loading.specs.Loaded.{Ends, EndsAnyhow}
 use Rattle.shelf_loading.proofs.SameLemmas.{safe_same, safe_from, anew, nothing_from}
@@ -13,8 +14,8 @@ returns-in-Ok-false-clause-ends g c =
     let first = g.S.Shelf.state c.args.shelf in
     let then = g.S.Shelf.state c.is_there.new.shelf in
     let last = g.S.Shelf.state c.load_over.result.0 in
-    IfOk-weaker c.load_over.result.1 (λ end. EndsAnyhow c.args.name.bytes c.args.schema.now New c.args.text.now then end last) (λ end. Ends c.args.name.bytes c.args.schema.now New c.args.text.now first end last)
-    (anew first then last c.is_there.ensures.file c.args.name.bytes c.args.schema.now c.args.text.now c.in-Ok-false.field-0 c.in-Ok-false.field-0-test c.in-Ok-false.ensures.answer c.load_over.ensures.safe.honest)
+    IfOk-weaker c.load_over.result.1 (λ end. EndsAnyhow c.args.name.bytes c.args.schema.now New (listing c.args.form.now c.args.text.now) then end last) (λ end. Ends c.args.name.bytes c.args.schema.now New (listing c.args.form.now c.args.text.now) first end last)
+    (anew first then last c.is_there.ensures.file c.args.name.bytes c.args.schema.now (listing c.args.form.now c.args.text.now) c.in-Ok-false.field-0 c.in-Ok-false.field-0-test c.in-Ok-false.ensures.answer c.load_over.ensures.safe.honest)
     c.load_over.ensures.ends
 
 pub returns-in-Ok-false-clause-nothing : goal.returns-in-Ok-false-clause-nothing

@@ -8,6 +8,7 @@ use Rattle.shelf_library.specs.State.{LibraryState}
 use Rattle.shelf_library.specs.declared.library.ShelfLibrary.{ShelfLibrary}
 use Rattle.shelf_run.specs.ShelfRun.{LeavesFiles, shown_in}
 use Rattle.shelf_run.proofs.RunLemmas.{keeps_in, untouched_in, leaves_files}
+use Rattle.record_loading.specs.Loading.{listing}
 use Rattle.shelf_loading.specs.declared.end.ShelfEnd.{ShelfEnd}
 use Rattle.shelf_loading.specs.declared.end.ShelfFault.{ShelfFault}
 use Rattle.shelf_loading.specs.Loaded.{EndsAnyhow, KeepsOthers, IsSafe, end_of}
@@ -56,11 +57,11 @@ pub returns-clause-ends : goal.returns-clause-ends
 unfolding state old new
 returns-clause-ends g c =
     let name = c.args.name.bytes in
-    subst (λ (r : Result ShelfEnd ShelfFault). IfOk r (λ end. EndsAnyhow name c.args.schema.now c.args.load c.args.text.now (g.S.Shelf.state c.args.shelf) end (g.S.Shelf.state c.into_shelf.result)))
+    subst (λ (r : Result ShelfEnd ShelfFault). IfOk r (λ end. EndsAnyhow name c.args.schema.now c.args.load (listing c.args.form.now c.args.text.now) (g.S.Shelf.state c.args.shelf) end (g.S.Shelf.state c.into_shelf.result)))
     (sym c.end_of.ensures)
-    (carried g c (λ first last. IfOk (end_of c.load_records-end.result) (λ end. EndsAnyhow name c.args.schema.now c.args.load c.args.text.now (g.S.Shelf.state first) end (g.S.Shelf.state last)))
+    (carried g c (λ first last. IfOk (end_of c.load_records-end.result) (λ end. EndsAnyhow name c.args.schema.now c.args.load (listing c.args.form.now c.args.text.now) (g.S.Shelf.state first) end (g.S.Shelf.state last)))
     (ends_by c.load_records-end.result _ _
-    (λ end. leaves (old g c) (new g c) (none g c) (empty g c) (many g c) (keeps g c) (an_image g c) name c.args.schema.now c.args.load c.args.text.now end)
+    (λ end. leaves (old g c) (new g c) (none g c) (empty g c) (many g c) (keeps g c) (an_image g c) name c.args.schema.now c.args.load (listing c.args.form.now c.args.text.now) end)
     c.load_records-end.ensures.loads))
 
 pub returns-clause-nothing : goal.returns-clause-nothing

@@ -1,11 +1,13 @@
--- A line is read, a byte of its record after another.
+-- A line of text is read, a byte of its record after another.
 use Rattle.std.proofs.Common.{◌≡◌, ◌<◌, ◌≤◌, ℕ, ◌+◌, List, [], ◌∷◌, ◌++◌, length, take, drop, slice_set, flat_map, refl, sym, ap, ◌∙◌, subst, arith, append_assoc, append-nil, length-append, length-set, suc, zero, add-one}
-use Rattle.std.proofs.lemmas.List.{take_more_set, drop-set-lt, length-take-le, length-take}
+use Rattle.std.proofs.lemmas.List.{take_more_set, drop-set-lt, length-take-le, append_cancel_left}
 use Rattle.std.proofs.lemmas.List.Concat.{flat_map-append}
 use Rattle.deck_runner.specs.Line.{shown_byte}
-use Rattle.record_listing.specs.Lines.{line_of}
-use Rattle.record_loading.specs.ReadLine.{AreBytes, ReadsLine, BeginsWithNoLine, BeginsWithNoRecord}
-use Rattle.record_loading.proofs.ShownLemmas.{shown_apart, no_end}
+use Rattle.record_forms.specs.declared.form.Form.TheVariants.{Text}
+use Rattle.record_forms.specs.Lines.{text_line}
+use Rattle.record_reading.specs.ReadLine.{AreBytes, ReadsLine, BeginsWithNoLine}
+use Rattle.record_reading.specs.Part.{ReadsPart, HasNoPart, Anything, line_text}
+use Rattle.record_reading.proofs.ShownLemmas.{shown_apart, no_end}
 
 -- what is left of the bytes of a record, of which these were read, where this text is left
 pub record IsLeft (bytes done rest behind : List ℕ) : Type 0 where
@@ -21,7 +23,7 @@ pub record IsRead (text area area_now : List ℕ) (n : ℕ) (rest : List ℕ) : 
   pub bytes : AreBytes (take n area_now)
   pub line : text ≡ 91 ∷ (flat_map shown_byte (take n area_now) ++ rest)
   pub tail : drop n area_now ≡ drop n area
-  pub each : (record_bytes behind : List ℕ) → AreBytes record_bytes → text ≡ line_of record_bytes ++ behind → IsLeft record_bytes (take n area_now) rest behind
+  pub each : (record_bytes behind : List ℕ) → AreBytes record_bytes → text ≡ text_line record_bytes ++ behind → IsLeft record_bytes (take n area_now) rest behind
 
 pub none_read : (text area rest : List ℕ) → text ≡ 91 ∷ rest → IsRead text area area 0 rest
 none_read text area rest e = record {
@@ -52,7 +54,7 @@ drop_next n l = ap (λ (m : ℕ). drop m l) (add-one n) ∙ drop_suc n l
 
 module _ (text area area_now : List ℕ) (n : ℕ) (rest : List ℕ) (read : IsRead text area area_now n rest) where
   -- no record is read to its end where its end does not stand
-  pub none_at : ((behind : List ℕ) → rest ≡ 93 ∷ 10 ∷ behind → ⊥) → ((byte : ℕ) (more : List ℕ) → byte < 256 → rest ≡ shown_byte byte ++ more → ⊥) → (most : ℕ) → BeginsWithNoLine text most
+  pub none_at : ((behind : List ℕ) → rest ≡ 93 ∷ 10 ∷ behind → ⊥) → ((byte : ℕ) (more : List ℕ) → byte < 256 → rest ≡ shown_byte byte ++ more → ⊥) → (most : ℕ) → BeginsWithNoLine Text text most
   none_at no_end_here no_byte most bytes behind are few is =
       let left = read.each bytes behind are is in none_left left.left left.are_bytes left.text
     where
@@ -61,7 +63,7 @@ module _ (text area area_now : List ℕ) (n : ℕ) (rest : List ℕ) (read : IsR
       none_left (byte ∷ left) are text = no_byte byte (flat_map shown_byte left ++ (93 ∷ 10 ∷ behind)) are.0 (text ∙ append_assoc (shown_byte byte) (flat_map shown_byte left) (93 ∷ 10 ∷ behind))
 
   -- nor where the area is full
-  pub none_in_full : ((behind : List ℕ) → rest ≡ 93 ∷ 10 ∷ behind → ⊥) → length area ≤ n → BeginsWithNoLine text (length area)
+  pub none_in_full : ((behind : List ℕ) → rest ≡ 93 ∷ 10 ∷ behind → ⊥) → length area ≤ n → BeginsWithNoLine Text text (length area)
   none_in_full no_end_here full bytes behind are few is =
       let left = read.each bytes behind are is in none_left left.left left.bytes_are left.text
     where
@@ -73,7 +75,7 @@ module _ (text area area_now : List ℕ) (n : ℕ) (rest : List ℕ) (read : IsR
           omega (arith, long, front, few, full)
 
   -- the record is read to its end
-  pub finished : (behind : List ℕ) → rest ≡ 93 ∷ 10 ∷ behind → ReadsLine text area area_now n behind
+  pub finished : (behind : List ℕ) → rest ≡ 93 ∷ 10 ∷ behind → ReadsLine Text text area area_now n behind
   finished behind at = record {
     within = read.within;
     bytes = read.bytes;
@@ -127,23 +129,31 @@ behind_bracket : (x y : List ℕ) → ◌≡◌ {A = List ℕ} (91 ∷ x) (91 �
 behind_bracket x y e = cc
 
 -- a text begins with the line of one record at most
-pub one_record : (bytes others x y : List ℕ) → line_of bytes ++ x ≡ line_of others ++ y → bytes ≡ others
+pub one_record : (bytes others x y : List ℕ) → text_line bytes ++ x ≡ text_line others ++ y → bytes ≡ others
 one_record bytes others x y e =
     same_bytes bytes others x y
     (sym (append_assoc (flat_map shown_byte bytes) (93 ∷ 10 ∷ []) x)
     ∙ behind_bracket ((flat_map shown_byte bytes ++ (93 ∷ 10 ∷ [])) ++ x) ((flat_map shown_byte others ++ (93 ∷ 10 ∷ [])) ++ y) e
     ∙ append_assoc (flat_map shown_byte others) (93 ∷ 10 ∷ []) y)
 
--- where the record is too short, the text begins with the line of no record that is long enough
-pub none_long : (text area area_now : List ℕ) (n : ℕ) (rest : List ℕ) (least most : ℕ) → ReadsLine text area area_now n rest → n < least → BeginsWithNoRecord text least most
-none_long text area area_now n rest least most read short bytes behind are long few is =
-    let same : take n area_now ≡ bytes = one_record (take n area_now) bytes rest behind (sym read.line ∙ is) in
-    let front = length-take n area_now in
-    let lengths : length (take n area_now) ≡ length bytes = ap (λ (l : List ℕ). length l) same in
-    omega (arith, front, lengths, short, long)
+-- a record that was read is a part of the text
+pub text_part : (text area area_now : List ℕ) (n : ℕ) (behind : List ℕ) → length area_now ≡ length area → ReadsLine Text text area area_now n behind
+    → ReadsPart (line_text Text) Anything text area 0 (length area) area_now n behind
+text_part text area area_now n behind same read = record {
+  bytes = take n area_now;
+  are_bytes = read.bytes;
+  front = refl;
+  at_is = (let long = length-take-le n area_now (omega (arith, same, read.within)) in omega (arith, long));
+  within = read.within;
+  same = same;
+  rest = read.rest;
+  text_is = read.line;
+  only = λ others other_behind are few follows is.
+      let both : text_line others ++ other_behind ≡ text_line (take n area_now) ++ behind = sym is ∙ read.line in
+      let one : others ≡ take n area_now = one_record others (take n area_now) other_behind behind both in
+      (one, append_cancel_left (text_line (take n area_now)) other_behind behind (ap (λ (l : List ℕ). text_line l ++ other_behind) (sym one) ∙ both));
+}
 
--- a line has some bytes
-pub shorter : (text area area_now : List ℕ) (n : ℕ) (behind : List ℕ) → ReadsLine text area area_now n behind → 1 + length behind ≤ length text
-shorter text area area_now n behind read =
-    let long = ap (λ (l : List ℕ). length l) read.line ∙ length-append (line_of (take n area_now)) behind in
-    omega (arith, long)
+-- and where none was read, there is no such part
+pub no_text_part : (text : List ℕ) (most : ℕ) → BeginsWithNoLine Text text most → HasNoPart (line_text Text) Anything text 0 most
+no_text_part text most none bytes behind are few follows is = none bytes behind are (let few' : 0 + length bytes ≤ most = few in omega (arith, few')) is

@@ -10,7 +10,7 @@ pub struct ShownByte {
 }
 
 /// Whether a byte stands as itself.
-fn is_plain(byte: u8) -> bool
+pub fn is_plain(byte: u8) -> bool
     ensures { result ≡ is_plain byte }
 {
     byte > 31 && byte < 127 && byte != b'\\'

@@ -1,7 +1,7 @@
 use Rattle.std.proofs.Common.{◌≡◌, ◌++◌, length, refl, sym, ap, ◌∙◌, arith}
 use Rattle.deck_runner.specs.Line.{shown_byte}
-use Rattle.record_loading.proofs.LineLemmas.{none_at, one_more}
-use Rattle.record_loading.proofs.line.read_line.Goals as goal
+use Rattle.record_reading.proofs.TextLemmas.{none_at, one_more}
+use Rattle.record_reading.proofs.text.read_text.Goals as goal
 
 pub returns-in_err-first-clause-none : goal.returns-in_err-first-clause-none
 returns-in_err-first-clause-none c _ =

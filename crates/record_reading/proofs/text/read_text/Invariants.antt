@@ -1,6 +1,6 @@
 use Rattle.std.proofs.Common.{length}
-use Rattle.record_loading.proofs.LineLemmas.{IsRead}
-use Rattle.record_loading.proofs.line.read_line.Given as goal
+use Rattle.record_reading.proofs.TextLemmas.{IsRead}
+use Rattle.record_reading.proofs.text.read_text.Given as goal
 
 -- the first bytes of a record were read
 abbrev pub invariant-more : goal.invariant-more

@@ -1,0 +1,38 @@
+-- The form of the text of a load, as a word asks for it. All of this is ours.
+use Rattle.std.specs.Prelude.{◌≡◌, ◌≢◌, ◌⊎◌, List, map, codes}
+use Rattle.clap.specs.Words.{Text as Word}
+use Rattle.file_control.specs.Description.{FileDesc}
+use Rattle.record_forms.specs.declared.column.Column.{Column}
+use Rattle.record_forms.specs.declared.form.Form.{Form}
+use Rattle.record_forms.specs.declared.form.Form.TheVariants.{Text, Csv, Json}
+use Rattle.record_forms.specs.Parts.{part_of, item_parts}
+use Rattle.file_commands.specs.DeckFile.{IsDeckFault}
+use Rattle.command_outcomes.specs.declared.form_fault.FormFault.TheVariants.{Kind}
+use Rattle.command_outcomes.specs.declared.fault.Fault.{Fault}
+use Rattle.command_outcomes.specs.declared.fault.Fault.TheVariants.{Form as NoForm}
+use Rattle.command_line.specs.declared.load_form.FormKind.{FormKind}
+use Rattle.command_line.specs.declared.load_form.FormKind.TheVariants as kinds
+
+-- the word that asks for a form
+abbrev pub word_of : FormKind → Word
+word_of kinds.Text = codes "text"
+word_of kinds.Csv = codes "csv"
+word_of kinds.Json = codes "json"
+
+-- the word asks for none
+abbrev pub IsNoFormWord : Word → Type 0
+IsNoFormWord word = (word ≢ codes "text") × (word ≢ codes "csv") × (word ≢ codes "json")
+
+-- the columns are the elementary items of the record of a file
+abbrev pub AreColumnsOf : FileDesc → List Column → Type 0
+AreColumnsOf file columns = map part_of columns ≡ item_parts file.layout
+
+-- the form is the one that the word asks for, with the columns of the file
+abbrev pub IsFormOf : Word → FileDesc → Form → Type 0
+IsFormOf word file Text = word ≡ codes "text"
+IsFormOf word file (Csv columns) = (word ≡ codes "csv") × AreColumnsOf file columns.items
+IsFormOf word file (Json columns) = (word ≡ codes "json") × AreColumnsOf file columns.items
+
+-- why nothing came of a load: the word asks for no form, or it is a fault of a file of a deck
+abbrev pub IsLoadFault : Word → Fault → Type 0
+IsLoadFault word fault = ((fault ≡ NoForm Kind) × IsNoFormWord word) ⊎ IsDeckFault fault

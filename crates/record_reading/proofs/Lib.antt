@@ -1,0 +1,9 @@
+pub mod ShownLemmas
+pub mod TextLemmas
+pub mod QuotedLemmas
+pub mod CellLemmas
+pub mod NameLemmas
+pub mod ValueLemmas
+pub mod ValuesLemmas
+pub mod LineLemmas
+pub mod WholeLemmas

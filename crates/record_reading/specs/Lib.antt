@@ -1,0 +1,5 @@
+pub mod ReadLine
+pub mod Whole
+pub mod Quoted
+pub mod Part
+pub mod Header

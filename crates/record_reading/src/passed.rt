@@ -1,0 +1,26 @@
+//! Characters that have to stand at the front of a text are passed by.
+ghost use Rattle.std.specs.Prelude.{◌≡◌, ◌∷◌, List, ℕ, IfSome, None};
+ghost use Rattle.record_reading.specs.Quoted.{behind_comma};
+
+/// What is behind this character. None where the text does not begin with it.
+pub fn passed(text: &[u8], byte: u8) -> Option<&[u8]>
+    ensures some { IfSome result (λ behind. text.now ≡ byte ∷ behind.now) }
+    ensures none { result ≡ None → (behind : List ℕ) → text.now ≡ byte ∷ behind → ⊥ }
+{
+    match text.split_first() {
+        Some((first, behind)) if *first == byte => Some(behind),
+        _ => None,
+    }
+}
+
+/// What is behind the comma before a column, which the first one does not have.
+pub fn passed_comma(is_first: bool, text: &[u8]) -> Option<&[u8]>
+    ensures some { IfSome result (λ behind. text.now ≡ behind_comma is_first behind.now) }
+    ensures none { result ≡ None → (behind : List ℕ) → text.now ≡ behind_comma is_first behind → ⊥ }
+{
+    if is_first {
+        Some(text)
+    } else {
+        passed(text, b',')
+    }
+}

@@ -1,0 +1,48 @@
+//! The values of columns.
+ghost use Rattle.std.specs.Prelude.{◌≡◌, length, map, true, IfSome, None};
+ghost use Rattle.record_forms.specs.Parts.{part_of};
+ghost use Rattle.record_reading.specs.Whole.{AreTiled};
+ghost use Rattle.record_reading.specs.Quoted.{end_of, values_text};
+ghost use Rattle.record_reading.specs.Part.{ReadsPart, HasNoPart, EndsValue};
+
+use crate::cell::Cell;
+use crate::quoted::Quoting;
+use crate::value::read_value;
+use record_forms::Column;
+
+/// The place up to which the bytes of a column may reach, where so many of the record were read: behind a column that was shorter than it could be there are none.
+fn end_of(column: &Column, at: usize) -> usize
+    ensures { result ≡ end_of column.now at }
+{
+    if at == usize::from(column.offset) {
+        at + usize::from(column.length)
+    } else {
+        at
+    }
+}
+
+/// Reads the values of columns, which are the whole of a record, into the area. None where no bytes that have room give the text.
+pub fn read_values<'a>(
+    quoting: Quoting,
+    columns: &[Column],
+    text: &'a [u8],
+    area: &mut [u8],
+) -> Option<Cell<'a>>
+    requires whole { AreTiled 0 (map part_of columns.now) (length area.old) }
+    ensures read { IfSome result (λ cell. ReadsPart (values_text quoting true columns.now) (EndsValue quoting) text.now area.old 0 (length area.old) area.new cell.at cell.behind.now) }
+    ensures none { result ≡ None → HasNoPart (values_text quoting true columns.now) (EndsValue quoting) text.now 0 (length area.old) }
+{
+    let mut rest = text;
+    let mut at = 0;
+    let mut is_first = true;
+    let mut left = columns;
+    'more: while let Some((column, after)) = left.split_first() {
+        let to = end_of(column, at);
+        let cell = read_value(quoting, is_first, &column.name, rest, area, at, to)?;
+        rest = cell.behind;
+        at = cell.at;
+        is_first = false;
+        left = after;
+    }
+    Some(Cell { at, behind: rest })
+}
