@@ -1,5 +1,5 @@
 -- The parts of a load follow one another.
-use Rattle.std.proofs.Common.{◌≡◌, ◌<◌, ℕ, ◌+◌, true, false, List, [], ◌∷◌, length, slice_set, slice_index_or, refl, ◌∙◌}
+use Rattle.std.proofs.Common.{◌≡◌, ◌<◌, ℕ, ◌+◌, true, false, List, [], ◌∷◌, length, slice_set, slice_index_or, inr, refl, ◌∙◌}
 use Rattle.io_state.specs.declared.status.Status.{Status}
 use Rattle.io_state.specs.declared.statement.FileStatement.{FileStatement}
 use Rattle.io_state.specs.declared.statement.FileStatement.TheVariants.{Write}
@@ -14,9 +14,11 @@ use Rattle.verbs.specs.Fits.{Fits}
 use Rattle.verbs.specs.Performed.{FileInMemory, IsPerformed, Trusted, in_memory, state_in}
 use Rattle.verbs.proofs.WorldLemmas.{only_twice}
 use Rattle.record_listing.proofs.WorldLemmas.{keeps_self, keeps_both, still_true}
-use Rattle.record_reading.specs.ReadLine.{ReadsRecord}
+use Rattle.record_reading.specs.ReadLine.{ReadsRecord, BeginsWithNoRecord}
+use Rattle.record_reading.specs.Header.{header_lines}
+use Rattle.record_loading.specs.declared.end.LinesEnd.TheVariants.{NoRecord}
 use Rattle.record_loading.specs.Loading.{Listing, IsWrittenUpTo, IsRefusedAt}
-use Rattle.record_loading.specs.Going.{GoesOn}
+use Rattle.record_loading.specs.Going.{GoesOn, LeavesLines}
 use Rattle.record_loading.proofs.RealLemmas.{real_goes, real_both}
 use Rattle.record_loading.proofs.WrittenLemmas.{written_here, refused_here}
 
@@ -70,6 +72,14 @@ module _ {S : Type 0} (shown : Shown S) where
       real = λ honest truly standing.
           real_both shown joins ends a.library b.library c.library (first.real (second.keeps.honest honest) truly standing) (trusted _ second.keeps second.real honest truly standing);
     }
+
+  -- the rest of the text begins with the line of no record
+  pub nothing_read : (a : FileInMemory S) (held : Held) (library : S) (area : List ℕ) (list : Listing) (rest : List ℕ) (count line : ℕ) → line ≡ count + 1 + header_lines list.form → 0 < length rest
+      → BeginsWithNoRecord list.form rest a.held.connector.schema.least a.held.connector.schema.greatest
+      → Trusted shown 0 (in_memory a.held a.library []) (in_memory held library []) (IsWrittenUpTo a.held.connector.schema list count rest (state_in shown 0 a) (state_in shown 0 (in_memory held library area)))
+      → Trusted shown 0 (in_memory a.held a.library []) (in_memory held library []) (LeavesLines shown list (NoRecord line) a (in_memory held library []))
+  nothing_read a held library area list rest count line line_is some none so_far honest truly standing =
+      (area, inr (count, (line_is, record { rest = rest; first = so_far honest truly standing; some = some; none = none })))
 
   -- a record was read, and WRITE was answered so
   module _ (a : FileInMemory S) (held after : Held) (library later : S) (area area_now : List ℕ) (n : ℕ) (status : Status) (list : Listing) (rest behind : List ℕ) (count : ℕ)

@@ -35,7 +35,8 @@ fn write_lines<L: Library, P: Progress>(
     requires fits { Fits connector.old (L.shown.world lib.old) 0 }
     requires least { least ≡ connector.old.connector.schema.least }
     requires area { length area.old ≡ connector.old.connector.schema.greatest }
-    requires whole { IsWhole form.now (length area.old) × (length area.old ≤ 4000) }
+    requires whole { IsWhole form.now (length area.old) }
+    requires short { length area.old ≤ 4000 }
     requires lines { text.now ≡ header_in form.now ++ lines.now }
     ensures goes { GoesOn L.shown (in_memory connector.old lib.old []) (in_memory connector.new lib.new []) }
     ensures lines { Trusted L.shown 0 (in_memory connector.old lib.old []) (in_memory connector.new lib.new [])
@@ -79,7 +80,8 @@ pub fn write_listing<L: Library, P: Progress>(
     requires fits { Fits connector.old (L.shown.world lib.old) 0 }
     requires least { least ≡ connector.old.connector.schema.least }
     requires area { length area.old ≡ connector.old.connector.schema.greatest }
-    requires whole { IsWhole form.now (length area.old) × (length area.old ≤ 4000) }
+    requires whole { IsWhole form.now (length area.old) }
+    requires short { length area.old ≤ 4000 }
     requires header { header.now ≡ header_in form.now }
     ensures goes { GoesOn L.shown (in_memory connector.old lib.old []) (in_memory connector.new lib.new []) }
     ensures lines { Trusted L.shown 0 (in_memory connector.old lib.old []) (in_memory connector.new lib.new [])

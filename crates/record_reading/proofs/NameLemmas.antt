@@ -1,7 +1,8 @@
 -- Bytes of a name, as they stand in JSON, are passed by one after another.
 use Rattle.std.proofs.Common.{◌≡◌, ◌≢◌, ◌<◌, ℕ, List, ◌∷◌, ◌++◌, sym, ap, ◌∙◌, append_assoc}
 use Rattle.record_reading.specs.declared.quoted.Quoting.TheVariants.{Escaped}
-use Rattle.record_reading.specs.Quoted.{quoted_byte, inside, BeginsWithNoByte}
+use Rattle.std.proofs.lemmas.List.{append_cancel_left}
+use Rattle.record_reading.specs.Quoted.{quoted_byte, inside, behind_label, BeginsWithNoByte}
 use Rattle.record_reading.proofs.QuotedLemmas.{quoted_apart}
 
 -- the text that is left begins with the bytes that are left where the text begins with the bytes
@@ -27,3 +28,16 @@ module _ (text bytes rest : List ℕ) (byte : ℕ) (after : List ℕ) (passed : 
           ∙ sym (append_assoc (quoted_byte Escaped byte) (inside Escaped after) behind));
       from = λ behind is. (quoted_apart Escaped first byte more (inside Escaped after ++ behind) (sym at ∙ left_at behind is)).1;
     }
+
+-- a name in quotes, and a colon
+module _ (text opened named name : List ℕ) (first : text ≡ 34 ∷ opened) where
+  pub behind_quote : (behind : List ℕ) → text ≡ behind_label Escaped name behind → opened ≡ inside Escaped name ++ (34 ∷ 58 ∷ behind)
+  behind_quote behind is =
+      let both : 34 ∷ opened ≡ 34 ∷ (inside Escaped name ++ (34 ∷ 58 ∷ behind)) = sym first ∙ is in
+      cc
+
+  pub behind_name : opened ≡ inside Escaped name ++ named → (behind : List ℕ) → text ≡ behind_label Escaped name behind → named ≡ 34 ∷ 58 ∷ behind
+  behind_name second behind is = append_cancel_left (inside Escaped name) named (34 ∷ 58 ∷ behind) (sym second ∙ behind_quote behind is)
+
+  pub label_is : opened ≡ inside Escaped name ++ named → (behind : List ℕ) → named ≡ 34 ∷ 58 ∷ behind → text ≡ behind_label Escaped name behind
+  label_is second behind third = first ∙ ap (λ (l : List ℕ). 34 ∷ l) (second ∙ ap (λ (l : List ℕ). inside Escaped name ++ l) third)

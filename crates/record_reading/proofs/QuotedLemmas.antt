@@ -68,7 +68,7 @@ one_escaped a e f =
 abbrev digits_of : ℕ → List ℕ
 digits_of byte = hex_digit (byte / 16) ∷ hex_digit (byte % 16) ∷ []
 
-shown_plain : (byte : ℕ) → is_plain byte ≡ true → shown_byte byte ≡ byte ∷ []
+pub shown_plain : (byte : ℕ) → is_plain byte ≡ true → shown_byte byte ≡ byte ∷ []
 shown_plain byte p = ap (λ (b : Bool). if b then byte ∷ [] else 92 ∷ digits_of byte) p
 
 pub shown_coded : (byte : ℕ) → is_plain byte ≡ false → shown_byte byte ≡ 92 ∷ digits_of byte

@@ -99,7 +99,7 @@ module _ (quoting : Quoting) (columns : List Column) (text area : List ℕ) (is_
   -- all columns were read
   pub all_read : AreReadUpTo quoting columns text area is_first [] area_now at rest → ReadsPart (values_text quoting true columns) (EndsValue quoting) text area 0 (length area) area_now at rest
   all_read read =
-      let end = read.tiled in
+      let end : read.start ≡ length area = read.tiled in
       let before = read.before in
       let same = read.same in
       let within : at ≤ length area = omega (arith, end, before) in
@@ -125,13 +125,13 @@ module _ (quoting : Quoting) (columns : List Column) (text area : List ℕ) (is_
           let front = length-take at area_now in
           let same = read.same in
           let before = read.before in
-          let end = read.tiled in
+          let end : read.start ≡ length area = read.tiled in
           omega (arith, long, front, same, few, before, end)
 
       nothing_left : (left done others : List ℕ) → others ≡ done ++ left → (at < read.start → left ≡ []) → length left + at ≤ length area → left ≡ []
       nothing_left [] done others are short few = refl
       nothing_left (byte ∷ left) done others are short few =
-          let end = read.tiled in
+          let end : read.start ≡ length area = read.tiled in
           let less : at < read.start = omega (arith, few, end) in
           short less
 

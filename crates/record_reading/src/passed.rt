@@ -7,10 +7,10 @@ pub fn passed(text: &[u8], byte: u8) -> Option<&[u8]>
     ensures some { IfSome result (λ behind. text.now ≡ byte ∷ behind.now) }
     ensures none { result ≡ None → (behind : List ℕ) → text.now ≡ byte ∷ behind → ⊥ }
 {
-    match text.split_first() {
-        Some((first, behind)) if *first == byte => Some(behind),
-        _ => None,
+    if text.is_empty() || text[0] != byte {
+        return None;
     }
+    Some(&text[1..])
 }
 
 /// What is behind the comma before a column, which the first one does not have.

@@ -50,7 +50,10 @@ fn first_itself(text: &[u8]) -> Option<ShownByte>
     ensures none { result ≡ None → BeginsWithNoByte Escaped text.now }
 {
     let first = first_byte(text)?;
-    if first.byte == b'"' || !is_plain(first.byte) {
+    if first.byte == b'"' {
+        return None;
+    }
+    if !is_plain(first.byte) {
         return None;
     }
     Some(first)

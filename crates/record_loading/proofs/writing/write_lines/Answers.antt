@@ -1,12 +1,24 @@
-use Rattle.std.proofs.Common.{ℕ, [], arith, sym, ◌∙◌, subst, refl}
+use Rattle.std.proofs.Common.{ℕ, ◌+◌, [], arith, ap, sym, ◌∙◌, subst, refl}
 use Rattle.io_state.specs.declared.statement.FileStatement.TheVariants.{Write}
 use Rattle.verbs.specs.Held.{silent}
 use Rattle.verbs.specs.Performed.{in_memory}
 use Rattle.record_reading.specs.ReadLine.{ReadsRecord}
+use Rattle.record_reading.specs.Whole.{IsWhole}
 use Rattle.record_loading.specs.Loading.{listing}
-use Rattle.record_loading.proofs.HeaderLemmas.{shorter}
-use Rattle.record_loading.proofs.GoingLemmas.{goes_both, goes_performed, written, refused}
+use Rattle.record_loading.proofs.HeaderLemmas.{shorter, lines_before}
+use Rattle.record_loading.proofs.GoingLemmas.{goes_self, nothing_read, goes_both, goes_performed, written, refused}
 use Rattle.record_loading.proofs.writing.write_lines.Goals as goal
+
+pub more-init : goal.more-init
+more-init g c =
+    record {
+      goes = goes_self g.L.Library.shown c.args.connector.now c.args.lib.now c.requires.fits;
+      few = (let long = lines_before c.args.form.now c.args.text.now c.args.lines.now c.requires.lines in let header = c.header_lines-before.ensures in omega (arith, long, header));
+      so_far = λ honest truly standing. record { records = []; text_is = c.requires.lines; count_is = refl; written = refl };
+    }
+
+pub read_record-requires : goal.read_record-requires
+read_record-requires g c = subst (λ (n : ℕ). IsWhole c.args.form.now n) (sym c.more.auto.area) c.requires.whole
 
 pub returns-then-not-is_success-clause-lines : goal.returns-then-not-is_success-clause-lines
 returns-then-not-is_success-clause-lines g c honest truly standing =
@@ -18,7 +30,7 @@ returns-then-not-is_success-clause-lines g c honest truly standing =
       area,
       (
         c.more.records,
-        refl,
+        ap (λ (n : ℕ). c.more.records + 1 + n) c.header_lines-before.ensures,
         refused shown (in_memory c.args.connector.now c.args.lib.now c.args.area.now) c.more.connector c.write-status.new.self c.more.lib c.write-status.new.lib c.more.area area line.length c.write-status.result
             (listing c.args.form.now c.args.text.now) rest line.behind.now c.more.records c.requires.fits.attached c.more.invariant.goes c.write-status.ensures c.more.invariant.so_far reads
             (c.more.auto.area ∙ c.requires.area) c.read_record.auto.area (sym c.is_success.ensures ∙ c.if-not-is_success.true) honest truly standing,
