@@ -1,9 +1,12 @@
 -- A line of text is read, a byte of its record after another.
-use Rattle.std.proofs.Common.{◌≡◌, ◌<◌, ◌≤◌, ℕ, ◌+◌, List, [], ◌∷◌, ◌++◌, length, take, drop, slice_set, flat_map, refl, sym, ap, ◌∙◌, subst, arith, append_assoc, append-nil, length-append, length-set, suc, zero, add-one}
+use Rattle.std.proofs.Common.{◌≡◌, ◌<◌, ◌≤◌, ℕ, ◌+◌, List, [], ◌∷◌, ◌++◌, length, take, drop, slice_set, flat_map, refl, sym, ap, ◌∙◌, subst, arith, append_assoc, append-nil, length-append, length-set, suc, zero, add-one, Option, Some, None}
 use Rattle.std.proofs.lemmas.List.{take_more_set, drop-set-lt, length-take-le, append_cancel_left}
 use Rattle.std.proofs.lemmas.List.Concat.{flat_map-append}
 use Rattle.deck_runner.specs.Line.{shown_byte}
+use Rattle.std.specs.Option.{IfSome}
+use Rattle.record_forms.specs.declared.form.Form.{Form}
 use Rattle.record_forms.specs.declared.form.Form.TheVariants.{Text}
+use Rattle.record_reading.specs.declared.line.Line.{Line}
 use Rattle.record_forms.specs.Lines.{text_line}
 use Rattle.record_reading.specs.ReadLine.{AreBytes, ReadsLine, BeginsWithNoLine}
 use Rattle.record_reading.specs.Part.{ReadsPart, HasNoPart, Anything, line_text}
@@ -157,3 +160,12 @@ text_part text area area_now n behind same read = record {
 -- and where none was read, there is no such part
 pub no_text_part : (text : List ℕ) (most : ℕ) → BeginsWithNoLine Text text most → HasNoPart (line_text Text) Anything text 0 most
 no_text_part text most none bytes behind are few follows is = none bytes behind are (let few' : 0 + length bytes ≤ most = few in omega (arith, few')) is
+
+-- the same of what was answered
+pub text_parts : (form : Form) (result : Option Line) (text area area_now : List ℕ) → form ≡ Text → length area_now ≡ length area
+    → IfSome result (λ line. ReadsLine Text text area area_now line.length line.behind.now)
+    → IfSome result (λ line. ReadsPart (line_text form) Anything text area 0 (length area) area_now line.length line.behind.now)
+text_parts form None text area area_now is same read = tt
+text_parts form (Some line) text area area_now is same read =
+    subst (λ (f : Form). ReadsPart (line_text f) Anything text area 0 (length area) area_now line.length line.behind.now) (sym is)
+    (text_part text area area_now line.length line.behind.now same read)

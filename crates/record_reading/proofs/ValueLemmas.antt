@@ -7,11 +7,11 @@ use Rattle.record_reading.specs.ReadLine.{AreBytes}
 use Rattle.record_reading.specs.Quoted.{inside, BeginsWithNoByte, behind_comma, behind_label, value_front, value_text}
 use Rattle.record_reading.specs.Part.{ReadsPart, HasNoPart, inside_text, EndsValue}
 
-comma_apart : (is_first : Bool) (x y : List ℕ) → behind_comma is_first x ≡ behind_comma is_first y → x ≡ y
+pub comma_apart : (is_first : Bool) (x y : List ℕ) → behind_comma is_first x ≡ behind_comma is_first y → x ≡ y
 comma_apart true x y e = e
 comma_apart false x y e = cc
 
-label_apart : (quoting : Quoting) (name x y : List ℕ) → behind_label quoting name x ≡ behind_label quoting name y → x ≡ y
+pub label_apart : (quoting : Quoting) (name x y : List ℕ) → behind_label quoting name x ≡ behind_label quoting name y → x ≡ y
 label_apart Doubled name x y e = e
 label_apart Escaped name x y e =
     let both : inside Escaped name ++ (34 ∷ 58 ∷ x) ≡ inside Escaped name ++ (34 ∷ 58 ∷ y) = cc in

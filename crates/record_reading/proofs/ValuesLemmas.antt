@@ -15,6 +15,10 @@ use Rattle.record_reading.specs.Part.{ReadsPart, HasNoPart, EndsValue}
 use Rattle.record_reading.proofs.CellLemmas.{both_bytes}
 use Rattle.record_reading.proofs.QuotedLemmas.{no_byte_in_csv, no_byte_in_json}
 
+pub no_columns : (columns : List Column) → length columns ≡ 0 → columns ≡ []
+no_columns [] none = refl
+no_columns (column ∷ columns) none = absurd (cc)
+
 -- ---- bytes
 
 take_bytes : (n : ℕ) (xs : List ℕ) → AreBytes xs → AreBytes (take n xs)

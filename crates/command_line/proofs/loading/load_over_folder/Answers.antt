@@ -11,7 +11,7 @@ use Rattle.command_line.proofs.LoadingLemmas.{load_ended, load_failed}
 use Rattle.command_line.proofs.loading.load_over_folder.Goals as goal
 
 pub load_on_shelf-shelf-requires-clause-whole : goal.load_on_shelf-shelf-requires-clause-whole
-load_on_shelf-shelf-requires-clause-whole g c = subst (λ (file : FileDesc). IsWhole c.args.form.now file.schema.greatest) (sym c.file.view_is) c.requires
+load_on_shelf-shelf-requires-clause-whole g c = subst (λ (file : FileDesc). IsWhole c.args.form.now file.schema.greatest) (sym c.file.view_is) c.requires.whole
 
 pub returns-in-Ok-clause-loads : goal.returns-in-Ok-clause-loads
 returns-in-Ok-clause-loads g c =

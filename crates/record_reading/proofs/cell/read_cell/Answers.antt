@@ -1,4 +1,4 @@
-use Rattle.std.proofs.Common.{◌≡◌, ◌++◌, ◌≤◌, length, refl, sym, ap, ◌∙◌, arith}
+use Rattle.std.proofs.Common.{rules, ◌≡◌, ◌++◌, sym, ap, ◌∙◌}
 use Rattle.record_reading.specs.Quoted.{quoted_byte}
 use Rattle.record_reading.proofs.CellLemmas.{none_read, one_more, ended_here, ended_full}
 use Rattle.record_reading.proofs.cell.read_cell.Goals as goal
@@ -6,9 +6,9 @@ use Rattle.record_reading.proofs.cell.read_cell.Goals as goal
 pub more-init : goal.more-init
 more-init c = none_read c.args.quoting c.args.text.now c.args.area.now c.args.from c.args.to c.requires.order
 
-pub returns-else-first : goal.returns-else-first
-returns-else-first c =
-    ended_here c.args.quoting c.args.text.now c.args.area.now c.args.from c.args.to c.more.area c.more.at c.more.rest.now c.more.invariant (c.first_quoted.ensures.none refl)
+pub returns-in_default : goal.returns-in_default
+returns-in_default c =
+    ended_here c.args.quoting c.args.text.now c.args.area.now c.args.from c.args.to c.more.area c.more.at c.more.rest.now c.more.invariant (c.first_quoted.ensures.none (search rules))
 
 pub more-preserved : goal.more-preserved
 more-preserved c =

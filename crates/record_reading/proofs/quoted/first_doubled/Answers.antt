@@ -7,13 +7,13 @@ pub returns-in_err-first-clause-none : goal.returns-in_err-first-clause-none
 returns-in_err-first-clause-none c _ =
     no_doubled c.args.text.now (c.is_pair.ensures.no c.if-is_pair.false) (λ byte rest is_byte other is. c.in_err-first.ensures.none refl byte rest is_byte is)
 
-pub returns-then-first-clause-none : goal.returns-then-first-clause-none
-returns-then-first-clause-none c _ =
+pub returns-then-first-eq34-clause-none : goal.returns-then-first-eq34-clause-none
+returns-then-first-eq34-clause-none c _ =
     let first = c.in_ok-first.first in
     no_doubled c.args.text.now (c.is_pair.ensures.no c.if-is_pair.false)
-    (λ byte rest is_byte other is. other (sym (shown_apart first.byte byte (drop first.size c.args.text.now) rest (sym c.in_ok-first.ensures.shown.0 ∙ is)).0 ∙ c.if-first.true))
+    (λ byte rest is_byte other is. other (sym (shown_apart first.byte byte (drop first.size c.args.text.now) rest (sym c.in_ok-first.ensures.shown.0 ∙ is)).0 ∙ c.if-first-eq34.true))
 
 pub returns-clause-shown : goal.returns-clause-shown
 returns-clause-shown c =
     let first = c.in_ok-first.first in
-    (c.in_ok-first.ensures.shown.0 ∙ ap (λ (l : List ℕ). l ++ drop first.size c.args.text.now) (sym (doubled_other first.byte c.if-first.false)), c.in_ok-first.ensures.shown.1)
+    (c.in_ok-first.ensures.shown.0 ∙ ap (λ (l : List ℕ). l ++ drop first.size c.args.text.now) (sym (doubled_other first.byte c.if-first-eq34.false)), c.in_ok-first.ensures.shown.1)
