@@ -79,7 +79,7 @@ module _ {S : Type 0} (shown : Shown S) where
       → Trusted shown 0 (in_memory a.held a.library []) (in_memory held library []) (IsWrittenUpTo a.held.connector.schema list count rest (state_in shown 0 a) (state_in shown 0 (in_memory held library area)))
       → Trusted shown 0 (in_memory a.held a.library []) (in_memory held library []) (LeavesLines shown list (NoRecord line) a (in_memory held library []))
   nothing_read a held library area list rest count line line_is some none so_far honest truly standing =
-      (area, inr (count, (line_is, record { rest = rest; first = so_far honest truly standing; some = some; none = none })))
+      (area, inr (count, line_is, record { rest = rest; first = so_far honest truly standing; some = some; none = none }))
 
   -- a record was read, and WRITE was answered so
   module _ (a : FileInMemory S) (held after : Held) (library later : S) (area area_now : List ℕ) (n : ℕ) (status : Status) (list : Listing) (rest behind : List ℕ) (count : ℕ)

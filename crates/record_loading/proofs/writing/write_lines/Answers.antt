@@ -18,7 +18,7 @@ more-init g c =
     }
 
 pub read_record-requires : goal.read_record-requires
-read_record-requires g c = subst (λ (n : ℕ). IsWhole c.args.form.now n) (sym c.more.auto.area) c.requires.whole
+read_record-requires g c = record { whole = subst (λ (n : ℕ). IsWhole c.args.form.now n) (sym c.more.auto.area) c.requires.whole }
 
 pub returns-then-not-is_success-clause-lines : goal.returns-then-not-is_success-clause-lines
 returns-then-not-is_success-clause-lines g c honest truly standing =
