@@ -18,8 +18,10 @@ load_over_folder-end-requires g c =
     let file = c.in-Some.file.now in
     let named : IsFileOf c.in-Ok.deck.files c.args.asked.file.now file =
     sym (subst (λ (files : List FileDesc). Some file ≡ find (is_named c.args.asked.file.now) files) c.as_slice.ensures c.in-Some.ensures) in
-    form_is_whole c.items_are_whole.ensures (word_of c.args.kind) file (laid_in c.args.bytes.now c.in-Ok.deck c.args.asked.file.now file c.in-Ok.ensures.deck named)
-    c.in-Ok-form_of.form c.in-Ok-form_of.ensures.form
+    record {
+      whole = form_is_whole c.items_are_whole.ensures (word_of c.args.kind) file (laid_in c.args.bytes.now c.in-Ok.deck c.args.asked.file.now file c.in-Ok.ensures.deck named)
+          c.in-Ok-form_of.form c.in-Ok-form_of.ensures.form;
+    }
 
 pub returns-in-Ok-end-clause-loaded : goal.returns-in-Ok-end-clause-loaded
 returns-in-Ok-end-clause-loaded g c =
