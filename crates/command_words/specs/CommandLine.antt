@@ -103,12 +103,12 @@ load_shape = record (new_shape (codes "load")) {
 abbrev pub stat_shape : Shape
 stat_shape = record (new_shape (codes "stat")) { rules = word_rule (codes "file") ∷ [] }
 
--- the program, before its subcommands
+-- the program with its version, and before its subcommands
+abbrev pub versioned_shape : Shape
+versioned_shape = record (new_shape (codes "cobix")) { has_version = true }
+
 abbrev pub program_shape : Shape
-program_shape = record (new_shape (codes "cobix")) {
-  has_version = true;
-  subcommand_required = true;
-}
+program_shape = record versioned_shape { subcommand_required = true }
 
 -- to run, check and serve
 abbrev pub runs_app : App

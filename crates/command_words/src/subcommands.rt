@@ -2,7 +2,7 @@
 ghost use Rattle.std.specs.Prelude.{◌≡◌, [], false, codes, IfOk};
 ghost use Rattle.clap.specs.Words.{app_of, with_rule};
 ghost use Rattle.clap.specs.declared.builder.command.Command.TheViews.{out-Command};
-ghost use Rattle.command_words.specs.CommandLine.{word_rule, option_rule, text_rule, usual_rule, name_rule, flag_rule, number_rule, first_rule, run_shape, check_shape, serve_shape, schema_shape, explain_shape, deck_shape, list_shape, cobol_shape, load_shape, stat_shape, program_shape, runs_app, lists_app, records_app, program_app};
+ghost use Rattle.command_words.specs.CommandLine.{word_rule, option_rule, text_rule, usual_rule, name_rule, flag_rule, number_rule, first_rule, run_shape, check_shape, serve_shape, schema_shape, explain_shape, deck_shape, list_shape, cobol_shape, load_shape, stat_shape, versioned_shape, program_shape, runs_app, lists_app, records_app, program_app};
 
 use crate::arguments::{deck, first, flag, folder, name, number, option, text, usual, word, words};
 use crate::help::{
@@ -241,11 +241,10 @@ fn cobol_command<'a>(alloc: Global) -> Result<Command<'a>, AllocError>
     cobol.arg(deck(alloc))?.arg(fixed)
 }
 
-/// The options of a load, and its text.
-fn with_text<'a>(alloc: Global, load: Command<'a>) -> Result<Command<'a>, AllocError>
+/// A load with the name of its file, and its text.
+fn with_names<'a>(alloc: Global, load: Command<'a>) -> Result<Command<'a>, AllocError>
     requires { (out-Command load).has_globals ≡ false }
-    ensures shape { IfOk result (λ command. app_of command ≡ with_rule (with_rule (with_rule (with_rule (app_of load.entry) (option_rule (codes "file")))
-        (word_rule (codes "text"))) (usual_rule (codes "as") (codes "text"))) (flag_rule (codes "into"))) }
+    ensures shape { IfOk result (λ command. app_of command ≡ with_rule (with_rule (app_of load.entry) (option_rule (codes "file"))) (word_rule (codes "text"))) }
     ensures local { IfOk result (λ command. (out-Command command).has_globals ≡ false) }
 {
     let file = option(
@@ -260,6 +259,16 @@ fn with_text<'a>(alloc: Global, load: Command<'a>) -> Result<Command<'a>, AllocE
         "TEXT",
         "The file of the lines, or '-' for standard input",
     );
+    load.arg(file)?.arg(text)
+}
+
+/// The options of a load, and its text.
+fn with_text<'a>(alloc: Global, load: Command<'a>) -> Result<Command<'a>, AllocError>
+    requires { (out-Command load).has_globals ≡ false }
+    ensures shape { IfOk result (λ command. app_of command ≡ with_rule (with_rule (with_rule (with_rule (app_of load.entry) (option_rule (codes "file")))
+        (word_rule (codes "text"))) (usual_rule (codes "as") (codes "text"))) (flag_rule (codes "into"))) }
+    ensures local { IfOk result (λ command. (out-Command command).has_globals ≡ false) }
+{
     let form = usual(
         alloc,
         "as",
@@ -272,7 +281,7 @@ fn with_text<'a>(alloc: Global, load: Command<'a>) -> Result<Command<'a>, AllocE
         "into",
         "Writes them into the file that is there; where it is not given, a new file is made",
     );
-    load.arg(file)?.arg(text)?.arg(form)?.arg(into)
+    with_names(alloc, load)?.arg(form)?.arg(into)
 }
 
 /// `load`.
@@ -304,15 +313,22 @@ fn stat_command<'a>(alloc: Global) -> Result<Command<'a>, AllocError>
     stat.arg(file)
 }
 
-/// The program, before its subcommands.
-fn program<'a>(alloc: Global) -> Command<'a>
-    ensures shape { app_of result ≡ record { top = program_shape; subs = [] } }
+/// The program, with its version.
+fn versioned<'a>(alloc: Global) -> Command<'a>
+    ensures shape { app_of result ≡ record { top = versioned_shape; subs = [] } }
     ensures local { (out-Command result).has_globals ≡ false }
 {
     Command::new(alloc, "cobix")
         .about("Indexed files of COBOL")
         .version(VERSION)
-        .subcommand_required(true)
+}
+
+/// The program, before its subcommands.
+fn program<'a>(alloc: Global) -> Command<'a>
+    ensures shape { app_of result ≡ record { top = program_shape; subs = [] } }
+    ensures local { (out-Command result).has_globals ≡ false }
+{
+    versioned(alloc).subcommand_required(true)
 }
 
 /// The program with the subcommands that run, check and serve.
