@@ -6,15 +6,13 @@ use Rattle.io_state.specs.declared.fault.Fault.{Fault}
 use Rattle.io_state.specs.declared.fault.Fault.TheVariants.{Device, Memory, Full, Damage, Broken}
 use Rattle.indexed_file.specs.Calls.{is_answered}
 use Rattle.indexed_file.specs.File.{File}
-use Rattle.indexed_file.specs.Images.{is_replaced}
 use Rattle.indexed_file.specs.declared.answer.Replaced.{Replaced}
 use Rattle.indexed_file.specs.declared.answer.Replaced.TheVariants.{Done, Clash, Gone}
 use Rattle.pages.specs.Cause.{IsCaused}
 use Rattle.pages.specs.ShownPages.{ShownPages}
 use Rattle.open_file.specs.Stands.{Stands}
 use Rattle.open_file.specs.declared.open_file.OpenFile.{OpenFile}
-use Rattle.open_file.proofs.ExitLemmas.{if_ok}
-use Rattle.file_changes.specs.FileChange.{FileChange}
+use Rattle.indexed_file.specs.FileChange.{FileChange, is_replaced}
 use Rattle.file_changes.specs.Changes.{HasChanged, KeepsFile, Changes, MayBreak}
 use Rattle.file_changes.specs.InPages.{FileInPages, in_pages, shown_in}
 use Rattle.file_changes.proofs.AddedLemmas.{broken_or_not}

@@ -18,7 +18,7 @@ use Rattle.open_file.specs.InOrder.{alt_entries, prime_entries}
 use Rattle.open_file.specs.Parts.{Parts}
 use Rattle.open_file.specs.Stands.{Stands, IsShaped}
 use Rattle.file_changes.specs.Old.{IsOldAt}
-use Rattle.file_changes.specs.FileChange.{removal}
+use Rattle.indexed_file.specs.FileChange.{removal}
 use Rattle.file_changes.specs.Changes.{HasChanged}
 use Rattle.file_changes.specs.Removing.{HasRowAndEntries, without_below}
 use Rattle.open_file.specs.declared.open_file.OpenFile.{OpenFile}

@@ -23,7 +23,7 @@ use Rattle.file_changes.specs.Adding.{entry_of, stamp_in}
 use Rattle.open_file.specs.Parts.{Parts}
 use Rattle.open_file.specs.Stands.{Stands, IsShaped}
 use Rattle.file_changes.specs.Old.{IsOldAt}
-use Rattle.file_changes.specs.FileChange.{replacement}
+use Rattle.indexed_file.specs.FileChange.{replacement}
 use Rattle.file_changes.specs.Changes.{HasChanged}
 use Rattle.file_changes.specs.Replacing.{stays, changed_in, changed_below, AreFreed, CanPutOver, next_after}
 use Rattle.open_file.specs.declared.open_file.OpenFile.{OpenFile}

@@ -1,5 +1,5 @@
 -- A change of an open file, said once for all that make it: what is answered and left, when nothing is changed, and when the file breaks.
-use Rattle.std.specs.Prelude.{◌≡◌, ◌≢◌, ◌≤◌, ◌+◌, ℕ, Bool, true, false, not, ◌||◌, Result, Err, IsTrue, IsFalse, IfOk, IfErr, OnOk}
+use Rattle.std.specs.Prelude.{◌≡◌, ◌≢◌, ◌≤◌, ◌+◌, ℕ, Bool, true, false, Result, Err, IsTrue, IsFalse, IfOk, IfErr, OnOk}
 use Rattle.io_state.specs.declared.fault.Fault.{Fault}
 use Rattle.io_state.specs.declared.fault.Fault.TheVariants.{Full, Broken}
 use Rattle.record_layout.specs.Schema.{Schema}
@@ -7,7 +7,7 @@ use Rattle.indexed_file.specs.File.{File}
 use Rattle.indexed_file.specs.Room.{Room, most_to_change}
 use Rattle.pages.specs.Answer.{IsAnswer}
 use Rattle.open_file.specs.Faults.{IsCausedIn}
-use Rattle.file_changes.specs.FileChange.{FileChange}
+use Rattle.indexed_file.specs.FileChange.{FileChange, has_room_for, LacksRoomFor}
 
 -- what an open file shows, wherever its pages are
 pub record ShownFile (T : Type 0) : Type 1 where
@@ -53,10 +53,10 @@ pub record Changes {T X : Type 0} (shown : ShownFile T) (change : FileChange X) 
   pub unmade : IfOk result (λ x. change.is_made x ≡ false → shown.Reads before after)
   pub begun : IfOk result (λ x. change.is_made x ≡ true → shown.CanChange after)
   pub room : IsTrue (shown.is_honest after) → (file : File) → shown.StandsFor before file
-      → OnOk result (IsTrue (change.clashes file || not (change.lacks_room (shown.room before) file)))
+      → OnOk result (IsTrue (has_room_for (shown.room before) change file))
   pub full : result ≡ Err Full → shown.Reads before after
   pub lacks : result ≡ Err Full → IsTrue (shown.is_honest after) → (file : File) → shown.StandsFor before file
-      → IsFalse (change.clashes file) × IsTrue (change.lacks_room (shown.room before) file)
+      → LacksRoomFor (shown.room before) change file
   pub keeps : KeepsFile shown before after
 
 -- a broken file answers Broken, and a fault other than Full breaks it

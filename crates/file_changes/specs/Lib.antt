@@ -1,4 +1,3 @@
-pub mod FileChange
 pub mod Changes
 pub mod InPages
 pub mod Contents

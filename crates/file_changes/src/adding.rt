@@ -14,7 +14,7 @@ ghost use Rattle.key_index.specs.Standing.{prime_height, alt_height};
 ghost use Rattle.open_file.specs.Stored.{stored};
 ghost use Rattle.open_file.specs.Parts.{but_at};
 ghost use Rattle.open_file.specs.Stands.{Stands, IsShaped, heights_of};
-ghost use Rattle.file_changes.specs.FileChange.{addition};
+ghost use Rattle.indexed_file.specs.FileChange.{addition};
 ghost use Rattle.file_changes.specs.Changes.{Changes, MayBreak};
 ghost use Rattle.file_changes.specs.Contents.{ChangesParts};
 ghost use Rattle.file_changes.specs.InPages.{in_pages, shown_in, IsReadyIn};

@@ -11,7 +11,7 @@ ghost use Rattle.open_file.specs.Parts.{but_at};
 ghost use Rattle.open_file.specs.Stands.{IsShaped};
 ghost use Rattle.file_changes.specs.Adding.{levels_in};
 ghost use Rattle.file_changes.specs.Old.{row_with};
-ghost use Rattle.file_changes.specs.FileChange.{removal};
+ghost use Rattle.indexed_file.specs.FileChange.{removal};
 ghost use Rattle.file_changes.specs.Changes.{Changes, MayBreak};
 ghost use Rattle.file_changes.specs.Contents.{ChangesParts};
 ghost use Rattle.file_changes.specs.InPages.{in_pages, shown_in, IsReadyIn};

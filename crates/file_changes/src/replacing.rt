@@ -17,7 +17,7 @@ ghost use Rattle.open_file.specs.Stands.{Stands, IsShaped, heights_of, room_of};
 ghost use Rattle.file_changes.specs.Adding.{levels_in};
 ghost use Rattle.file_changes.specs.Old.{row_with, IsOldAt};
 ghost use Rattle.file_changes.specs.Removing.{AreThere};
-ghost use Rattle.file_changes.specs.FileChange.{replacement};
+ghost use Rattle.indexed_file.specs.FileChange.{replacement};
 ghost use Rattle.file_changes.specs.Changes.{Changes, MayBreak, HasChanged};
 ghost use Rattle.file_changes.specs.Contents.{ChangesParts};
 ghost use Rattle.file_changes.specs.InPages.{in_pages, shown_in, IsReadyIn};

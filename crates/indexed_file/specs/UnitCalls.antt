@@ -1,11 +1,15 @@
 -- The kinds of calls on a unit: what each call of a kind promises, besides its answer.
-use Rattle.std.specs.Prelude.{◌≡◌, ◌≢◌, ℕ, ◌≤◌, Bool, List, Result, Err, OnOk, OnErr, IfErr, IsTrue, IsFalse}
+use Rattle.std.specs.Prelude.{◌≡◌, ◌≢◌, ℕ, ◌≤◌, List, Option, None, Result, Ok, Err, OnOk, OnErr, IfOk, IfErr, IsTrue, IsFalse}
 use Rattle.io_state.specs.declared.fault.Fault.{Fault}
 use Rattle.io_state.specs.declared.fault.Fault.TheVariants.{Full, Broken as BrokenUnit}
 use Rattle.record_layout.specs.Schema.{Schema}
-use Rattle.indexed_file.specs.File.{empty_file}
-use Rattle.indexed_file.specs.World.{OnlyAt, Unsound, Shut, Opened, holding_at, named_at, name_at, schema_at, is_open, is_broken}
-use Rattle.indexed_file.specs.Room.{most_to_change, room_of_new}
+use Rattle.indexed_file.specs.File.{Row, empty_file}
+use Rattle.indexed_file.specs.World.{OnlyAt, Unsound, Shut, Opened, holding_at, named_at, name_at, schema_at, file_at, is_open, is_broken}
+use Rattle.indexed_file.specs.declared.answer.Found.{Found}
+use Rattle.indexed_file.specs.Answers.{area_after}
+use Rattle.indexed_file.specs.FileChange.{FileChange, has_room_for, LacksRoomFor}
+use Rattle.indexed_file.specs.UnitAnswers.{found_at, world_changed}
+use Rattle.indexed_file.specs.Room.{most_to_read, most_to_change, room_of_new}
 use Rattle.indexed_file.specs.Shown.{Shown}
 use Rattle.indexed_file.specs.Believed.{Believed}
 use Rattle.indexed_file.specs.Images.{Trace, AllStay, CallGoes, untouched, trace_of_change, trace_of_shut}
@@ -45,13 +49,28 @@ pub record ReadsUnit {S X : Type 0} (shown : Shown S) (u most : ℕ) (old new : 
   pub images : CallGoes shown u untouched old new
   pub keeps : Keeps shown old new
 
+-- a call that looks in the open unit u for this row by key k, and reads its record into the front of the area
+pub record FindsRow {S : Type 0} (shown : Shown S) (u k : ℕ) (row : Option Row) (before after : List ℕ) (old new : S)
+    (result : Result (Option Found) Fault) : Type 0 where
+  pub found : Believed shown u old new (IfOk result (λ found. found ≡ found_at (shown.world old) u k row))
+  pub area : Believed shown u old new (OnOk result (after ≡ area_after before row))
+  pub none : result ≡ Ok None → after ≡ before
+  pub err : OnErr result (after ≡ before)
+  pub reads : ReadsUnit shown u (most_to_read (shown.room old u) k) old new result
+
 -- a call on unit u has given up: it has only read, and the reason is to be believed
 abbrev pub GivesUp : {S : Type 0} → Shown S → ℕ → S → S → Type 0 → Type 0
 GivesUp shown u old new reason =
     OnlyReads u (shown.is_honest new) (shown.world old) (shown.world new) × Believed shown u old new reason
 
--- a call that changes the open unit u, which stays open: a fault other than Full leaves it broken. The count of its pages does not fall
-pub record ChangesUnit {S X : Type 0} (shown : Shown S) (u : ℕ) (is_made : X → Bool) (old new : S) (result : Result X Fault) : Type 0 where
+-- a call that makes this change of the open unit u, which stays open: it answers Full exactly where the change does not clash and
+-- lacks room, and any other fault leaves the unit broken. The count of its pages does not fall
+pub record ChangesUnit {S X : Type 0} (shown : Shown S) (u : ℕ) (change : FileChange X) (old new : S) (result : Result X Fault) : Type 0 where
+  pub answer : Believed shown u old new (IfOk result (λ answer. answer ≡ change.answer (file_at (shown.world old) u)))
+  pub done : Believed shown u old new (OnOk result (shown.world new ≡ world_changed change (shown.world old) u))
+  pub room : Believed shown u old new (OnOk result (IsTrue (has_room_for (shown.room old u) change (file_at (shown.world old) u))))
+  pub full : result ≡ Err Full → IsTrue change.takes_pages
+      × GivesUp shown u old new (LacksRoomFor (shown.room old u) change (file_at (shown.world old) u))
   pub asked : Believed shown u old new (AsksAtMost shown u (most_to_change (shown.room old u)) old new result)
   pub counted : shown.pages_asked old u ≤ shown.pages_asked new u
   pub broken : IsTrue (is_broken (holding_at (shown.world old) u)) → result ≡ Err BrokenUnit
@@ -61,8 +80,8 @@ pub record ChangesUnit {S X : Type 0} (shown : Shown S) (u : ℕ) (is_made : X �
   pub only : OnlyAt u (shown.world old) (shown.world new)
   pub opened : IsTrue (is_open (holding_at (shown.world new) u))
   pub schema : schema_at (shown.world new) u ≡ schema_at (shown.world old) u
-  pub unmade : IsTrue (is_unmade is_made result) → SamePages shown u old new
-  pub images : CallGoes shown u (trace_of_change is_made result) old new
+  pub unmade : IsTrue (is_unmade change.is_made result) → SamePages shown u old new
+  pub images : CallGoes shown u (trace_of_change change.is_made result) old new
   pub keeps : Keeps shown old new
 
 -- a call that shuts the open unit u, whatever it answers

@@ -1,5 +1,5 @@
 -- What the calls answer that look for a row.
-use Rattle.std.specs.Prelude.{◌≡◌, ℕ, ◌≤◌, Bool, List, length, drop, Option, Some, Result, OnOk, option_map}
+use Rattle.std.specs.Prelude.{◌≡◌, ℕ, ◌≤◌, Bool, List, length, drop, Option, None, Some, Result, Ok, OnOk, OnErr, IsTrue, option_map}
 use Rattle.record_layout.specs.Schema.{Schema}
 use Rattle.indexed_file.specs.File.{Row, File}
 use Rattle.indexed_file.specs.Change.{row_of}
@@ -31,6 +31,14 @@ abbrev pub Delivers : OpenFile → PageMap → ℕ → (Row → Bool) → List �
 Delivers opened pages k test old new result =
     (file : File) → Stands opened pages file
     → ReadsRow result (option_map (found_of opened.schema k file) (least opened.schema k test file)) old new (least opened.schema k test file)
+
+-- a call that looks for that row: what it delivers where no wrong answer of the device was taken as true, and that the area stays where
+-- it tells of none, and at a fault
+pub record FindsFirst (is_honest : Bool) (opened : OpenFile) (pages : PageMap) (k : ℕ) (test : Row → Bool) (old new : List ℕ)
+    (result : Result (Option Found) Fault) : Type 0 where
+  pub found : IsTrue is_honest → Delivers opened pages k test old new result
+  pub none : result ≡ Ok None → new ≡ old
+  pub kept : OnErr result (new ≡ old)
 
 -- the full value of key k of the first row whose value begins so related to the operand
 abbrev pub Seeks : OpenFile → PageMap → ℕ → Relation → List ℕ → Result (Option (ArrayVec ℕ)) Fault → Type 0

@@ -1,13 +1,13 @@
 //! The record that comes next.
 
-ghost use Rattle.std.specs.Prelude.{◌≡◌, ◌+◌, ◌≤◌, ◌<◌, length, None, Ok, Err, IsTrue, IfErr, OnErr};
+ghost use Rattle.std.specs.Prelude.{◌≡◌, ◌≤◌, ◌<◌, length, None, Ok, Err, IsTrue, OnErr};
 ghost use Rattle.indexed_file.specs.File.{File};
 ghost use Rattle.indexed_file.specs.Rank.{admits};
 ghost use Rattle.indexed_file.specs.Room.{most_to_read};
 ghost use Rattle.pages.specs.PageCalls.{ReadsPages};
 ghost use Rattle.open_file.specs.Stands.{Stands, IsShaped, room_of};
-ghost use Rattle.open_file.specs.Faults.{IsCausedIn};
-ghost use Rattle.open_file.specs.Reading.{Delivers};
+ghost use Rattle.open_file.specs.Faults.{ReadsFile};
+ghost use Rattle.open_file.specs.Reading.{Delivers, FindsFirst};
 ghost use Rattle.open_file.specs.Steps.{StandsStill};
 
 use crate::open_file::OpenFile;
@@ -32,17 +32,13 @@ impl OpenFile {
         requires shaped { IsShaped self.old }
         requires key { k < length self.old.schema.keys }
         requires area { length area.old ≡ self.old.schema.greatest }
-        ensures found { IsTrue (P.shown.state pages.new).is_honest
-            → Delivers self.old (P.shown.state pages.old).live k (admits self.old.schema k position.now) area.old area.new result }
+        ensures finds { FindsFirst (P.shown.state pages.new).is_honest self.old (P.shown.state pages.old).live k
+            (admits self.old.schema k position.now) area.old area.new result }
         ensures stands { IsTrue (P.shown.state pages.new).is_honest → (file : File) → Stands self.old (P.shown.state pages.old).live file
             → Stands self.new (P.shown.state pages.old).live file }
         ensures rest { self.new ≡ record self.old { path = self.new.path } }
-        ensures none { result ≡ Ok None → area.new ≡ area.old }
-        ensures kept { OnErr result (area.new ≡ area.old) }
-        ensures broken { IsTrue self.old.broken → result ≡ Err Fault.Broken }
-        ensures cause { IfErr result (IsCausedIn self.old.broken (P.shown.HasFailed pages.old pages.new) ⊥) }
-        ensures asked { (P.shown.state pages.new).asked ≤ (P.shown.state pages.old).asked + most_to_read (room_of self.old (P.shown.state pages.old).available) k }
-        ensures reads { P.shown.Reads pages.old pages.new }
+        ensures reads { ReadsFile P.shown self.old.broken
+            (most_to_read (room_of self.old (P.shown.state pages.old).available) k) pages.old pages.new result }
     {
         if self.broken {
             return Err(Fault::Broken);

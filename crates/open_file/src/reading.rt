@@ -1,6 +1,6 @@
 //! The record that a key leads to.
 
-ghost use Rattle.std.specs.Prelude.{◌≡◌, ◌+◌, ◌-◌, ◌*◌, ◌≤◌, ◌<◌, ℕ, length, None, Some, Ok, Err, Option, option_map, IsTrue, IsFalse, IfErr, OnErr, slice_index, slice_index_or};
+ghost use Rattle.std.specs.Prelude.{◌≡◌, ◌+◌, ◌-◌, ◌*◌, ◌≤◌, ◌<◌, ℕ, length, None, Some, Ok, Err, Option, option_map, IsTrue, IsFalse, OnErr, slice_index, slice_index_or};
 ghost use Rattle.record_layout.specs.Schema.{key_at};
 ghost use Rattle.indexed_file.specs.File.{Row, File};
 ghost use Rattle.indexed_file.specs.Change.{row_of};
@@ -13,8 +13,8 @@ ghost use Rattle.key_index.specs.Calls.{IsAltFirst};
 ghost use Rattle.key_index.specs.Standing.{prime_height, alt_height};
 ghost use Rattle.open_file.specs.Stands.{Stands, IsShaped, room_of, heights_of};
 ghost use Rattle.open_file.specs.InOrder.{alt_entries};
-ghost use Rattle.open_file.specs.Faults.{IsCausedIn};
-ghost use Rattle.open_file.specs.Reading.{ReadsRow, Delivers, IsRowAt, IsEntryOfRow};
+ghost use Rattle.open_file.specs.Faults.{ReadsFile};
+ghost use Rattle.open_file.specs.Reading.{ReadsRow, Delivers, FindsFirst, IsRowAt, IsEntryOfRow};
 
 use crate::open_file::OpenFile;
 use indexed_file::Found;
@@ -41,17 +41,13 @@ impl OpenFile {
         requires shaped { IsShaped self.now }
         requires key { k < length self.now.schema.keys }
         requires area { length area.old ≡ self.now.schema.greatest }
-        ensures found { IsTrue (P.shown.state pages.new).is_honest
-            → Delivers self.now (P.shown.state pages.old).live k (has_value self.now.schema k key.now.items) area.old area.new result }
-        ensures none { result ≡ Ok None → area.new ≡ area.old }
-        ensures kept { OnErr result (area.new ≡ area.old) }
-        ensures broken { IsTrue self.now.broken → result ≡ Err Fault.Broken }
-        ensures cause { IfErr result (IsCausedIn self.now.broken (P.shown.HasFailed pages.old pages.new) ⊥) }
-        ensures asked { (P.shown.state pages.new).asked ≤ (P.shown.state pages.old).asked + most_to_read (room_of self.now (P.shown.state pages.old).available) k }
+        ensures finds { FindsFirst (P.shown.state pages.new).is_honest self.now (P.shown.state pages.old).live k
+            (has_value self.now.schema k key.now.items) area.old area.new result }
         ensures once { (P.shown.state pages.new).asked ≤ (P.shown.state pages.old).asked + 2 * slice_index (heights_of self.now) k + prime_height self.now.prime + 1 }
         ensures alone { IsFalse (key_at self.now.schema k).duplicates
             → (P.shown.state pages.new).asked ≤ (P.shown.state pages.old).asked + slice_index (heights_of self.now) k + prime_height self.now.prime + 1 }
-        ensures reads { P.shown.Reads pages.old pages.new }
+        ensures reads { ReadsFile P.shown self.now.broken
+            (most_to_read (room_of self.now (P.shown.state pages.old).available) k) pages.old pages.new result }
     {
         if self.broken {
             return Err(Fault::Broken);
@@ -69,10 +65,8 @@ impl OpenFile {
         requires ready { P.shown.IsReady pages.old }
         ensures found { IsTrue (P.shown.state pages.new).is_honest → (file : File) → Stands self.now (P.shown.state pages.old).live file
             → IsAnswer result (λ key. option_map (λ key. key.items) key ≡ highest_of self.now.schema file.rows) }
-        ensures broken { IsTrue self.now.broken → result ≡ Err Fault.Broken }
-        ensures cause { IfErr result (IsCausedIn self.now.broken (P.shown.HasFailed pages.old pages.new) ⊥) }
-        ensures asked { (P.shown.state pages.new).asked ≤ (P.shown.state pages.old).asked + most_to_seek (room_of self.now (P.shown.state pages.old).available) 0 }
-        ensures reads { P.shown.Reads pages.old pages.new }
+        ensures reads { ReadsFile P.shown self.now.broken
+            (most_to_seek (room_of self.now (P.shown.state pages.old).available) 0) pages.old pages.new result }
     {
         if self.broken {
             return Err(Fault::Broken);

@@ -1,12 +1,12 @@
 //! The first value that is so related to an operand.
 
-ghost use Rattle.std.specs.Prelude.{◌≡◌, ◌+◌, ◌*◌, ◌≤◌, ◌<◌, length, find, Some, None, Err, IsTrue, IfErr, if◌then◌else◌};
+ghost use Rattle.std.specs.Prelude.{◌≡◌, ◌*◌, ◌≤◌, ◌<◌, length, find, Some, None, Err, IsTrue, if◌then◌else◌};
 ghost use Rattle.indexed_file.specs.Room.{most_to_seek};
 ghost use Rattle.pages.specs.PageCalls.{ReadsPages};
 ghost use Rattle.key_index.specs.Standing.{prime_height, alt_height};
 ghost use Rattle.key_index.specs.Calls.{PrimeFinds, AltFinds};
 ghost use Rattle.open_file.specs.Stands.{IsShaped, room_of};
-ghost use Rattle.open_file.specs.Faults.{IsCausedIn};
+ghost use Rattle.open_file.specs.Faults.{ReadsFile};
 ghost use Rattle.open_file.specs.Reading.{Seeks};
 ghost use Rattle.open_file.specs.Steps.{leads_prime, leads_alt, is_wanted};
 
@@ -30,10 +30,8 @@ impl OpenFile {
         requires shaped { IsShaped self.now }
         requires key { k < length self.now.schema.keys }
         ensures found { IsTrue (P.shown.state pages.new).is_honest → Seeks self.now (P.shown.state pages.old).live k relation operand.now result }
-        ensures broken { IsTrue self.now.broken → result ≡ Err Fault.Broken }
-        ensures cause { IfErr result (IsCausedIn self.now.broken (P.shown.HasFailed pages.old pages.new) ⊥) }
-        ensures asked { (P.shown.state pages.new).asked ≤ (P.shown.state pages.old).asked + most_to_seek (room_of self.now (P.shown.state pages.old).available) k }
-        ensures reads { P.shown.Reads pages.old pages.new }
+        ensures reads { ReadsFile P.shown self.now.broken
+            (most_to_seek (room_of self.now (P.shown.state pages.old).available) k) pages.old pages.new result }
     {
         if self.broken {
             return Err(Fault::Broken);

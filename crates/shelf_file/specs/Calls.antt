@@ -1,10 +1,13 @@
 -- What the calls on an open file leave.
-use Rattle.std.specs.Prelude.{◌≡◌, ℕ, true, IsTrue}
+use Rattle.std.specs.Prelude.{◌≡◌, ◌≤◌, ◌+◌, ℕ, true, IsTrue, Result, Err, IfErr}
+use Rattle.io_state.specs.declared.fault.Fault.{Fault}
+use Rattle.io_state.specs.declared.fault.Fault.TheVariants.{Broken}
 use Rattle.indexed_file.specs.File.{File}
 use Rattle.page_store.specs.ShelfState.{ShelfState}
 use Rattle.page_alloc.specs.Joining.{HasFailed}
 use Rattle.page_alloc.specs.Steps.{ReadsPages, Moves, state_of}
 use Rattle.open_file.specs.Stands.{Stands}
+use Rattle.open_file.specs.Faults.{IsCausedIn}
 use Rattle.file_changes.specs.Changes.{ShownFile}
 use Rattle.shelf_file.specs.Standing.{IsReady, StandsFor, live_of, room_in}
 use Rattle.shelf_file.specs.declared.shelf_file.ShelfFile.{ShelfFile}
@@ -41,3 +44,10 @@ shown_on_shelf = record {
   Begins = λ before after. Moves before.held.pages after.held.pages before.shelf after.shelf before.faults after.faults;
   HasFailed = λ before after. HasFailed before.faults after.faults;
 }
+
+-- a call that only reads: why it gave up, how many pages it asked for at most, and what it left
+pub record ReadsOnShelf {X : Type 0} (most : ℕ) (before after : FileOnShelf) (result : Result X Fault) : Type 0 where
+  pub broken : IsTrue before.held.file.broken → result ≡ Err Broken
+  pub cause : IfErr result (IsCausedIn before.held.file.broken (HasFailed before.faults after.faults) ⊥)
+  pub asked : after.held.pages.cache.asked ≤ before.held.pages.cache.asked + most
+  pub step : OnlyReadsFile before.held after.held before.shelf after.shelf before.faults after.faults

@@ -1,7 +1,7 @@
 //! The calls that change records.
 
 ghost use Rattle.std.specs.Prelude.{◌≤◌, true, false, length};
-ghost use Rattle.file_changes.specs.FileChange.{addition, replacement, removal};
+ghost use Rattle.indexed_file.specs.FileChange.{addition, replacement, removal};
 ghost use Rattle.file_changes.specs.Changes.{Changes, MayBreak};
 ghost use Rattle.shelf_file.specs.Standing.{IsReady};
 ghost use Rattle.shelf_file.specs.Calls.{on_shelf, shown_on_shelf};

@@ -1,16 +1,14 @@
 //! The calls that read records.
 
-ghost use Rattle.std.specs.Prelude.{◌≡◌, ◌+◌, ◌≤◌, ◌<◌, length, None, Ok, Err, option_map, IsTrue, IfErr, OnErr};
+ghost use Rattle.std.specs.Prelude.{◌≡◌, ◌<◌, length, option_map, IsTrue};
 ghost use Rattle.indexed_file.specs.File.{File};
 ghost use Rattle.indexed_file.specs.Rank.{has_value, admits, highest_of};
 ghost use Rattle.indexed_file.specs.Room.{most_to_read, most_to_seek};
 ghost use Rattle.pages.specs.Answer.{IsAnswer};
-ghost use Rattle.page_alloc.specs.Joining.{HasFailed};
 ghost use Rattle.open_file.specs.Stands.{Stands};
-ghost use Rattle.open_file.specs.Faults.{IsCausedIn};
-ghost use Rattle.open_file.specs.Reading.{Delivers, Seeks};
+ghost use Rattle.open_file.specs.Reading.{FindsFirst, Seeks};
 ghost use Rattle.shelf_file.specs.Standing.{IsReady, live_of, room_in};
-ghost use Rattle.shelf_file.specs.Calls.{OnlyReadsFile};
+ghost use Rattle.shelf_file.specs.Calls.{ReadsOnShelf, on_shelf};
 
 use crate::shelf_file::ShelfFile;
 use indexed_file::Found;
@@ -30,14 +28,10 @@ impl ShelfFile {
         requires ready { IsReady self.old (S.state shelf.old) }
         requires key { k < length self.old.file.schema.keys }
         requires area { length area.old ≡ self.old.file.schema.greatest }
-        ensures found { IsTrue (S.state shelf.new).is_honest
-            → Delivers self.old.file (live_of self.old (S.state shelf.old)) k (has_value self.old.file.schema k key.now.items) area.old area.new result }
-        ensures none { result ≡ Ok None → area.new ≡ area.old }
-        ensures kept { OnErr result (area.new ≡ area.old) }
-        ensures broken { IsTrue self.old.file.broken → result ≡ Err Fault.Broken }
-        ensures cause { IfErr result (IsCausedIn self.old.file.broken (HasFailed (S.fault_count shelf.old) (S.fault_count shelf.new)) ⊥) }
-        ensures asked { self.new.pages.cache.asked ≤ self.old.pages.cache.asked + most_to_read (room_in self.old) k }
-        ensures reads { OnlyReadsFile self.old self.new (S.state shelf.old) (S.state shelf.new) (S.fault_count shelf.old) (S.fault_count shelf.new) }
+        ensures finds { FindsFirst (S.state shelf.new).is_honest self.old.file (live_of self.old (S.state shelf.old)) k
+            (has_value self.old.file.schema k key.now.items) area.old area.new result }
+        ensures reads { ReadsOnShelf (most_to_read (room_in self.old) k) (on_shelf self.old (S.state shelf.old) (S.fault_count shelf.old))
+            (on_shelf self.new (S.state shelf.new) (S.fault_count shelf.new)) result }
     {
         let mut pages = FilePages {
             file: &mut self.pages,
@@ -57,14 +51,10 @@ impl ShelfFile {
         requires ready { IsReady self.old (S.state shelf.old) }
         requires key { k < length self.old.file.schema.keys }
         requires area { length area.old ≡ self.old.file.schema.greatest }
-        ensures found { IsTrue (S.state shelf.new).is_honest
-            → Delivers self.old.file (live_of self.old (S.state shelf.old)) k (admits self.old.file.schema k position.now) area.old area.new result }
-        ensures none { result ≡ Ok None → area.new ≡ area.old }
-        ensures kept { OnErr result (area.new ≡ area.old) }
-        ensures broken { IsTrue self.old.file.broken → result ≡ Err Fault.Broken }
-        ensures cause { IfErr result (IsCausedIn self.old.file.broken (HasFailed (S.fault_count shelf.old) (S.fault_count shelf.new)) ⊥) }
-        ensures asked { self.new.pages.cache.asked ≤ self.old.pages.cache.asked + most_to_read (room_in self.old) k }
-        ensures reads { OnlyReadsFile self.old self.new (S.state shelf.old) (S.state shelf.new) (S.fault_count shelf.old) (S.fault_count shelf.new) }
+        ensures finds { FindsFirst (S.state shelf.new).is_honest self.old.file (live_of self.old (S.state shelf.old)) k
+            (admits self.old.file.schema k position.now) area.old area.new result }
+        ensures reads { ReadsOnShelf (most_to_read (room_in self.old) k) (on_shelf self.old (S.state shelf.old) (S.fault_count shelf.old))
+            (on_shelf self.new (S.state shelf.new) (S.fault_count shelf.new)) result }
     {
         let mut pages = FilePages {
             file: &mut self.pages,
@@ -85,10 +75,8 @@ impl ShelfFile {
         requires key { k < length self.old.file.schema.keys }
         ensures found { IsTrue (S.state shelf.new).is_honest
             → Seeks self.old.file (live_of self.old (S.state shelf.old)) k relation operand.now result }
-        ensures broken { IsTrue self.old.file.broken → result ≡ Err Fault.Broken }
-        ensures cause { IfErr result (IsCausedIn self.old.file.broken (HasFailed (S.fault_count shelf.old) (S.fault_count shelf.new)) ⊥) }
-        ensures asked { self.new.pages.cache.asked ≤ self.old.pages.cache.asked + most_to_seek (room_in self.old) k }
-        ensures reads { OnlyReadsFile self.old self.new (S.state shelf.old) (S.state shelf.new) (S.fault_count shelf.old) (S.fault_count shelf.new) }
+        ensures reads { ReadsOnShelf (most_to_seek (room_in self.old) k) (on_shelf self.old (S.state shelf.old) (S.fault_count shelf.old))
+            (on_shelf self.new (S.state shelf.new) (S.fault_count shelf.new)) result }
     {
         let mut pages = FilePages {
             file: &mut self.pages,
@@ -102,10 +90,8 @@ impl ShelfFile {
         requires ready { IsReady self.old (S.state shelf.old) }
         ensures found { IsTrue (S.state shelf.new).is_honest → (file : File) → Stands self.old.file (live_of self.old (S.state shelf.old)) file
             → IsAnswer result (λ key. option_map (λ key. key.items) key ≡ highest_of self.old.file.schema file.rows) }
-        ensures broken { IsTrue self.old.file.broken → result ≡ Err Fault.Broken }
-        ensures cause { IfErr result (IsCausedIn self.old.file.broken (HasFailed (S.fault_count shelf.old) (S.fault_count shelf.new)) ⊥) }
-        ensures asked { self.new.pages.cache.asked ≤ self.old.pages.cache.asked + most_to_seek (room_in self.old) 0 }
-        ensures reads { OnlyReadsFile self.old self.new (S.state shelf.old) (S.state shelf.new) (S.fault_count shelf.old) (S.fault_count shelf.new) }
+        ensures reads { ReadsOnShelf (most_to_seek (room_in self.old) 0) (on_shelf self.old (S.state shelf.old) (S.fault_count shelf.old))
+            (on_shelf self.new (S.state shelf.new) (S.fault_count shelf.new)) result }
     {
         let mut pages = FilePages {
             file: &mut self.pages,

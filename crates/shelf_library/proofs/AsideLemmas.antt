@@ -1,6 +1,6 @@
 -- What a call on one unit leaves of the others, and of the names that it has not.
 use Rattle.std.proofs.Common.{◌≡◌, ◌≢◌, ℕ, zero, suc, ◌<◌, ◌==◌, Bool, true, false, List, [], ◌∷◌, length, refl, ap, sym, subst, ◌∙◌, arith, bytes_eq, get_or}
-use Rattle.std.specs.Prelude.{slice_set, IsTrue, IsFalse, Option, is_some, if◌then◌else◌}
+use Rattle.std.specs.Prelude.{IsTrue, Option, is_some, if◌then◌else◌}
 use Rattle.std.specs.List.{IsDistinct, AllByRecursion}
 use Rattle.std.proofs.lemmas.List.{set-get_or}
 use Rattle.std.proofs.lemmas.Bool.{eqb-true, eqb-false}
@@ -10,20 +10,16 @@ use Rattle.indexed_file.specs.File.{File}
 use Rattle.indexed_file.specs.World.{World, FileUnit, Named, Absent, Holding, Shut, Broken, Opened as HasOpened, holding_at, named_at, name_at, with_unit, OnlyAt}
 use Rattle.indexed_file.specs.Images.{Stays}
 use Rattle.page_store.specs.DeviceFile.{DeviceFile, content}
-use Rattle.page_store.specs.ShelfState.{ShelfState, KeepsOthers, HasUnit, unit_name, unit_file}
+use Rattle.page_store.specs.ShelfState.{ShelfState, unit_name, unit_file}
 use Rattle.page_store.specs.Gate.{AllOpen}
 use Rattle.page_store.specs.Moments.{Throughout}
 use Rattle.page_store.specs.Pages.{page_of, HasPages}
-use Rattle.page_cache.specs.Cached.{pages_in, IsOver}
-use Rattle.page_alloc.specs.declared.paged_file.PagedFile.{PagedFile}
+use Rattle.page_cache.specs.Cached.{pages_in}
 use Rattle.page_alloc.specs.Chain.{chain, used}
-use Rattle.page_alloc.specs.Joining.{IsJoined}
-use Rattle.page_alloc.specs.PagedFile.{IsOpenOver}
 use Rattle.page_alloc.specs.Steps.{state_of}
 use Rattle.open_file.specs.ReadOff.{file_off}
 use Rattle.open_file.specs.Stands.{Stands}
 use Rattle.file_header.specs.declared.header.Header.{Header}
-use Rattle.shelf_file.specs.declared.look.Look.TheVariants.{Accepted}
 use Rattle.shelf_file.specs.declared.shelf_file.ShelfFile.{ShelfFile}
 use Rattle.shelf_file.specs.Named.{look_of, named_of}
 use Rattle.shelf_file.specs.Standing.{IsReady, StandsFor, live_of, file_in}
@@ -31,12 +27,12 @@ use Rattle.shelf_file.specs.Shelves.{AreClosed}
 use Rattle.shelf_library.specs.declared.held.Held.{Held}
 use Rattle.shelf_library.specs.declared.held.Held.TheVariants.{Nothing, Looked, Opened}
 use Rattle.shelf_library.specs.State.{LibraryState, held_at, IsLooked, AreLooked, IsReadyAt, AreReady}
-use Rattle.shelf_library.specs.Units.{unit_of, holding_of, world_of}
+use Rattle.shelf_library.specs.Units.{holding_of, world_of}
 use Rattle.shelf_library.specs.Truth.{IsTrulyClosed, IsTrulyOpen, IsShownTruly}
 use Rattle.shelf_library.specs.OneUnit.{AreUnits, ChangesAt, FitsItsFile, IsTrulyHeld}
-use Rattle.shelf_library.specs.Crashes.{Passes, AllPass}
+use Rattle.shelf_library.specs.Crashes.{Passes}
 use Rattle.shelf_library.specs.Library.{shown_by}
-use Rattle.shelf_library.proofs.WorldLemmas.{ShowsSame, only_at, set_here, set_aside, set_long, name_now, holding_now, named_now}
+use Rattle.shelf_library.proofs.WorldLemmas.{only_at, set_here, set_aside, set_long, name_now, holding_now, named_now}
 
 -- ---- two units have two names
 

@@ -1,10 +1,10 @@
 -- Units to which names were attached.
-use Rattle.std.proofs.Common.{◌≡◌, ℕ, zero, suc, ◌≤◌, List, [], ◌∷◌, length, map, Some, IsTrue, refl, sym, ap, subst, ◌∙◌, arith}
+use Rattle.std.proofs.Common.{◌≡◌, ℕ, zero, suc, List, [], ◌∷◌, length, map, Some, IsTrue, refl, sym, ap, subst, ◌∙◌, arith}
 use Rattle.std.specs.Prelude.{replicate, bytes_eq}
 use Rattle.std.specs.List.{IsDistinct}
 use Rattle.indexed_file.specs.Calls.{Keeps}
 use Rattle.indexed_file.specs.Images.{Stays}
-use Rattle.indexed_file.specs.World.{World, FileUnit, Named, Shut, named_in, attached}
+use Rattle.indexed_file.specs.World.{FileUnit, Named, Shut, named_in, attached}
 use Rattle.page_store.specs.DeviceFile.{DeviceFile}
 use Rattle.page_store.specs.ShelfState.{ShelfState}
 use Rattle.shelf_file.specs.Named.{look_of, named_of}

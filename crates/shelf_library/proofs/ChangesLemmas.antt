@@ -1,15 +1,16 @@
 -- What a call that changes the open file of a unit promises of the library.
-use Rattle.std.proofs.Common.{ℕ, ◌+◌, ◌≤◌, Bool, true, not, Some, Result, Ok, Err, IsTrue, IsFalse, OnOk, refl, sym, ap, subst, ◌∙◌}
+use Rattle.std.proofs.Common.{◌≡◌, ℕ, ◌+◌, ◌≤◌, Bool, true, not, Some, Result, Ok, Err, IsTrue, IsFalse, OnOk, refl, sym, ap, subst, ◌∙◌}
 use Rattle.record_layout.specs.Schema.{Schema}
 use Rattle.indexed_file.proofs.TestLemmas.{either}
 use Rattle.indexed_file.specs.Room.{most_to_change}
-use Rattle.indexed_file.specs.World.{holding_at, name_at, is_broken}
+use Rattle.indexed_file.specs.World.{World, holding_at, name_at, schema_at, file_at, is_broken}
 use Rattle.indexed_file.specs.Images.{Trace, ImagesGo, unfinished, trace_if, trace_of_change}
 use Rattle.indexed_file.specs.Calls.{Keeps, SamePages, is_unmade}
-use Rattle.indexed_file.specs.UnitCalls.{ChangesUnit}
+use Rattle.indexed_file.specs.Believed.{Believed}
+use Rattle.indexed_file.specs.UnitCalls.{GivesUp, ChangesUnit}
 use Rattle.io_state.specs.declared.fault.Fault.{Fault}
 use Rattle.io_state.specs.declared.fault.Fault.TheVariants.{Device, Memory, Full, Damage, Broken as BrokenFile}
-use Rattle.file_changes.specs.FileChange.{FileChange}
+use Rattle.indexed_file.specs.FileChange.{FileChange, has_room_for, LacksRoomFor}
 use Rattle.shelf_file.specs.declared.shelf_file.ShelfFile.{ShelfFile}
 use Rattle.shelf_library.specs.State.{LibraryState, held_at}
 use Rattle.shelf_library.specs.Units.{world_of, room_of_held, asked_of}
@@ -21,7 +22,7 @@ use Rattle.shelf_library.specs.declared.held.Held.TheVariants.{Opened}
 use Rattle.shelf_library.proofs.AsideLemmas.{only_here, held_truly, truth_after}
 use Rattle.shelf_library.proofs.ReadsLemmas.{reads_images, reads_pages}
 use Rattle.shelf_library.proofs.MovingLemmas.{others, changes_at, reads_at, goes_unfinished}
-use Rattle.shelf_library.proofs.ChangingLemmas.{broken_now, schema_before, schema_now, open_now, held_now, broken_told, truly_after, fault_after}
+use Rattle.shelf_library.proofs.ChangingLemmas.{broken_now, schema_before, schema_now, open_now, held_now, broken_told, truly_after, fault_after, answers, done_at_ok, told_at_ok, told_at_full, takes_at_full, rests_at_full}
 
 module _
     {S X : Type 0} (state : S → LibraryState) (a b : S) (u : ℕ) (file after : ShelfFile) (call : MovesAt u file after (state a) (state b))
@@ -86,8 +87,37 @@ module _
         frames = ap Some call.frames;
       }
 
-  pub changes_unit : (result : Result X Fault) → Change result → ChangesUnit (shown_by state) u is_made a b result
+  abbrev before : World
+  before = world_of old.shelf old.held
+
+  abbrev shown_change : FileChange X
+  shown_change = change_of (schema_at before u)
+
+  -- what is so of the schema of the file is so of that which is shown
+  as_shown : (P : Schema → Type 0) → P file.file.schema → P (schema_at before u)
+  as_shown P = subst P (sym (schema_before u file after old new call))
+
+  room_after : (result : Result X Fault) → Change result → Believed (shown_by state) u a b
+      (OnOk result (IsTrue (has_room_for (room_of_held (held_at old.held u)) shown_change (file_at before u))))
+  room_after result change = λ honest shown.
+      told_at_ok u file after old new call change_of (λ schema room rows. IsTrue (has_room_for room (change_of schema) rows)) result change shown
+      (λ rows stands. change.changes.room honest rows stands.stands)
+
+  full_after : (result : Result X Fault) → Change result → result ≡ Err Full
+      → GivesUp (shown_by state) u a b (LacksRoomFor (room_of_held (held_at old.held u)) shown_change (file_at before u))
+  full_after result change full = (
+    rests_at_full u file after old new call change_of result change full,
+    λ honest shown.
+        told_at_full u file after old new call change_of (λ schema room rows. LacksRoomFor room (change_of schema) rows) result change full shown
+        (λ rows stands. change.changes.lacks full honest rows stands.stands),
+  )
+
+  pub changes_unit : (result : Result X Fault) → Change result → ChangesUnit (shown_by state) u shown_change a b result
   changes_unit result change = record {
+    answer = answers u file after old new call change_of result change;
+    done = done_at_ok u file after old new call change_of result change;
+    room = room_after result change;
+    full = λ full. (takes_at_full u file after old new call change_of result change full, full_after result change full);
     asked = λ honest shown answered.
         subst (λ (one : Held). asked_of (held_at new.held u) ≤ asked_of one + most_to_change (room_of_held one)) (sym call.opened)
         (subst (λ (one : Held). asked_of one ≤ asked_of (Opened file) + most_to_change (room_of_held (Opened file))) (sym (held_now u file after old new call)) change.changes.keeps.asked);
@@ -100,7 +130,7 @@ module _
     only = only_here u (Opened after) old.shelf new.shelf old.held new.held call.units (changes_at u file after old new call);
     opened = open_now u file after old new call;
     schema = schema_now u file after old new call ∙ change.changes.keeps.schema ∙ sym (schema_before u file after old new call);
-    unmade = unmade_after result change;
-    images = λ honest shown. images_after result change honest;
+    unmade = as_shown (λ schema. IsTrue (is_unmade (change_of schema).is_made result) → SamePages (shown_by state) u a b) (unmade_after result change);
+    images = λ honest shown. as_shown (λ schema. Images (trace_of_change (change_of schema).is_made result)) (images_after result change honest);
     keeps = keeps_after result change;
   }

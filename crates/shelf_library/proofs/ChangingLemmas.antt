@@ -6,11 +6,12 @@ use Rattle.indexed_file.proofs.TestLemmas.{either}
 use Rattle.indexed_file.specs.File.{File}
 use Rattle.indexed_file.specs.Room.{Room}
 use Rattle.indexed_file.specs.World.{World, Named, Holding, Unsound, Opened as HasOpened, Broken, with_unit, holding_at, name_at, named_at, schema_at, file_at, is_open, is_broken}
+use Rattle.indexed_file.specs.UnitAnswers.{world_changed}
 use Rattle.indexed_file.specs.Calls.{OnlyReads as ReadsWorld, MayFail, LeavesBroken}
 use Rattle.io_state.specs.declared.fault.Fault.{Fault}
 use Rattle.io_state.specs.declared.fault.Fault.TheVariants.{Device, Memory, Full, Damage, Broken as BrokenFile}
 use Rattle.page_store.specs.ShelfState.{unit_file}
-use Rattle.file_changes.specs.FileChange.{FileChange}
+use Rattle.indexed_file.specs.FileChange.{FileChange}
 use Rattle.shelf_file.specs.declared.shelf_file.ShelfFile.{ShelfFile}
 use Rattle.shelf_file.specs.Named.{named_of}
 use Rattle.shelf_file.specs.Standing.{StandsFor, live_of, file_in, room_in}
@@ -189,14 +190,17 @@ module _ (u : ℕ) (file after : ShelfFile) (old new : LibraryState) (call : Mov
     world_after x change honest shown true is = done_made x change is honest shown
     world_after x change honest shown false none = (reads_world (λ library. library) old new u file after (reads_at u file after old new call (change.changes.unmade none))).same honest
 
-    pub done_at_ok : (world : Schema → File → World)
-        → ((schema : Schema) (rows : File) (x : X) → x ≡ (change_of schema).answer rows
-        → (if is_made x then with_unit before u Unsound (HasOpened schema ((change_of schema).leaves rows)) else before) ≡ world schema rows)
-        → (result : Result X Fault) → Change result → IsTrue new.shelf.is_honest → IsShownTruly old.shelf old.held (name_at before u)
-        → OnOk result (now ≡ world (schema_at before u) (file_at before u))
-    done_at_ok world is (Ok x) change honest shown =
-        world_after x change honest shown (is_made x) refl ∙ is (schema_at before u) (file_at before u) x (answers (Ok x) change honest shown)
-    done_at_ok world is (Err fault) change honest shown = tt
+    -- whether the answer tells of a change
+    made_is : (x : X) → Change (Ok x) → IsTrue new.shelf.is_honest → IsShownTruly old.shelf old.held (name_at before u)
+        → is_made x ≡ (change_of (schema_at before u)).is_made ((change_of (schema_at before u)).answer (file_at before u))
+    made_is x change honest shown =
+        ap (λ (schema : Schema). (change_of schema).is_made x) (sym schema_before)
+        ∙ ap (change_of (schema_at before u)).is_made (answers (Ok x) change honest shown)
+
+    pub done_at_ok : (result : Result X Fault) → Change result → IsTrue new.shelf.is_honest → IsShownTruly old.shelf old.held (name_at before u)
+        → OnOk result (now ≡ world_changed (change_of (schema_at before u)) before u)
+    done_at_ok (Ok x) change honest shown = world_after x change honest shown _ (made_is x change honest shown)
+    done_at_ok (Err fault) change honest shown = tt
 
     -- what is so at an answer, and at Full, of each file that the open one stands for
     pub told_at_ok : (P : Schema → Room → File → Type 0) (result : Result X Fault) → Change result → IsShownTruly old.shelf old.held (name_at before u)
@@ -212,6 +216,13 @@ module _ (u : ℕ) (file after : ShelfFile) (old new : LibraryState) (call : Mov
         told u file old call.units call.attached call.opened P shown
         (either file.file.broken (IsFalse file.file.broken) (λ broken. let answer = (change.breaks.broken broken).0 in absurd (cc)) (λ works. works))
         is
+
+    -- Full is answered only where pages may be taken
+    pub takes_at_full : (result : Result X Fault) → Change result → result ≡ Err Full → IsTrue (change_of (schema_at before u)).takes_pages
+    takes_at_full (Ok x) change full = absurd (cc)
+    takes_at_full (Err fault) change full =
+        let is : fault ≡ Full = cc in
+        subst (λ (schema : Schema). IsTrue (change_of schema).takes_pages) (sym schema_before) (change.breaks.cause.full is).0
 
     pub rests_at_full : (result : Result X Fault) → Change result → result ≡ Err Full → ReadsWorld u new.shelf.is_honest before now
     rests_at_full result change full = reads_world (λ library. library) old new u file after (reads_at u file after old new call (change.changes.full full))

@@ -1,18 +1,16 @@
 -- A unit whose count of pages begins again.
-use Rattle.std.proofs.Common.{◌≡◌, ◌≢◌, ℕ, ◌<◌, List, length, IsTrue, IsFalse, refl, ap, sym, subst, ◌∙◌}
-use Rattle.std.specs.Prelude.{slice_set, slice_index_or, Option, Some}
+use Rattle.std.proofs.Common.{◌≡◌, ℕ, ◌<◌, List, length, IsFalse, refl, ap, sym, subst, ◌∙◌}
+use Rattle.std.specs.Prelude.{slice_index_or, Option, Some}
 use Rattle.std.proofs.lemmas.List.{get_or_default}
-use Rattle.indexed_file.specs.Room.{Room}
 use Rattle.indexed_file.specs.UnitCalls.{RestartsCount}
 use Rattle.page_store.specs.DeviceFile.{DeviceFile}
 use Rattle.page_store.specs.ShelfState.{ShelfState, KeepsOthers, unit_file}
 use Rattle.file_header.specs.declared.header.Header.{Header}
-use Rattle.page_cache.specs.declared.cache.Cache.{Cache}
 use Rattle.shelf_file.specs.declared.shelf_file.ShelfFile.{ShelfFile}
 use Rattle.shelf_file.specs.Named.{named_of}
 use Rattle.shelf_library.specs.declared.held.Held.{Held}
 use Rattle.shelf_library.specs.declared.held.Held.TheVariants.{Nothing, Looked, Opened}
-use Rattle.shelf_library.specs.State.{LibraryState, held_at, IsLooked, IsReadyAt}
+use Rattle.shelf_library.specs.State.{LibraryState, held_at, IsReadyAt}
 use Rattle.shelf_library.specs.Units.{holding_of, room_of_held, counts_of_held, asked_of}
 use Rattle.shelf_library.specs.Truth.{IsTrulyOpen}
 use Rattle.shelf_library.specs.OneUnit.{AreUnits, ChangesAt, FitsItsFile, IsTrulyHeld}

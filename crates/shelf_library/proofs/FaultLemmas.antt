@@ -1,5 +1,5 @@
 -- When a call may answer a fault, from why the file gave up.
-use Rattle.std.proofs.Common.{◌≡◌, ◌≢◌, inl, inr, ℕ, ◌≤◌, Bool, true, false, nat_lt, IsTrue, IsFalse, IfErr, Result, Ok, Err, refl, arith}
+use Rattle.std.proofs.Common.{◌≡◌, ◌≢◌, inl, inr, ℕ, ◌≤◌, Bool, nat_lt, IsTrue, IsFalse, IfErr, Result, Ok, Err, refl, arith}
 use Rattle.std.proofs.lemmas.Bool.{ltb-true, ltb-false}
 use Rattle.indexed_file.proofs.TestLemmas.{either}
 use Rattle.io_state.specs.declared.fault.Fault.{Fault}

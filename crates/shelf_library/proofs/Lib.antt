@@ -20,6 +20,5 @@ pub mod ShownLemmas
 pub mod MovingLemmas
 pub mod ChangingLemmas
 pub mod ChangesLemmas
-pub mod DoneLemmas
 pub mod ClosingLemmas
 pub mod ShutLemmas

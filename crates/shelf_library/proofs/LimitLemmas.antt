@@ -11,7 +11,7 @@ use Rattle.shelf_file.specs.declared.look.Look.TheVariants.{NoFile, Refused, Acc
 use Rattle.shelf_file.specs.declared.shelf_file.ShelfFile.{ShelfFile}
 use Rattle.shelf_file.specs.Standing.{HasLimits}
 use Rattle.shelf_library.specs.declared.held.Held.{Held}
-use Rattle.shelf_library.specs.declared.held.Held.TheVariants.{Nothing, Looked, Opened}
+use Rattle.shelf_library.specs.declared.held.Held.TheVariants.{Nothing, Opened}
 use Rattle.shelf_library.specs.State.{LibraryState, held_at, AreLimited}
 use Rattle.shelf_library.specs.Told.{held_after, held_open}
 use Rattle.shelf_library.specs.Attaching.{Attaches}

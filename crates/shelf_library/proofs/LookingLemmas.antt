@@ -1,25 +1,23 @@
 -- A unit that was looked at.
-use Rattle.std.proofs.Common.{◌≡◌, ◌⊎◌, inl, inr, ℕ, ◌≤◌, Bool, true, false, List, length, Option, Some, None, IsTrue, IsFalse, IfOk, IfErr, OnOk, OnErr, Result, Ok, Err, refl, sym, ap, subst, ◌∙◌}
-use Rattle.std.specs.Prelude.{IsErrOf}
+use Rattle.std.proofs.Common.{◌≡◌, inl, inr, ℕ, Bool, false, List, Option, Some, None, IsTrue, IsFalse, IfOk, IfErr, OnOk, OnErr, Result, Ok, Err, refl, sym, ap, subst, ◌∙◌}
 use Rattle.io_state.specs.declared.fault.Fault.{Fault}
 use Rattle.io_state.specs.declared.fault.Fault.TheVariants.{Device, Memory}
 use Rattle.indexed_file.specs.declared.answer.Seen.{Seen}
 use Rattle.indexed_file.specs.Answers.{seen_of, looked_at}
-use Rattle.indexed_file.specs.Calls.{Keeps, MayFail, MayAnswerShut}
+use Rattle.indexed_file.specs.Calls.{MayFail}
 use Rattle.indexed_file.specs.Images.{untouched}
 use Rattle.indexed_file.specs.UnitCalls.{OpensUnit}
-use Rattle.indexed_file.specs.World.{Holding, Shut, Looked as HasLooked, holding_at, named_at, name_at, is_broken}
+use Rattle.indexed_file.specs.World.{Shut, holding_at, named_at, is_broken}
 use Rattle.page_store.specs.DeviceFile.{DeviceFile}
-use Rattle.page_store.specs.ShelfState.{ShelfState, KeepsOthers, FaultHasCause, unit_name, unit_file}
+use Rattle.page_store.specs.ShelfState.{ShelfState, FaultHasCause, unit_name, unit_file}
 use Rattle.file_header.specs.declared.header.Header.{Header}
 use Rattle.shelf_file.specs.declared.look.Look.{Look}
 use Rattle.shelf_file.specs.declared.look.Look.TheVariants.{NoFile, Refused, Accepted}
 use Rattle.shelf_file.specs.declared.shelf_file.ShelfFile.{ShelfFile}
 use Rattle.shelf_file.specs.Shelves.{HasHeader}
 use Rattle.shelf_file.specs.Named.{look_of, named_of, named_by}
-use Rattle.shelf_library.specs.declared.held.Held.{Held}
-use Rattle.shelf_library.specs.declared.held.Held.TheVariants.{Nothing, Looked, Opened}
-use Rattle.shelf_library.specs.State.{LibraryState, held_at, IsLooked}
+use Rattle.shelf_library.specs.declared.held.Held.TheVariants.{Looked, Opened}
+use Rattle.shelf_library.specs.State.{LibraryState, held_at}
 use Rattle.shelf_library.specs.Told.{held_by, held_after, seen_by, seen_after}
 use Rattle.shelf_library.specs.Truth.{IsTrulyClosed}
 use Rattle.shelf_library.specs.Units.{world_of, holding_of}

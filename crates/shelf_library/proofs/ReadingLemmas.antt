@@ -1,5 +1,5 @@
 -- What a call that only reads leaves of its unit.
-use Rattle.std.proofs.Common.{◌≡◌, ◌⊎◌, inl, inr, ℕ, true, false, IsTrue, IsFalse, refl, sym, ap, subst, ◌∙◌, if◌then◌else◌}
+use Rattle.std.proofs.Common.{◌≡◌, ◌⊎◌, inl, inr, ℕ, false, IsTrue, IsFalse, refl, sym, ap, subst, ◌∙◌, if◌then◌else◌}
 use Rattle.std.proofs.lemmas.Bool.{cases_Bool}
 use Rattle.indexed_file.specs.World.{Opened as HasOpened, Broken}
 use Rattle.record_layout.specs.Schema.{Schema}

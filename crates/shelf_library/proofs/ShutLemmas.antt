@@ -12,7 +12,6 @@ use Rattle.indexed_file.specs.Images.{Trace, ImagesGo, untouched, finishing, fin
 use Rattle.indexed_file.specs.UnitCalls.{ShutsUnit}
 use Rattle.indexed_file.specs.World.{World, Holding, Opened as HasOpened, Broken, Named, Absent, Closed, Unsound, holding_at, named_at, name_at, schema_at, schema_in, file_at, file_in as rows_in, is_broken}
 use Rattle.page_store.specs.DeviceFile.{DeviceFile}
-use Rattle.page_store.specs.Moments.{Throughout}
 use Rattle.page_store.proofs.MomentLemmas.{throughout_weaker}
 use Rattle.page_store.specs.ShelfState.{unit_name, unit_file}
 use Rattle.shelf_file.specs.declared.shelf_file.ShelfFile.{ShelfFile}

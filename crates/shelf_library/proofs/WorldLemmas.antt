@@ -1,21 +1,19 @@
 -- The world of a library over a shelf: what is read off its units, and what one call on a unit leaves of it.
-use Rattle.std.proofs.Common.{◌≡◌, ◌≢◌, ℕ, zero, suc, ◌+◌, ◌<◌, Bool, true, false, List, [], ◌∷◌, length, map, refl, ap, sym, subst, ◌∙◌, arith, bytes_eq, get_or}
-use Rattle.std.specs.Prelude.{slice_set, slice_index_or, replicate, if◌then◌else◌, ◌||◌}
+use Rattle.std.proofs.Common.{◌≡◌, ◌≢◌, ℕ, zero, suc, ◌<◌, true, false, List, [], ◌∷◌, length, refl, ap, sym, ◌∙◌, arith, bytes_eq, get_or}
+use Rattle.std.specs.Prelude.{slice_set, if◌then◌else◌}
 use Rattle.std.specs.List.{list_any}
-use Rattle.std.proofs.lemmas.List.{set-get_or}
 use Rattle.std.proofs.lemmas.List.Folds.{list_any_at}
 use Rattle.std.proofs.lemmas.Slice.Eq.{bytes_eq-Decides}
 use Rattle.indexed_file.proofs.TestLemmas.{either}
-use Rattle.indexed_file.specs.World.{World, FileUnit, Named, Absent, Holding, Shut, name_in, named_in, unit_at, holding_at, named_at, name_at, with_unit, OnlyAt, attached}
+use Rattle.indexed_file.specs.World.{FileUnit, Absent, holding_at, named_at, name_at, OnlyAt}
 use Rattle.page_store.specs.DeviceFile.{DeviceFile}
-use Rattle.page_store.specs.ShelfState.{ShelfState, unit_name, unit_file}
+use Rattle.page_store.specs.ShelfState.{ShelfState, unit_name}
 use Rattle.shelf_file.specs.Named.{named_of}
 pub use Rattle.shelf_library.specs.WorldLaws.{named_anywhere, unit_now, name_now, holding_now, named_now}
 use Rattle.shelf_library.specs.WorldLaws.{units_long}
 use Rattle.shelf_library.specs.State.{held_at}
 use Rattle.shelf_library.specs.Units.{unit_of, units_of, holding_of, elsewhere_of, world_of}
 use Rattle.shelf_library.specs.declared.held.Held.{Held}
-use Rattle.shelf_library.specs.declared.held.Held.TheVariants.{Nothing, Looked, Opened}
 
 -- ---- what is held after a unit was let hold something
 

@@ -5,7 +5,7 @@ use Rattle.io_state.specs.declared.fault.Fault.{Fault}
 use Rattle.page_store.specs.Images.{Leaves}
 use Rattle.page_store.specs.ShelfState.{unit_file}
 use Rattle.page_alloc.specs.Steps.{Moves}
-use Rattle.file_changes.specs.FileChange.{FileChange}
+use Rattle.indexed_file.specs.FileChange.{FileChange}
 use Rattle.file_changes.specs.Changes.{Changes, MayBreak}
 use Rattle.shelf_file.specs.declared.shelf_file.ShelfFile.{ShelfFile}
 use Rattle.shelf_file.specs.Calls.{on_shelf, shown_on_shelf}

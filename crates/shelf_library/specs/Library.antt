@@ -1,5 +1,5 @@
 -- What a library over a shelf shows.
-use Rattle.std.specs.Prelude.{ℕ, Some}
+use Rattle.std.specs.Prelude.{Some}
 use Rattle.indexed_file.specs.Shown.{Shown}
 use Rattle.shelf_library.specs.State.{LibraryState, held_at}
 use Rattle.page_store.specs.ShelfState.{unit_file}

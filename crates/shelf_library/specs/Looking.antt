@@ -1,5 +1,5 @@
 -- What a look leaves of a library.
-use Rattle.std.specs.Prelude.{◌≡◌, ℕ, ◌<◌, List, length, slice_set, Result, IfOk, IsTrue}
+use Rattle.std.specs.Prelude.{◌≡◌, ℕ, ◌<◌, length, slice_set, Result, IfOk, IsTrue}
 use Rattle.io_state.specs.declared.fault.Fault.{Fault}
 use Rattle.page_store.specs.ShelfState.{OnlyAnswers, FaultHasCause, unit_file}
 use Rattle.shelf_file.specs.declared.look.Look.{Look}

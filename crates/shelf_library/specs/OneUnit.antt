@@ -1,5 +1,5 @@
 -- What is so of every library over a shelf, and what a call on one unit leaves of the shelf and of what the units hold.
-use Rattle.std.specs.Prelude.{◌≡◌, ℕ, ◌<◌, List, length, slice_set, bytes_eq, IsFalse, false}
+use Rattle.std.specs.Prelude.{◌≡◌, ℕ, ◌<◌, List, length, slice_set, bytes_eq, IsFalse}
 use Rattle.std.specs.List.{IsDistinct}
 use Rattle.page_store.specs.ShelfState.{ShelfState, KeepsOthers, unit_file}
 use Rattle.file_header.specs.declared.header.Header.{Header}

@@ -1,5 +1,5 @@
 -- A library over a shelf: its shelf, and what each unit holds.
-use Rattle.std.specs.Prelude.{◌≡◌, ℕ, ◌<◌, List, length, slice_index_or, IsTrue}
+use Rattle.std.specs.Prelude.{◌≡◌, ℕ, List, slice_index_or, IsTrue}
 use Rattle.page_store.specs.ShelfState.{ShelfState}
 use Rattle.file_header.specs.declared.header.Header.{Header}
 use Rattle.file_header.specs.Bounds.{IsHeader}

@@ -1,5 +1,5 @@
 -- What the names of a library stand for, and what its units hold: all of it is read off the files, and off the pages of the open ones.
-use Rattle.std.specs.Prelude.{ℕ, Bool, List, [], ◌∷◌, Option, None, Some, bytes_eq, if◌then◌else◌}
+use Rattle.std.specs.Prelude.{ℕ, List, [], ◌∷◌, Option, None, Some, bytes_eq, if◌then◌else◌}
 use Rattle.std.specs.List.{list_any}
 use Rattle.indexed_file.specs.Room.{Room, PageCounts, Endless}
 use Rattle.indexed_file.specs.World.{World, FileUnit, Named, Absent, Holding, Shut, Looked as HasLooked, Opened as HasOpened, Broken}
@@ -7,7 +7,6 @@ use Rattle.page_store.specs.ShelfState.{ShelfState}
 use Rattle.page_alloc.specs.declared.pager.Pager.{Pager}
 use Rattle.shelf_file.specs.declared.look.Look.{Look}
 use Rattle.shelf_file.specs.declared.look.Look.TheVariants.{NoFile, Refused, Accepted}
-use Rattle.shelf_file.specs.declared.shelf_file.ShelfFile.{ShelfFile}
 use Rattle.shelf_file.specs.Named.{look_of, named_of}
 use Rattle.shelf_file.specs.Standing.{file_in, room_in}
 use Rattle.shelf_library.specs.declared.held.Held.{Held}

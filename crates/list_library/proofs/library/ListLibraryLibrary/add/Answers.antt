@@ -10,18 +10,19 @@ use Rattle.list_library.specs.Units.{unit_after_add}
 use Rattle.list_library.proofs.KeptLemmas.{IsKept, add_keeps, change_keeps, only_set}
 use Rattle.list_library.proofs.library.ListLibraryLibrary.add.Goals as goal
 
-pub returns-clause-done : goal.returns-clause-done
-returns-clause-done c = λ honest shown.
-    on_ok_weaker c.add-added.result
-    (λ unit. added_world c.args.self.now.units.items (named_among c.args.self.now.others.items) c.args.u c.index_mut-unit.result.now c.add-added.new.self c.args.bytes.now c.requires.attached c.index_mut-unit.ensures.value unit)
-    c.add-added.ensures.unit
-
-pub returns-clause-changes : goal.returns-clause-changes
-returns-clause-changes c =
+pub returns : goal.returns
+returns c =
     let old : FileUnit = c.index_mut-unit.result.now in
     let opened : IsTrue (is_open old.holding) = first_of (search rules, grind (arith, common_steps)) in
     let kept : IsKept old c.add-added.new.self = change_keeps c.add-added.result old c.add-added.new.self (unit_after_add old c.args.bytes.now) _ opened (add_keeps old c.args.bytes.now opened) c.add-added.ensures.unit c.add-added.ensures.fault in
     record {
+      answer = first_of (search rules, grind (arith, common_steps));
+      done = λ honest shown.
+          on_ok_weaker c.add-added.result
+          (added_world c.args.self.now.units.items (named_among c.args.self.now.others.items) c.args.u old c.add-added.new.self c.requires.attached c.index_mut-unit.ensures.value c.args.bytes.now)
+          c.add-added.ensures.unit;
+      room = first_of (search rules, grind (arith, common_steps));
+      full = first_of (search rules, grind (arith, common_steps));
       asked = first_of (search rules, grind (arith, common_steps));
       counted = first_of (search rules, grind (arith, common_steps));
       broken = first_of (search rules, grind (arith, common_steps));

@@ -1,6 +1,6 @@
 use Rattle.std.proofs.Common.{true}
 use Rattle.open_file.proofs.ExitLemmas.{if_ok}
-use Rattle.file_changes.specs.FileChange.{addition}
+use Rattle.indexed_file.specs.FileChange.{addition}
 use Rattle.file_changes.specs.Changes.{Changes, MayBreak}
 use Rattle.shelf_file.specs.Calls.{on_shelf, shown_on_shelf}
 use Rattle.shelf_file.proofs.StepLemmas.{reads_same, at_end}

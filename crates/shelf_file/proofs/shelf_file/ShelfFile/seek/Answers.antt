@@ -1,4 +1,5 @@
-use Rattle.std.proofs.Common.{IsTrue}
+use Rattle.std.proofs.Common.{IsTrue, rules, arith}
+use Rattle.std.proofs.lemmas.Grind.{common_steps}
 use Rattle.open_file.specs.Reading.{Seeks}
 use Rattle.shelf_file.specs.Standing.{live_of}
 use Rattle.shelf_file.specs.Calls.{OnlyReadsFile}
@@ -8,9 +9,14 @@ use Rattle.shelf_file.proofs.shelf_file.ShelfFile.seek.Goals as goal
 pub returns-clause-found : goal.returns-clause-found
 returns-clause-found g c =
     at_end (λ s. IsTrue (g.S.Shelf.state s).is_honest → Seeks c.args.self.now.file (live_of c.args.self.now (g.S.Shelf.state c.args.shelf.now)) c.args.k c.args.relation c.args.operand.now c.seek.result)
-    _ _ c.shelf-1.given.1 c.seek.ensures.reads.1 c.seek.ensures.found
+    _ _ c.shelf-1.given.1 c.seek.ensures.reads.step.1 c.seek.ensures.found
 
 pub returns-clause-reads : goal.returns-clause-reads
-returns-clause-reads g c =
-    at_end (λ s. OnlyReadsFile c.args.self.now (record { file = c.args.self.now.file; pages = c.seek.new.pages.file.now }) (g.S.Shelf.state c.args.shelf.now) (g.S.Shelf.state s) (g.S.Shelf.fault_count c.args.shelf.now) (g.S.Shelf.fault_count s))
-    _ _ c.shelf-1.given.1 c.seek.ensures.reads.1 (only_reads c.args.self.now.file _ _ _ _ _ _ c.seek.ensures.reads.2)
+returns-clause-reads g c = record {
+  broken = c.seek.ensures.reads.broken;
+  cause = first_of (search rules, grind (arith, common_steps));
+  asked = first_of (search rules, grind (arith, common_steps));
+  step =
+      at_end (λ s. OnlyReadsFile c.args.self.now (record { file = c.args.self.now.file; pages = c.seek.new.pages.file.now }) (g.S.Shelf.state c.args.shelf.now) (g.S.Shelf.state s) (g.S.Shelf.fault_count c.args.shelf.now) (g.S.Shelf.fault_count s))
+      _ _ c.shelf-1.given.1 c.seek.ensures.reads.step.1 (only_reads c.args.self.now.file _ _ _ _ _ _ c.seek.ensures.reads.step.2);
+}

@@ -1,5 +1,4 @@
-use Rattle.std.proofs.Common.{◌≡◌, ℕ, ◌<◌, length, ap, sym, ◌∙◌, arith}
-use Rattle.shelf_library.specs.State.{held_at}
+use Rattle.std.proofs.Common.{ap, sym, ◌∙◌, arith}
 use Rattle.shelf_library.specs.Units.{asked_of}
 use Rattle.shelf_library.proofs.WorldLemmas.{is_held}
 use Rattle.shelf_library.proofs.CountLemmas.{read_held}

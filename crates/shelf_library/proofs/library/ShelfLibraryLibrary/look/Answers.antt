@@ -1,4 +1,4 @@
-use Rattle.std.proofs.Common.{◌≡◌, ℕ, ◌<◌, List, length, IsTrue, IfOk, Result, refl, sym, ap, subst, ◌∙◌, arith, slice_set}
+use Rattle.std.proofs.Common.{◌≡◌, IfOk, Result, refl, sym, ap, subst, arith, slice_set}
 use Rattle.std.specs.NonZero.{non_zero_usize_get}
 use Rattle.io_state.specs.declared.fault.Fault.{Fault}
 use Rattle.indexed_file.specs.declared.answer.Seen.{Seen}
@@ -6,7 +6,6 @@ use Rattle.indexed_file.specs.Answers.{seen_of, looked_at}
 use Rattle.indexed_file.specs.World.{holding_at, named_at}
 use Rattle.shelf_library.specs.declared.library.ShelfLibrary.{ShelfLibrary}
 use Rattle.shelf_library.specs.State.{LibraryState}
-use Rattle.shelf_library.specs.Told.{held_after, seen_after}
 use Rattle.shelf_library.specs.Units.{world_of}
 use Rattle.shelf_library.specs.Looking.{LooksAt}
 use Rattle.shelf_library.proofs.WorldLemmas.{is_held}

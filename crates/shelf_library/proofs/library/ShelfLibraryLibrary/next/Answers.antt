@@ -1,4 +1,5 @@
-use Rattle.std.proofs.Common.{◌<◌, length, subst, ap, ◌∙◌, arith}
+use Rattle.std.proofs.Common.{◌<◌, length, subst, ap, ◌∙◌, rules, arith}
+use Rattle.std.proofs.lemmas.Grind.{common_steps}
 use Rattle.std.specs.NonZero.{non_zero_usize_get}
 use Rattle.indexed_file.specs.Rank.{admits}
 use Rattle.indexed_file.specs.Room.{most_to_read}
@@ -47,40 +48,27 @@ invariant_of-self g c =
     let s = c.args.self.now in
     let call = reads_at (g.S.Shelf.state s.shelf) s.units.items c.args.u c.index_mut.result.now s.many c.requires.attached c.index_mut.ensures.value c.in-Opened.file c.in-Opened.is
     c.next.new.self (g.S.Shelf.state c.next.new.shelf) (g.S.Shelf.fault_count s.shelf) (g.S.Shelf.fault_count c.next.new.shelf) s.limit (non_zero_usize_get s.frames)
-    (record { many = s.many; distinct = s.distinct; looked = s.looked; ready = s.ready }) c.next.ensures.reads
+    (record { many = s.many; distinct = s.distinct; looked = s.looked; ready = s.ready }) c.next.ensures.reads.step
     (g.met.S.Shelf.reads_an_image s.shelf) (g.met.S.Shelf.reads_an_image c.next.new.shelf) in
     let after = reads_units _ _ _ _ _ call in
     record { room = s.room; many = after.many; distinct = after.distinct; looked = after.looked; ready = after.ready; limits = limits_read _ _ _ _ _ call _ _ s.limits }
 
-pub returns-clause-found : goal.returns-clause-found
-returns-clause-found g c honest truly =
+pub returns : goal.returns
+returns g c =
     let s = c.args.self.now in
     let call = reads_at (g.S.Shelf.state s.shelf) s.units.items c.args.u c.index_mut.result.now s.many c.requires.attached c.index_mut.ensures.value c.in-Opened.file c.in-Opened.is
     c.next.new.self (g.S.Shelf.state c.next.new.shelf) (g.S.Shelf.fault_count s.shelf) (g.S.Shelf.fault_count c.next.new.shelf) s.limit (non_zero_usize_get s.frames)
-    (record { many = s.many; distinct = s.distinct; looked = s.looked; ready = s.ready }) c.next.ensures.reads
+    (record { many = s.many; distinct = s.distinct; looked = s.looked; ready = s.ready }) c.next.ensures.reads.step
     (g.met.S.Shelf.reads_an_image s.shelf) (g.met.S.Shelf.reads_an_image c.next.new.shelf) in
-    delivers_found _ _ _ _ _ call truly c.args.k (λ schema. admits schema c.args.k c.args.position.now) c.args.area.now c.next.new.area c.next.result c.next.ensures.broken
-    (c.next.ensures.found honest)
-
-pub returns-clause-area : goal.returns-clause-area
-returns-clause-area g c honest truly =
-    let s = c.args.self.now in
-    let call = reads_at (g.S.Shelf.state s.shelf) s.units.items c.args.u c.index_mut.result.now s.many c.requires.attached c.index_mut.ensures.value c.in-Opened.file c.in-Opened.is
-    c.next.new.self (g.S.Shelf.state c.next.new.shelf) (g.S.Shelf.fault_count s.shelf) (g.S.Shelf.fault_count c.next.new.shelf) s.limit (non_zero_usize_get s.frames)
-    (record { many = s.many; distinct = s.distinct; looked = s.looked; ready = s.ready }) c.next.ensures.reads
-    (g.met.S.Shelf.reads_an_image s.shelf) (g.met.S.Shelf.reads_an_image c.next.new.shelf) in
-    delivers_area _ _ _ _ _ call truly c.args.k (λ schema. admits schema c.args.k c.args.position.now) c.args.area.now c.next.new.area c.next.result c.next.ensures.broken
-    (c.next.ensures.found honest)
-
-pub returns-clause-reads : goal.returns-clause-reads
-returns-clause-reads g c =
-    let s = c.args.self.now in
-    let call = reads_at (g.S.Shelf.state s.shelf) s.units.items c.args.u c.index_mut.result.now s.many c.requires.attached c.index_mut.ensures.value c.in-Opened.file c.in-Opened.is
-    c.next.new.self (g.S.Shelf.state c.next.new.shelf) (g.S.Shelf.fault_count s.shelf) (g.S.Shelf.fault_count c.next.new.shelf) s.limit (non_zero_usize_get s.frames)
-    (record { many = s.many; distinct = s.distinct; looked = s.looked; ready = s.ready }) c.next.ensures.reads
-    (g.met.S.Shelf.reads_an_image s.shelf) (g.met.S.Shelf.reads_an_image c.next.new.shelf) in
-    reads_unit (λ library. record { shelf = g.S.Shelf.state library.shelf; held = library.units.items; faults = g.S.Shelf.fault_count library.shelf; limit = library.limit; frames = non_zero_usize_get library.frames })
-    s _ c.args.u c.in-Opened.file c.next.new.self call
-    (λ one. most_to_read (room_of_held one) c.args.k) c.next.result c.next.ensures.asked c.next.ensures.broken c.next.ensures.cause
-    (λ honest truly. delivers_undamaged _ _ _ _ _ call truly c.args.k (admits c.in-Opened.file.file.schema c.args.k c.args.position.now) c.args.area.now c.next.new.area c.next.result
-    c.next.ensures.broken (c.next.ensures.found honest))
+    record {
+      found = λ honest truly.
+          delivers_found _ _ _ _ _ call truly c.args.k (λ schema. admits schema c.args.k c.args.position.now) c.args.area.now c.next.new.area c.next.result c.next.ensures.reads.broken (c.next.ensures.finds.found honest);
+      area = λ honest truly.
+          delivers_area _ _ _ _ _ call truly c.args.k (λ schema. admits schema c.args.k c.args.position.now) c.args.area.now c.next.new.area c.next.result c.next.ensures.reads.broken (c.next.ensures.finds.found honest);
+      none = first_of (search rules, grind (arith, common_steps));
+      err = first_of (search rules, grind (arith, common_steps));
+      reads = reads_unit (λ library. record { shelf = g.S.Shelf.state library.shelf; held = library.units.items; faults = g.S.Shelf.fault_count library.shelf; limit = library.limit; frames = non_zero_usize_get library.frames })
+          s _ c.args.u c.in-Opened.file c.next.new.self call
+          (λ one. most_to_read (room_of_held one) c.args.k) c.next.result c.next.ensures.reads.asked c.next.ensures.reads.broken c.next.ensures.reads.cause
+          (λ honest truly. delivers_undamaged _ _ _ _ _ call truly c.args.k (admits c.in-Opened.file.file.schema c.args.k c.args.position.now) c.args.area.now c.next.new.area c.next.result c.next.ensures.reads.broken (c.next.ensures.finds.found honest));
+    }

@@ -1,18 +1,15 @@
 use Rattle.std.proofs.Common.{arith}
 use Rattle.std.specs.NonZero.{non_zero_usize_get}
 use Rattle.std.specs.Prelude.{slice_set}
-use Rattle.indexed_file.specs.Answers.{world_after_remove}
-use Rattle.file_changes.specs.FileChange.{removal}
+use Rattle.indexed_file.specs.FileChange.{removal}
 use Rattle.shelf_library.specs.State.{LibraryState}
 use Rattle.shelf_library.specs.Changing.{MovesAt, ChangesFile}
-use Rattle.shelf_library.specs.Units.{world_of}
 use Rattle.shelf_library.specs.declared.held.Held.TheVariants.{Opened}
 use Rattle.shelf_library.proofs.WorldLemmas.{is_held}
 use Rattle.shelf_library.proofs.OpenedLemmas.{must_be_open, may_call}
 use Rattle.shelf_library.proofs.MovingLemmas.{moves_at}
-use Rattle.shelf_library.proofs.ChangingLemmas.{units_after, answers, done_at_ok}
+use Rattle.shelf_library.proofs.ChangingLemmas.{units_after}
 use Rattle.shelf_library.proofs.ChangesLemmas.{changes_unit}
-use Rattle.shelf_library.proofs.DoneLemmas.{never_full, after_removed}
 use Rattle.shelf_library.proofs.LimitLemmas.{limits_moved}
 use Rattle.shelf_library.proofs.library.ShelfLibraryLibrary.remove.Goals as goal
 
@@ -69,18 +66,7 @@ call g c =
 change : (g : _) (c : goal.After-self-in-Opened-1 g) → ChangesFile (λ schema. removal schema c.args.key.now.items) c.in-Opened.file c.remove.new.self (before g c) (later g c) c.remove.result
 change g c = record { changes = c.remove.ensures.removes; breaks = c.remove.ensures.breaks }
 
-pub returns-clause-answer : goal.returns-clause-answer
-returns-clause-answer g c honest shown = answers _ _ _ _ _ (call g c) _ c.remove.result (change g c) honest shown
-
-pub returns-clause-done : goal.returns-clause-done
-returns-clause-done g c honest shown =
-    done_at_ok _ _ _ _ _ (call g c) _ (λ schema rows. world_after_remove (world_of (before g c).shelf (before g c).held) c.args.u schema c.args.key.now.items rows)
-    (λ schema rows x is. after_removed (world_of (before g c).shelf (before g c).held) c.args.u schema c.args.key.now.items rows x is) c.remove.result (change g c) honest shown
-
-pub returns-clause-not_full : goal.returns-clause-not_full
-returns-clause-not_full g c = never_full c.in-Opened.file.file.broken _ c.remove.result c.remove.ensures.breaks.cause
-
-pub returns-clause-changes : goal.returns-clause-changes
-returns-clause-changes g c =
+pub returns : goal.returns
+returns g c =
     changes_unit (λ library. record { shelf = g.S.Shelf.state library.shelf; held = library.units.items; faults = g.S.Shelf.fault_count library.shelf; limit = library.limit; frames = non_zero_usize_get library.frames })
     c.args.self.now _ c.args.u c.in-Opened.file c.remove.new.self (call g c) _ c.remove.result (change g c)

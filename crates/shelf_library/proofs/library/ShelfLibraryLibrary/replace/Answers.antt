@@ -1,21 +1,16 @@
-use Rattle.std.proofs.Common.{◌≤◌, ◌||◌, not, length, IsTrue, IsFalse, subst, arith}
+use Rattle.std.proofs.Common.{◌≤◌, length, subst, arith}
 use Rattle.std.specs.NonZero.{non_zero_usize_get}
 use Rattle.std.specs.Prelude.{slice_set}
 use Rattle.record_layout.specs.Schema.{Schema}
-use Rattle.indexed_file.specs.Answers.{world_after_replace}
-use Rattle.indexed_file.specs.Change.{clashes_with_others}
-use Rattle.indexed_file.specs.Room.{is_full_to_replace}
-use Rattle.file_changes.specs.FileChange.{replacement}
+use Rattle.indexed_file.specs.FileChange.{replacement}
 use Rattle.shelf_library.specs.State.{LibraryState}
 use Rattle.shelf_library.specs.Changing.{MovesAt, ChangesFile}
-use Rattle.shelf_library.specs.Units.{world_of}
 use Rattle.shelf_library.specs.declared.held.Held.TheVariants.{Opened}
 use Rattle.shelf_library.proofs.WorldLemmas.{is_held}
 use Rattle.shelf_library.proofs.OpenedLemmas.{must_be_open, schema_is, may_call}
 use Rattle.shelf_library.proofs.MovingLemmas.{moves_at}
-use Rattle.shelf_library.proofs.ChangingLemmas.{units_after, answers, told_at_ok, told_at_full, rests_at_full, done_at_ok}
+use Rattle.shelf_library.proofs.ChangingLemmas.{units_after}
 use Rattle.shelf_library.proofs.ChangesLemmas.{changes_unit}
-use Rattle.shelf_library.proofs.DoneLemmas.{after_replaced}
 use Rattle.shelf_library.proofs.LimitLemmas.{limits_moved}
 use Rattle.shelf_library.proofs.library.ShelfLibraryLibrary.replace.Goals as goal
 
@@ -84,29 +79,7 @@ call g c =
 change : (g : _) (c : goal.After-self-in-Opened-1 g) → ChangesFile (λ schema. replacement schema c.args.bytes.now) c.in-Opened.file c.replace.new.self (before g c) (later g c) c.replace.result
 change g c = record { changes = c.replace.ensures.replaces; breaks = c.replace.ensures.breaks }
 
-pub returns-clause-answer : goal.returns-clause-answer
-returns-clause-answer g c honest shown = answers _ _ _ _ _ (call g c) _ c.replace.result (change g c) honest shown
-
-pub returns-clause-done : goal.returns-clause-done
-returns-clause-done g c honest shown =
-    done_at_ok _ _ _ _ _ (call g c) _ (λ schema rows. world_after_replace (world_of (before g c).shelf (before g c).held) c.args.u schema c.args.bytes.now rows)
-    (λ schema rows x is. after_replaced (world_of (before g c).shelf (before g c).held) c.args.u schema c.args.bytes.now rows x is) c.replace.result (change g c) honest shown
-
-pub returns-clause-room : goal.returns-clause-room
-returns-clause-room g c honest shown =
-    told_at_ok _ _ _ _ _ (call g c) _ (λ schema room rows. IsTrue (clashes_with_others schema c.args.bytes.now rows || not (is_full_to_replace room schema c.args.bytes.now rows))) c.replace.result (change g c) shown
-    (λ rows stands. c.replace.ensures.replaces.room honest rows stands.stands)
-
-pub returns-clause-full : goal.returns-clause-full
-returns-clause-full g c is =
-    let lacks = c.replace.ensures.replaces.lacks is in (
-      rests_at_full _ _ _ _ _ (call g c) _ c.replace.result (change g c) is,
-      λ honest shown. told_at_full _ _ _ _ _ (call g c) _
-          (λ schema room rows. IsFalse (clashes_with_others schema c.args.bytes.now rows) × IsTrue (is_full_to_replace room schema c.args.bytes.now rows)) c.replace.result (change g c) is shown
-          (λ rows stands. lacks honest rows stands.stands),
-    )
-
-pub returns-clause-changes : goal.returns-clause-changes
-returns-clause-changes g c =
+pub returns : goal.returns
+returns g c =
     changes_unit (λ library. record { shelf = g.S.Shelf.state library.shelf; held = library.units.items; faults = g.S.Shelf.fault_count library.shelf; limit = library.limit; frames = non_zero_usize_get library.frames })
     c.args.self.now _ c.args.u c.in-Opened.file c.replace.new.self (call g c) _ c.replace.result (change g c)

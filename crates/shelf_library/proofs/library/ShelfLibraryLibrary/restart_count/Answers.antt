@@ -1,15 +1,13 @@
-use Rattle.std.proofs.Common.{◌≡◌, ℕ, ◌<◌, List, length, refl, ap, sym, ◌∙◌, arith, slice_set}
+use Rattle.std.proofs.Common.{◌≡◌, refl, ap, sym, ◌∙◌, arith, slice_set}
 use Rattle.std.specs.NonZero.{non_zero_usize_get}
 use Rattle.page_cache.specs.declared.cache.Cache.{Cache}
-use Rattle.page_store.specs.ShelfState.{ShelfState}
 use Rattle.shelf_file.specs.declared.shelf_file.ShelfFile.{ShelfFile}
-use Rattle.shelf_library.specs.declared.held.Held.{Held}
 use Rattle.shelf_library.specs.declared.held.Held.TheVariants.{Opened}
 use Rattle.shelf_library.specs.State.{held_at}
 use Rattle.shelf_library.specs.OneUnit.{AreUnits, ChangesAt}
 use Rattle.shelf_library.proofs.WorldLemmas.{is_held}
 use Rattle.shelf_library.proofs.AsideLemmas.{are_after}
-use Rattle.shelf_library.proofs.CountLemmas.{rests, read_held, recount, recounted, recount_none, recount_fits, recounts}
+use Rattle.shelf_library.proofs.CountLemmas.{rests, read_held, recount, recount_none, recount_fits, recounts}
 use Rattle.shelf_library.proofs.LimitLemmas.{limits_set, limits_after}
 use Rattle.shelf_library.proofs.library.ShelfLibraryLibrary.restart_count.Goals as goal
 

@@ -40,7 +40,7 @@ invariant_of-self g c =
     let s = c.args.self.now in
     let call = reads_at (g.S.Shelf.state s.shelf) s.units.items c.args.u c.index_mut.result.now s.many c.requires.attached c.index_mut.ensures.value c.in-Opened.file c.in-Opened.is
     c.seek.new.self (g.S.Shelf.state c.seek.new.shelf) (g.S.Shelf.fault_count s.shelf) (g.S.Shelf.fault_count c.seek.new.shelf) s.limit (non_zero_usize_get s.frames)
-    (record { many = s.many; distinct = s.distinct; looked = s.looked; ready = s.ready }) c.seek.ensures.reads
+    (record { many = s.many; distinct = s.distinct; looked = s.looked; ready = s.ready }) c.seek.ensures.reads.step
     (g.met.S.Shelf.reads_an_image s.shelf) (g.met.S.Shelf.reads_an_image c.seek.new.shelf) in
     let after = reads_units _ _ _ _ _ call in
     record { room = s.room; many = after.many; distinct = after.distinct; looked = after.looked; ready = after.ready; limits = limits_read _ _ _ _ _ call _ _ s.limits }
@@ -50,18 +50,18 @@ returns-clause-found g c honest truly =
     let s = c.args.self.now in
     let call = reads_at (g.S.Shelf.state s.shelf) s.units.items c.args.u c.index_mut.result.now s.many c.requires.attached c.index_mut.ensures.value c.in-Opened.file c.in-Opened.is
     c.seek.new.self (g.S.Shelf.state c.seek.new.shelf) (g.S.Shelf.fault_count s.shelf) (g.S.Shelf.fault_count c.seek.new.shelf) s.limit (non_zero_usize_get s.frames)
-    (record { many = s.many; distinct = s.distinct; looked = s.looked; ready = s.ready }) c.seek.ensures.reads
+    (record { many = s.many; distinct = s.distinct; looked = s.looked; ready = s.ready }) c.seek.ensures.reads.step
     (g.met.S.Shelf.reads_an_image s.shelf) (g.met.S.Shelf.reads_an_image c.seek.new.shelf) in
-    seeks_found _ _ _ _ _ call truly c.args.k c.args.relation c.args.operand.now c.seek.result c.seek.ensures.broken (c.seek.ensures.found honest)
+    seeks_found _ _ _ _ _ call truly c.args.k c.args.relation c.args.operand.now c.seek.result c.seek.ensures.reads.broken (c.seek.ensures.found honest)
 
 pub returns-clause-reads : goal.returns-clause-reads
 returns-clause-reads g c =
     let s = c.args.self.now in
     let call = reads_at (g.S.Shelf.state s.shelf) s.units.items c.args.u c.index_mut.result.now s.many c.requires.attached c.index_mut.ensures.value c.in-Opened.file c.in-Opened.is
     c.seek.new.self (g.S.Shelf.state c.seek.new.shelf) (g.S.Shelf.fault_count s.shelf) (g.S.Shelf.fault_count c.seek.new.shelf) s.limit (non_zero_usize_get s.frames)
-    (record { many = s.many; distinct = s.distinct; looked = s.looked; ready = s.ready }) c.seek.ensures.reads
+    (record { many = s.many; distinct = s.distinct; looked = s.looked; ready = s.ready }) c.seek.ensures.reads.step
     (g.met.S.Shelf.reads_an_image s.shelf) (g.met.S.Shelf.reads_an_image c.seek.new.shelf) in
     reads_unit (λ library. record { shelf = g.S.Shelf.state library.shelf; held = library.units.items; faults = g.S.Shelf.fault_count library.shelf; limit = library.limit; frames = non_zero_usize_get library.frames })
     s _ c.args.u c.in-Opened.file c.seek.new.self call
-    (λ one. most_to_seek (room_of_held one) c.args.k) c.seek.result c.seek.ensures.asked c.seek.ensures.broken c.seek.ensures.cause
-    (λ honest truly. seeks_undamaged _ _ _ _ _ call truly c.args.k c.args.relation c.args.operand.now c.seek.result c.seek.ensures.broken (c.seek.ensures.found honest))
+    (λ one. most_to_seek (room_of_held one) c.args.k) c.seek.result c.seek.ensures.reads.asked c.seek.ensures.reads.broken c.seek.ensures.reads.cause
+    (λ honest truly. seeks_undamaged _ _ _ _ _ call truly c.args.k c.args.relation c.args.operand.now c.seek.result c.seek.ensures.reads.broken (c.seek.ensures.found honest))
