@@ -94,3 +94,10 @@ returns-clause-spot g m c honest =
     let live = g.met.P.Pages.reads_live c.args.pages.now c.descend.new.pages c.descend.ensures.reads.step h1 in
     spots_behind c.args.shape ((g.P.Pages.shown.state c.args.pages.now).live) c.args.levels (c.args.levels - 1) c.args.page c.args.key.now one c.in_ok-down.down (c.in_ok-down.ensures.down h1) c.first_below.new.spot ((g.P.Pages.shown.state c.next_below.new.pages).live) c.in_ok-first.first
     (g.met.P.Pages.reads_live c.descend.new.pages c.next_below.new.pages c.next_below.ensures.reads.step h2 ∙ live) c.if-down.false (c.in_ok-first.ensures.spot honest)
+
+pub first_below-requires : goal.first_below-requires
+first_below-requires g m c = record {
+  ready =
+      g.met.P.Pages.writes_ready c.descend.new.pages c.next_below.new.pages (g.met.P.Pages.reads_writes c.descend.new.pages c.next_below.new.pages c.next_below.ensures.reads.step)
+      (g.met.P.Pages.writes_ready c.args.pages.now c.descend.new.pages (g.met.P.Pages.reads_writes c.args.pages.now c.descend.new.pages c.descend.ensures.reads.step) c.requires.ready);
+}
