@@ -114,3 +114,11 @@ returns-in_err-up-in-Added-Some-clause-writes g t c =
       step =
           g.met.P.Pages.writes_on c.args.pages.now c.insert_below.new.pages c.add_to_inner.new.pages (g.met.P.Pages.writes_on c.args.pages.now c.descend.new.pages c.insert_below.new.pages (g.met.P.Pages.reads_writes c.args.pages.now c.descend.new.pages c.descend.ensures.reads.step) c.insert_below.ensures.writes.step) c.add_to_inner.ensures.writes.step;
     }
+
+pub add_to_inner-requires-clause-ready : goal.add_to_inner-requires-clause-ready
+add_to_inner-requires-clause-ready g m c =
+    g.met.P.Pages.writes_ready c.descend.new.pages c.insert_below.new.pages c.insert_below.ensures.writes.step (g.met.P.Pages.writes_ready c.args.pages.now c.descend.new.pages (g.met.P.Pages.reads_writes c.args.pages.now c.descend.new.pages c.descend.ensures.reads.step) c.requires.ready)
+
+pub add_to_inner-requires-clause-open : goal.add_to_inner-requires-clause-open
+add_to_inner-requires-clause-open g m c =
+    g.met.P.Pages.writes_changing c.descend.new.pages c.insert_below.new.pages c.insert_below.ensures.writes.step (g.met.P.Pages.writes_changing c.args.pages.now c.descend.new.pages (g.met.P.Pages.reads_writes c.args.pages.now c.descend.new.pages c.descend.ensures.reads.step) c.requires.open)
