@@ -84,3 +84,14 @@ put-put-requires g c =
     let room = c.make_room.ensures.kept in
     ap (λ f. lookup (nat_eq c.args.n) f.entries) c.box_for_page.ensures.frames
     ∙ absent_past c.make_room.new.self (g.S.Shelf.state c.make_room.new.shelf) c.args.n room.over (c.requires.page.1 ∙ sym (ap (λ x. x.pages) room.keeps.store))
+
+pub write_zeros-requires : goal.write_zeros-requires
+write_zeros-requires g c =
+    let room = c.make_room.ensures.kept in
+    let box = c.box_for_page.ensures in
+    let over = (keeps_same c.make_room.new.self c.box_for_page.new.self (g.S.Shelf.state c.make_room.new.shelf) box.store box.frames room.over).over in
+    record {
+      unit = over.attached;
+      page = (c.requires.page.0, c.requires.page.1 ∙ sym (ap (λ x. x.pages) (box.store ∙ room.keeps.store)), c.requires.page.2);
+      pages = over.pages;
+    }
