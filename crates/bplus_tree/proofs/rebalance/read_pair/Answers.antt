@@ -73,3 +73,17 @@ returns-clause-read g c honest parent =
       };
       no_damage = tt;
     }
+
+pub copy-requires-2 : goal.copy-requires-2
+copy-requires-2 g c = record { ready = g.met.P.Pages.writes_ready c.args.pages.now c.copy.new.pages (g.met.P.Pages.reads_writes c.args.pages.now c.copy.new.pages c.copy.ensures.reads.step) c.requires.ready }
+
+pub copy-requires-3 : goal.copy-requires-3
+copy-requires-3 g c =
+    record {
+      ready =
+          g.met.P.Pages.writes_ready c.copy.new.pages c.copy-2.new.pages (g.met.P.Pages.reads_writes c.copy.new.pages c.copy-2.new.pages c.copy-2.ensures.reads.step)
+          (g.met.P.Pages.writes_ready c.args.pages.now c.copy.new.pages (g.met.P.Pages.reads_writes c.args.pages.now c.copy.new.pages c.copy.ensures.reads.step) c.requires.ready);
+    }
+
+pub returns-clause-inner : goal.returns-clause-inner
+returns-clause-inner g c = (c.in-Some.ensures.inner, c.in-Some.ensures.within)

@@ -1,11 +1,19 @@
 use Rattle.std.proofs.lemmas.Grind.{common_steps}
-use Rattle.std.proofs.Common.{Some, subst, sym, ap, ◌∙◌, IsTrue, Bool, arith}
+use Rattle.std.proofs.Common.{◌≡◌, ◌≤◌, ℕ, Some, subst, sym, ap, ◌∙◌, IsTrue, Bool, arith}
 use Rattle.pages.specs.PageMap.{PageMap}
 use Rattle.bplus_tree.specs.Rebalance.{AreThree}
 use Rattle.pages.proofs.CauseLemmas.{fails_since}
 use Rattle.tree_search.proofs.AnswerLemmas.{fails}
 use Rattle.bplus_tree.proofs.RebalanceLemmas.{parent_of, chosen, no_fault, shared, joined, moved_joined, moved_shared}
 use Rattle.bplus_tree.proofs.rebalance.rebalance.Goals as goal
+
+-- a call that only reads leaves as many pages to take
+as_many : (before after : ℕ) → after ≡ before → before ≤ after
+as_many before after same = omega arith
+
+-- what is so of a call behind it is so of both
+since : (before between after : ℕ) → between ≡ before → between ≤ after → before ≤ after
+since before between after same few = omega arith
 
 pub end_joined-requires-clause-ready : goal.end_joined-requires-clause-ready
 end_joined-requires-clause-ready g c = g.met.P.Pages.writes_ready c.args.pages.now c.read_pair.new.pages (g.met.P.Pages.reads_writes c.args.pages.now c.read_pair.new.pages c.read_pair.ensures.reads.step) c.requires.ready
@@ -124,3 +132,31 @@ returns-in_ok-end_shared-in-Some-false-clause-rebalanced g c honest sound t low 
       );
       no_damage = tt;
     }
+
+pub balance-requires-clause-inner : goal.balance-requires-clause-inner
+balance-requires-clause-inner g c = c.in_ok-pair.ensures.inner.0
+
+pub balance-requires-clause-place : goal.balance-requires-clause-place
+balance-requires-clause-place g c = c.in_ok-pair.ensures.inner.1
+
+pub returns-in_err-pair-clause-few : goal.returns-in_err-pair-clause-few
+returns-in_err-pair-clause-few g c = as_many ((g.P.Pages.shown.state c.args.pages.now).available) ((g.P.Pages.shown.state c.read_pair.new.pages).available) (g.met.P.Pages.reads_available c.args.pages.now c.read_pair.new.pages c.read_pair.ensures.reads.step)
+
+pub returns-in-None-clause-few : goal.returns-in-None-clause-few
+returns-in-None-clause-few g c = as_many ((g.P.Pages.shown.state c.args.pages.now).available) ((g.P.Pages.shown.state c.read_pair.new.pages).available) (g.met.P.Pages.reads_available c.args.pages.now c.read_pair.new.pages c.read_pair.ensures.reads.step)
+
+pub returns-in_err-end_joined-in-Some-true-clause-few : goal.returns-in_err-end_joined-in-Some-true-clause-few
+returns-in_err-end_joined-in-Some-true-clause-few g c =
+    since ((g.P.Pages.shown.state c.args.pages.now).available) ((g.P.Pages.shown.state c.read_pair.new.pages).available) ((g.P.Pages.shown.state c.end_joined.new.pages).available) (g.met.P.Pages.reads_available c.args.pages.now c.read_pair.new.pages c.read_pair.ensures.reads.step) c.end_joined.ensures.few
+
+pub returns-in_ok-end_joined-in-Some-true-clause-few : goal.returns-in_ok-end_joined-in-Some-true-clause-few
+returns-in_ok-end_joined-in-Some-true-clause-few g c =
+    since ((g.P.Pages.shown.state c.args.pages.now).available) ((g.P.Pages.shown.state c.read_pair.new.pages).available) ((g.P.Pages.shown.state c.end_joined.new.pages).available) (g.met.P.Pages.reads_available c.args.pages.now c.read_pair.new.pages c.read_pair.ensures.reads.step) c.end_joined.ensures.few
+
+pub returns-in_err-end_shared-in-Some-false-clause-few : goal.returns-in_err-end_shared-in-Some-false-clause-few
+returns-in_err-end_shared-in-Some-false-clause-few g c =
+    since ((g.P.Pages.shown.state c.args.pages.now).available) ((g.P.Pages.shown.state c.read_pair.new.pages).available) ((g.P.Pages.shown.state c.end_shared.new.pages).available) (g.met.P.Pages.reads_available c.args.pages.now c.read_pair.new.pages c.read_pair.ensures.reads.step) c.end_shared.ensures.few
+
+pub returns-in_ok-end_shared-in-Some-false-clause-few : goal.returns-in_ok-end_shared-in-Some-false-clause-few
+returns-in_ok-end_shared-in-Some-false-clause-few g c =
+    since ((g.P.Pages.shown.state c.args.pages.now).available) ((g.P.Pages.shown.state c.read_pair.new.pages).available) ((g.P.Pages.shown.state c.end_shared.new.pages).available) (g.met.P.Pages.reads_available c.args.pages.now c.read_pair.new.pages c.read_pair.ensures.reads.step) c.end_shared.ensures.few
