@@ -1,7 +1,7 @@
-use Rattle.std.proofs.Common.{replicate, set, ◌∙◌}
+use Rattle.std.proofs.Common.{replicate, set, refl, ◌∙◌}
 use borrow.Rule.Slice.PartMut.{put_mid}
 use Rattle.file_header.specs.FirstPage.{first_bytes, version_of, least_told}
-use Rattle.file_header.proofs.WriteLemmas.{puts}
+use Rattle.file_header.proofs.WriteLemmas.{puts, Are64, part, kept, kept_but_one}
 use Rattle.file_header.proofs.numbers.first_bytes.Goals as goal
 
 pub returns : goal.returns
@@ -23,3 +23,82 @@ returns c =
     let bytes = puts 36 2 (λ i. set (bytes i) 34 (c.key_count.ensures.count i)) told c.write_u16-4.ensures in
     let bytes = puts 40 8 bytes (λ i. header.next_stamp) c.write_u64.ensures in
     puts 48 8 bytes (λ i. header.records) c.write_u64-2.ensures
+
+-- the bytes before the text is written
+start : Are64 (set (replicate 64 0) 0 68)
+start = record { long = refl }
+
+pub write_u32-requires-4 : goal.write_u32-requires-4
+write_u32-requires-4 c =
+    let long = kept 1 7 c.copy_from_slice.new.self start c.copy_from_slice.auto.self in
+    let long = kept 8 2 c.write_u16.new.buf long c.write_u16.auto.buf in
+    let long = kept 10 2 c.write_u16-2.new.buf long c.write_u16-2.auto.buf in
+    let long = kept 12 4 c.write_u32.new.buf long c.write_u32.auto.buf in
+    let long = kept 16 4 c.write_u32-2.new.buf long c.write_u32-2.auto.buf in
+    let long = kept 20 4 c.write_u32-3.new.buf long c.write_u32-3.auto.buf in
+    part 24 4 36 long refl
+
+pub write_u32-requires-5 : goal.write_u32-requires-5
+write_u32-requires-5 c =
+    let long = kept 1 7 c.copy_from_slice.new.self start c.copy_from_slice.auto.self in
+    let long = kept 8 2 c.write_u16.new.buf long c.write_u16.auto.buf in
+    let long = kept 10 2 c.write_u16-2.new.buf long c.write_u16-2.auto.buf in
+    let long = kept 12 4 c.write_u32.new.buf long c.write_u32.auto.buf in
+    let long = kept 16 4 c.write_u32-2.new.buf long c.write_u32-2.auto.buf in
+    let long = kept 20 4 c.write_u32-3.new.buf long c.write_u32-3.auto.buf in
+    let long = kept 24 4 c.write_u32-4.new.buf long c.write_u32-4.auto.buf in
+    part 28 4 32 long refl
+
+pub write_u16-requires-3 : goal.write_u16-requires-3
+write_u16-requires-3 c =
+    let long = kept 1 7 c.copy_from_slice.new.self start c.copy_from_slice.auto.self in
+    let long = kept 8 2 c.write_u16.new.buf long c.write_u16.auto.buf in
+    let long = kept 10 2 c.write_u16-2.new.buf long c.write_u16-2.auto.buf in
+    let long = kept 12 4 c.write_u32.new.buf long c.write_u32.auto.buf in
+    let long = kept 16 4 c.write_u32-2.new.buf long c.write_u32-2.auto.buf in
+    let long = kept 20 4 c.write_u32-3.new.buf long c.write_u32-3.auto.buf in
+    let long = kept 24 4 c.write_u32-4.new.buf long c.write_u32-4.auto.buf in
+    let long = kept 28 4 c.write_u32-5.new.buf long c.write_u32-5.auto.buf in
+    part 32 2 30 long refl
+
+pub write_u16-requires-4 : goal.write_u16-requires-4
+write_u16-requires-4 c =
+    let long = kept 1 7 c.copy_from_slice.new.self start c.copy_from_slice.auto.self in
+    let long = kept 8 2 c.write_u16.new.buf long c.write_u16.auto.buf in
+    let long = kept 10 2 c.write_u16-2.new.buf long c.write_u16-2.auto.buf in
+    let long = kept 12 4 c.write_u32.new.buf long c.write_u32.auto.buf in
+    let long = kept 16 4 c.write_u32-2.new.buf long c.write_u32-2.auto.buf in
+    let long = kept 20 4 c.write_u32-3.new.buf long c.write_u32-3.auto.buf in
+    let long = kept 24 4 c.write_u32-4.new.buf long c.write_u32-4.auto.buf in
+    let long = kept 28 4 c.write_u32-5.new.buf long c.write_u32-5.auto.buf in
+    let long = kept 32 2 c.write_u16-3.new.buf long c.write_u16-3.auto.buf in
+    part 36 2 26 (kept_but_one 34 c.key_count.result long) refl
+
+pub write_u64-requires : goal.write_u64-requires
+write_u64-requires c =
+    let long = kept 1 7 c.copy_from_slice.new.self start c.copy_from_slice.auto.self in
+    let long = kept 8 2 c.write_u16.new.buf long c.write_u16.auto.buf in
+    let long = kept 10 2 c.write_u16-2.new.buf long c.write_u16-2.auto.buf in
+    let long = kept 12 4 c.write_u32.new.buf long c.write_u32.auto.buf in
+    let long = kept 16 4 c.write_u32-2.new.buf long c.write_u32-2.auto.buf in
+    let long = kept 20 4 c.write_u32-3.new.buf long c.write_u32-3.auto.buf in
+    let long = kept 24 4 c.write_u32-4.new.buf long c.write_u32-4.auto.buf in
+    let long = kept 28 4 c.write_u32-5.new.buf long c.write_u32-5.auto.buf in
+    let long = kept 32 2 c.write_u16-3.new.buf long c.write_u16-3.auto.buf in
+    let long = kept 36 2 c.write_u16-4.new.buf (kept_but_one 34 c.key_count.result long) c.write_u16-4.auto.buf in
+    part 40 8 16 long refl
+
+pub write_u64-requires-2 : goal.write_u64-requires-2
+write_u64-requires-2 c =
+    let long = kept 1 7 c.copy_from_slice.new.self start c.copy_from_slice.auto.self in
+    let long = kept 8 2 c.write_u16.new.buf long c.write_u16.auto.buf in
+    let long = kept 10 2 c.write_u16-2.new.buf long c.write_u16-2.auto.buf in
+    let long = kept 12 4 c.write_u32.new.buf long c.write_u32.auto.buf in
+    let long = kept 16 4 c.write_u32-2.new.buf long c.write_u32-2.auto.buf in
+    let long = kept 20 4 c.write_u32-3.new.buf long c.write_u32-3.auto.buf in
+    let long = kept 24 4 c.write_u32-4.new.buf long c.write_u32-4.auto.buf in
+    let long = kept 28 4 c.write_u32-5.new.buf long c.write_u32-5.auto.buf in
+    let long = kept 32 2 c.write_u16-3.new.buf long c.write_u16-3.auto.buf in
+    let long = kept 36 2 c.write_u16-4.new.buf (kept_but_one 34 c.key_count.result long) c.write_u16-4.auto.buf in
+    let long = kept 40 8 c.write_u64.new.buf long c.write_u64.auto.buf in
+    part 48 8 8 long refl
