@@ -41,7 +41,6 @@ fn sees_statement(parser: &Parser<'_>) -> bool
     ])
 }
 
-#[tactic(auto, unfolding(crate::specs::Procedure::statement, deck_words::specs::Notation::the), using(crate::proofs::ProcedureLemmas::open_starts, crate::proofs::ProcedureLemmas::close_starts, crate::proofs::ProcedureLemmas::read_starts, crate::proofs::ProcedureLemmas::start_starts, crate::proofs::ProcedureLemmas::write_starts, crate::proofs::ProcedureLemmas::rewrite_starts, crate::proofs::ProcedureLemmas::delete_starts, crate::proofs::ProcedureLemmas::move_starts))]
 fn statement(
     alloc: Global,
     parser: &mut Parser<'_>,
