@@ -145,7 +145,6 @@ fn sees_clause(parser: &Parser<'_>) -> bool
     ])
 }
 
-#[tactic(auto, unfolding(crate::specs::FileControlEntry::clause, crate::specs::FileControlEntry::indexed, crate::specs::FileControlEntry::access, crate::specs::FileControlEntry::record_key, crate::specs::FileControlEntry::alternate, deck_words::specs::Notation::the))]
 fn clause(parser: &mut Parser<'_>, clauses: Clauses) -> Result<Clauses, Refusal>
     ensures { Reads ((added_to clauses clause).reads parser.old) result parser.new }
 {
