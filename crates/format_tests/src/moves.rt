@@ -21,51 +21,45 @@ fn area_after(rt: &impl Abort, field: Field, source: &Source<&[u8]>) -> [u8; 6] 
     area
 }
 
+// The length of the item, whether it is numeric, what is moved to it, and the area then.
+const MOVES: [(u16, bool, Source<&[u8]>, &[u8; 6]); 12] = [
+    (4, false, Source::Text(b"ABCD"), b".ABCD."),
+    (4, false, Source::Text(b"ABCDEF"), b".ABCD."),
+    (4, false, Source::Text(b"AB"), b".AB  ."),
+    (4, false, Source::Text(b""), b".    ."),
+    (4, false, Source::Digits(b"123456"), b".1234."),
+    (4, true, Source::Digits(b"12"), b".0012."),
+    (4, true, Source::Digits(b"123456"), b".3456."),
+    (2, true, Source::Fill(Figure::Zero), b".00..."),
+    (2, false, Source::Fill(Figure::Zero), b".00..."),
+    (2, false, Source::Fill(Figure::Space), b".  ..."),
+    (2, false, Source::Fill(Figure::Low), b".\x00\x00..."),
+    (2, false, Source::Fill(Figure::High), b".\xff\xff..."),
+];
+
 // MOVE statement, general rules: alphanumeric moves from the left, numeric moves from the right; figurative constants.
 #[test]
 fn a_move_fits_its_source_to_the_item(rt: HostRuntime) {
-    for (field, source, expected) in [
-        (item(4, false), Source::Text(b"ABCD".as_slice()), *b".ABCD."),
-        (
-            item(4, false),
-            Source::Text(b"ABCDEF".as_slice()),
-            *b".ABCD.",
-        ),
-        (item(4, false), Source::Text(b"AB".as_slice()), *b".AB  ."),
-        (item(4, false), Source::Text(b"".as_slice()), *b".    ."),
-        (
-            item(4, false),
-            Source::Digits(b"123456".as_slice()),
-            *b".1234.",
-        ),
-        (item(4, true), Source::Digits(b"12".as_slice()), *b".0012."),
-        (
-            item(4, true),
-            Source::Digits(b"123456".as_slice()),
-            *b".3456.",
-        ),
-        (item(2, true), Source::Fill(Figure::Zero), *b".00..."),
-        (item(2, false), Source::Fill(Figure::Zero), *b".00..."),
-        (item(2, false), Source::Fill(Figure::Space), *b".  ..."),
-        (item(2, false), Source::Fill(Figure::Low), *b".\x00\x00..."),
-        (item(2, false), Source::Fill(Figure::High), *b".\xff\xff..."),
-    ] {
-        assert_equal_for(&rt, &source, area_after(&rt, field, &source), expected);
+    for (length, numeric, source, expected) in &MOVES {
+        let area = area_after(&rt, item(*length, *numeric), source);
+        assert_equal_for(&rt, source, area, **expected);
     }
 }
 
+const TAKEN: [(Source<&[u8]>, bool); 6] = [
+    (Source::Digits(b"12"), true),
+    (Source::Fill(Figure::Zero), true),
+    (Source::Text(b"12"), false),
+    (Source::Fill(Figure::Space), false),
+    (Source::Fill(Figure::Low), false),
+    (Source::Fill(Figure::High), false),
+];
+
 #[test]
 fn a_numeric_item_takes_digits_and_zero_alone(rt: HostRuntime) {
-    for (source, expected) in [
-        (Source::Digits(b"12".as_slice()), true),
-        (Source::Fill(Figure::Zero), true),
-        (Source::Text(b"12".as_slice()), false),
-        (Source::Fill(Figure::Space), false),
-        (Source::Fill(Figure::Low), false),
-        (Source::Fill(Figure::High), false),
-    ] {
-        assert_equal_for(&rt, &source, takes(item(2, true), &source), expected);
-        assert_equal_for(&rt, &source, takes(item(2, false), &source), true);
+    for (source, expected) in &TAKEN {
+        assert_equal_for(&rt, source, takes(item(2, true), source), *expected);
+        assert_equal_for(&rt, source, takes(item(2, false), source), true);
     }
 }
 

@@ -1,5 +1,6 @@
 //! The numbers and bytes of a node that a person reads off the format.
 
+use crate::checks::{assert_equal, assert_equal_for, assert_that};
 use page_bytes::PAGE_SIZE;
 use std::process::Abort;
 use tree_node::{InnerView, LeafView, Shape, is_inner, is_leaf, is_node};
@@ -24,45 +25,58 @@ fn page_of(rt: &impl Abort, bytes: &[u8]) -> [u8; PAGE_SIZE] {
     page
 }
 
+const STAMPED: Shape = Shape {
+    key: 1,
+    width: 12,
+    entry: 18,
+};
+
+const LONG: Shape = Shape {
+    key: 1,
+    width: 128,
+    entry: 248,
+};
+
 #[test]
 fn the_greatest_numbers_come_out_of_the_shapes(rt: HostRuntime) {
-    let stamped = Shape {
-        key: 1,
-        width: 12,
-        entry: 18,
-    };
-    let long = Shape {
-        key: 1,
-        width: 128,
-        entry: 248,
-    };
-    let cases = [
+    for &(shape, entries, separators) in &[
         (PRIME, 408, 509),
-        (stamped, 226, 254),
-        (long, 16, 30),
+        (STAMPED, 226, 254),
+        (LONG, 16, 30),
         (WIDE, 8, 15),
-    ];
-    for (shape, entries, separators) in cases {
-        assert!(rt; shape.leaf_room() == entries, "{shape:?}");
-        assert!(rt; shape.inner_room() == separators, "{shape:?}");
+    ] {
+        assert_equal_for(&rt, shape, shape.leaf_room(), entries);
+        assert_equal_for(&rt, shape, shape.inner_room(), separators);
     }
 }
+
+const NO_NODES: [&[u8; 16]; 5] = [
+    b"H\0\x01\x98\0\0\0\0\0\0\0\0\0\0\0\0",
+    b"L\x01\x01\x98\0\0\0\0\0\0\0\0\0\0\0\0",
+    b"L\0\x01\x99\0\0\0\0\0\0\0\0\0\0\0\0",
+    b"L\0\x01\x98\x01\0\0\0\0\0\0\0\0\0\0\0",
+    b"L\0\x01\x98\0\0\0\0\0\0\0\0\0\0\0\x01",
+];
 
 #[test]
 fn a_page_of_another_kind_or_key_is_no_node_of_this_tree(rt: HostRuntime) {
     let node = page_of(&rt, b"L\0\x01\x98\0\0\0\0\0\0\0\0\0\0\0\0");
-    assert!(rt; is_leaf(&node, PRIME) && is_node(&node, PRIME) && !is_inner(&node, PRIME));
-    let cases: [&[u8; 16]; 5] = [
-        b"H\0\x01\x98\0\0\0\0\0\0\0\0\0\0\0\0",
-        b"L\x01\x01\x98\0\0\0\0\0\0\0\0\0\0\0\0",
-        b"L\0\x01\x99\0\0\0\0\0\0\0\0\0\0\0\0",
-        b"L\0\x01\x98\x01\0\0\0\0\0\0\0\0\0\0\0",
-        b"L\0\x01\x98\0\0\0\0\0\0\0\0\0\0\0\x01",
-    ];
-    for head in cases {
-        assert!(rt; !is_node(&page_of(&rt, head), PRIME), "{head:?}");
+    assert_that(&rt, is_leaf(&node, PRIME));
+    assert_that(&rt, is_node(&node, PRIME));
+    assert_that(&rt, !is_inner(&node, PRIME));
+    for head in &NO_NODES {
+        assert_equal_for(&rt, head, is_node(&page_of(&rt, *head), PRIME), false);
     }
 }
+
+// A key: how many keys of a leaf of 0001 and 0007 are below it, and how many are not above it.
+const RANKS: [(&[u8; 4], usize, usize); 5] = [
+    (b"0000", 0, 0),
+    (b"0001", 0, 1),
+    (b"0003", 1, 1),
+    (b"0007", 1, 2),
+    (b"0008", 2, 2),
+];
 
 #[test]
 fn a_leaf_reads_as_its_bytes_say(rt: HostRuntime) {
@@ -76,19 +90,16 @@ fn a_leaf_reads_as_its_bytes_say(rt: HostRuntime) {
         shape: PRIME,
     };
     assert!(rt; leaf.count() == 2);
-    assert!(rt; leaf.key(0) == b"0001".as_slice());
-    assert!(rt; leaf.entry(1) == b"0007\0\0\0\x03\0\x01".as_slice());
-    for (key, rank, rank_after) in [
-        (b"0000", 0, 0),
-        (b"0001", 0, 1),
-        (b"0003", 1, 1),
-        (b"0007", 1, 2),
-        (b"0008", 2, 2),
-    ] {
-        assert!(rt; leaf.rank(key) == rank, "{key:?}");
-        assert!(rt; leaf.rank_after(key) == rank_after, "{key:?}");
+    assert_equal(&rt, leaf.key(0), b"0001");
+    assert_equal(&rt, leaf.entry(1), b"0007\0\0\0\x03\0\x01");
+    for &(key, rank, rank_after) in &RANKS {
+        assert_equal_for(&rt, key, leaf.rank(key), rank);
+        assert_equal_for(&rt, key, leaf.rank_after(key), rank_after);
     }
 }
+
+// A key, and the child of an inner node of 0010 and 0020 that it leads to.
+const CHILDREN: [(&[u8; 4], u32); 4] = [(b"0009", 5), (b"0010", 7), (b"0011", 7), (b"0020", 256)];
 
 #[test]
 fn an_equal_key_leads_right(rt: HostRuntime) {
@@ -102,9 +113,9 @@ fn an_equal_key_leads_right(rt: HostRuntime) {
         shape: PRIME,
     };
     assert!(rt; inner.count() == 2);
-    assert!(rt; inner.separator(0) == b"0010".as_slice());
-    assert!(rt; inner.separator(1) == b"0020".as_slice());
-    for (key, child) in [(b"0009", 5), (b"0010", 7), (b"0011", 7), (b"0020", 256)] {
-        assert!(rt; inner.child(inner.rank(key)) == child, "{key:?}");
+    assert_equal(&rt, inner.separator(0), b"0010");
+    assert_equal(&rt, inner.separator(1), b"0020");
+    for &(key, child) in &CHILDREN {
+        assert_equal_for(&rt, key, inner.child(inner.rank(key)), child);
     }
 }

@@ -1,6 +1,6 @@
 //! Files with a prime key and alternate keys.
 
-use crate::checks::{assert_equal, assert_equal_for};
+use crate::checks::{assert_equal, assert_equal_for, assert_that};
 use crate::entries::items;
 use io_state::Name;
 use record_layout::{Field, KeyPart, Layout, Schema, SchemaFault};
@@ -10,7 +10,7 @@ use std::test::Fail;
 
 /// A record of a number, a name, a code and a note.
 fn customer(alloc: Global) -> Result<Layout, Fail> {
-    let rows = [
+    let rows = &[
         (1, "CUSTOMER", ""),
         (5, "ID", "9(4)"),
         (5, "NAME", ""),
@@ -19,7 +19,7 @@ fn customer(alloc: Global) -> Result<Layout, Fail> {
         (5, "CODE", "X(2)"),
         (5, "NOTE", "X(251)"),
     ];
-    Ok(Layout::build(alloc, &items(alloc, &rows)?)?)
+    Ok(Layout::build(alloc, &items(alloc, rows)?)?)
 }
 
 fn field(offset: u16, length: u16) -> Field {
@@ -41,23 +41,27 @@ fn part(offset: u16, length: u16, duplicates: bool) -> KeyPart {
 /// ID is the prime key; CODE and NAME are alternate keys.
 fn customers(rt: &impl Abort, alloc: Global) -> Result<Schema, Fail> {
     let layout = customer(alloc)?;
-    let alternates = [(Name::from("CODE")?, true), (Name::from("NAME")?, false)];
-    assert_eq!(rt; layout.length(), 265);
+    let alternates = named(alloc, &[("CODE", true), ("NAME", false)])?;
+    assert!(rt; layout.length() == 265);
     Ok(Schema::varying(&layout, 14, "ID", &alternates)?)
 }
+
+// Each key of a customer: its number, where it stands, and its value in 0042ANNMILLEX7.
+const KEYS: [(u8, u16, u16, bool, &[u8]); 3] = [
+    (0, 0, 4, false, b"0042"),
+    (1, 4, 8, false, b"ANNMILLE"),
+    (2, 12, 2, true, b"X7"),
+];
 
 #[test]
 fn alternate_keys_are_numbered_by_where_they_stand(rt: HostRuntime) -> Result<(), Fail> {
     let schema = customers(&rt, rt.alloc())?;
-    assert_eq!(rt; schema.least(), 14);
-    assert_eq!(rt; schema.greatest(), 265);
-    assert_eq!(rt; schema.key_count(), 3);
-    for (k, expected, value) in [
-        (0, part(0, 4, false), b"0042".as_slice()),
-        (1, part(4, 8, false), b"ANNMILLE".as_slice()),
-        (2, part(12, 2, true), b"X7".as_slice()),
-    ] {
-        assert_equal_for(&rt, k, schema.part(k), expected);
+    assert!(rt; schema.least() == 14);
+    assert_equal(&rt, schema.greatest(), 265);
+    assert_equal(&rt, schema.key_count(), 3);
+    for &(k, offset, length, duplicates, value) in &KEYS {
+        assert!(rt; usize::from(k) < schema.key_count());
+        assert_equal_for(&rt, k, schema.part(k), part(offset, length, duplicates));
         assert_equal_for(&rt, k, schema.value(b"0042ANNMILLEX7", k), value);
         let key = schema.extract(b"0042ANNMILLEX7", k);
         assert_equal_for(&rt, k, key.as_slice(), value);
@@ -68,14 +72,15 @@ fn alternate_keys_are_numbered_by_where_they_stand(rt: HostRuntime) -> Result<()
 #[test]
 fn an_item_is_a_key_or_leads_one(rt: HostRuntime) -> Result<(), Fail> {
     let schema = customers(&rt, rt.alloc())?;
-    for (item, key, partial) in [
-        (field(0, 4), Some(0), Some((0, 4))),
-        (field(4, 8), Some(1), Some((1, 8))),
-        (field(4, 3), None, Some((1, 3))),
-        (field(4, 9), None, None),
-        (field(7, 5), None, None),
-        (field(12, 2), Some(2), Some((2, 2))),
+    for &(offset, length, key, partial) in &[
+        (0, 4, Some(0), Some((0, 4))),
+        (4, 8, Some(1), Some((1, 8))),
+        (4, 3, None, Some((1, 3))),
+        (4, 9, None, None),
+        (7, 5, None, None),
+        (12, 2, Some(2), Some((2, 2))),
     ] {
+        let item = field(offset, length);
         assert_equal_for(&rt, item, schema.key_of(item), key);
         assert_equal_for(&rt, item, schema.partial(item), partial);
     }
@@ -90,42 +95,58 @@ fn fault_of(layout: &Layout, prime: &str, alternates: &[(Name, bool)]) -> Option
     Schema::varying(layout, 13, prime, alternates).err()
 }
 
+// Names of alternate keys, and whether each may have duplicates.
+fn named(alloc: Global, rows: &[(&str, bool)]) -> Result<Vec<(Name, bool)>, Fail> {
+    let mut named = Vec::new(alloc);
+    for (name, duplicates) in rows {
+        named.push((Name::from(name)?, *duplicates))?;
+    }
+    Ok(named)
+}
+
+const FAULTY: [(&str, &[(&str, bool)], SchemaFault); 7] = [
+    ("NUMBER", &[], SchemaFault::NoSuchField),
+    ("ID", &[("NUMBER", false)], SchemaFault::NoSuchField),
+    ("NOTE", &[], SchemaFault::KeyTooLong),
+    (
+        "ID",
+        &[("NAME", false), ("FIRST", true)],
+        SchemaFault::SameLeftmost,
+    ),
+    ("ID", &[("CODE", false)], SchemaFault::KeyPastLeast),
+    (
+        "ID",
+        &[("CODE", false), ("NOTE", false)],
+        SchemaFault::KeyPastLeast,
+    ),
+    ("NUMBER", &[("NUMBER", false); 9], SchemaFault::TooManyKeys),
+];
+
 // FILE-CONTROL entry: the leftmost character of no key is that of another. RECORD clause: keys are within the least length.
 #[test]
 fn the_first_fault_of_the_keys_is_told(rt: HostRuntime) -> Result<(), Fail> {
     let layout = customer(rt.alloc())?;
-    let none = [];
-    let unknown = [(Name::from("NUMBER")?, false)];
-    let first = [(Name::from("NAME")?, false), (Name::from("FIRST")?, true)];
-    let past = [(Name::from("CODE")?, false)];
-    let two_faults = [(Name::from("CODE")?, false), (Name::from("NOTE")?, false)];
-    let nine = [(Name::from("NUMBER")?, false); 9];
-    for (prime, alternates, fault) in [
-        ("NUMBER", none.as_slice(), SchemaFault::NoSuchField),
-        ("ID", unknown.as_slice(), SchemaFault::NoSuchField),
-        ("NOTE", none.as_slice(), SchemaFault::KeyTooLong),
-        ("ID", first.as_slice(), SchemaFault::SameLeftmost),
-        ("ID", past.as_slice(), SchemaFault::KeyPastLeast),
-        ("ID", two_faults.as_slice(), SchemaFault::KeyPastLeast),
-        ("NUMBER", nine.as_slice(), SchemaFault::TooManyKeys),
-    ] {
-        let found = fault_of(&layout, prime, alternates);
-        assert!(rt; found == Some(fault), "{fault:?}");
+    for &(prime, alternates, fault) in &FAULTY {
+        let found = fault_of(&layout, prime, &named(rt.alloc(), alternates)?);
+        assert_equal_for(&rt, (prime, alternates), found, Some(fault));
     }
     Ok(())
 }
 
+fn with_keys(alloc: Global, alternates: &[(&str, bool)]) -> Result<Schema, Fail> {
+    Ok(Schema::new(&customer(alloc)?, "ID", &named(alloc, alternates)?)?)
+}
+
 #[test]
 fn schemas_are_the_same_whatever_the_order_of_their_clauses(rt: HostRuntime) -> Result<(), Fail> {
-    let layout = customer(rt.alloc())?;
-    let (code, name) = (Name::from("CODE")?, Name::from("NAME")?);
-    let schema = Schema::new(&layout, "ID", &[(code, true), (name, false)])?;
-    let turned = Schema::new(&layout, "ID", &[(name, false), (code, true)])?;
-    let unique = Schema::new(&layout, "ID", &[(name, false), (code, false)])?;
-    assert!(rt; schema.same(&turned));
-    assert!(rt; schema.same(&schema.copy()));
-    assert!(rt; !schema.same(&unique));
-    assert!(rt; !schema.same(&customers(&rt, rt.alloc())?));
+    let schema = with_keys(rt.alloc(), &[("CODE", true), ("NAME", false)])?;
+    let turned = with_keys(rt.alloc(), &[("NAME", false), ("CODE", true)])?;
+    let unique = with_keys(rt.alloc(), &[("NAME", false), ("CODE", false)])?;
+    let varying = customers(&rt, rt.alloc())?;
+    assert_that(&rt, schema.same(&turned));
+    assert_that(&rt, schema.same(&schema.copy()));
+    assert_that(&rt, !schema.same(&unique));
+    assert_that(&rt, !schema.same(&varying));
     Ok(())
 }
 
@@ -153,8 +174,8 @@ fn a_schema_is_made_from_the_numbers_of_one(rt: HostRuntime) -> Result<(), Fail>
         None => assert!(rt; false, "these make a schema"),
     }
     let turned = [part(0, 4, false), part(12, 2, true), part(4, 8, false)];
-    assert!(rt; Schema::from_parts(249, 4000, &keys).is_none());
-    assert!(rt; Schema::from_parts(20, 20, &turned).is_none());
-    assert!(rt; Schema::from_parts(20, 20, &[]).is_none());
+    assert_that(&rt, Schema::from_parts(249, 4000, &keys).is_none());
+    assert_that(&rt, Schema::from_parts(20, 20, &turned).is_none());
+    assert_that(&rt, Schema::from_parts(20, 20, &[]).is_none());
     Ok(())
 }

@@ -6,7 +6,7 @@ use io_state::{Access, OpenMode, Status, Verb, permits};
 // I-O status: a first digit 0 is successful completion.
 #[test]
 fn a_status_prints_its_two_digits(rt: HostRuntime) {
-    for (status, digits, success) in [
+    for &(status, digits, success) in &[
         (Status::Successful, b"00", true),
         (Status::Duplicate, b"02", true),
         (Status::OptionalAbsent, b"05", true),
@@ -23,34 +23,21 @@ fn a_status_prints_its_two_digits(rt: HostRuntime) {
 // OPEN statement, general rules: the table of permissible statements.
 #[test]
 fn writing_depends_on_access_and_mode(rt: HostRuntime) {
-    for (access, input, output, input_output, extend) in [
-        (Access::Sequential, false, true, false, true),
-        (Access::Random, false, true, true, false),
-        (Access::Dynamic, false, true, true, false),
+    for &(access, mode, permitted) in &[
+        (Access::Sequential, OpenMode::Input, false),
+        (Access::Sequential, OpenMode::Output, true),
+        (Access::Sequential, OpenMode::InputOutput, false),
+        (Access::Sequential, OpenMode::Extend, true),
+        (Access::Random, OpenMode::Input, false),
+        (Access::Random, OpenMode::Output, true),
+        (Access::Random, OpenMode::InputOutput, true),
+        (Access::Random, OpenMode::Extend, false),
+        (Access::Dynamic, OpenMode::Input, false),
+        (Access::Dynamic, OpenMode::Output, true),
+        (Access::Dynamic, OpenMode::InputOutput, true),
+        (Access::Dynamic, OpenMode::Extend, false),
     ] {
-        assert_equal_for(
-            &rt,
-            access,
-            permits(access, OpenMode::Input, Verb::Write),
-            input,
-        );
-        assert_equal_for(
-            &rt,
-            access,
-            permits(access, OpenMode::Output, Verb::Write),
-            output,
-        );
-        assert_equal_for(
-            &rt,
-            access,
-            permits(access, OpenMode::InputOutput, Verb::Write),
-            input_output,
-        );
-        assert_equal_for(
-            &rt,
-            access,
-            permits(access, OpenMode::Extend, Verb::Write),
-            extend,
-        );
+        let found = permits(access, mode, Verb::Write);
+        assert_equal_for(&rt, (access, mode), found, permitted);
     }
 }
