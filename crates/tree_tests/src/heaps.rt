@@ -1,6 +1,6 @@
 //! What no clause says: numbers and bytes that a person reads off the format, and that each call can succeed.
 
-use crate::checks::assert_equal;
+use crate::checks::{assert_equal, assert_equal_for};
 use crate::memory_pages::{MemoryPages, new_pages, put_byte};
 use io_state::Fault;
 use page_marks::{FaultPlace, PageFault, WalkFault};
@@ -83,23 +83,22 @@ fn numbered(i: usize) -> [u8; 16] {
 
 #[test]
 fn slots_are_as_many_as_fit(rt: HostRuntime) {
-    let cases = [
+    for &(stamps, least, greatest, size, room) in &[
         (0, 16, 16, 17, 240),
         (0, 10, 16, 19, 214),
         (0, 10, 10, 11, 370),
         (0, 1, 1, 7, 582),
         (64, 4000, 4000, 4065, 1),
         (64, 1, 4000, 4067, 1),
-    ];
-    for (stamps, least, greatest, size, room) in cases {
+    ] {
         assert!(rt; least <= greatest && stamps <= 64 && greatest <= 4000);
         let shape = Shape {
             stamps,
             least,
             greatest,
         };
-        assert!(rt; shape.size() == size, "{shape:?}");
-        assert!(rt; shape.room() == room, "{shape:?}");
+        assert_equal_for(&rt, shape, shape.size(), size);
+        assert_equal_for(&rt, shape, shape.room(), room);
     }
 }
 
@@ -112,12 +111,10 @@ fn freed_slots_are_taken_before_a_page_is(rt: HostRuntime) -> Result<(), Fail> {
     for i in 0..500 {
         places.push(add(&rt, &mut heap, &mut pages, &numbered(i))?)?;
     }
-    assert!(rt; pages.pages.len() == 4);
+    assert_equal(&rt, pages.pages.len(), 4);
     for (i, &place) in places.iter().enumerate() {
-        assert!(rt;
-            get(&rt, &heap, &mut pages, place)? == (16, numbered(i)),
-            "{place:?}"
-        );
+        let found = get(&rt, &heap, &mut pages, place);
+        assert_equal_for(&rt, place, found, Ok((16, numbered(i))));
     }
     for &place in places.iter() {
         heap.free(&mut pages, place)?;
@@ -125,8 +122,20 @@ fn freed_slots_are_taken_before_a_page_is(rt: HostRuntime) -> Result<(), Fail> {
     for i in 0..500 {
         add(&rt, &mut heap, &mut pages, &numbered(i))?;
     }
-    assert!(rt; pages.pages.len() == 4);
+    assert_equal(&rt, pages.pages.len(), 4);
     Ok(())
+}
+
+// A place holds so many bytes, and an area of dots is this one once they are read into it.
+fn holds(
+    rt: &impl Abort,
+    heap: &Heap,
+    pages: &mut MemoryPages,
+    place: Place,
+    length: usize,
+    area: &[u8; 16],
+) {
+    assert_equal(rt, get(rt, heap, pages, place), Ok((length, *area)));
 }
 
 #[test]
@@ -135,23 +144,11 @@ fn a_shorter_record_leaves_the_rest_of_the_area(rt: HostRuntime) -> Result<(), F
     let mut heap = Heap::new(VARYING);
     let first = add(&rt, &mut heap, &mut pages, b"0002SVEN  ")?;
     let second = add(&rt, &mut heap, &mut pages, b"0001SMITH OSLO  ")?;
-    assert_equal(
-        &rt,
-        get(&rt, &heap, &mut pages, first)?,
-        (10, *b"0002SVEN  ......"),
-    );
+    holds(&rt, &heap, &mut pages, first, 10, b"0002SVEN  ......");
     set(&rt, &heap, &mut pages, first, b"0002SVEN  MOSS  ")?;
     set(&rt, &heap, &mut pages, second, b"0001SMITH ")?;
-    assert_equal(
-        &rt,
-        get(&rt, &heap, &mut pages, first)?,
-        (16, *b"0002SVEN  MOSS  "),
-    );
-    assert_equal(
-        &rt,
-        get(&rt, &heap, &mut pages, second)?,
-        (10, *b"0001SMITH ......"),
-    );
+    holds(&rt, &heap, &mut pages, first, 16, b"0002SVEN  MOSS  ");
+    holds(&rt, &heap, &mut pages, second, 10, b"0001SMITH ......");
     heap.free(&mut pages, first)?;
     for place in [
         first,
@@ -159,16 +156,10 @@ fn a_shorter_record_leaves_the_rest_of_the_area(rt: HostRuntime) -> Result<(), F
         Place { page: 1, slot: 214 },
         Place { page: 2, slot: 0 },
     ] {
-        assert!(rt;
-            get(&rt, &heap, &mut pages, place) == Err(Fault::Damage),
-            "{place:?}"
-        );
+        let found = get(&rt, &heap, &mut pages, place);
+        assert_equal_for(&rt, place, found, Err(Fault::Damage));
     }
-    assert_equal(
-        &rt,
-        get(&rt, &heap, &mut pages, second)?,
-        (10, *b"0001SMITH ......"),
-    );
+    holds(&rt, &heap, &mut pages, second, 10, b"0001SMITH ......");
     Ok(())
 }
 
@@ -193,56 +184,135 @@ fn a_heap_is_full_where_no_slot_and_no_page_is_left(rt: HostRuntime) -> Result<(
     Ok(())
 }
 
+const TEN: Shape = Shape {
+    stamps: 0,
+    least: 10,
+    greatest: 10,
+};
+
+const TENS: &[(usize, &[u8])] = &[
+    (0, b"H\0\0\0\0\0\0\0\0\0\0\0\0\0\0\0"),
+    (16, b"\x010001SMITH "),
+    (27, b"\0\0\0\0\x02\0\x02"),
+    (4064, b"\0\0\0\0\x02\x01\x71"),
+    (4075, b"\0\0\0\0\0\0\0"),
+];
+
+const VARYINGS: &[(usize, &[u8])] = &[
+    (0, b"H\0\0\0\0\0\0\0\0\0\0\0\0\0\0\0"),
+    (16, b"\x01\0\x0a0001SMITH "),
+    (35, b"\0\0\0\0\x03\0\x02"),
+    (4044, b"\0\0\0\0\x03\0\xd5"),
+    (4063, b"\0\0\0\0\0\0\0"),
+];
+
+const STAMPEDS: &[(usize, &[u8])] = &[
+    (0, b"H\0\0\0\0\0\0\0\0\0\0\0\0\0\0\0"),
+    (16, b"\x01\0\x0a\0\0\0\0\0\0\x02\x050001SMITH "),
+    (43, b"\0\0\0\0\x03\0\x02"),
+    (4039, b"\0\0\0\0\x03\0\x96"),
+    (4066, b"\0\0\0\0\0\0\0"),
+];
+
+// The shape of a heap, the pages before it, what is added to it, and the parts of its page then.
+const FIRST_PAGES: [(Shape, usize, &[u8], &[(usize, &[u8])]); 3] = [
+    (TEN, 1, b"0001SMITH ", TENS),
+    (VARYING, 2, b"0001SMITH ", VARYINGS),
+    (STAMPED, 2, b"\0\0\0\0\0\0\x02\x050001SMITH ", STAMPEDS),
+];
+
 // The page of the first record: of a file of records of 10 bytes with one key, and of records of 10 to 16 bytes with two keys, and with a stamp.
 #[test]
 fn a_heap_page_is_written_byte_for_byte(rt: HostRuntime) -> Result<(), Fail> {
-    let ten = Shape {
-        stamps: 0,
-        least: 10,
-        greatest: 10,
-    };
-    let tens: [(usize, &[u8]); 5] = [
-        (0, b"H\0\0\0\0\0\0\0\0\0\0\0\0\0\0\0"),
-        (16, b"\x010001SMITH "),
-        (27, b"\0\0\0\0\x02\0\x02"),
-        (4064, b"\0\0\0\0\x02\x01\x71"),
-        (4075, b"\0\0\0\0\0\0\0"),
-    ];
-    let varying: [(usize, &[u8]); 5] = [
-        (0, b"H\0\0\0\0\0\0\0\0\0\0\0\0\0\0\0"),
-        (16, b"\x01\0\x0a0001SMITH "),
-        (35, b"\0\0\0\0\x03\0\x02"),
-        (4044, b"\0\0\0\0\x03\0\xd5"),
-        (4063, b"\0\0\0\0\0\0\0"),
-    ];
-    let stamped: [(usize, &[u8]); 5] = [
-        (0, b"H\0\0\0\0\0\0\0\0\0\0\0\0\0\0\0"),
-        (16, b"\x01\0\x0a\0\0\0\0\0\0\x02\x050001SMITH "),
-        (43, b"\0\0\0\0\x03\0\x02"),
-        (4039, b"\0\0\0\0\x03\0\x96"),
-        (4066, b"\0\0\0\0\0\0\0"),
-    ];
-    let smith: &[u8] = b"0001SMITH ";
-    let stamp_and_smith: &[u8] = b"\0\0\0\0\0\0\x02\x050001SMITH ";
-    for (shape, others, bytes, parts) in [
-        (ten, 1, smith, tens),
-        (VARYING, 2, smith, varying),
-        (STAMPED, 2, stamp_and_smith, stamped),
-    ] {
+    for &(shape, others, bytes, parts) in &FIRST_PAGES {
         let mut pages = new_pages(rt.alloc(), others, 1)?;
         let mut heap = Heap::new(shape);
         let place = add(&rt, &mut heap, &mut pages, bytes)?;
         assert_equal(&rt, place.page as usize, others + 1);
         let page = pages.pages.last().expect(&rt, "a page");
-        for (at, bytes) in parts {
-            assert!(rt;
-                page.get(at..at + bytes.len()) == Some(bytes),
-                "{shape:?} at {at}"
-            );
+        for &(at, bytes) in parts {
+            let found = page.get(at..at + bytes.len());
+            assert_equal_for(&rt, (shape, at), found, Some(bytes));
         }
     }
     Ok(())
 }
+
+// A byte of a page of the heap that is changed, the fault that is told then, and what is wrong.
+const DAMAGES: [(usize, usize, u8, PageFault, FaultPlace, &str); 9] = [
+    (
+        2,
+        7,
+        2,
+        PageFault::Shared,
+        FaultPlace::Page(2),
+        "a page that leads to itself",
+    ),
+    (
+        2,
+        0,
+        b'L',
+        PageFault::Chain,
+        FaultPlace::Page(2),
+        "a page of another kind",
+    ),
+    (
+        1,
+        1,
+        1,
+        PageFault::Chain,
+        FaultPlace::Page(1),
+        "a byte that should be zero",
+    ),
+    (
+        1,
+        7,
+        9,
+        PageFault::Chain,
+        FaultPlace::Page(1),
+        "a page that is not there",
+    ),
+    (
+        1,
+        16,
+        2,
+        PageFault::Chain,
+        FaultPlace::Entry { page: 1, entry: 0 },
+        "a mark that is none",
+    ),
+    (
+        1,
+        16,
+        0,
+        PageFault::Chain,
+        FaultPlace::Entry { page: 1, entry: 0 },
+        "a free slot that nothing leads to",
+    ),
+    (
+        1,
+        50,
+        0,
+        PageFault::Chain,
+        FaultPlace::Entry { page: 1, entry: 2 },
+        "another free slot that nothing leads to",
+    ),
+    (
+        1,
+        141,
+        9,
+        PageFault::Chain,
+        FaultPlace::Entry { page: 1, entry: 7 },
+        "a link to a slot in use",
+    ),
+    (
+        1,
+        139,
+        9,
+        PageFault::Chain,
+        FaultPlace::Entry { page: 1, entry: 7 },
+        "a link to a page that is not there",
+    ),
+];
 
 #[test]
 fn a_walk_finds_the_pages_of_a_heap_and_what_is_lost(rt: HostRuntime) -> Result<(), Fail> {
@@ -262,84 +332,10 @@ fn a_walk_finds_the_pages_of_a_heap_and_what_is_lost(rt: HostRuntime) -> Result<
         again.err(),
         Some(WalkFault::of_page(PageFault::Shared, 2)),
     );
-    let changes = [
-        (
-            2,
-            7,
-            2,
-            PageFault::Shared,
-            FaultPlace::Page(2),
-            "a page that leads to itself",
-        ),
-        (
-            2,
-            0,
-            b'L',
-            PageFault::Chain,
-            FaultPlace::Page(2),
-            "a page of another kind",
-        ),
-        (
-            1,
-            1,
-            1,
-            PageFault::Chain,
-            FaultPlace::Page(1),
-            "a byte that should be zero",
-        ),
-        (
-            1,
-            7,
-            9,
-            PageFault::Chain,
-            FaultPlace::Page(1),
-            "a page that is not there",
-        ),
-        (
-            1,
-            16,
-            2,
-            PageFault::Chain,
-            FaultPlace::Entry { page: 1, entry: 0 },
-            "a mark that is none",
-        ),
-        (
-            1,
-            16,
-            0,
-            PageFault::Chain,
-            FaultPlace::Entry { page: 1, entry: 0 },
-            "a free slot that nothing leads to",
-        ),
-        (
-            1,
-            50,
-            0,
-            PageFault::Chain,
-            FaultPlace::Entry { page: 1, entry: 2 },
-            "another free slot that nothing leads to",
-        ),
-        (
-            1,
-            141,
-            9,
-            PageFault::Chain,
-            FaultPlace::Entry { page: 1, entry: 7 },
-            "a link to a slot in use",
-        ),
-        (
-            1,
-            139,
-            9,
-            PageFault::Chain,
-            FaultPlace::Entry { page: 1, entry: 7 },
-            "a link to a page that is not there",
-        ),
-    ];
-    for (n, at, byte, fault, place, what) in changes {
+    for &(n, at, byte, fault, place, what) in &DAMAGES {
         let was = put_byte(&rt, &mut pages.pages, n, at, byte);
         let found = walk_heap(rt.alloc(), &pages.pages, &heap, &mut [false; 3]);
-        assert!(rt; found.err() == Some(WalkFault::At(fault, place)), "{what}");
+        assert_equal_for(&rt, what, found.err(), Some(WalkFault::At(fault, place)));
         put_byte(&rt, &mut pages.pages, n, at, was);
     }
     Ok(())
@@ -359,7 +355,7 @@ fn a_heap_that_begins_wrongly_is_told_at_the_first_page(rt: HostRuntime) -> Resu
     for heap in [away, in_use] {
         let found = walk_heap(rt.alloc(), &pages.pages, &heap, &mut [false; 2]);
         let fault = WalkFault::of_page(PageFault::Chain, 0);
-        assert!(rt; found.err() == Some(fault), "{heap:?}");
+        assert_equal_for(&rt, heap, found.err(), Some(fault));
     }
     Ok(())
 }

@@ -1,6 +1,6 @@
 //! What no clause says: the order of names that a person sees, the bytes of a leaf, and that each call can succeed.
 
-use crate::checks::assert_equal;
+use crate::checks::{assert_equal, assert_that};
 use crate::memory_pages::{MemoryPages, new_pages};
 use io_state::Fault;
 use key_index::{
@@ -35,31 +35,55 @@ fn add_name(
     index.add(pages, name, stamp, prime)
 }
 
-// Whether it is the entry of a name, with a stamp, of the record with a prime value.
-fn shows(found: Option<AltEntry>, name: &[u8], stamp: u64, prime: &[u8]) -> bool {
+// The entry of a name, with a stamp, of the record with a prime value.
+fn is_entry(entry: AltEntry, name: &[u8], stamp: u64, prime: &[u8]) -> bool {
+    entry.value.as_slice() == name && entry.stamp == stamp && entry.prime.as_slice() == prime
+}
+
+fn shows(
+    rt: &impl Abort,
+    found: Result<Option<AltEntry>, Fault>,
+    name: &[u8],
+    stamp: u64,
+    prime: &[u8],
+) {
     match found {
-        None => false,
-        Some(entry) => {
-            entry.value.as_slice() == name
-                && entry.stamp == stamp
-                && entry.prime.as_slice() == prime
+        Ok(Some(entry)) => assert_that(rt, is_entry(entry, name, stamp, prime)),
+        _ => assert_that(rt, false),
+    }
+}
+
+// The first entry of a name, and whether another follows.
+fn begins(
+    rt: &impl Abort,
+    found: Result<Option<AltFirst>, Fault>,
+    name: &[u8],
+    stamp: u64,
+    prime: &[u8],
+    followed: bool,
+) {
+    match found {
+        Ok(Some(first)) => {
+            assert_equal(rt, first.followed, followed);
+            assert_that(rt, is_entry(first.entry, name, stamp, prime));
         }
+        _ => assert_that(rt, false),
     }
 }
 
-// Whether it is the first entry of a name, and whether another follows is told so.
-fn begins(found: Option<AltFirst>, name: &[u8], stamp: u64, prime: &[u8], followed: bool) -> bool {
+fn is_at(rt: &impl Abort, found: Result<Option<PrimeEntry>, Fault>, value: &[u8], place: Place) {
     match found {
-        None => false,
-        Some(first) => first.followed == followed && shows(Some(first.entry), name, stamp, prime),
+        Ok(Some(entry)) => {
+            assert_equal(rt, entry.value.as_slice(), value);
+            assert_equal(rt, entry.place, place);
+        }
+        _ => assert_that(rt, false),
     }
 }
 
-fn is_at(found: Option<PrimeEntry>, value: &[u8], place: Place) -> bool {
-    match found {
-        None => false,
-        Some(entry) => entry.value.as_slice() == value && entry.place == place,
-    }
+// No entry is found.
+fn shows_none<T: Drop>(rt: &impl Abort, found: Result<Option<T>, Fault>) {
+    assert!(rt; matches!(found, Ok(None)));
 }
 
 // The page of the prime index of a file with the one record 0001SMITH.
@@ -68,7 +92,8 @@ fn a_leaf_is_written_byte_for_byte(rt: HostRuntime) -> Result<(), Fail> {
     let mut pages = new_pages(rt.alloc(), 0, 1)?;
     let mut index = PrimeIndex::empty(&mut pages, 4)?;
     let place = Place { page: 2, slot: 0 };
-    assert!(rt; add_place(&rt, &mut index, &mut pages, b"0001", place)?);
+    let added = add_place(&rt, &mut index, &mut pages, b"0001", place);
+    assert_equal(&rt, added, Ok(true));
     assert_equal(&rt, index.tree.root, 1);
     assert!(rt; pages.pages.len() == 2);
     let page = &pages.pages[1];
@@ -89,39 +114,41 @@ const SECOND: Place = Place { page: 2, slot: 1 };
 fn two_values(rt: &impl Abort, pages: &mut MemoryPages) -> Result<PrimeIndex, Fault> {
     let empty = PrimeIndex::empty(pages, 4)?;
     let mut index = PrimeIndex::stored(4, empty.tree.root, empty.height(), empty.count());
-    assert!(rt; add_place(rt, &mut index, pages, b"0002", FIRST)?);
-    assert!(rt; add_place(rt, &mut index, pages, b"0001", SECOND)?);
+    assert_equal(
+        rt,
+        add_place(rt, &mut index, pages, b"0002", FIRST),
+        Ok(true),
+    );
+    assert_equal(
+        rt,
+        add_place(rt, &mut index, pages, b"0001", SECOND),
+        Ok(true),
+    );
     Ok(index)
 }
 
-fn is_read_by_its_values(index: &PrimeIndex, pages: &mut MemoryPages) -> Result<bool, Fault> {
-    Ok(
-        index.count() == 2
-            && is_at(index.find(pages, b"0002")?, b"0002", FIRST)
-            && index.place_of(pages, b"0001")? == Some(SECOND)
-            && index.has(pages, b"0002")?,
-    )
+fn is_read_by_its_values(rt: &impl Abort, index: &PrimeIndex, pages: &mut MemoryPages) {
+    assert_equal(rt, index.count(), 2);
+    is_at(rt, index.find(pages, b"0002"), b"0002", FIRST);
+    assert_equal(rt, index.place_of(pages, b"0001"), Ok(Some(SECOND)));
+    assert_equal(rt, index.has(pages, b"0002"), Ok(true));
 }
 
-fn is_read_in_order(index: &PrimeIndex, pages: &mut MemoryPages) -> Result<bool, Fault> {
-    Ok(
-        is_at(index.first_from(pages, b"0")?, b"0001", SECOND)
-            && is_at(index.first_after(pages, b"0001")?, b"0002", FIRST)
-            && is_at(index.last(pages)?, b"0002", FIRST)
-            && index.first_past(pages, b"00")?.is_none()
-            && is_at(index.first_past(pages, b"0001")?, b"0002", FIRST),
-    )
+fn is_read_in_order(rt: &impl Abort, index: &PrimeIndex, pages: &mut MemoryPages) {
+    is_at(rt, index.first_from(pages, b"0"), b"0001", SECOND);
+    is_at(rt, index.first_after(pages, b"0001"), b"0002", FIRST);
+    is_at(rt, index.last(pages), b"0002", FIRST);
+    shows_none(rt, index.first_past(pages, b"00"));
+    is_at(rt, index.first_past(pages, b"0001"), b"0002", FIRST);
 }
 
-// Whether a value is removed once, and is not there then.
-fn is_removed_once(index: &mut PrimeIndex, pages: &mut MemoryPages) -> Result<bool, Fault> {
-    Ok(
-        index.remove(pages, b"0002")?
-            && !index.remove(pages, b"0002")?
-            && index.find(pages, b"0002")?.is_none()
-            && index.place_of(pages, b"0002")?.is_none()
-            && !index.has(pages, b"0002")?,
-    )
+// A value is removed once, and is not there then.
+fn is_removed_once(rt: &impl Abort, index: &mut PrimeIndex, pages: &mut MemoryPages) {
+    assert_equal(rt, index.remove(pages, b"0002"), Ok(true));
+    assert_equal(rt, index.remove(pages, b"0002"), Ok(false));
+    shows_none(rt, index.find(pages, b"0002"));
+    assert_equal(rt, index.place_of(pages, b"0002"), Ok(None));
+    assert_equal(rt, index.has(pages, b"0002"), Ok(false));
 }
 
 #[test]
@@ -129,12 +156,13 @@ fn a_prime_value_stands_once(rt: HostRuntime) -> Result<(), Fail> {
     prime_laws();
     let mut pages = new_pages(rt.alloc(), 0, 1)?;
     let mut index = two_values(&rt, &mut pages)?;
-    assert!(rt; !add_place(&rt, &mut index, &mut pages, b"0002", SECOND)?);
-    assert!(rt; is_read_by_its_values(&index, &mut pages)?);
-    assert!(rt; is_read_in_order(&index, &mut pages)?);
-    assert!(rt; is_removed_once(&mut index, &mut pages)?);
-    assert!(rt; index.count() == 1);
-    assert!(rt; index.height() == 1);
+    let again = add_place(&rt, &mut index, &mut pages, b"0002", SECOND);
+    assert_equal(&rt, again, Ok(false));
+    is_read_by_its_values(&rt, &index, &mut pages);
+    is_read_in_order(&rt, &index, &mut pages);
+    is_removed_once(&rt, &mut index, &mut pages);
+    assert_equal(&rt, index.count(), 1);
+    assert_equal(&rt, index.height(), 1);
     Ok(())
 }
 
@@ -142,42 +170,47 @@ fn a_prime_value_stands_once(rt: HostRuntime) -> Result<(), Fail> {
 fn three_names(rt: &impl Abort, pages: &mut MemoryPages) -> Result<AltIndex, Fault> {
     let empty = AltIndex::empty(pages, 1, 5, 2)?;
     let mut index = AltIndex::stored(1, 5, 2, empty.tree.root, empty.height(), empty.count());
-    for (name, stamp, prime) in [
+    for (name, stamp, prime) in &[
         (b"SVEN ", 1, b"01"),
         (b"ADAMS", 2, b"02"),
         (b"SMITH", 3, b"03"),
     ] {
-        assert!(rt; add_name(rt, &mut index, pages, name, stamp, prime)?);
+        let added = add_name(rt, &mut index, pages, *name, *stamp, *prime);
+        assert_equal(rt, added, Ok(true));
     }
     Ok(index)
 }
 
-fn names_come_from_their_first_bytes(
-    index: &AltIndex,
-    pages: &mut MemoryPages,
-) -> Result<bool, Fault> {
-    Ok(
-        shows(index.first_from(pages, b"S")?, b"SMITH", 3, b"03")
-            && shows(index.first_from(pages, b"SMITHSON")?, b"SVEN ", 1, b"01")
-            && shows(index.first_after(pages, b"SMITH", 3)?, b"SVEN ", 1, b"01")
-            && shows(index.first_after(pages, b"S", 9)?, b"SMITH", 3, b"03"),
-    )
+fn names_come_from_their_first_bytes(rt: &impl Abort, index: &AltIndex, pages: &mut MemoryPages) {
+    shows(rt, index.first_from(pages, b"S"), b"SMITH", 3, b"03");
+    shows(rt, index.first_from(pages, b"SMITHSON"), b"SVEN ", 1, b"01");
+    shows(
+        rt,
+        index.first_after(pages, b"SMITH", 3),
+        b"SVEN ",
+        1,
+        b"01",
+    );
+    shows(rt, index.first_after(pages, b"S", 9), b"SMITH", 3, b"03");
 }
 
-fn a_whole_name_is_looked_for(index: &AltIndex, pages: &mut MemoryPages) -> Result<bool, Fault> {
-    Ok(
-        begins(index.first_of(pages, b"SMITH")?, b"SMITH", 3, b"03", false)
-            && index.first_of(pages, b"SMIT")?.is_none()
-            && index.first_of(pages, b"SMYTH")?.is_none(),
-    )
+fn a_whole_name_is_looked_for(rt: &impl Abort, index: &AltIndex, pages: &mut MemoryPages) {
+    begins(
+        rt,
+        index.first_of(pages, b"SMITH"),
+        b"SMITH",
+        3,
+        b"03",
+        false,
+    );
+    shows_none(rt, index.first_of(pages, b"SMIT"));
+    shows_none(rt, index.first_of(pages, b"SMYTH"));
 }
 
-fn names_come_past_a_letter(index: &AltIndex, pages: &mut MemoryPages) -> Result<bool, Fault> {
-    Ok(
-        shows(index.first_past(pages, b"A")?, b"SMITH", 3, b"03")
-            && index.first_past(pages, b"S")?.is_none()
-            && shows(index.last(pages)?, b"SVEN ", 1, b"01"),
-    )
+fn names_come_past_a_letter(rt: &impl Abort, index: &AltIndex, pages: &mut MemoryPages) {
+    shows(rt, index.first_past(pages, b"A"), b"SMITH", 3, b"03");
+    shows_none(rt, index.first_past(pages, b"S"));
+    shows(rt, index.last(pages), b"SVEN ", 1, b"01");
 }
 
 #[test]
@@ -185,61 +218,77 @@ fn names_come_in_their_order_and_from_their_first_bytes(rt: HostRuntime) -> Resu
     alt_laws();
     let mut pages = new_pages(rt.alloc(), 0, 1)?;
     let index = three_names(&rt, &mut pages)?;
-    assert!(rt; names_come_from_their_first_bytes(&index, &mut pages)?);
-    assert!(rt; a_whole_name_is_looked_for(&index, &mut pages)?);
-    assert!(rt; names_come_past_a_letter(&index, &mut pages)?);
+    names_come_from_their_first_bytes(&rt, &index, &mut pages);
+    a_whole_name_is_looked_for(&rt, &index, &mut pages);
+    names_come_past_a_letter(&rt, &index, &mut pages);
     Ok(())
 }
 
 // An index of one name of three records.
 fn one_name(rt: &impl Abort, pages: &mut MemoryPages) -> Result<AltIndex, Fault> {
     let mut index = AltIndex::empty(pages, 1, 5, 2)?;
-    for (stamp, prime) in [(256, b"03"), (2, b"01"), (255, b"02")] {
-        assert!(rt; add_name(rt, &mut index, pages, b"SMITH", stamp, prime)?);
+    for (stamp, prime) in &[(256, b"03"), (2, b"01"), (255, b"02")] {
+        let added = add_name(rt, &mut index, pages, b"SMITH", *stamp, *prime);
+        assert_equal(rt, added, Ok(true));
     }
     Ok(index)
 }
 
-fn duplicates_are_in_order(index: &AltIndex, pages: &mut MemoryPages) -> Result<bool, Fault> {
-    Ok(
-        shows(index.first_from(pages, b"SMITH")?, b"SMITH", 2, b"01")
-            && shows(index.first_after(pages, b"SMITH", 2)?, b"SMITH", 255, b"02")
-            && shows(
-                index.first_after(pages, b"SMITH", 255)?,
-                b"SMITH",
-                256,
-                b"03",
-            )
-            && index.first_after(pages, b"SMITH", 256)?.is_none(),
-    )
+fn duplicates_are_in_order(rt: &impl Abort, index: &AltIndex, pages: &mut MemoryPages) {
+    shows(rt, index.first_from(pages, b"SMITH"), b"SMITH", 2, b"01");
+    shows(
+        rt,
+        index.first_after(pages, b"SMITH", 2),
+        b"SMITH",
+        255,
+        b"02",
+    );
+    shows(
+        rt,
+        index.first_after(pages, b"SMITH", 255),
+        b"SMITH",
+        256,
+        b"03",
+    );
+    shows_none(rt, index.first_after(pages, b"SMITH", 256));
 }
 
-fn a_duplicate_is_found(index: &AltIndex, pages: &mut MemoryPages) -> Result<bool, Fault> {
-    Ok(
-        begins(index.first_of(pages, b"SMITH")?, b"SMITH", 2, b"01", true)
-            && shows(index.find(pages, b"SMITH", 255)?, b"SMITH", 255, b"02")
-            && index.find(pages, b"SMITH", 3)?.is_none(),
-    )
+fn a_duplicate_is_found(rt: &impl Abort, index: &AltIndex, pages: &mut MemoryPages) {
+    begins(
+        rt,
+        index.first_of(pages, b"SMITH"),
+        b"SMITH",
+        2,
+        b"01",
+        true,
+    );
+    shows(rt, index.find(pages, b"SMITH", 255), b"SMITH", 255, b"02");
+    shows_none(rt, index.find(pages, b"SMITH", 3));
 }
 
-fn a_duplicate_is_removed(index: &mut AltIndex, pages: &mut MemoryPages) -> Result<bool, Fault> {
-    Ok(
-        !index.remove(pages, b"SMITH", 3)?
-            && index.remove(pages, b"SMITH", 255)?
-            && shows(index.first_after(pages, b"SMITH", 2)?, b"SMITH", 256, b"03"),
-    )
+fn a_duplicate_is_removed(rt: &impl Abort, index: &mut AltIndex, pages: &mut MemoryPages) {
+    assert_equal(rt, index.remove(pages, b"SMITH", 3), Ok(false));
+    assert_equal(rt, index.remove(pages, b"SMITH", 255), Ok(true));
+    shows(
+        rt,
+        index.first_after(pages, b"SMITH", 2),
+        b"SMITH",
+        256,
+        b"03",
+    );
 }
 
 #[test]
 fn duplicates_come_in_the_order_of_their_stamps(rt: HostRuntime) -> Result<(), Fail> {
     let mut pages = new_pages(rt.alloc(), 0, 1)?;
     let mut index = one_name(&rt, &mut pages)?;
-    assert!(rt; !add_name(&rt, &mut index, &mut pages, b"SMITH", 255, b"09")?);
-    assert!(rt; duplicates_are_in_order(&index, &mut pages)?);
-    assert!(rt; a_duplicate_is_found(&index, &mut pages)?);
-    assert!(rt; a_duplicate_is_removed(&mut index, &mut pages)?);
-    assert!(rt; index.count() == 2);
-    assert!(rt; index.height() == 1);
+    let again = add_name(&rt, &mut index, &mut pages, b"SMITH", 255, b"09");
+    assert_equal(&rt, again, Ok(false));
+    duplicates_are_in_order(&rt, &index, &mut pages);
+    a_duplicate_is_found(&rt, &index, &mut pages);
+    a_duplicate_is_removed(&rt, &mut index, &mut pages);
+    assert_equal(&rt, index.count(), 2);
+    assert_equal(&rt, index.height(), 1);
     Ok(())
 }
 
@@ -251,31 +300,32 @@ fn values_of_250_bytes_are_told_apart_by_the_last(rt: HostRuntime) -> Result<(),
     let mut next = [255; 250];
     let prime = [b'7'; 250];
     next[249] = 254;
-    assert!(rt; add_name(&rt, &mut index, &mut pages, &greatest, u64::MAX, &prime)?);
-    assert!(rt; add_name(&rt, &mut index, &mut pages, &next, u64::MAX, &prime)?);
-    assert!(rt;
-        shows(
-            index.first_from(&mut pages, &next)?,
-            &next,
-            u64::MAX,
-            &prime
-        )
+    for value in [greatest, next] {
+        let added = add_name(&rt, &mut index, &mut pages, &value, u64::MAX, &prime);
+        assert_equal(&rt, added, Ok(true));
+    }
+    shows(
+        &rt,
+        index.first_from(&mut pages, &next),
+        &next,
+        u64::MAX,
+        &prime,
     );
-    assert!(rt;
-        shows(
-            index.first_past(&mut pages, &next)?,
-            &greatest,
-            u64::MAX,
-            &prime
-        )
+    shows(
+        &rt,
+        index.first_past(&mut pages, &next),
+        &greatest,
+        u64::MAX,
+        &prime,
     );
-    assert!(rt; index.first_past(&mut pages, &greatest)?.is_none());
-    assert!(rt; shows(index.last(&mut pages)?, &greatest, u64::MAX, &prime));
+    shows_none(&rt, index.first_past(&mut pages, &greatest));
+    shows(&rt, index.last(&mut pages), &greatest, u64::MAX, &prime);
     Ok(())
 }
 
-// Whether the next name is this one, and another duplicate follows where the cursor stands, as is said.
+// The next name is this one, and another duplicate follows where the cursor stands, as is said.
 fn goes_on(
+    rt: &impl Abort,
     cursor: &mut AltCursor,
     index: &AltIndex,
     pages: &mut MemoryPages,
@@ -283,11 +333,9 @@ fn goes_on(
     name: &[u8],
     stamp: u64,
     prime: &[u8],
-) -> Result<bool, Fault> {
-    Ok(
-        cursor.is_followed(index, pages)? == followed
-            && shows(cursor.next(index, pages)?, name, stamp, prime),
-    )
+) {
+    assert_equal(rt, cursor.is_followed(index, pages), Ok(followed));
+    shows(rt, cursor.next(index, pages), name, stamp, prime);
 }
 
 #[test]
@@ -296,13 +344,41 @@ fn a_cursor_gives_one_name_after_another(rt: HostRuntime) -> Result<(), Fail> {
     let mut names = one_name(&rt, &mut pages)?;
     assert!(rt; names.width == 5);
     let mut cursor = names.cursor(b"SMITH", 2);
-    assert!(rt; goes_on(&mut cursor, &names, &mut pages, true, b"SMITH", 255, b"02")?);
-    assert!(rt; goes_on(&mut cursor, &names, &mut pages, true, b"SMITH", 256, b"03")?);
-    assert!(rt; !cursor.is_followed(&names, &mut pages)?);
-    assert!(rt; cursor.next(&names, &mut pages)?.is_none());
-    assert!(rt; cursor.is_after(b"SMITH", 256));
-    assert!(rt; add_name(&rt, &mut names, &mut pages, b"SVEN ", 0, b"04")?);
-    assert!(rt; goes_on(&mut cursor, &names, &mut pages, false, b"SVEN ", 0, b"04")?);
+    goes_on(
+        &rt,
+        &mut cursor,
+        &names,
+        &mut pages,
+        true,
+        b"SMITH",
+        255,
+        b"02",
+    );
+    goes_on(
+        &rt,
+        &mut cursor,
+        &names,
+        &mut pages,
+        true,
+        b"SMITH",
+        256,
+        b"03",
+    );
+    assert_equal(&rt, cursor.is_followed(&names, &mut pages), Ok(false));
+    shows_none(&rt, cursor.next(&names, &mut pages));
+    assert_that(&rt, cursor.is_after(b"SMITH", 256));
+    let added = add_name(&rt, &mut names, &mut pages, b"SVEN ", 0, b"04");
+    assert_equal(&rt, added, Ok(true));
+    goes_on(
+        &rt,
+        &mut cursor,
+        &names,
+        &mut pages,
+        false,
+        b"SVEN ",
+        0,
+        b"04",
+    );
     Ok(())
 }
 
@@ -312,7 +388,7 @@ fn a_cursor_gives_one_number_after_another(rt: HostRuntime) -> Result<(), Fail> 
     let index = two_values(&rt, &mut pages)?;
     assert!(rt; index.width == 4);
     let mut cursor = index.cursor(b"0001");
-    assert!(rt; is_at(cursor.next(&index, &mut pages)?, b"0002", FIRST));
-    assert!(rt; cursor.is_after(b"0002"));
+    is_at(&rt, cursor.next(&index, &mut pages), b"0002", FIRST);
+    assert_that(&rt, cursor.is_after(b"0002"));
     Ok(())
 }

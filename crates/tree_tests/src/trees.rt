@@ -1,6 +1,6 @@
 //! What no clause says: how many entries fit, that each call can succeed, and long series of changes beside a list in order.
 
-use crate::checks::assert_equal;
+use crate::checks::{assert_equal, assert_equal_for, assert_that};
 use crate::memory_pages::{MemoryPages, new_pages};
 use bplus_tree::{Cursor, Tree, have_many_entries, reads_its_entries};
 use io_state::Fault;
@@ -249,7 +249,8 @@ fn fill_and_empty(
     let mut pages = new_pages(alloc, 0, 1000)?;
     let mut tree = Tree::empty(&mut pages, shape)?;
     for i in 0..3000 {
-        assert!(rt; put(&mut tree, &mut pages, in_order(entering, i))?);
+        let added = put(&mut tree, &mut pages, in_order(entering, i));
+        assert_equal_for(rt, i, added, Ok(true));
     }
     assert_equal(rt, count_filled(rt, alloc, &tree, &mut pages)?, 3000);
     let mut cursor = tree.cursor(b"");
@@ -257,11 +258,12 @@ fn fill_and_empty(
     for i in 0..3000 {
         number = after(&tree, &mut pages, number)?;
         assert_equal(rt, number, Some(i));
-        assert_equal(rt, next(&mut cursor, &tree, &mut pages)?, Some(i));
+        assert_equal(rt, next(&mut cursor, &tree, &mut pages), Ok(Some(i)));
     }
-    assert_equal(rt, next(&mut cursor, &tree, &mut pages)?, None);
+    assert_equal(rt, next(&mut cursor, &tree, &mut pages), Ok(None));
     for i in 0..3000 {
-        assert!(rt; take(&mut tree, &mut pages, in_order(leaving, i))?);
+        let taken = take(&mut tree, &mut pages, in_order(leaving, i));
+        assert_equal_for(rt, i, taken, Ok(true));
     }
     assert_equal(rt, (tree.height(), tree.count, pages.taken()), (1, 0, 1));
     Ok(())
@@ -293,8 +295,7 @@ fn long_entries_that_come_in_mixed_order_leave_in_it(rt: HostRuntime) -> Result<
 
 #[test]
 fn a_leaf_is_split_by_the_entry_that_it_has_no_room_for(rt: HostRuntime) -> Result<(), Fail> {
-    let cases = [(8, 10, 408), (12, 18, 226), (240, 255, 16), (258, 508, 8)];
-    for (width, entry, room) in cases {
+    for &(width, entry, room) in &[(8, 10, 408), (12, 18, 226), (240, 255, 16), (258, 508, 8)] {
         assert!(rt; 1 <= width && width <= 258 && width <= entry && entry <= 508);
         let shape = Shape {
             key: 0,
@@ -304,12 +305,12 @@ fn a_leaf_is_split_by_the_entry_that_it_has_no_room_for(rt: HostRuntime) -> Resu
         let mut pages = new_pages(rt.alloc(), 0, 3)?;
         let mut tree = Tree::empty(&mut pages, shape)?;
         for i in 0..room {
-            assert!(rt; put(&mut tree, &mut pages, i)?);
+            assert_equal_for(&rt, i, put(&mut tree, &mut pages, i), Ok(true));
         }
-        assert!(rt; tree.height() == 1, "{room}");
-        assert!(rt; !put(&mut tree, &mut pages, 0)?);
-        assert!(rt; put(&mut tree, &mut pages, room)?);
-        assert!(rt; tree.height() == 2, "{room}");
+        assert_equal_for(&rt, room, tree.height(), 1);
+        assert_equal_for(&rt, room, put(&mut tree, &mut pages, 0), Ok(false));
+        assert_equal_for(&rt, room, put(&mut tree, &mut pages, room), Ok(true));
+        assert_equal_for(&rt, room, tree.height(), 2);
     }
     Ok(())
 }
@@ -325,8 +326,8 @@ fn a_cursor_gives_what_after_gives_while_the_tree_changes(rt: HostRuntime) -> Re
     let mut number = None;
     for step in 0..400u64 {
         number = after(&tree, &mut pages, number)?;
-        assert!(rt; number.is_some());
-        assert!(rt; next(&mut cursor, &tree, &mut pages)? == number, "{step}");
+        assert_that(&rt, number.is_some());
+        assert_equal_for(&rt, step, next(&mut cursor, &tree, &mut pages), Ok(number));
         match step % 5 {
             1 => put(&mut tree, &mut pages, step.wrapping_mul(3))?,
             3 => take(&mut tree, &mut pages, step.wrapping_mul(4))?,
@@ -345,17 +346,17 @@ fn a_cursor_tells_how_the_next_entry_begins_and_stays(rt: HostRuntime) -> Result
     }
     let mut cursor = tree.cursor(b"");
     for i in 0..20u64 {
-        assert!(rt; is_next(&cursor, &tree, &mut pages, i)?, "{i}");
-        assert!(rt;
-            !is_next(&cursor, &tree, &mut pages, i.wrapping_add(1))?,
-            "{i}"
-        );
-        assert_equal(&rt, next(&mut cursor, &tree, &mut pages)?, Some(i));
+        assert_equal(&rt, is_next(&cursor, &tree, &mut pages, i), Ok(true));
+        let behind = is_next(&cursor, &tree, &mut pages, i.wrapping_add(1));
+        assert_equal(&rt, behind, Ok(false));
+        assert_equal(&rt, next(&mut cursor, &tree, &mut pages), Ok(Some(i)));
     }
-    assert!(rt; !cursor.next_begins_with(&tree, &mut pages, b"")?);
-    assert!(rt; put(&mut tree, &mut pages, 20)?);
-    assert!(rt; cursor.next_begins_with(&tree, &mut pages, b"")?);
-    assert!(rt; is_next(&cursor, &tree, &mut pages, 20)?);
+    let goes_on = cursor.next_begins_with(&tree, &mut pages, b"");
+    assert_equal(&rt, goes_on, Ok(false));
+    assert_equal(&rt, put(&mut tree, &mut pages, 20), Ok(true));
+    let goes_on = cursor.next_begins_with(&tree, &mut pages, b"");
+    assert_equal(&rt, goes_on, Ok(true));
+    assert_equal(&rt, is_next(&cursor, &tree, &mut pages, 20), Ok(true));
     Ok(())
 }
 

@@ -1,6 +1,6 @@
 //! What no clause says: which faults are told, and that each call can succeed. The pages are written byte by byte, as the format says.
 
-use crate::checks::assert_equal;
+use crate::checks::{assert_equal, assert_equal_for, assert_that};
 use crate::memory_pages::{new_pages, put_byte};
 use bplus_tree::Tree;
 use page_marks::{FaultPlace, PageFault, WalkFault, all_marked, mark};
@@ -98,47 +98,68 @@ fn the_entries_of_a_tree_are_found_in_order(rt: HostRuntime) -> Result<(), Fail>
         keys.as_slice(),
         [10, 11, 12, 13, 20, 21, 22, 23].as_slice(),
     );
-    for (page, place) in [(0, 0), (1, 0), (2, 4), (4, 0)] {
+    for &(page, place) in &[(0, 0), (1, 0), (2, 4), (4, 0)] {
         let spot = Spot { page, place };
-        assert!(rt; spot.entry(&pages, LONGEST) == None, "{spot:?}");
+        assert_that(&rt, spot.entry(&pages, LONGEST).is_none());
     }
     Ok(())
 }
 
 // A root above two inner nodes, each above eight leaves of four entries.
-#[test]
-fn a_tree_of_three_levels_is_walked(rt: HostRuntime) -> Result<(), Fail> {
-    let mut pages = new_pages(rt.alloc(), 19, 0)?.pages;
-    put_inner(&rt, &mut pages, 1, 2, &[(32, 3)]);
+fn three_levels(rt: &impl Abort, alloc: Global) -> Result<Vec<[u8; 4096]>, Fail> {
+    let mut pages = new_pages(alloc, 19, 0)?.pages;
+    put_inner(rt, &mut pages, 1, 2, &[(32, 3)]);
+    put_inner(
+        rt,
+        &mut pages,
+        2,
+        4,
+        &[
+            (4, 5),
+            (8, 6),
+            (12, 7),
+            (16, 8),
+            (20, 9),
+            (24, 10),
+            (28, 11),
+        ],
+    );
+    put_inner(
+        rt,
+        &mut pages,
+        3,
+        12,
+        &[
+            (36, 13),
+            (40, 14),
+            (44, 15),
+            (48, 16),
+            (52, 17),
+            (56, 18),
+            (60, 19),
+        ],
+    );
     for leaf in 0..16u8 {
         let first = 4 * leaf;
-        put_leaf(
-            &rt,
-            &mut pages,
-            leaf as usize + 4,
-            &[first, first + 1, first + 2, first + 3],
-        );
+        let keys = [first, first + 1, first + 2, first + 3];
+        put_leaf(rt, &mut pages, leaf as usize + 4, &keys);
     }
-    let left = [
-        (4, 5),
-        (8, 6),
-        (12, 7),
-        (16, 8),
-        (20, 9),
-        (24, 10),
-        (28, 11),
-    ];
-    let right = [
-        (36, 13),
-        (40, 14),
-        (44, 15),
-        (48, 16),
-        (52, 17),
-        (56, 18),
-        (60, 19),
-    ];
-    put_inner(&rt, &mut pages, 2, 4, &left);
-    put_inner(&rt, &mut pages, 3, 12, &right);
+    Ok(pages)
+}
+
+// Why a walk over these gives up.
+fn fault_of_three_levels(
+    rt: &impl Abort,
+    alloc: Global,
+    pages: &[[u8; 4096]],
+    count: u64,
+) -> Option<WalkFault> {
+    walk_tree(alloc, pages, &tree(rt, 1, 2, count), &mut [false; 20]).err()
+}
+
+#[test]
+fn a_tree_of_three_levels_is_walked(rt: HostRuntime) -> Result<(), Fail> {
+    let mut pages = three_levels(&rt, rt.alloc())?;
     let mut reached = [false; 20];
     mark(&mut reached, 0)?;
     let leaves = walk_tree(rt.alloc(), &pages, &tree(&rt, 1, 2, 64), &mut reached)?;
@@ -147,15 +168,13 @@ fn a_tree_of_three_levels_is_walked(rt: HostRuntime) -> Result<(), Fail> {
         leaves.get(8).copied(),
         Some(Leaf { page: 12, count: 4 }),
     );
-    assert!(rt; all_marked(&reached));
+    assert_that(&rt, all_marked(&reached));
+    // An inner node that has too little.
     let six = put_byte(&rt, &mut pages, 2, 3, 6);
-    let found = walk_tree(rt.alloc(), &pages, &tree(&rt, 1, 2, 60), &mut [false; 20]);
-    assert!(rt;
-        found.err() == Some(WalkFault::of_page(PageFault::Node, 2)),
-        "an inner node that has too little"
-    );
+    let found = fault_of_three_levels(&rt, rt.alloc(), &pages, 60);
+    assert_equal(&rt, found, Some(WalkFault::of_page(PageFault::Node, 2)));
     put_byte(&rt, &mut pages, 2, 3, six);
-    let changes = [
+    for &(n, at, byte, separator, what) in &[
         (3, 20, 31, 0, "a separator below the one above it"),
         (
             2,
@@ -165,154 +184,150 @@ fn a_tree_of_three_levels_is_walked(rt: HostRuntime) -> Result<(), Fail> {
             "a separator not below the one above it",
         ),
         (3, 20 + 262 * 2, 48, 2, "a separator twice"),
-    ];
-    for (n, at, byte, separator, what) in changes {
+    ] {
         let was = put_byte(&rt, &mut pages, n, at, byte);
-        let found = walk_tree(rt.alloc(), &pages, &tree(&rt, 1, 2, 64), &mut [false; 20]);
+        let found = fault_of_three_levels(&rt, rt.alloc(), &pages, 64);
         let fault = WalkFault::of_entry(PageFault::Order, n as u32, separator);
-        assert!(rt; found.err() == Some(fault), "{what}");
+        assert_equal_for(&rt, what, found, Some(fault));
         put_byte(&rt, &mut pages, n, at, was);
     }
     Ok(())
 }
 
+// A byte of the two leaves or their root that is changed, the fault that is told then, and what is wrong.
+const DAMAGES: [(usize, usize, u8, PageFault, FaultPlace, &str); 13] = [
+    (
+        1,
+        0,
+        b'L',
+        PageFault::Node,
+        FaultPlace::Page(1),
+        "a leaf above leaves",
+    ),
+    (
+        2,
+        0,
+        b'I',
+        PageFault::Node,
+        FaultPlace::Page(2),
+        "an inner node among leaves",
+    ),
+    (
+        3,
+        1,
+        3,
+        PageFault::Node,
+        FaultPlace::Page(3),
+        "a leaf of another key",
+    ),
+    (
+        3,
+        4,
+        1,
+        PageFault::Node,
+        FaultPlace::Page(3),
+        "a byte that should be zero",
+    ),
+    (
+        2,
+        3,
+        9,
+        PageFault::Node,
+        FaultPlace::Page(2),
+        "more entries than fit",
+    ),
+    (
+        2,
+        3,
+        3,
+        PageFault::Node,
+        FaultPlace::Page(2),
+        "a leaf that has too little",
+    ),
+    (
+        1,
+        3,
+        0,
+        PageFault::Node,
+        FaultPlace::Page(1),
+        "an inner root without separators",
+    ),
+    (
+        1,
+        19,
+        4,
+        PageFault::Node,
+        FaultPlace::Page(1),
+        "a child that is not there",
+    ),
+    (
+        1,
+        281,
+        2,
+        PageFault::Shared,
+        FaultPlace::Page(2),
+        "one child twice",
+    ),
+    (
+        1,
+        19,
+        1,
+        PageFault::Shared,
+        FaultPlace::Page(1),
+        "a root that is its own child",
+    ),
+    (
+        2,
+        524,
+        10,
+        PageFault::Order,
+        FaultPlace::Entry { page: 2, entry: 0 },
+        "a key twice",
+    ),
+    (
+        2,
+        1540,
+        20,
+        PageFault::Order,
+        FaultPlace::Entry { page: 2, entry: 3 },
+        "a key that is not below its separator",
+    ),
+    (
+        3,
+        16,
+        19,
+        PageFault::Order,
+        FaultPlace::Entry { page: 3, entry: 0 },
+        "a key below its separator",
+    ),
+];
+
+// Where the root is, its levels and entries, and the fault that is told. A root that is not there is told at page 0.
+const WRONG_ROOTS: [(u32, u8, u64, PageFault, u32); 8] = [
+    (1, 1, 7, PageFault::Count, 1),
+    (1, 1, 9, PageFault::Count, 1),
+    (1, 0, 8, PageFault::Node, 1),
+    (1, 2, 8, PageFault::Node, 2),
+    (2, 0, 8, PageFault::Count, 2),
+    (0, 0, 0, PageFault::Node, 0),
+    (4, 0, 0, PageFault::Node, 0),
+    (1, 19, 8, PageFault::Node, 2),
+];
+
 #[test]
 fn each_damage_of_a_tree_has_its_fault(rt: HostRuntime) -> Result<(), Fail> {
     let mut pages = two_leaves(&rt, rt.alloc())?;
-    let changes: [(usize, usize, u8, PageFault, FaultPlace, &str); 13] = [
-        (
-            1,
-            0,
-            b'L',
-            PageFault::Node,
-            FaultPlace::Page(1),
-            "a leaf above leaves",
-        ),
-        (
-            2,
-            0,
-            b'I',
-            PageFault::Node,
-            FaultPlace::Page(2),
-            "an inner node among leaves",
-        ),
-        (
-            3,
-            1,
-            3,
-            PageFault::Node,
-            FaultPlace::Page(3),
-            "a leaf of another key",
-        ),
-        (
-            3,
-            4,
-            1,
-            PageFault::Node,
-            FaultPlace::Page(3),
-            "a byte that should be zero",
-        ),
-        (
-            2,
-            3,
-            9,
-            PageFault::Node,
-            FaultPlace::Page(2),
-            "more entries than fit",
-        ),
-        (
-            2,
-            3,
-            3,
-            PageFault::Node,
-            FaultPlace::Page(2),
-            "a leaf that has too little",
-        ),
-        (
-            1,
-            3,
-            0,
-            PageFault::Node,
-            FaultPlace::Page(1),
-            "an inner root without separators",
-        ),
-        (
-            1,
-            19,
-            4,
-            PageFault::Node,
-            FaultPlace::Page(1),
-            "a child that is not there",
-        ),
-        (
-            1,
-            281,
-            2,
-            PageFault::Shared,
-            FaultPlace::Page(2),
-            "one child twice",
-        ),
-        (
-            1,
-            19,
-            1,
-            PageFault::Shared,
-            FaultPlace::Page(1),
-            "a root that is its own child",
-        ),
-        (
-            2,
-            524,
-            10,
-            PageFault::Order,
-            FaultPlace::Entry { page: 2, entry: 0 },
-            "a key twice",
-        ),
-        (
-            2,
-            1540,
-            20,
-            PageFault::Order,
-            FaultPlace::Entry { page: 2, entry: 3 },
-            "a key that is not below its separator",
-        ),
-        (
-            3,
-            16,
-            19,
-            PageFault::Order,
-            FaultPlace::Entry { page: 3, entry: 0 },
-            "a key below its separator",
-        ),
-    ];
-    for (n, at, byte, fault, place, what) in changes {
+    for &(n, at, byte, fault, place, what) in &DAMAGES {
         let was = put_byte(&rt, &mut pages, n, at, byte);
         let found = walk_tree(rt.alloc(), &pages, &tree(&rt, 1, 1, 8), &mut [false; 4]);
-        assert!(rt; found.err() == Some(WalkFault::At(fault, place)), "{what}");
+        assert_equal_for(&rt, what, found.err(), Some(WalkFault::At(fault, place)));
         put_byte(&rt, &mut pages, n, at, was);
     }
-    // A root that is not there is told at page 0.
-    let others = [
-        (1, 1, 7, PageFault::Count, 1),
-        (1, 1, 9, PageFault::Count, 1),
-        (1, 0, 8, PageFault::Node, 1),
-        (1, 2, 8, PageFault::Node, 2),
-        (2, 0, 8, PageFault::Count, 2),
-        (0, 0, 0, PageFault::Node, 0),
-        (4, 0, 0, PageFault::Node, 0),
-        (1, 19, 8, PageFault::Node, 2),
-    ];
-    for (root, levels, count, fault, page) in others {
-        let found = walk_tree(
-            rt.alloc(),
-            &pages,
-            &tree(&rt, root, levels, count),
-            &mut [false; 4],
-        );
-        assert!(rt;
-            found.err() == Some(WalkFault::of_page(fault, page)),
-            "page {root}, {levels} levels, {count} entries"
-        );
+    for &(root, levels, count, fault, page) in &WRONG_ROOTS {
+        let tree = tree(&rt, root, levels, count);
+        let found = walk_tree(rt.alloc(), &pages, &tree, &mut [false; 4]);
+        let fault = WalkFault::of_page(fault, page);
+        assert_equal_for(&rt, (root, levels, count), found.err(), Some(fault));
     }
     Ok(())
 }
@@ -335,7 +350,7 @@ fn the_free_pages_are_walked(rt: HostRuntime) -> Result<(), Fail> {
     );
     walk_free(&pages, 0, 0, &mut reached)?;
     // The chain is longer, or shorter, than it is told to be; or its first page is none, is not free, or is not there.
-    for (first, count, page) in [
+    for &(first, count, page) in &[
         (3, 1, 3),
         (3, 3, 1),
         (3, u32::MAX, 1),
@@ -345,22 +360,20 @@ fn the_free_pages_are_walked(rt: HostRuntime) -> Result<(), Fail> {
     ] {
         let found = walk_free(&pages, first, count, &mut [false; 4]);
         let fault = WalkFault::of_page(PageFault::Chain, page);
-        assert!(rt; found == Err(fault), "{count} from {first}");
+        assert_equal_for(&rt, (first, count), found, Err(fault));
     }
-    let changes = [
+    for &(n, at, byte, fault, page, what) in &[
         (3, 7, 3, PageFault::Shared, 3, "a page that leads to itself"),
         (3, 7, 2, PageFault::Chain, 2, "a page that is not free"),
         (1, 1, 1, PageFault::Chain, 1, "a byte that should be zero"),
         (1, 7, 4, PageFault::Chain, 1, "a chain that does not end"),
         (3, 7, 4, PageFault::Chain, 3, "a page that is not there"),
         (3, 7, 0, PageFault::Chain, 3, "a chain that ends too early"),
-    ];
-    for (n, at, byte, fault, page, what) in changes {
+    ] {
         let was = put_byte(&rt, &mut pages, n, at, byte);
-        assert!(rt;
-            walk_free(&pages, 3, 2, &mut [false; 4]) == Err(WalkFault::of_page(fault, page)),
-            "{what}"
-        );
+        let found = walk_free(&pages, 3, 2, &mut [false; 4]);
+        let fault = WalkFault::of_page(fault, page);
+        assert_equal_for(&rt, what, found, Err(fault));
         put_byte(&rt, &mut pages, n, at, was);
     }
     Ok(())
