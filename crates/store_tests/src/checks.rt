@@ -3,7 +3,11 @@
 use std::fmt::Debug;
 use std::process::Abort;
 
-// These stand for `assert_eq!`, which is proved anew at each place where it stands.
+// A macro that asserts is proved anew at each place where it stands. A call of one of these is not.
+pub fn assert_that(rt: &impl Abort, holds: bool) {
+    assert!(rt; holds);
+}
+
 pub fn assert_equal<T: PartialEq + Debug + Drop>(rt: &impl Abort, left: T, right: T) {
     assert_eq!(rt; left, right);
 }

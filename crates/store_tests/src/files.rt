@@ -119,10 +119,13 @@ pub fn find<S: Shelf>(shelf: &mut S) -> Result<Found, Fault>
 fn a_hundred_pages_are_read_as_written(rt: HostRuntime) -> Result<(), Fail> {
     let mut shelf = new_shelf(rt.alloc())?;
     make(&mut shelf, 100, 7)?;
-    assert_equal(&rt, find(&mut shelf)?, Found::Closed(7, 100));
+    assert_equal(&rt, find(&mut shelf), Ok(Found::Closed(7, 100)));
     assert_equal(&rt, shelf.faults(), 0);
     Ok(())
 }
+
+/// How a call of a shelf fails: after it was made or before, and once or for good.
+pub const WAYS: [(bool, bool); 4] = [(false, false), (false, true), (true, false), (true, true)];
 
 // The n-th call of a kind fails, of a program that makes a file of so many pages and reads it back: the file is closed whole, or refused. Whether a call failed.
 pub fn fails_at<S: Shelf + Drop>(
@@ -158,8 +161,8 @@ pub fn fails_at<S: Shelf + Drop>(
 
 #[test]
 fn a_file_is_closed_only_if_no_call_failed(rt: HostRuntime) -> Result<(), Fail> {
-    for kind in [Kind::Reads, Kind::Writes, Kind::Syncs, Kind::Changes] {
-        for (after, for_good) in [(false, false), (false, true), (true, false), (true, true)] {
+    for &kind in &[Kind::Reads, Kind::Writes, Kind::Syncs, Kind::Changes] {
+        for &(after, for_good) in &WAYS {
             for at in 1..200 {
                 let inner = new_shelf(rt.alloc())?;
                 if !fails_at(&rt, inner, (kind, at, after, for_good), 100)? {
@@ -173,7 +176,7 @@ fn a_file_is_closed_only_if_no_call_failed(rt: HostRuntime) -> Result<(), Fail> 
 
 // Whether each crash image holds the new file or, where it was not done, may be refused or what was found at the start.
 fn holds_new(alloc: Global, shelf: &MemShelf, start: Found, done: bool) -> Result<bool, Fault> {
-    for image in [
+    for &image in &[
         Image::AsRead,
         Image::Synced,
         Image::Filled(0),
@@ -197,7 +200,7 @@ fn a_stop_inside_make_leaves_no_file_a_refused_one_the_old_or_the_new(
     rt: HostRuntime,
 ) -> Result<(), Fail> {
     for start in 0..4 {
-        for after in [false, true] {
+        for &after in &[false, true] {
             for at in 1..30 {
                 let mut shelf = new_shelf(rt.alloc())?;
                 if start == 1 {
@@ -230,7 +233,7 @@ fn a_stop_inside_make_leaves_no_file_a_refused_one_the_old_or_the_new(
 fn a_stop_inside_a_change_leaves_the_old_file_a_refused_one_or_the_new(
     rt: HostRuntime,
 ) -> Result<(), Fail> {
-    for after in [false, true] {
+    for &after in &[false, true] {
         for at in 1..30 {
             let mut shelf = new_shelf(rt.alloc())?;
             make(&mut shelf, 2, 10)?;

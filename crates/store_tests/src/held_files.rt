@@ -1,6 +1,6 @@
 //! Files that two runs have open at once, that may only be read, or that a system has no locks for.
 
-use crate::checks::{assert_equal, assert_equal_for};
+use crate::checks::{assert_equal, assert_equal_for, assert_that};
 use crate::files::{Found, begin, change, find, make};
 use crate::refusing_system::{Change, Refusals, Refusing};
 use crate::shelves::name;
@@ -9,8 +9,9 @@ use io_state::{Fault, FileName};
 use page_store::{Shelf, Store};
 use std::alloc::Global;
 use std::fs;
-use std::io::ErrorKind;
+use std::io::{self, ErrorKind};
 use std::os::unix::fs::FileExt;
+use std::process::Abort;
 use std::rt::Files;
 use std::test::Fail;
 use system_files::LockFile;
@@ -37,6 +38,14 @@ fn make_file(rt: HostRuntime, folder: &str) -> Result<(), Fail> {
     Ok(())
 }
 
+// A file was read, and these are its bytes.
+fn has_bytes(rt: &impl Abort, found: io::Result<Vec<u8>>, bytes: &[u8]) {
+    match found {
+        Ok(found) => assert_equal(rt, found.as_slice(), bytes),
+        Err(_) => assert_that(rt, false),
+    }
+}
+
 fn second_name() -> FileName {
     let mut name = FileName::new();
     name.push_str("LINK");
@@ -57,8 +66,8 @@ fn a_file_that_is_made_is_read_by_no_other_run(rt: HostRuntime) -> Result<(), Fa
     store.finish(&mut first)?;
     assert_equal(&rt, find(&mut second), Err(Fault::Device));
     first.attach(&[])?;
-    assert_equal(&rt, find(&mut second)?, Found::Refused);
-    assert_equal(&rt, fs::read(&rt, "made_and_read/CUST")?.as_slice(), b"C");
+    assert_equal(&rt, find(&mut second), Ok(Found::Refused));
+    has_bytes(&rt, fs::read(&rt, "made_and_read/CUST"), b"C");
     Ok(())
 }
 
@@ -71,19 +80,22 @@ fn a_file_that_another_run_has_read_is_not_changed(rt: HostRuntime) -> Result<()
     first.attach(&[name()])?;
     second.attach(&[name()])?;
     // Those who read go side by side.
-    assert_equal(&rt, find(&mut first)?, Found::Closed(1, 3));
-    assert_equal(&rt, find(&mut second)?, Found::Closed(1, 3));
+    assert_equal(&rt, find(&mut first), Ok(Found::Closed(1, 3)));
+    assert_equal(&rt, find(&mut second), Ok(Found::Closed(1, 3)));
     assert_equal(&rt, change(&mut second, 3, 2), Err(Fault::Device));
     assert_equal(&rt, make(&mut second, 3, 2), Err(Fault::Device));
-    let after = fs::read(&rt, "read_and_changed/CUST")?;
-    assert!(rt; after.as_slice() == before.as_slice());
+    has_bytes(
+        &rt,
+        fs::read(&rt, "read_and_changed/CUST"),
+        before.as_slice(),
+    );
     // The one that was refused reads on, and changes the file once the other is done.
-    assert_equal(&rt, find(&mut second)?, Found::Closed(1, 3));
+    assert_equal(&rt, find(&mut second), Ok(Found::Closed(1, 3)));
     first.attach(&[name()])?;
-    change(&mut second, 3, 2)?;
+    assert_equal(&rt, change(&mut second, 3, 2), Ok(()));
     assert_equal(&rt, find(&mut first), Err(Fault::Device));
     second.attach(&[])?;
-    assert_equal(&rt, find(&mut first)?, Found::Closed(2, 3));
+    assert_equal(&rt, find(&mut first), Ok(Found::Closed(2, 3)));
     Ok(())
 }
 
@@ -94,15 +106,15 @@ fn of_two_changes_at_once_one_is_made_and_one_refused(rt: HostRuntime) -> Result
     let mut second = run_over(rt, rt.alloc(), "two_changes")?;
     first.attach(&[name()])?;
     second.attach(&[name()])?;
-    assert_equal(&rt, find(&mut first)?, Found::Closed(1, 3));
-    assert_equal(&rt, find(&mut second)?, Found::Closed(1, 3));
+    assert_equal(&rt, find(&mut first), Ok(Found::Closed(1, 3)));
+    assert_equal(&rt, find(&mut second), Ok(Found::Closed(1, 3)));
     assert_equal(&rt, begin(&mut first, 0), Err(Fault::Device));
-    change(&mut second, 3, 2)?;
+    assert_equal(&rt, change(&mut second, 3, 2), Ok(()));
     assert_equal(&rt, find(&mut first), Err(Fault::Device));
     assert_equal(&rt, begin(&mut first, 0), Err(Fault::Device));
     assert_equal(&rt, first.faults(), 3);
     assert_equal(&rt, second.faults(), 0);
-    assert_equal(&rt, find(&mut second)?, Found::Closed(2, 3));
+    assert_equal(&rt, find(&mut second), Ok(Found::Closed(2, 3)));
     Ok(())
 }
 
@@ -112,15 +124,14 @@ fn two_names_of_one_file_are_two_that_have_it_open(rt: HostRuntime) -> Result<()
     fs::hard_link(&rt, "two_names/CUST", "two_names/LINK")?;
     let mut run = run_over(rt, rt.alloc(), "two_names")?;
     run.attach(&[name(), second_name()])?;
-    begin(&mut run, 1)?;
+    assert_equal(&rt, begin(&mut run, 1), Ok(()));
     assert_equal(&rt, find(&mut run), Err(Fault::Device));
     let before = fs::read(&rt, "two_names/CUST")?;
     run.attach(&[name(), second_name()])?;
     // Its gate is open already, so that it is only read.
-    begin(&mut run, 1)?;
+    assert_equal(&rt, begin(&mut run, 1), Ok(()));
     assert_equal(&rt, make(&mut run, 3, 2), Err(Fault::Device));
-    let after = fs::read(&rt, "two_names/CUST")?;
-    assert!(rt; after.as_slice() == before.as_slice());
+    has_bytes(&rt, fs::read(&rt, "two_names/CUST"), before.as_slice());
     Ok(())
 }
 
@@ -129,7 +140,7 @@ fn a_file_that_may_only_be_read_is_read_whole_and_not_changed(rt: HostRuntime) -
     make_file(rt, "only_read")?;
     let before = fs::read(&rt, "only_read/CUST")?;
     let refusals = Refusals::none();
-    for (reason, is_read) in [
+    for &(reason, is_read) in &[
         (ErrorKind::PermissionDenied, true),
         (ErrorKind::ReadOnlyFilesystem, true),
         (ErrorKind::NotFound, false),
@@ -151,8 +162,7 @@ fn a_file_that_may_only_be_read_is_read_whole_and_not_changed(rt: HostRuntime) -
         assert_equal_for(&rt, reason, change(&mut run, 3, 2), Err(Fault::Device));
         assert_equal_for(&rt, reason, make(&mut run, 3, 2), Err(Fault::Device));
         assert_equal_for(&rt, reason, find(&mut run), found);
-        let after = fs::read(&rt, "only_read/CUST")?;
-        assert!(rt; after.as_slice() == before.as_slice());
+        has_bytes(&rt, fs::read(&rt, "only_read/CUST"), before.as_slice());
     }
     Ok(())
 }
@@ -175,7 +185,7 @@ fn set(bytes: &mut [u8], at: usize, byte: u8) {
 fn a_file_that_was_changed_between_two_locks_is_not_changed_again(
     rt: HostRuntime,
 ) -> Result<(), Fail> {
-    for meanwhile in [Change::Nothing, Change::Page, Change::Length, Change::Times] {
+    for &meanwhile in &[Change::Nothing, Change::Page, Change::Length, Change::Times] {
         make_file(rt, "between_two_locks")?;
         let refusals = Refusals::none();
         let refusing = Refusing {
@@ -184,7 +194,7 @@ fn a_file_that_was_changed_between_two_locks_is_not_changed_again(
         };
         let mut run = run_over(refusing, rt.alloc(), "between_two_locks")?;
         run.attach(&[name()])?;
-        assert_equal_for(&rt, meanwhile, find(&mut run)?, Found::Closed(1, 3));
+        assert_equal_for(&rt, meanwhile, find(&mut run), Ok(Found::Closed(1, 3)));
         let mut expected = fs::read(&rt, "between_two_locks/CUST")?;
         refusals.change.set(meanwhile);
         let begun = begin(&mut run, 0);
@@ -196,8 +206,11 @@ fn a_file_that_was_changed_between_two_locks_is_not_changed_again(
         }
         let is_refused = meanwhile != Change::Nothing;
         assert_equal_for(&rt, meanwhile, begun.is_err(), is_refused);
-        let after = fs::read(&rt, "between_two_locks/CUST")?;
-        assert!(rt; after.as_slice() == expected.as_slice(), "{meanwhile:?}");
+        has_bytes(
+            &rt,
+            fs::read(&rt, "between_two_locks/CUST"),
+            expected.as_slice(),
+        );
         // What reads the file anew may change it.
         let found = if meanwhile == Change::Page {
             Found::Mixed
@@ -206,8 +219,8 @@ fn a_file_that_was_changed_between_two_locks_is_not_changed_again(
         };
         if is_refused {
             assert_equal_for(&rt, meanwhile, found_by_another(rt)?, found);
-            assert_equal_for(&rt, meanwhile, find(&mut run)?, found);
-            begin(&mut run, 0)?;
+            assert_equal_for(&rt, meanwhile, find(&mut run), Ok(found));
+            assert_equal(&rt, begin(&mut run, 0), Ok(()));
         }
     }
     Ok(())
@@ -226,7 +239,7 @@ fn a_file_that_another_run_had_first_is_not_made(rt: HostRuntime) -> Result<(), 
     run.attach(&[name()])?;
     refusals.change.set(Change::Length);
     assert_equal(&rt, make(&mut run, 3, 2), Err(Fault::Device));
-    assert_equal(&rt, fs::read(&rt, "had_first/CUST")?.as_slice(), b"\0");
+    has_bytes(&rt, fs::read(&rt, "had_first/CUST"), b"\0");
     Ok(())
 }
 
@@ -243,13 +256,13 @@ fn a_system_without_locks_is_as_if_each_was_had(rt: HostRuntime) -> Result<(), F
     let mut second = run_over(refusing, rt.alloc(), "no_locks")?;
     first.attach(&[name()])?;
     second.attach(&[name()])?;
-    assert_equal(&rt, find(&mut first)?, Found::Closed(1, 3));
-    make(&mut second, 3, 2)?;
-    assert_equal(&rt, find(&mut first)?, Found::Closed(2, 3));
+    assert_equal(&rt, find(&mut first), Ok(Found::Closed(1, 3)));
+    assert_equal(&rt, make(&mut second, 3, 2), Ok(()));
+    assert_equal(&rt, find(&mut first), Ok(Found::Closed(2, 3)));
     fs::remove_file(&rt, "no_locks/CUST")?;
     first.attach(&[name()])?;
-    make(&mut first, 3, 3)?;
-    assert_equal(&rt, find(&mut first)?, Found::Closed(3, 3));
+    assert_equal(&rt, make(&mut first, 3, 3), Ok(()));
+    assert_equal(&rt, find(&mut first), Ok(Found::Closed(3, 3)));
     Ok(())
 }
 
@@ -266,7 +279,7 @@ fn a_sync_of_the_folder_that_failed_stays_failed(rt: HostRuntime) -> Result<(), 
     run.attach(&[name()])?;
     refusals.folder_sync.set(true);
     assert_equal(&rt, make(&mut run, 3, 2), Err(Fault::Device));
-    assert!(rt; !refusals.folder_sync.get());
+    assert_that(&rt, !refusals.folder_sync.get());
     // Neither by the same file nor by another one.
     assert_equal(&rt, make(&mut run, 3, 2), Err(Fault::Device));
     run.attach(&[second_name()])?;
@@ -274,7 +287,7 @@ fn a_sync_of_the_folder_that_failed_stays_failed(rt: HostRuntime) -> Result<(), 
     // A later run cannot see it any more.
     let mut later = run_over(refusing, rt.alloc(), "folder_sync")?;
     later.attach(&[name()])?;
-    make(&mut later, 3, 2)?;
-    assert_equal(&rt, find(&mut later)?, Found::Closed(2, 3));
+    assert_equal(&rt, make(&mut later, 3, 2), Ok(()));
+    assert_equal(&rt, find(&mut later), Ok(Found::Closed(2, 3)));
     Ok(())
 }

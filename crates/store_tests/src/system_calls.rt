@@ -1,5 +1,6 @@
 //! Calls of the system that are interrupted, that move a part of the bytes, or that fail.
 
+use crate::checks::{assert_equal, assert_equal_for, assert_that};
 use io_state::Fault;
 use std::cell::Cell;
 use std::fs::{self, Metadata, OpenFile, TryLockError};
@@ -145,18 +146,19 @@ impl OpenFile for Changing {
 // Each alone is seen: past the first page a length, and inside it a byte.
 #[test]
 fn a_file_with_another_length_or_first_page_is_not_held(rt: HostRuntime) -> Result<(), Fail> {
-    for (then, is_held) in [((9000, 7), true), ((9001, 7), false), ((9000, 8), false)] {
+    for &(then, is_held) in &[((9000, 7), true), ((9001, 7), false), ((9000, 8), false)] {
         let file = Changing {
             length: Cell::new(9000),
             byte: Cell::new(7),
             then,
         };
         let mut file = KeptFile::opened(file, true).ok_or(Fault::Device)?;
-        assert_eq!(rt; file.hold(), is_held, "{then:?}");
-        assert_eq!(rt; file.write(0, &[0; 10]) == 10, is_held, "{then:?}");
+        assert_equal_for(&rt, then, file.hold(), is_held);
+        let written = if is_held { 10 } else { 0 };
+        assert_equal_for(&rt, then, file.write(0, &[0; 10]), written);
         // Read anew, it is the file that it was found to be.
-        assert_eq!(rt; file.measure(), Some(then.0));
-        assert!(rt; file.hold());
+        assert_equal(&rt, file.measure(), Some(then.0));
+        assert_that(&rt, file.hold());
     }
     Ok(())
 }
@@ -165,20 +167,21 @@ fn a_file_with_another_length_or_first_page_is_not_held(rt: HostRuntime) -> Resu
 fn a_thousand_interrupted_calls_in_a_row_are_a_fault(rt: HostRuntime) {
     let (few, many) = (Interrupted::new(999, false), Interrupted::new(1000, false));
     let mut bytes = [0; 10];
-    assert!(rt; system_files::read(&few, 0, &mut bytes));
-    assert_eq!(rt; system_files::write(&few, 0, &bytes), 10);
-    assert!(rt; system_files::sync(&few));
-    assert_eq!(rt; system_files::measure(&few), Some(7));
-    assert!(rt; system_files::share(&few));
-    assert!(rt; !system_files::read(&many, 0, &mut bytes));
-    assert_eq!(rt;
-        system_files::write(&Interrupted::new(1000, false), 0, &bytes),
-        0
-    );
-    assert!(rt; !system_files::sync(&Interrupted::new(1000, false)));
-    assert_eq!(rt; system_files::measure(&Interrupted::new(1000, false)), None);
-    assert!(rt; !system_files::share(&Interrupted::new(1000, false)));
-    assert!(rt; KeptFile::made(Interrupted::new(1000, false)).is_none());
+    assert_that(&rt, system_files::read(&few, 0, &mut bytes));
+    assert_equal(&rt, system_files::write(&few, 0, &bytes), 10);
+    assert_that(&rt, system_files::sync(&few));
+    assert_equal(&rt, system_files::measure(&few), Some(7));
+    assert_that(&rt, system_files::share(&few));
+    assert_that(&rt, !system_files::read(&many, 0, &mut bytes));
+    many.left.set(1000);
+    assert_equal(&rt, system_files::write(&many, 0, &bytes), 0);
+    many.left.set(1000);
+    assert_that(&rt, !system_files::sync(&many));
+    many.left.set(1000);
+    assert_equal(&rt, system_files::measure(&many), None);
+    many.left.set(1000);
+    assert_that(&rt, !system_files::share(&many));
+    assert_that(&rt, KeptFile::made(Interrupted::new(1000, false)).is_none());
 }
 
 fn opened(file: Interrupted) -> Result<KeptFile<Interrupted>, Fault> {
@@ -188,15 +191,15 @@ fn opened(file: Interrupted) -> Result<KeptFile<Interrupted>, Fault> {
 #[test]
 fn a_file_is_written_only_while_it_is_held(rt: HostRuntime) -> Result<(), Fail> {
     let mut file = opened(Interrupted::new(999, false))?;
-    assert_eq!(rt; file.measure(), Some(7));
-    assert_eq!(rt; file.write(0, &[0; 10]), 0);
-    assert!(rt; file.hold());
-    assert_eq!(rt; file.write(0, &[0; 10]), 10);
+    assert_equal(&rt, file.measure(), Some(7));
+    assert_equal(&rt, file.write(0, &[0; 10]), 0);
+    assert_that(&rt, file.hold());
+    assert_equal(&rt, file.write(0, &[0; 10]), 10);
     // One that may only be read is never held.
     let mut file = KeptFile::opened(Interrupted::new(0, false), false).ok_or(Fault::Device)?;
-    assert!(rt; !file.hold());
-    assert_eq!(rt; file.write(0, &[0; 10]), 0);
-    assert_eq!(rt; file.measure(), Some(7));
+    assert_that(&rt, !file.hold());
+    assert_equal(&rt, file.write(0, &[0; 10]), 0);
+    assert_equal(&rt, file.measure(), Some(7));
     Ok(())
 }
 
@@ -204,10 +207,10 @@ fn a_file_is_written_only_while_it_is_held(rt: HostRuntime) -> Result<(), Fail> 
 fn a_file_whose_sync_failed_is_not_synced_again(rt: HostRuntime) -> Result<(), Fail> {
     let mut folder = KeptFolder::new(".".to_string(rt.alloc())?);
     let mut file = opened(Interrupted::new(0, true))?;
-    assert!(rt; !file.sync(&rt, &mut folder));
-    assert!(rt; !file.sync(&rt, &mut folder));
+    assert_that(&rt, !file.sync(&rt, &mut folder));
+    assert_that(&rt, !file.sync(&rt, &mut folder));
     let mut file = opened(Interrupted::new(0, false))?;
-    assert!(rt; file.sync(&rt, &mut folder));
+    assert_that(&rt, file.sync(&rt, &mut folder));
     Ok(())
 }
 
@@ -219,13 +222,16 @@ fn a_folder_whose_sync_failed_is_not_synced_again(rt: HostRuntime) -> Result<(),
     let mut folder = KeptFolder::new("moved".to_string(rt.alloc())?);
     let mut before = opened(Interrupted::new(0, false))?;
     let mut after = opened(Interrupted::new(0, false))?;
-    assert!(rt; before.sync(&rt, &mut folder));
+    assert_that(&rt, before.sync(&rt, &mut folder));
     fs::rename(&rt, "moved", "moved_away")?;
-    assert!(rt; !after.sync(&rt, &mut folder));
+    assert_that(&rt, !after.sync(&rt, &mut folder));
     fs::rename(&rt, "moved_away", "moved")?;
-    assert!(rt; !after.sync(&rt, &mut folder));
-    assert!(rt; !opened(Interrupted::new(0, false))?.sync(&rt, &mut folder));
+    assert_that(&rt, !after.sync(&rt, &mut folder));
+    assert_that(
+        &rt,
+        !opened(Interrupted::new(0, false))?.sync(&rt, &mut folder),
+    );
     // The name of this one was on the disk before.
-    assert!(rt; before.sync(&rt, &mut folder));
+    assert_that(&rt, before.sync(&rt, &mut folder));
     Ok(())
 }
