@@ -6,6 +6,10 @@ use record_layout::{Field, Layout, LayoutFault};
 use std::alloc::Global;
 use std::test::Fail;
 
+fn layout_of(alloc: Global, rows: &[Row]) -> Result<Layout, Fail> {
+    Ok(Layout::build(alloc, &items(alloc, rows)?)?)
+}
+
 // The item at an offset, of a length, and whether it is numeric.
 fn item_of(place: Option<(u16, u16, bool)>) -> Option<Field> {
     match place {
@@ -66,7 +70,7 @@ fn items_stand_one_behind_another_and_groups_round_their_members(
     rt: HostRuntime,
 ) -> Result<(), Fail> {
     for &(rows, name, place, length) in &PLACES {
-        let layout = Layout::build(rt.alloc(), &items(rt.alloc(), rows)?)?;
+        let layout = layout_of(rt.alloc(), rows)?;
         assert_equal_for(&rt, name, layout.field(name), item_of(place));
         assert_equal_for(&rt, rows, layout.length(), length);
     }
@@ -137,7 +141,7 @@ fn a_record_area_begins_with_spaces_and_zeros(rt: HostRuntime) -> Result<(), Fai
         (10, "C", "9(2)"),
         (10, "D", "X"),
     ];
-    let layout = Layout::build(rt.alloc(), &items(rt.alloc(), rows)?)?;
+    let layout = layout_of(rt.alloc(), rows)?;
     let mut area = *b"......";
     assert!(rt; layout.length() == 5);
     layout.blank(&mut area[..5]);

@@ -88,11 +88,17 @@ fn an_item_is_a_key_or_leads_one(rt: HostRuntime) -> Result<(), Fail> {
 }
 
 /// The fault of keys of the customer of 265 bytes, of which every record has 13.
-fn fault_of(layout: &Layout, prime: &str, alternates: &[(Name, bool)]) -> Option<SchemaFault> {
+fn fault_of(
+    alloc: Global,
+    layout: &Layout,
+    prime: &str,
+    alternates: &[(&str, bool)],
+) -> Result<Option<SchemaFault>, Fail> {
+    let alternates = named(alloc, alternates)?;
     if layout.length() != 265 {
-        return None;
+        return Ok(None);
     }
-    Schema::varying(layout, 13, prime, alternates).err()
+    Ok(Schema::varying(layout, 13, prime, &alternates).err())
 }
 
 // Names of alternate keys, and whether each may have duplicates.
@@ -127,7 +133,7 @@ const FAULTY: [(&str, &[(&str, bool)], SchemaFault); 7] = [
 fn the_first_fault_of_the_keys_is_told(rt: HostRuntime) -> Result<(), Fail> {
     let layout = customer(rt.alloc())?;
     for &(prime, alternates, fault) in &FAULTY {
-        let found = fault_of(&layout, prime, &named(rt.alloc(), alternates)?);
+        let found = fault_of(rt.alloc(), &layout, prime, alternates)?;
         assert_equal_for(&rt, (prime, alternates), found, Some(fault));
     }
     Ok(())
