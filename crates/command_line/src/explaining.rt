@@ -2,20 +2,20 @@
 ghost use Rattle.std.specs.Prelude.{◌≡◌, ◌⊎◌, map, None, IsSome, IfOk, IfErr};
 ghost use Rattle.file_checker.specs.declared.verdict.Reason.{Reason as ToldReason};
 ghost use Rattle.file_checker.specs.Numbers.{number_of};
-ghost use Rattle.explanations.specs.Explained.{text_in, explained, digit_of};
-ghost use Rattle.command_line.specs.Explained.{WritesText};
+ghost use Rattle.explanations.specs.Explained.{text_in, digit_of};
+ghost use Rattle.command_line.specs.Explained.{explanation, WritesText};
 
 use command_outcomes::{Fault, Outcome};
-use explanations::{FAULTS, REASONS, STATUSES, explanation_of};
+use explanations::{REASONS, explanation_of};
 use std::io::Write;
 
 /// Writes what is explained of a number of a kind. `Unexplained`: there is no such number, and nothing was written.
 pub fn explain<W: Write>(kind: &str, number: &str, out: &mut W) -> Result<Outcome, Fault>
     ensures done { IfOk result (λ outcome. outcome ≡ Outcome.Explained) }
-    ensures text { IfOk result (λ _. WritesText (explained (map (λ row. (row.0.now, row.1.now)) STATUSES) (map (λ row. (row.0.now, row.1.now)) FAULTS)
-        (map (λ row. (row.0.now, row.1.now)) REASONS) kind.now number.now) (W.contents out.old) (W.contents out.new)) }
-    ensures none { IfErr result (λ fault. fault ≡ Fault.Unexplained → explained (map (λ row. (row.0.now, row.1.now)) STATUSES)
-        (map (λ row. (row.0.now, row.1.now)) FAULTS) (map (λ row. (row.0.now, row.1.now)) REASONS) kind.now number.now ≡ None) }
+    ensures text { IfOk result (λ _.
+        WritesText (explanation kind.now number.now) (W.contents out.old) (W.contents out.new)) }
+    ensures none { IfErr result (λ fault.
+        fault ≡ Fault.Unexplained → explanation kind.now number.now ≡ None) }
     ensures untouched { IfErr result (λ fault. fault ≡ Fault.Unexplained → out.new ≡ out.old) }
     ensures fault { IfErr result (λ fault. (fault ≡ Fault.Unexplained) ⊎ (fault ≡ Fault.Output)) }
 {
