@@ -1,14 +1,13 @@
 -- What a change of a unit keeps.
-use Rattle.std.proofs.Common.{◌≡◌, ℕ, ◌<◌, [], Bool, true, false, List, length, Option, Some, None, refl, sym, ap, ◌∙◌, slice_index_or, Result, Ok, Err}
-use Rattle.std.specs.Prelude.{slice_set, is_some, IsTrue, OnOk, OnErr, IfErr}
+use Rattle.std.proofs.Common.{◌≡◌, ℕ, ◌<◌, [], List, length, Result, Ok, Err, refl, sym, ap, ◌∙◌, slice_index_or}
+use Rattle.std.specs.Prelude.{slice_set, IsTrue}
 use Rattle.std.proofs.lemmas.List.{get_or-set_same}
 use Rattle.io_state.specs.declared.fault.Fault.{Fault}
 use Rattle.io_state.specs.declared.fault.Fault.TheVariants.{Device, Memory, Full, Damage, Broken as BrokenUnit}
-use Rattle.record_layout.specs.Schema.{prime_of}
-use Rattle.indexed_file.specs.File.{Row}
-use Rattle.indexed_file.specs.Change.{clashes, clashes_with_others, row_of}
+use Rattle.indexed_file.specs.FileChange.{FileChange}
 use Rattle.indexed_file.specs.World.{FileUnit, World, Named, Absent, Shut, OnlyAt, unit_at, is_open, schema_in}
-use Rattle.list_library.specs.Units.{rows_in, FailsChange, unit_after_add, unit_after_replace, unit_after_replace_at, unit_after_remove}
+use Rattle.list_library.specs.Units.{rows_in, unit_changed, ChangesHeld}
+use Rattle.indexed_file.proofs.TestLemmas.{either}
 use Rattle.list_library.proofs.UnitWorldLemmas.{unit_read}
 
 -- it keeps its name and schema, and stays open
@@ -20,48 +19,20 @@ pub record IsKept (old new : FileUnit) : Type 0 where
 kept_itself : (unit : FileUnit) → IsTrue (is_open unit.holding) → IsKept unit unit
 kept_itself unit opened = record { name = refl; opened = opened; schema = refl }
 
-pub add_keeps : (unit : FileUnit) (bytes : List ℕ) → IsTrue (is_open unit.holding) → IsKept unit (unit_after_add unit bytes)
-add_keeps unit bytes opened =
-    by (clashes (schema_in unit.holding) bytes (rows_in unit.holding).rows) refl
-  where
-    by : (b : Bool) → clashes (schema_in unit.holding) bytes (rows_in unit.holding).rows ≡ b → IsKept unit (unit_after_add unit bytes)
-    by true e = rw e (kept_itself unit opened)
-    by false e = rw e (record { name = refl; opened = refl; schema = refl })
-
-replace_keeps_at : (unit : FileUnit) (bytes : List ℕ) (row : Option Row) → IsTrue (is_open unit.holding) → IsKept unit (unit_after_replace_at unit bytes row)
-replace_keeps_at unit bytes None opened = kept_itself unit opened
-replace_keeps_at unit bytes (Some row) opened =
-    by (clashes_with_others (schema_in unit.holding) bytes (rows_in unit.holding)) refl
-  where
-    by : (b : Bool) → clashes_with_others (schema_in unit.holding) bytes (rows_in unit.holding) ≡ b → IsKept unit (unit_after_replace_at unit bytes (Some row))
-    by true e = rw e (kept_itself unit opened)
-    by false e = rw e (record { name = refl; opened = refl; schema = refl })
-
-pub replace_keeps : (unit : FileUnit) (bytes : List ℕ) → IsTrue (is_open unit.holding) → IsKept unit (unit_after_replace unit bytes)
-replace_keeps unit bytes opened = replace_keeps_at unit bytes (row_of (schema_in unit.holding) (prime_of (schema_in unit.holding) bytes) (rows_in unit.holding)) opened
-
-pub remove_keeps : (unit : FileUnit) (prime : List ℕ) → IsTrue (is_open unit.holding) → IsKept unit (unit_after_remove unit prime)
-remove_keeps unit prime opened =
-    by (is_some (row_of (schema_in unit.holding) prime (rows_in unit.holding))) refl
-  where
-    by : (b : Bool) → is_some (row_of (schema_in unit.holding) prime (rows_in unit.holding)) ≡ b → IsKept unit (unit_after_remove unit prime)
-    by true e = rw e (record { name = refl; opened = refl; schema = refl })
-    by false e = rw e (kept_itself unit opened)
+changed_keeps : {X : Type 0} (change : FileChange X) (unit : FileUnit) → IsTrue (is_open unit.holding) → IsKept unit (unit_changed change unit)
+changed_keeps change unit opened =
+    either (change.is_made (change.answer (rows_in unit.holding))) (IsKept unit (unit_changed change unit))
+    (λ made. rw made (record { name = refl; opened = refl; schema = refl }))
+    (λ none. rw none (kept_itself unit opened))
 
 -- whether the change was made or failed
-pub change_keeps : {X : Type 0} (result : Result X Fault) (old new made : FileUnit) (is_full : Type 0) → IsTrue (is_open old.holding) → IsKept old made
-    → OnOk result (new ≡ made) → IfErr result (FailsChange old new is_full) → IsKept old new
-change_keeps (Ok answer) old new made is_full opened keeps is fails = rw is keeps
-change_keeps (Err Device) old new made is_full opened keeps is fails = absurd fails
-change_keeps (Err Memory) old new made is_full opened keeps is fails = rw fails.1 (record { name = refl; opened = refl; schema = refl })
-change_keeps (Err Full) old new made is_full opened keeps is fails = rw fails.1 (kept_itself old opened)
-change_keeps (Err Damage) old new made is_full opened keeps is fails = absurd fails
-change_keeps (Err BrokenUnit) old new made is_full opened keeps is fails = rw fails.1 (kept_itself old opened)
-
-pub removal_keeps : {X : Type 0} (result : Result X Fault) (old new made : FileUnit) → IsTrue (is_open old.holding) → IsKept old made
-    → OnOk result (new ≡ made) → OnErr result (new ≡ old) → IsKept old new
-removal_keeps (Ok answer) old new made opened keeps is same = rw is keeps
-removal_keeps (Err fault) old new made opened keeps is same = rw same (kept_itself old opened)
+pub change_keeps : {X : Type 0} (change : FileChange X) (result : Result X Fault) (old new : FileUnit) → IsTrue (is_open old.holding) → ChangesHeld change old new result → IsKept old new
+change_keeps change (Ok answer) old new opened held = rw held.unit (changed_keeps change old opened)
+change_keeps change (Err Device) old new opened held = absurd held.fault
+change_keeps change (Err Memory) old new opened held = rw held.fault.1 (record { name = refl; opened = refl; schema = refl })
+change_keeps change (Err Full) old new opened held = rw held.fault.1 (kept_itself old opened)
+change_keeps change (Err Damage) old new opened held = absurd held.fault
+change_keeps change (Err BrokenUnit) old new opened held = rw held.fault.1 (kept_itself old opened)
 
 -- the unit of the world after it was set
 pub unit_set : (units : List FileUnit) (elsewhere : List ℕ → Named) (u : ℕ) (new : FileUnit) → u < length units

@@ -2,9 +2,9 @@ pub mod ScanLemmas
 pub mod ChangeLemmas
 pub mod StoredLemmas
 pub mod ReplacingLemmas
-pub mod UnitLemmas
 pub mod NameLemmas
 pub mod ShownLemmas
 pub mod ListWorldLemmas
 pub mod UnitWorldLemmas
 pub mod KeptLemmas
+pub mod ChangingLemmas

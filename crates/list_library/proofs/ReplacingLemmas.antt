@@ -1,18 +1,18 @@
 -- A row is replaced at the place where the scan found it.
-use Rattle.std.proofs.Common.{◌≡◌, ℕ, ◌+◌, ◌<◌, Bool, true, false, List, [], ◌∷◌, length, Option, Some, None, refl, sym, ap, ◌∙◌, subst, if◌then◌else◌, slice_index_or}
+use Rattle.std.proofs.Common.{◌≡◌, ℕ, ◌+◌, ◌<◌, Bool, true, false, List, [], ◌∷◌, length, Option, Some, None, Ok, refl, sym, ap, ◌∙◌, subst, if◌then◌else◌, slice_index_or}
 use Rattle.std.specs.Prelude.{slice_get, slice_set, filter, is_some, IfSome, nat_le, ◌||◌, ◌&&◌, ◌^◌, not}
 use Rattle.std.specs.Ordering.{is_lt}
 use Rattle.std.proofs.lemmas.Option.{same_Some}
 use Rattle.std.proofs.lemmas.Bool.{and_parts}
 use Rattle.record_layout.specs.Schema.{Schema, prime_of}
-use Rattle.indexed_file.specs.declared.answer.Replaced.TheVariants.{Done, Clash}
+use Rattle.indexed_file.specs.declared.answer.Replaced.TheVariants.{Done, Clash, Gone}
 use Rattle.indexed_file.specs.File.{Row, File}
 use Rattle.indexed_file.specs.Rank.{lowest, lower_of, row_cmp, has_value}
 use Rattle.indexed_file.specs.Change.{changed_row, takes_stamp, replaced, row_of, clashes_with_others, repeats_changed}
-use Rattle.indexed_file.specs.Answers.{replaced_answer}
+use Rattle.indexed_file.specs.FileChange.{replacement}
 use Rattle.indexed_file.specs.Room.{Endless, is_full_to_replace}
 use Rattle.indexed_file.specs.Sound.{are_rows}
-use Rattle.list_library.specs.Stored.{Stored, IsStored, stored_after_replace}
+use Rattle.list_library.specs.Stored.{Stored, IsStored, ChangesStored}
 use Rattle.indexed_file.proofs.TestLemmas.{either}
 use Rattle.list_library.proofs.ScanLemmas.{some_row}
 use Rattle.indexed_file.proofs.ReplaceLemmas.{replaced_at}
@@ -55,23 +55,6 @@ found_there schema bytes value seen rows next place same is within low =
     let found = row_found rows place (subst (λ (l : List Row). place < length l) same within) in
     (found.0, found.1, sym at ∙ found.1)
 
--- a record that clashes with the others is told so, and changes nothing
-pub clash_told : (schema : Schema) (bytes : List ℕ) (file : File) (row : Row) → row_of schema (prime_of schema bytes) file ≡ Some row → clashes_with_others schema bytes file ≡ true → Clash ≡ replaced_answer schema bytes file
-clash_told schema bytes file row there clash = rw (there, clash) refl
-
-pub clash_kept : (s : Stored) (bytes : List ℕ) (row : Row) → row_of s.schema (prime_of s.schema bytes) s.file ≡ Some row → clashes_with_others s.schema bytes s.file ≡ true → s ≡ stored_after_replace s bytes
-clash_kept s bytes row there clash = rw (there, clash) refl
-
--- one that does not is told to be done
-pub done_told :
-    (schema : Schema) (bytes : List ℕ) (file : File) (row : Row) → row_of schema (prime_of schema bytes) file ≡ Some row → clashes_with_others schema bytes file ≡ false
-    → Done (repeats_changed schema bytes row file) ≡ replaced_answer schema bytes file
-done_told schema bytes file row there clash = rw (there, clash) refl
-
-pub done_kept : (s : Stored) (bytes : List ℕ) (row : Row) → row_of s.schema (prime_of s.schema bytes) s.file ≡ Some row → clashes_with_others s.schema bytes s.file ≡ false
-    → record s { file = replaced s.schema bytes row s.file } ≡ stored_after_replace s bytes
-done_kept s bytes row there clash = rw (there, clash) refl
-
 -- the file in which the row of the place has changed is the file after a replacement
 pub replaced_is :
     (schema : Schema) (bytes : List ℕ) (file : File) (place : ℕ) (row : Row) → IsStored schema file → slice_get file.rows place ≡ Some row
@@ -103,16 +86,36 @@ second_holds : (b c : Bool) → c ≡ true → (b || c) ≡ true
 second_holds true c holds = refl
 second_holds false c holds = holds
 
--- there is room where there is no row, and where a stamp is left or not needed
-pub gone_has_room :
-    (schema : Schema) (bytes : List ℕ) (file : File) → row_of schema (prime_of schema bytes) file ≡ None
-    → (clashes_with_others schema bytes file || not (is_full_to_replace Endless schema bytes file)) ≡ true
-gone_has_room schema bytes file gone =
-    second_holds (clashes_with_others schema bytes file) (not (is_full_to_replace Endless schema bytes file)) (rw gone refl)
+-- a replacement where there is no row, one that clashes with the others, and one that is made
+pub gone_changes : (s : Stored) (bytes : List ℕ) → row_of s.schema (prime_of s.schema bytes) s.file ≡ None → ChangesStored (replacement s.schema bytes) s s (Ok Gone)
+gone_changes s bytes gone = record {
+  answer = rw gone refl;
+  file = rw gone refl;
+  room = second_holds (clashes_with_others s.schema bytes s.file) (not (is_full_to_replace Endless s.schema bytes s.file)) (rw gone refl);
+  full = λ e. absurd (cc);
+  fault = tt;
+  err = tt;
+}
 
-pub done_has_room :
-    (schema : Schema) (bytes : List ℕ) (file : File) (row : Row) → row_of schema (prime_of schema bytes) file ≡ Some row
-    → (takes_stamp schema row.bytes bytes && nat_le (2 ^ 63) file.next_stamp) ≡ false
-    → (clashes_with_others schema bytes file || not (is_full_to_replace Endless schema bytes file)) ≡ true
-done_has_room schema bytes file row there left =
-    second_holds (clashes_with_others schema bytes file) (not (is_full_to_replace Endless schema bytes file)) (rw (there, left) refl)
+pub clash_changes : (s : Stored) (bytes : List ℕ) (row : Row) → row_of s.schema (prime_of s.schema bytes) s.file ≡ Some row → clashes_with_others s.schema bytes s.file ≡ true
+    → ChangesStored (replacement s.schema bytes) s s (Ok Clash)
+clash_changes s bytes row there clash = record {
+  answer = rw (there, clash) refl;
+  file = rw (there, clash) refl;
+  room = rw clash refl;
+  full = λ e. absurd (cc);
+  fault = tt;
+  err = tt;
+}
+
+pub done_changes : (s : Stored) (bytes : List ℕ) (row : Row) → row_of s.schema (prime_of s.schema bytes) s.file ≡ Some row → clashes_with_others s.schema bytes s.file ≡ false
+    → (takes_stamp s.schema row.bytes bytes && nat_le (2 ^ 63) s.file.next_stamp) ≡ false
+    → ChangesStored (replacement s.schema bytes) s (record s { file = replaced s.schema bytes row s.file }) (Ok (Done (repeats_changed s.schema bytes row s.file)))
+done_changes s bytes row there clash left = record {
+  answer = rw (there, clash) refl;
+  file = rw (there, clash) refl;
+  room = second_holds (clashes_with_others s.schema bytes s.file) (not (is_full_to_replace Endless s.schema bytes s.file)) (rw (there, left) refl);
+  full = λ e. absurd (cc);
+  fault = tt;
+  err = tt;
+}

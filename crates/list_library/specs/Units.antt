@@ -1,16 +1,13 @@
 -- What a unit of a list library shows.
-use Rattle.indexed_file.specs.declared.answer.Replaced.{Replaced}
-use Rattle.indexed_file.specs.declared.answer.Added.{Added}
-use Rattle.indexed_file.specs.Answers.{added_answer, replaced_answer}
 use Rattle.indexed_file.specs.Rank.{highest_of}
-use Rattle.std.specs.Prelude.{ℕ, Bool, true, false, List, [], ◌∷◌, bytes_eq, Option, Some, None, unwrap_or, is_some, IsFalse, Result, Err, IsTrue, IfErr, ◌≡◌, if◌then◌else◌}
+use Rattle.std.specs.Prelude.{◌≡◌, ℕ, Bool, true, false, List, [], ◌∷◌, bytes_eq, Option, Some, None, unwrap_or, Result, Err, OnOk, IfOk, IfErr, IsTrue, IsFalse, if◌then◌else◌}
 use Rattle.list_library.specs.declared.list_unit.UnitState.{UnitState}
 use Rattle.list_library.specs.declared.list_unit.UnitState.TheVariants.{IsShut, IsLooked, IsOpened, IsBroken}
 use Rattle.io_state.specs.declared.fault.Fault.{Fault}
 use Rattle.io_state.specs.declared.fault.Fault.TheVariants.{Device, Memory, Full, Damage, Broken as BrokenUnit}
-use Rattle.record_layout.specs.Schema.{prime_of}
-use Rattle.indexed_file.specs.File.{Row, File, empty_file}
-use Rattle.indexed_file.specs.Change.{clashes, clashes_with_others, added, replaced, removed, row_of}
+use Rattle.indexed_file.specs.File.{File, empty_file}
+use Rattle.indexed_file.specs.FileChange.{FileChange, has_room_for, LacksRoomFor}
+use Rattle.indexed_file.specs.Room.{Endless}
 use Rattle.list_library.specs.Stored.{Stored}
 use Rattle.indexed_file.specs.World.{Named, Absent, Closed, Unsound, Holding, Shut, Looked, Opened, Broken, FileUnit, file_in, schema_in, is_broken}
 
@@ -65,16 +62,6 @@ rows_in holding = unwrap_or (file_in holding) empty_file
 abbrev pub highest_in : Holding → Option (List ℕ)
 highest_in holding = highest_of (schema_in holding) (rows_in holding).rows
 
--- what adding a record, replacing one and removing that of a prime value answer
-abbrev pub add_answers : Holding → List ℕ → Added
-add_answers holding bytes = added_answer (schema_in holding) bytes (rows_in holding)
-
-abbrev pub replace_answers : Holding → List ℕ → Replaced
-replace_answers holding bytes = replaced_answer (schema_in holding) bytes (rows_in holding)
-
-abbrev pub remove_answers : Holding → List ℕ → Bool
-remove_answers holding prime = is_some (row_of (schema_in holding) prime (rows_in holding))
-
 -- a broken unit answers so, and no other unit does
 pub record AnswersBroken {X : Type 0} (holding : Holding) (result : Result X Fault) : Type 0 where
   pub always : IsTrue (is_broken holding) → result ≡ Err BrokenUnit
@@ -84,26 +71,12 @@ pub record AnswersBroken {X : Type 0} (holding : Holding) (result : Result X Fau
 abbrev pub with_rows : FileUnit → File → FileUnit
 with_rows unit file = record unit { named = Unsound; holding = Opened (schema_in unit.holding) file }
 
--- the unit after a record was added, unless it clashes
-abbrev pub unit_after_add : FileUnit → List ℕ → FileUnit
-unit_after_add unit bytes =
-    if clashes (schema_in unit.holding) bytes (rows_in unit.holding).rows then unit else with_rows unit (added (schema_in unit.holding) bytes (rows_in unit.holding))
+-- the unit after a change of its file: where nothing was made it stays
+abbrev pub unit_changed : {X : Type 0} → FileChange X → FileUnit → FileUnit
+unit_changed change unit =
+    if change.is_made (change.answer (rows_in unit.holding)) then with_rows unit (change.leaves (rows_in unit.holding)) else unit
 
--- after a record was replaced, if it is there and does not clash with others
-abbrev pub unit_after_replace_at : FileUnit → List ℕ → Option Row → FileUnit
-unit_after_replace_at unit bytes None = unit
-unit_after_replace_at unit bytes (Some row) =
-    if clashes_with_others (schema_in unit.holding) bytes (rows_in unit.holding) then unit else with_rows unit (replaced (schema_in unit.holding) bytes row (rows_in unit.holding))
-
-abbrev pub unit_after_replace : FileUnit → List ℕ → FileUnit
-unit_after_replace unit bytes = unit_after_replace_at unit bytes (row_of (schema_in unit.holding) (prime_of (schema_in unit.holding) bytes) (rows_in unit.holding))
-
--- after a record was removed, if it is there
-abbrev pub unit_after_remove : FileUnit → List ℕ → FileUnit
-unit_after_remove unit prime =
-    if is_some (row_of (schema_in unit.holding) prime (rows_in unit.holding)) then with_rows unit (removed (schema_in unit.holding) prime (rows_in unit.holding)) else unit
-
--- after it was closed
+-- the unit after it was closed
 abbrev pub unit_after_shut : FileUnit → FileUnit
 unit_after_shut unit = record unit { named = Closed (schema_in unit.holding) (rows_in unit.holding); holding = Shut }
 
@@ -115,3 +88,11 @@ FailsChange old new is_full Memory = IsFalse (is_broken old.holding) × (new ≡
 FailsChange old new is_full BrokenUnit = IsTrue (is_broken old.holding) × (new ≡ old)
 FailsChange old new is_full Device = ⊥
 FailsChange old new is_full Damage = ⊥
+
+-- this change was made of the file that the unit holds, or failed
+pub record ChangesHeld {X : Type 0} (change : FileChange X) (old new : FileUnit) (result : Result X Fault) : Type 0 where
+  pub answer : IfOk result (λ answer. answer ≡ change.answer (rows_in old.holding))
+  pub unit : OnOk result (new ≡ unit_changed change old)
+  pub room : OnOk result (IsTrue (has_room_for Endless change (rows_in old.holding)))
+  pub fault : IfErr result (FailsChange old new (LacksRoomFor Endless change (rows_in old.holding)))
+  pub broken : IsTrue (is_broken old.holding) → result ≡ Err BrokenUnit

@@ -42,15 +42,15 @@ const STAMPS_END: u64 = 1 << 63;
 
 #[tactic(auto, using(crate::proofs::StoredLemmas::row_fits, crate::proofs::StoredLemmas::row_at_place))]
 impl ListFile {
-    ghost use Rattle.std.specs.Prelude.{◌≡◌, ◌≤◌, ◌<◌, length, slice_get, Some, option_map, OnOk, OnErr, IfOk, IfErr, IsTrue, IsErrOf, is_some, ◌⊎◌};
+    ghost use Rattle.std.specs.Prelude.{◌≡◌, ◌≤◌, ◌<◌, length, slice_get, Some, option_map, IsTrue};
     ghost use Rattle.indexed_file.specs.File.{empty_file};
     ghost use Rattle.indexed_file.specs.Rank.{highest_of};
     ghost use Rattle.list_library.specs.Wanted.{first_wanted, found_wanted, key_wanted};
     ghost use Rattle.list_library.specs.Stored.{IsFit};
     ghost use Rattle.indexed_file.specs.Sound.{is_file};
-    ghost use Rattle.indexed_file.specs.Change.{row_of};
-    ghost use Rattle.list_library.specs.Stored.{stored_after_add, stored_after_replace, stored_after_remove, add_has_room, AddLacksRoom, replace_has_room, ReplaceLacksRoom};
-    ghost use Rattle.indexed_file.specs.Answers.{area_after, added_answer, replaced_answer};
+    ghost use Rattle.indexed_file.specs.FileChange.{addition, replacement, removal};
+    ghost use Rattle.list_library.specs.Stored.{ChangesStored, stored_changed};
+    ghost use Rattle.indexed_file.specs.Answers.{area_after};
 
     /// A new file.
     pub fn new(alloc: Global, schema: Schema) -> Self
@@ -125,12 +125,7 @@ impl ListFile {
     pub fn add(&mut self, alloc: Global, bytes: &[u8]) -> Result<Added, Fault>
         requires least { self.old.schema.least ≤ length bytes.now }
         requires greatest { length bytes.now ≤ self.old.schema.greatest }
-        ensures answer { IfOk result (λ answer. answer ≡ added_answer self.old.schema bytes.now self.old.file) }
-        ensures file { OnOk result (self.new ≡ stored_after_add self.old bytes.now) }
-        ensures full { IsErrOf result Fault.Full → AddLacksRoom self.old.schema bytes.now self.old.file }
-        ensures room { OnOk result (IsTrue (add_has_room self.old.schema bytes.now self.old.file)) }
-        ensures fault { IfErr result (λ fault. (fault ≡ Fault.Full) ⊎ (fault ≡ Fault.Memory)) }
-        ensures err { OnErr result (self.new ≡ self.old) }
+        ensures { ChangesStored (addition self.old.schema bytes.now) self.old self.new result }
     {
         if clashes(&self.schema, bytes, self.rows.as_slice()) {
             return Ok(Added::Clash);
@@ -150,12 +145,7 @@ impl ListFile {
     pub fn replace(&mut self, alloc: Global, bytes: &[u8]) -> Result<Replaced, Fault>
         requires least { self.old.schema.least ≤ length bytes.now }
         requires greatest { length bytes.now ≤ self.old.schema.greatest }
-        ensures answer { IfOk result (λ answer. answer ≡ replaced_answer self.old.schema bytes.now self.old.file) }
-        ensures file { OnOk result (self.new ≡ stored_after_replace self.old bytes.now) }
-        ensures full { IsErrOf result Fault.Full → ReplaceLacksRoom self.old.schema bytes.now self.old.file }
-        ensures room { OnOk result (IsTrue (replace_has_room self.old.schema bytes.now self.old.file)) }
-        ensures fault { IfErr result (λ fault. (fault ≡ Fault.Full) ⊎ (fault ≡ Fault.Memory)) }
-        ensures err { OnErr result (self.new ≡ self.old) }
+        ensures { ChangesStored (replacement self.old.schema bytes.now) self.old self.new result }
     {
         let prime = value(&self.schema, 0, bytes);
         let Some(place) = lowest(&self.schema, 0, &Wanted::Equal(prime), self.rows.as_slice())
@@ -183,8 +173,8 @@ impl ListFile {
 
     /// Takes out the record of a prime value, and tells whether there was one.
     pub fn remove(&mut self, prime: &[u8]) -> bool
-        ensures there { result ≡ is_some (row_of self.old.schema prime.now self.old.file) }
-        ensures file { self.new ≡ stored_after_remove self.old prime.now }
+        ensures there { result ≡ (removal self.old.schema prime.now).answer self.old.file }
+        ensures file { self.new ≡ stored_changed (removal self.old.schema prime.now) self.old }
     {
         if !has_row(&self.schema, prime, self.rows.as_slice()) {
             return false;

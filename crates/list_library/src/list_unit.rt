@@ -44,8 +44,8 @@ impl ListUnit {
     ghost use Rattle.std.specs.Prelude.{◌≡◌, ◌<◌, ◌≤◌, length, bytes_eq, option_map, OnOk, OnErr, IfOk, IfErr, IsTrue, IsFalse, not};
     ghost use Rattle.indexed_file.specs.File.{empty_file};
     ghost use Rattle.indexed_file.specs.World.{Absent, Unsound as Refused, Shut, Opened, is_open, is_looked, is_broken, opened_from, schema_in};
-    ghost use Rattle.list_library.specs.Units.{rows_in, AnswersBroken, FailsChange, unit_after_add, unit_after_replace, unit_after_remove, unit_after_shut, highest_in, add_answers, replace_answers, remove_answers};
-    ghost use Rattle.list_library.specs.Stored.{add_has_room, AddLacksRoom, replace_has_room, ReplaceLacksRoom};
+    ghost use Rattle.indexed_file.specs.FileChange.{addition, replacement, removal};
+    ghost use Rattle.list_library.specs.Units.{rows_in, AnswersBroken, ChangesHeld, unit_after_shut, highest_in};
     ghost use Rattle.indexed_file.specs.SoundWorld.{is_sound_unit};
     ghost use Rattle.indexed_file.specs.Answers.{seen_of, looked_at, area_after};
     ghost use Rattle.indexed_file.specs.Rank.{least};
@@ -184,13 +184,7 @@ impl ListUnit {
         requires open { IsTrue (is_open self.old.holding) }
         requires least { (schema_in self.old.holding).least ≤ length bytes.now }
         requires greatest { length bytes.now ≤ (schema_in self.old.holding).greatest }
-        ensures answer { IfOk result (λ answer. answer ≡ add_answers self.old.holding bytes.now) }
-        ensures unit { OnOk result (self.new ≡ unit_after_add self.old bytes.now) }
-        ensures room { OnOk result (IsTrue
-            (add_has_room (schema_in self.old.holding) bytes.now (rows_in self.old.holding))) }
-        ensures fault { IfErr result (FailsChange self.old self.new
-            (AddLacksRoom (schema_in self.old.holding) bytes.now (rows_in self.old.holding))) }
-        ensures broken { IsTrue (is_broken self.old.holding) → result ≡ Err Fault.Broken }
+        ensures { ChangesHeld (addition (schema_in self.old.holding) bytes.now) self.old self.new result }
     {
         if self.state == UnitState::IsBroken {
             return Err(Fault::Broken);
@@ -217,13 +211,7 @@ impl ListUnit {
         requires open { IsTrue (is_open self.old.holding) }
         requires least { (schema_in self.old.holding).least ≤ length bytes.now }
         requires greatest { length bytes.now ≤ (schema_in self.old.holding).greatest }
-        ensures answer { IfOk result (λ answer. answer ≡ replace_answers self.old.holding bytes.now) }
-        ensures unit { OnOk result (self.new ≡ unit_after_replace self.old bytes.now) }
-        ensures room { OnOk result (IsTrue
-            (replace_has_room (schema_in self.old.holding) bytes.now (rows_in self.old.holding))) }
-        ensures fault { IfErr result (FailsChange self.old self.new
-            (ReplaceLacksRoom (schema_in self.old.holding) bytes.now (rows_in self.old.holding))) }
-        ensures broken { IsTrue (is_broken self.old.holding) → result ≡ Err Fault.Broken }
+        ensures { ChangesHeld (replacement (schema_in self.old.holding) bytes.now) self.old self.new result }
     {
         if self.state == UnitState::IsBroken {
             return Err(Fault::Broken);
@@ -249,10 +237,7 @@ impl ListUnit {
     /// Takes out the record of a prime value, and tells whether there was one.
     pub fn remove(&mut self, prime: &[u8]) -> Result<bool, Fault>
         requires { IsTrue (is_open self.old.holding) }
-        ensures answer { IfOk result (λ there. there ≡ remove_answers self.old.holding prime.now) }
-        ensures unit { OnOk result (self.new ≡ unit_after_remove self.old prime.now) }
-        ensures err { OnErr result (self.new ≡ self.old) }
-        ensures fault { AnswersBroken self.old.holding result }
+        ensures { ChangesHeld (removal (schema_in self.old.holding) prime.now) self.old self.new result }
     {
         if self.state == UnitState::IsBroken {
             return Err(Fault::Broken);

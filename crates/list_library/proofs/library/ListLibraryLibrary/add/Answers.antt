@@ -1,37 +1,13 @@
 use Rattle.std.proofs.Common.{rules, arith, refl}
 use Rattle.std.proofs.lemmas.Grind.{common_steps}
-use Rattle.list_library.proofs.ListWorldLemmas.{keeps_all}
-use Rattle.std.proofs.lemmas.Result.{on_ok_weaker}
-use Rattle.list_library.specs.Units.{named_among}
-use Rattle.list_library.proofs.UnitWorldLemmas.{added_world}
 use Rattle.std.specs.Prelude.{IsTrue}
+use Rattle.indexed_file.specs.FileChange.{addition}
 use Rattle.indexed_file.specs.World.{FileUnit, is_open}
-use Rattle.list_library.specs.Units.{unit_after_add}
-use Rattle.list_library.proofs.KeptLemmas.{IsKept, add_keeps, change_keeps, only_set}
+use Rattle.list_library.proofs.ChangingLemmas.{changes}
 use Rattle.list_library.proofs.library.ListLibraryLibrary.add.Goals as goal
 
 pub returns : goal.returns
 returns c =
     let old : FileUnit = c.index_mut-unit.result.now in
     let opened : IsTrue (is_open old.holding) = first_of (search rules, grind (arith, common_steps)) in
-    let kept : IsKept old c.add-added.new.self = change_keeps c.add-added.result old c.add-added.new.self (unit_after_add old c.args.bytes.now) _ opened (add_keeps old c.args.bytes.now opened) c.add-added.ensures.unit c.add-added.ensures.fault in
-    record {
-      answer = first_of (search rules, grind (arith, common_steps));
-      done = λ honest shown.
-          on_ok_weaker c.add-added.result
-          (added_world c.args.self.now.units.items (named_among c.args.self.now.others.items) c.args.u old c.add-added.new.self c.requires.attached c.index_mut-unit.ensures.value c.args.bytes.now)
-          c.add-added.ensures.unit;
-      room = first_of (search rules, grind (arith, common_steps));
-      full = first_of (search rules, grind (arith, common_steps));
-      asked = first_of (search rules, grind (arith, common_steps));
-      counted = first_of (search rules, grind (arith, common_steps));
-      broken = first_of (search rules, grind (arith, common_steps));
-      fault = first_of (search rules, grind (arith, common_steps));
-      unbroken = first_of (search rules, grind (arith, common_steps));
-      only = only_set c.args.self.now.units.items (named_among c.args.self.now.others.items) c.args.u old c.add-added.new.self c.requires.attached c.index_mut-unit.ensures.value kept;
-      opened = first_of (search rules, grind (arith, common_steps));
-      schema = first_of (search rules, grind (arith, common_steps));
-      unmade = λ none. record { room = refl; counts = refl };
-      images = first_of (search rules, grind (arith, common_steps));
-      keeps = keeps_all _ _;
-    }
+    changes (λ schema. addition schema c.args.bytes.now) c.args.self.now _ c.args.u old c.add-added.new.self c.add-added.result c.requires.attached c.index_mut-unit.ensures.value refl opened (λ file full. refl) c.add-added.ensures
