@@ -1,5 +1,6 @@
 //! Why the program ends without the end of a run.
-ghost use Rattle.std.specs.Prelude.{◌≡◌, ◌⊎◌};
+ghost use Rattle.std.specs.Prelude.{◌≡◌, ◌≢◌, ◌⊎◌};
+ghost use Rattle.std.specs.IoError.{error_kind};
 ghost use Rattle.command_outcomes.specs.Status.{status_of};
 ghost use Rattle.command_outcomes.specs.Told.{told_as, words_told_as};
 
@@ -97,9 +98,11 @@ fn tell_numbers<E: Write>(err: &mut E) -> io::Result<()> {
 }
 
 impl Fault {
-    /// Why something was not read.
+    /// Why something was not read: for want of memory, or for another reason.
     pub fn of_input(error: io::Error) -> Fault
-        ensures { (result ≡ Fault.Input) ⊎ (result ≡ Fault.Memory) }
+        ensures told { (result ≡ Fault.Input) ⊎ (result ≡ Fault.Memory) }
+        ensures memory { error_kind error ≡ ErrorKind.OutOfMemory → result ≡ Fault.Memory }
+        ensures input { error_kind error ≢ ErrorKind.OutOfMemory → result ≡ Fault.Input }
     {
         if error.kind() == ErrorKind::OutOfMemory {
             Fault::Memory
