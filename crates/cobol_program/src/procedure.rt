@@ -7,55 +7,52 @@ use file_control::{FileDesc, LengthItem};
 use io_state::FileStatement;
 use procedure_division::Statement;
 use record_layout::{Figure, Placed};
-use std::alloc::AllocError;
 
 /// Adds the procedure of a status that is no success: the program goes on.
-fn add_error(lines: &mut Lines, file: usize) -> Result<(), AllocError> {
-    lines.section("ERROR", file)?;
-    lines.area_b("USE AFTER STANDARD ERROR PROCEDURE ON")?;
-    lines.name("FILE", file)?;
-    lines.period()?;
-    lines.paragraph("GO-ON", file)?;
-    lines.sentence("EXIT")
+fn add_error(lines: &mut Lines, file: usize) {
+    lines.section("ERROR", file);
+    lines.area_b("USE AFTER STANDARD ERROR PROCEDURE ON");
+    lines.name("FILE", file);
+    lines.period();
+    lines.paragraph("GO-ON", file);
+    lines.sentence("EXIT");
 }
 
 /// Adds the declaratives: after a status that is no success the program goes on.
-fn add_declaratives(lines: &mut Lines, files: &[FileDesc]) -> Result<(), AllocError> {
-    lines.heading("PROCEDURE DIVISION")?;
-    lines.heading("DECLARATIVES")?;
+fn add_declaratives(lines: &mut Lines, files: &[FileDesc]) {
+    lines.heading("PROCEDURE DIVISION");
+    lines.heading("DECLARATIVES");
     for (file, _) in files.iter().enumerate() {
-        add_error(lines, file)?;
+        add_error(lines, file);
     }
-    lines.heading("END DECLARATIVES")
+    lines.heading("END DECLARATIVES");
 }
 
 /// Fills the record area of a file as it is at the beginning.
-fn add_blank(lines: &mut Lines, file: usize, desc: &FileDesc) -> Result<(), AllocError> {
-    add_on(lines, "MOVE SPACES TO", "AREA", file)?;
-    lines.period()?;
+fn add_blank(lines: &mut Lines, file: usize, desc: &FileDesc) {
+    add_on(lines, "MOVE SPACES TO", "AREA", file);
+    lines.period();
     for item in desc.layout.items() {
-        add_zeros(lines, file, item)?;
+        add_zeros(lines, file, item);
     }
-    Ok(())
 }
 
 /// Fills an item with zeros, if it is numeric.
-fn add_zeros(lines: &mut Lines, file: usize, item: &Placed) -> Result<(), AllocError> {
+fn add_zeros(lines: &mut Lines, file: usize, item: &Placed) {
     if !item.field.numeric {
-        return Ok(());
+        return;
     }
     let place = usize::from(item.field.offset);
     let length = usize::from(item.field.length);
-    add_fill(lines, file, place, length, Figure::Zero)
+    add_fill(lines, file, place, length, Figure::Zero);
 }
 
-fn add_beginning(lines: &mut Lines, files: &[FileDesc]) -> Result<(), AllocError> {
-    lines.heading("MAIN SECTION")?;
-    lines.heading("BEGIN-DECK")?;
+fn add_beginning(lines: &mut Lines, files: &[FileDesc]) {
+    lines.heading("MAIN SECTION");
+    lines.heading("BEGIN-DECK");
     for (file, desc) in files.iter().enumerate() {
-        add_blank(lines, file, desc)?;
+        add_blank(lines, file, desc);
     }
-    Ok(())
 }
 
 /// Adds a verb in a paragraph of its own, with its number in the transcript, which counts from 0 here.
@@ -65,12 +62,12 @@ fn add_numbered_verb(
     files: &[FileDesc],
     file: usize,
     statement: &FileStatement,
-) -> Result<(), AllocError> {
+) {
     let Some(desc) = files.get(file) else {
-        return Ok(());
+        return;
     };
-    lines.paragraph("VERB", number)?;
-    add_verb(lines, file, desc.name.as_str(), statement)
+    lines.paragraph("VERB", number);
+    add_verb(lines, file, desc.name.as_str(), statement);
 }
 
 fn add_statement(
@@ -79,7 +76,7 @@ fn add_statement(
     files: &[FileDesc],
     items: &[LengthItem],
     statement: &Statement,
-) -> Result<(), AllocError> {
+) {
     match statement {
         Statement::Perform { file, statement } => {
             add_numbered_verb(lines, number, files, *file, statement)
@@ -109,10 +106,10 @@ fn add_statements(
     files: &[FileDesc],
     items: &[LengthItem],
     statements: &[Statement],
-) -> Result<(), AllocError> {
+) {
     let mut number = 0;
     for statement in statements {
-        add_statement(lines, number, files, items, statement)?;
+        add_statement(lines, number, files, items, statement);
         if matches!(
             statement,
             Statement::Perform {
@@ -123,17 +120,16 @@ fn add_statements(
             number += 1;
         }
     }
-    Ok(())
 }
 
-fn add_end(lines: &mut Lines, files: &[FileDesc]) -> Result<(), AllocError> {
-    lines.heading("END-DECK")?;
+fn add_end(lines: &mut Lines, files: &[FileDesc]) {
+    lines.heading("END-DECK");
     for (file, _) in files.iter().enumerate() {
-        add_on(lines, "IF", "OPEN", file)?;
-        lines.word("= \"Y\"")?;
-        add_sentence_on(lines, "    PERFORM", "SHUT", file)?;
+        add_on(lines, "IF", "OPEN", file);
+        lines.word("= \"Y\"");
+        add_sentence_on(lines, "    PERFORM", "SHUT", file);
     }
-    lines.sentence("STOP RUN")
+    lines.sentence("STOP RUN");
 }
 
 /// Adds the division up to its end, but for the paragraphs that the verbs perform.
@@ -142,9 +138,9 @@ pub fn add_procedure(
     files: &[FileDesc],
     items: &[LengthItem],
     statements: &[Statement],
-) -> Result<(), AllocError> {
-    add_declaratives(lines, files)?;
-    add_beginning(lines, files)?;
-    add_statements(lines, files, items, statements)?;
-    add_end(lines, files)
+) {
+    add_declaratives(lines, files);
+    add_beginning(lines, files);
+    add_statements(lines, files, items, statements);
+    add_end(lines, files);
 }

@@ -23,11 +23,11 @@ fn program(alloc: Global, deck: &Deck, form: Form) -> Result<String, AllocError>
     let files = deck.files.as_slice();
     let items = deck.items.as_slice();
     let mut lines = Lines::new(alloc);
-    add_selects(&mut lines, files)?;
-    add_files(&mut lines, files)?;
-    add_storage(&mut lines, files, items)?;
-    add_procedure(&mut lines, files, items, deck.statements.as_slice())?;
-    add_paragraphs(&mut lines, files)?;
+    add_selects(&mut lines, files);
+    add_files(&mut lines, files);
+    add_storage(&mut lines, files, items);
+    add_procedure(&mut lines, files, items, deck.statements.as_slice());
+    add_paragraphs(&mut lines, files);
     lines.text(alloc, form)
 }
 

@@ -2,16 +2,15 @@
 
 use crate::lines::Lines;
 use record_layout::{KeyPart, Placed};
-use std::alloc::AllocError;
 
 /// Adds so many bytes without a name.
-fn add_filler(lines: &mut Lines, length: u16) -> Result<(), AllocError> {
+fn add_filler(lines: &mut Lines, length: u16) {
     if length == 0 {
-        return Ok(());
+        return;
     }
-    lines.area_b("02 FILLER")?;
-    lines.picture('X', usize::from(length))?;
-    lines.period()
+    lines.area_b("02 FILLER");
+    lines.picture('X', usize::from(length));
+    lines.period();
 }
 
 /// Whether an item is the leading part of a key.
@@ -20,19 +19,13 @@ fn leads(item: &Placed, key: &KeyPart) -> bool {
 }
 
 /// Adds the leading part of a key that has so many bytes.
-fn add_part(
-    lines: &mut Lines,
-    u: usize,
-    k: usize,
-    length: u16,
-    whole: u16,
-) -> Result<(), AllocError> {
-    lines.area_b("    03")?;
-    lines.part_name(u, k, length)?;
-    lines.word("REDEFINES")?;
-    lines.part_name(u, k, whole)?;
-    lines.picture('X', usize::from(length))?;
-    lines.period()
+fn add_part(lines: &mut Lines, u: usize, k: usize, length: u16, whole: u16) {
+    lines.area_b("    03");
+    lines.part_name(u, k, length);
+    lines.word("REDEFINES");
+    lines.part_name(u, k, whole);
+    lines.picture('X', usize::from(length));
+    lines.period();
 }
 
 /// Whether one of the items has these very bytes.
@@ -43,29 +36,22 @@ fn is_among(items: &[Placed], item: &Placed) -> bool {
 }
 
 /// Adds the leading parts of a key, one for each length that an item has.
-fn add_parts(
-    lines: &mut Lines,
-    u: usize,
-    k: usize,
-    items: &[Placed],
-    key: &KeyPart,
-) -> Result<(), AllocError> {
+fn add_parts(lines: &mut Lines, u: usize, k: usize, items: &[Placed], key: &KeyPart) {
     for (i, item) in items.iter().enumerate() {
         if leads(item, key) && !is_among(&items[..i], item) {
-            add_part(lines, u, k, item.field.length, key.length)?;
+            add_part(lines, u, k, item.field.length, key.length);
         }
     }
-    Ok(())
 }
 
-fn add_key(lines: &mut Lines, u: usize, k: usize, length: u16) -> Result<(), AllocError> {
-    lines.area_b("02")?;
-    lines.key_name("KEY", u, k)?;
-    lines.period()?;
-    lines.area_b("    03")?;
-    lines.part_name(u, k, length)?;
-    lines.picture('X', usize::from(length))?;
-    lines.period()
+fn add_key(lines: &mut Lines, u: usize, k: usize, length: u16) {
+    lines.area_b("02");
+    lines.key_name("KEY", u, k);
+    lines.period();
+    lines.area_b("    03");
+    lines.part_name(u, k, length);
+    lines.picture('X', usize::from(length));
+    lines.period();
 }
 
 /// Adds the record of so many bytes that a key is an item of, with each leading part of the key that is an item, too.
@@ -76,13 +62,13 @@ pub fn add_key_record(
     items: &[Placed],
     key: &KeyPart,
     greatest: u16,
-) -> Result<(), AllocError> {
-    lines.area_a("01")?;
-    lines.key_name("PLACE", u, k)?;
-    lines.period()?;
-    add_filler(lines, key.offset)?;
-    add_key(lines, u, k, key.length)?;
-    add_parts(lines, u, k, items, key)?;
+) {
+    lines.area_a("01");
+    lines.key_name("PLACE", u, k);
+    lines.period();
+    add_filler(lines, key.offset);
+    add_key(lines, u, k, key.length);
+    add_parts(lines, u, k, items, key);
     add_filler(
         lines,
         greatest
