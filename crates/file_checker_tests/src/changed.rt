@@ -1,5 +1,6 @@
 //! Files of which one byte is changed: to 0, to 255 and to its complement.
 
+use crate::checks::{assert_equal, assert_equal_for, assert_that};
 use crate::files::made;
 use crate::readers::records_of;
 use arrayvec::ArrayVec;
@@ -32,6 +33,13 @@ struct Counts {
     fall: u32,
 }
 
+impl Counts {
+    fn has_both(self, rt: &impl Abort) {
+        assert_that(rt, self.stand > 0);
+        assert_that(rt, self.fall > 0);
+    }
+}
+
 /// Changes a byte of a file, and puts it back.
 fn changes(
     rt: &impl Abort,
@@ -55,14 +63,14 @@ fn changes(
 /// Changes each byte of a page of a file of three records. In each page there are bytes that have a meaning, and others.
 fn changes_page(rt: &impl Abort, alloc: Global, page: usize) -> Result<(), Fail> {
     let mut bytes = made(rt, alloc, 3, 0)?;
-    assert_eq!(rt; bytes.len(), 5 * PAGE_SIZE);
+    assert_equal(rt, bytes.len(), 5 * PAGE_SIZE);
     let mut counts = Counts { stand: 0, fall: 0 };
     let start = page.saturating_mul(PAGE_SIZE);
     for at in start..start.saturating_add(PAGE_SIZE) {
         changes(rt, alloc, bytes.as_mut_slice(), at, &mut counts)?;
     }
-    assert!(rt; counts.stand > 0 && counts.fall > 0);
-    assert_eq!(rt; records_of(rt, alloc, bytes.as_slice())?, Some(3));
+    counts.has_both(rt);
+    assert_equal(rt, records_of(rt, alloc, bytes.as_slice()), Ok(Some(3)));
     Ok(())
 }
 
@@ -105,7 +113,7 @@ fn a_changed_byte_of_a_file_that_shrank(rt: HostRuntime) -> Result<(), Fail> {
     let alloc = rt.alloc();
     let mut bytes = made(&rt, alloc, 70, 30)?;
     for kind in *b"LIHF" {
-        assert!(rt; count_of(bytes.as_slice(), kind) > 0, "{kind}");
+        assert_equal_for(&rt, kind, count_of(bytes.as_slice(), kind) > 0, true);
     }
     let mut counts = Counts { stand: 0, fall: 0 };
     for at in 0..bytes.len() {
@@ -113,7 +121,7 @@ fn a_changed_byte_of_a_file_that_shrank(rt: HostRuntime) -> Result<(), Fail> {
             changes(&rt, alloc, bytes.as_mut_slice(), at, &mut counts)?;
         }
     }
-    assert!(rt; counts.stand > 0 && counts.fall > 0);
-    assert_eq!(rt; records_of(&rt, alloc, bytes.as_slice())?, Some(40));
+    counts.has_both(&rt);
+    assert_equal(&rt, records_of(&rt, alloc, bytes.as_slice()), Ok(Some(40)));
     Ok(())
 }

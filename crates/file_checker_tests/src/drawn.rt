@@ -2,6 +2,7 @@
 
 ghost use Rattle.std.specs.Prelude.{◌≤◌, ◌<◌};
 
+use crate::checks::assert_equal_for;
 use arrayvec::ArrayVec;
 use record_layout::{KeyPart, Schema};
 use std::process::Abort;
@@ -78,7 +79,7 @@ pub fn draws_schema(rt: &impl Abort, draw: &mut Draw) -> Result<Schema, Fail> {
     };
     let parts = draws_parts(draw, least);
     let schema = Schema::from_parts(least, greatest, parts.as_slice());
-    assert!(rt; schema.is_some(), "{least} to {greatest}");
+    assert_equal_for(rt, (least, greatest), schema.is_some(), true);
     Ok(schema.ok_or(io_state::Fault::Memory)?)
 }
 

@@ -3,6 +3,7 @@
 ghost use Rattle.std.specs.Prelude.{IfOk, OnOk};
 ghost use Rattle.indexed_file.specs.Clients.{IsOpenWith, IsNotOpen};
 
+use crate::checks::{assert_equal_for, assert_that};
 use crate::drawn::{Draw, draws_record, draws_schema};
 use crate::files::{bytes_of, name};
 use crate::readers::records_of;
@@ -96,7 +97,8 @@ fn makes<L: Library>(
             runs(rt, library, schema, draw, count)
         }
         Seen::Absent | Seen::Unsound => {
-            assert!(rt; false, "a file that was shut");
+            // A file that was shut stands.
+            assert_that(rt, false);
             Ok(count)
         }
     }
@@ -110,8 +112,8 @@ fn leaves_sound_files(rt: &impl Abort, alloc: Global, seed: u64) -> Result<(), F
         let mut library = new_library(alloc)?;
         let records = makes(rt, &mut library, &schema, &mut draw)?;
         let bytes = bytes_of(alloc, &mut library.into_shelf())?;
-        let found = records_of(rt, alloc, bytes.as_slice())?;
-        assert_eq!(rt; found, Some(records), "file {file}");
+        let found = records_of(rt, alloc, bytes.as_slice());
+        assert_equal_for(rt, file, found, Ok(Some(records)));
     }
     Ok(())
 }

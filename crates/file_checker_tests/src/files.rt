@@ -3,6 +3,7 @@
 ghost use Rattle.page_store.specs.MemShelves.{state_of};
 ghost use Rattle.shelf_file.specs.Standing.{IsReady};
 
+use crate::checks::{assert_equal_for, assert_that};
 use byteorder::{BigEndian, ByteOrder};
 use indexed_file::Added;
 use io_state::{FileName, Key};
@@ -66,9 +67,10 @@ fn adds<S: Shelf>(rt: &impl Abort, held: &mut ShelfFile, shelf: &mut S, n: u32) 
     ensures { IsReady held.new (S.state shelf.new) }
 {
     let schema = &held.file.schema;
-    assert_eq!(rt; (schema.least(), schema.greatest()), (LENGTH, LENGTH));
+    assert!(rt; schema.least() == LENGTH);
+    assert!(rt; schema.greatest() == LENGTH);
     let added = held.add(shelf, &record(n))?;
-    assert!(rt; added != Added::Clash, "record {n}");
+    assert_equal_for(rt, n, added == Added::Clash, false);
     Ok(())
 }
 
@@ -86,7 +88,7 @@ fn removes<S: Shelf>(
     BigEndian::write_u32(&mut value[NUMBER..], n);
     let mut key = Key::new();
     let _ = key.try_extend_from_slice(&value);
-    assert!(rt; held.remove(shelf, &key)?, "record {n}");
+    assert_equal_for(rt, n, held.remove(shelf, &key)?, true);
     Ok(())
 }
 
@@ -125,7 +127,7 @@ pub fn bytes_of<S: Shelf>(alloc: Global, shelf: &mut S) -> Result<Vec<u8>, Fail>
 /// The bytes of a file that was closed with records of so many numbers, but for the first ones, which were removed.
 pub fn made(rt: &impl Abort, alloc: Global, count: u32, removed: u32) -> Result<Vec<u8>, Fail> {
     let schema = Schema::from_parts(LENGTH, LENGTH, &KEYS);
-    assert!(rt; schema.is_some());
+    assert_that(rt, schema.is_some());
     let mut shelf = MemShelf::new(alloc);
     shelf.attach(&[name()])?;
     if let Some(schema) = schema {

@@ -10,6 +10,8 @@
 #[cfg(test)]
 mod changed;
 #[cfg(test)]
+mod checks;
+#[cfg(test)]
 mod drawn;
 #[cfg(test)]
 mod drawn_files;

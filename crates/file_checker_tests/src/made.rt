@@ -1,17 +1,18 @@
 //! What is found of files that an open file has made.
 
+use crate::checks::{assert_equal, assert_equal_for};
 use crate::files::made;
 use byteorder::{BigEndian, ByteOrder};
-use file_checker::{Finding, Reason, Verdict, check_file, examine_file};
+use file_checker::{CheckFault, Finding, Reason, Verdict, check_file, examine_file};
 use page_bytes::PAGE_SIZE;
 use page_marks::FaultPlace;
 use std::alloc::Global;
 use std::process::Abort;
 use std::test::Fail;
 
-fn check(alloc: Global, bytes: &[u8]) -> Result<Verdict, Fail> {
+fn check(alloc: Global, bytes: &[u8]) -> Result<Verdict, CheckFault> {
     let mut reader = bytes;
-    Ok(check_file(alloc, &mut reader)?)
+    check_file(alloc, &mut reader)
 }
 
 /// So many records, in all pages that the bytes have.
@@ -26,13 +27,10 @@ fn sound(records: u32, bytes: &[u8]) -> Verdict {
 #[test]
 fn files_that_were_closed_are_sound(rt: HostRuntime) -> Result<(), Fail> {
     let alloc = rt.alloc();
-    for count in [0, 1, 2, 18, 19, 20, 400, 2000] {
+    for &count in &[0, 1, 2, 18, 19, 20, 400, 2000] {
         let bytes = made(&rt, alloc, count, 0)?;
-        assert_eq!(rt;
-            check(alloc, &bytes)?,
-            sound(count, &bytes),
-            "{count} records"
-        );
+        let found = check(alloc, &bytes);
+        assert_equal_for(&rt, count, found, Ok(sound(count, &bytes)));
     }
     Ok(())
 }
@@ -41,13 +39,10 @@ fn files_that_were_closed_are_sound(rt: HostRuntime) -> Result<(), Fail> {
 #[test]
 fn a_file_that_shrank_is_sound(rt: HostRuntime) -> Result<(), Fail> {
     let alloc = rt.alloc();
-    for removed in [1, 200, 399, 400] {
+    for &(removed, left) in &[(1, 399), (200, 200), (399, 1), (400, 0)] {
         let bytes = made(&rt, alloc, 400, removed)?;
-        assert_eq!(rt;
-            check(alloc, &bytes)?,
-            sound(400 - removed, &bytes),
-            "{removed} removed"
-        );
+        let found = check(alloc, &bytes);
+        assert_equal_for(&rt, removed, found, Ok(sound(left, &bytes)));
     }
     Ok(())
 }
@@ -56,10 +51,10 @@ fn a_file_that_shrank_is_sound(rt: HostRuntime) -> Result<(), Fail> {
 fn each_part_of_a_file_is_short(rt: HostRuntime) -> Result<(), Fail> {
     let alloc = rt.alloc();
     let bytes = made(&rt, alloc, 2000, 0)?;
-    for page in bytes.chunks(PAGE_SIZE).enumerate().map(|(n, _)| n) {
+    for page in 0..bytes.len() / PAGE_SIZE {
         let end = PAGE_SIZE.saturating_mul(page).min(bytes.len());
-        let found = check(alloc, &bytes[..end])?;
-        assert_eq!(rt; found, Verdict::Unsound(Reason::Short), "{page} pages");
+        let found = check(alloc, &bytes[..end]);
+        assert_equal_for(&rt, page, found, Ok(Verdict::Unsound(Reason::Short)));
     }
     Ok(())
 }
@@ -96,13 +91,12 @@ fn entries_that_are_exchanged_are_out_of_order(rt: HostRuntime) -> Result<(), Fa
         assert!(rt; right < bytes.len());
         bytes.swap(left, right);
     }
-    assert_eq!(rt; check(alloc, &bytes)?, Verdict::Unsound(Reason::Order));
+    let unsound = Verdict::Unsound(Reason::Order);
+    assert_equal(&rt, check(alloc, &bytes), Ok(unsound));
     let page = u32::try_from(first / PAGE_SIZE).unwrap_or(0);
     let place = FaultPlace::Entry { page, entry: 0 };
     let mut reader = bytes.as_slice();
-    assert_eq!(rt;
-        examine_file(alloc, &mut reader)?,
-        Finding::Unsound(Reason::Order, place)
-    );
+    let found = examine_file(alloc, &mut reader);
+    assert_equal(&rt, found, Ok(Finding::Unsound(Reason::Order, place)));
     Ok(())
 }

@@ -57,9 +57,8 @@ fn free_pages(bytes: &[u8], first: &FirstPage, taken: &mut [bool]) -> Result<(),
     for _ in 0..first.free {
         take(taken, at)?;
         let page = page(bytes, at)?;
-        holds(number(page, 0, 1)? == u64::from(b'F'))?;
-        are_zero(page, 1, 4)?;
-        at = number(page, 4, 4)?;
+        holds(number(page, 0, 1) == u64::from(b'F') && are_zero(page, 1, 4))?;
+        at = number(page, 4, 4);
     }
     holds(at == 0)
 }

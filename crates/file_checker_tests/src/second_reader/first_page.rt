@@ -36,72 +36,100 @@ pub struct FirstPage {
     pub keys: ArrayVec<KeyRow, 9>,
 }
 
+impl KeyRow {
+    /// Whether it is within records of so many bytes, and its tree begins within so many pages.
+    fn is_within(self, least: usize, pages: u64) -> bool {
+        1 <= self.length
+            && self.length <= 250
+            && self.offset.saturating_add(self.length) <= least
+            && 1 <= self.height
+            && self.height <= 20
+            && self.root < pages
+    }
+
+    /// Whether it begins where no key before it does, and the alternate ones rise by their offset.
+    fn is_behind(self, before: &[KeyRow]) -> bool {
+        for (other, key) in before.iter().enumerate() {
+            if key.offset == self.offset || other > 0 && self.offset < key.offset {
+                return false;
+            }
+        }
+        true
+    }
+}
+
+impl FirstPage {
+    /// Whether the pages that it names are within the file, and its counts too.
+    fn is_within(&self) -> bool {
+        self.first_free < self.pages
+            && self.free < self.pages
+            && self.first_heap < self.pages
+            && self.free_slot.page < self.pages
+            && (self.keys.len() as u64) < self.pages
+    }
+}
+
 /// The first page of a file, where it is accepted.
 pub fn read_first_page(bytes: &[u8]) -> Result<FirstPage, Refusal> {
     let page = part(bytes, 0, PAGE)?;
-    holds(part(page, 0, 8)? == b"CCOBIXIF".as_slice())?;
-    for (at, end) in [(35, 36), (38, 40), (56, 64)] {
-        are_zero(page, at, end)?;
-    }
-    let pages = number(page, 12, 4)?;
+    let pages = number(page, 12, 4);
     part(bytes, 0, (pages as usize).saturating_mul(PAGE))?;
     let (least, greatest) = lengths(page)?;
+    let keys = key_rows(page, least, pages)?;
     let first = FirstPage {
         least,
         greatest,
         pages,
-        first_free: link(page, 16, pages)?,
-        free: number(page, 20, 4)?,
-        first_heap: link(page, 24, pages)?,
+        first_free: number(page, 16, 4),
+        free: number(page, 20, 4),
+        first_heap: number(page, 24, 4),
         free_slot: Place {
-            page: link(page, 28, pages)?,
-            slot: number(page, 32, 2)? as usize,
+            page: number(page, 28, 4),
+            slot: number(page, 32, 2) as usize,
         },
-        next_stamp: number(page, 40, 8)?,
-        records: number(page, 48, 8)?,
-        keys: key_rows(page, least, pages)?,
+        next_stamp: number(page, 40, 8),
+        records: number(page, 48, 8),
+        keys,
     };
-    holds((first.keys.len() as u64) < pages)?;
-    holds(first.free < pages)?;
-    holds(1 <= first.next_stamp && first.next_stamp <= 1 << 63)?;
+    holds(is_marked(page) && first.is_within() && is_stamp(first.next_stamp))?;
     Ok(first)
 }
 
-/// A page number, within the pages.
-fn link(page: &[u8], at: usize, pages: u64) -> Result<u64, Refusal> {
-    let link = number(page, at, 4)?;
-    holds(link < pages)?;
-    Ok(link)
+/// Whether a page has the mark of a first page, and zeros where it has no number.
+fn is_marked(page: &[u8]) -> bool {
+    number(page, 0, 8) == u64::from_be_bytes(*b"CCOBIXIF")
+        && are_zero(page, 35, 36)
+        && are_zero(page, 38, 40)
+        && are_zero(page, 56, 64)
+}
+
+/// Whether it may be the next stamp.
+fn is_stamp(next: u64) -> bool {
+    1 <= next && next <= 1 << 63
 }
 
 /// The least and the greatest length of a record.
 fn lengths(page: &[u8]) -> Result<(usize, usize), Refusal> {
-    let version = number(page, 8, 2)?;
-    let greatest = number(page, 10, 2)? as usize;
-    let least = number(page, 36, 2)? as usize;
+    let greatest = number(page, 10, 2) as usize;
+    let least = number(page, 36, 2) as usize;
     holds(1 <= greatest && greatest <= 4000)?;
-    if version == 1 {
-        holds(least == 0)?;
-        return Ok((greatest, greatest));
+    match number(page, 8, 2) {
+        1 if least == 0 => Ok((greatest, greatest)),
+        2 if 1 <= least && least < greatest => Ok((least, greatest)),
+        _ => Err(Refusal::Broken),
     }
-    holds(version == 2 && 1 <= least && least < greatest)?;
-    Ok((least, greatest))
 }
 
 /// The keys: the prime key first, then the others by rising offset.
 fn key_rows(page: &[u8], least: usize, pages: u64) -> Result<ArrayVec<KeyRow, 9>, Refusal> {
-    let count = number(page, 34, 1)? as usize;
-    holds(1 <= count && count <= 9)?;
+    let count = number(page, 34, 1) as usize;
+    holds(1 <= count && count <= 9 && are_zero(page, row_start(count), PAGE))?;
     let mut rows: ArrayVec<KeyRow, 9> = ArrayVec::new();
     for k in 0..count {
-        let row = key_row(page, k, least, pages)?;
-        for (other, before) in rows.iter().enumerate() {
-            holds(before.offset != row.offset)?;
-            holds(other == 0 || before.offset < row.offset)?;
-        }
+        let row = key_row(part(page, row_start(k), 16)?, k == 0)?;
+        holds(row.is_within(least, pages) && row.is_behind(rows.as_slice()))?;
         let _ = rows.try_push(row);
     }
-    are_zero(page, row_start(count), PAGE)?;
     Ok(rows)
 }
 
@@ -110,23 +138,16 @@ fn row_start(k: usize) -> usize {
     k.saturating_mul(16).saturating_add(64)
 }
 
-fn key_row(page: &[u8], k: usize, least: usize, pages: u64) -> Result<KeyRow, Refusal> {
-    let row = part(page, row_start(k), 16)?;
-    are_zero(row, 6, 8)?;
-    are_zero(row, 12, 16)?;
-    let offset = number(row, 0, 2)? as usize;
-    let length = number(row, 2, 2)? as usize;
-    let kind = number(row, 4, 1)?;
-    let height = number(row, 5, 1)?;
-    let root = link(row, 8, pages)?;
-    holds(1 <= length && length <= 250 && offset.saturating_add(length) <= least)?;
-    holds(kind <= 2 && (kind == 0) == (k == 0))?;
-    holds(1 <= height && height <= 20)?;
+/// The key of a row, which is the prime one or an alternate one.
+fn key_row(row: &[u8], is_prime: bool) -> Result<KeyRow, Refusal> {
+    let kind = number(row, 4, 1);
+    holds(kind <= 2 && (kind == 0) == is_prime)?;
+    holds(are_zero(row, 6, 8) && are_zero(row, 12, 16))?;
     Ok(KeyRow {
-        offset,
-        length,
+        offset: number(row, 0, 2) as usize,
+        length: number(row, 2, 2) as usize,
         duplicates: kind == 2,
-        height,
-        root,
+        height: number(row, 5, 1),
+        root: number(row, 8, 4),
     })
 }

@@ -38,6 +38,15 @@ pub struct Heap<'a> {
 }
 
 impl Slots {
+    /// The slots of a file of this first page.
+    fn new(first: &FirstPage) -> Slots {
+        Slots {
+            stamps: first.keys.iter().filter(|row| row.duplicates).count(),
+            least: first.least,
+            greatest: first.greatest,
+        }
+    }
+
     /// The bytes before the stamps.
     fn head(self) -> usize {
         if self.least == self.greatest { 1 } else { 3 }
@@ -58,42 +67,60 @@ impl Slots {
     fn room(self) -> usize {
         4080 / self.size().max(1)
     }
-}
 
-impl<'a> Heap<'a> {
-    /// What is in a slot of an own page.
-    fn slot(&self, place: Place) -> Result<Slot<'a>, Refusal> {
-        let n = place.page as usize;
-        holds(n < self.own.len() && self.own[n])?;
-        holds(place.slot < self.slots.room())?;
-        let size = self.slots.size();
-        let at = place.slot.saturating_mul(size).saturating_add(16);
-        let slot = part(page(self.bytes, place.page)?, at, size)?;
-        match number(slot, 0, 1)? {
-            0 => Ok(Slot::Free(Place {
-                page: number(slot, 1, 4)?,
-                slot: number(slot, 5, 2)? as usize,
-            })),
-            1 => Ok(Slot::Used(self.stored_in(slot)?)),
-            _ => Err(Refusal::Broken),
+    /// The length of the record of a slot in use.
+    fn length(self, slot: &[u8]) -> usize {
+        if self.head() == 1 {
+            self.greatest
+        } else {
+            number(slot, 1, 2) as usize
         }
     }
 
     /// What a slot in use has.
-    fn stored_in(&self, slot: &'a [u8]) -> Result<Stored<'a>, Refusal> {
-        let slots = self.slots;
-        let length = if slots.head() == 1 {
-            slots.greatest
-        } else {
-            number(slot, 1, 2)? as usize
-        };
-        holds(slots.least <= length && length <= slots.greatest)?;
-        let stamps = slots.stamps.saturating_mul(8);
-        let behind = slots.head().saturating_add(stamps);
+    fn stored_in(self, slot: &[u8]) -> Result<Stored<'_>, Refusal> {
+        let length = self.length(slot);
+        holds(self.least <= length && length <= self.greatest)?;
+        let stamps = self.stamps.saturating_mul(8);
+        let behind = self.head().saturating_add(stamps);
         Ok(Stored {
-            stamps: part(slot, slots.head(), stamps)?,
+            stamps: part(slot, self.head(), stamps)?,
             record: part(slot, behind, length)?,
         })
+    }
+}
+
+/// Whether a page is one of a heap.
+fn is_heap_page(page: &[u8]) -> bool {
+    number(page, 0, 1) == u64::from(b'H') && are_zero(page, 1, 4) && are_zero(page, 8, 16)
+}
+
+impl<'a> Heap<'a> {
+    /// Whether it has a slot at a place.
+    fn has(&self, place: Place) -> bool {
+        let n = place.page as usize;
+        n < self.own.len() && self.own[n] && place.slot < self.slots.room()
+    }
+
+    /// The bytes of a slot of an own page.
+    fn slot_bytes(&self, place: Place) -> Result<&'a [u8], Refusal> {
+        holds(self.has(place))?;
+        let size = self.slots.size();
+        let at = place.slot.saturating_mul(size).saturating_add(16);
+        part(page(self.bytes, place.page)?, at, size)
+    }
+
+    /// What is in a slot of an own page.
+    fn slot(&self, place: Place) -> Result<Slot<'a>, Refusal> {
+        let slot = self.slot_bytes(place)?;
+        match number(slot, 0, 1) {
+            0 => Ok(Slot::Free(Place {
+                page: number(slot, 1, 4),
+                slot: number(slot, 5, 2) as usize,
+            })),
+            1 => Ok(Slot::Used(self.slots.stored_in(slot)?)),
+            _ => Err(Refusal::Broken),
+        }
     }
 
     /// The record at a place.
@@ -104,18 +131,21 @@ impl<'a> Heap<'a> {
         }
     }
 
+    /// Takes a page, and answers the one behind it in the chain.
+    fn takes_page(&mut self, n: u64, taken: &mut [bool]) -> Result<u64, Refusal> {
+        take(taken, n)?;
+        take(self.own.as_mut_slice(), n)?;
+        let page = page(self.bytes, n)?;
+        holds(is_heap_page(page))?;
+        Ok(number(page, 4, 4))
+    }
+
     /// Takes the pages of the chain from this one on.
     fn takes_pages(&mut self, first: u64, taken: &mut [bool]) -> Result<(), Refusal> {
         let mut at = first;
         for _ in 0..taken.len() {
             if at != 0 {
-                take(taken, at)?;
-                take(self.own.as_mut_slice(), at)?;
-                let page = page(self.bytes, at)?;
-                holds(number(page, 0, 1)? == u64::from(b'H'))?;
-                are_zero(page, 1, 4)?;
-                are_zero(page, 8, 16)?;
-                at = number(page, 4, 4)?;
+                at = self.takes_page(at, taken)?;
             }
         }
         holds(at == 0)
@@ -158,6 +188,13 @@ impl<'a> Heap<'a> {
         }
         holds(at.page == 0)
     }
+
+    /// Takes the pages that the first page leads to, and counts their slots.
+    fn reads(&mut self, first: &FirstPage, taken: &mut [bool]) -> Result<(), Refusal> {
+        self.takes_pages(first.first_heap, taken)?;
+        let free = self.counts()?;
+        self.has_free(first.free_slot, free)
+    }
 }
 
 /// The heap of a file.
@@ -169,16 +206,10 @@ pub fn read_heap<'a>(
 ) -> Result<Heap<'a>, Refusal> {
     let mut heap = Heap {
         bytes,
-        slots: Slots {
-            stamps: first.keys.iter().filter(|row| row.duplicates).count(),
-            least: first.least,
-            greatest: first.greatest,
-        },
+        slots: Slots::new(first),
         own: vec![in alloc; false; taken.len()]?,
         used: 0,
     };
-    heap.takes_pages(first.first_heap, taken)?;
-    let free = heap.counts()?;
-    heap.has_free(first.free_slot, free)?;
+    heap.reads(first, taken)?;
     Ok(heap)
 }

@@ -14,19 +14,23 @@ pub fn part(bytes: &[u8], at: usize, length: usize) -> Result<&[u8], Refusal> {
     Ok(&bytes[at..end])
 }
 
-/// The number in so many bytes, the first of which weighs most.
-pub fn number(bytes: &[u8], at: usize, length: usize) -> Result<u64, Refusal> {
+/// The number in so many bytes from one place on, the first of which weighs most; 0 where they are not all there.
+pub fn number(bytes: &[u8], at: usize, length: usize) -> u64 {
     let mut number = 0u64;
-    for byte in part(bytes, at, length)? {
-        number = number.wrapping_mul(256).wrapping_add(u64::from(*byte));
+    if let Ok(digits) = part(bytes, at, length) {
+        for byte in digits {
+            number = number.wrapping_mul(256).wrapping_add(u64::from(*byte));
+        }
     }
-    Ok(number)
+    number
 }
 
-/// The bytes from one place up to another are zero.
-pub fn are_zero(bytes: &[u8], at: usize, end: usize) -> Result<(), Refusal> {
-    let zeros = part(bytes, at, end.saturating_sub(at))?;
-    holds(zeros.iter().all(|byte| *byte == 0))
+/// Whether the bytes from one place up to another are zero.
+pub fn are_zero(bytes: &[u8], at: usize, end: usize) -> bool {
+    match part(bytes, at, end.saturating_sub(at)) {
+        Ok(zeros) => zeros.iter().all(|byte| *byte == 0),
+        Err(_) => false,
+    }
 }
 
 /// A page by its number.

@@ -106,13 +106,15 @@ fn node_page<'a>(
 ) -> Result<(&'a [u8], usize), Refusal> {
     take(taken, node.page)?;
     let page = page(bytes, node.page)?;
-    holds(number(page, 0, 1)? == u64::from(kind))?;
-    holds(number(page, 1, 1)? == tree.key)?;
-    are_zero(page, 4, 16)?;
-    let count = number(page, 2, 2)? as usize;
-    holds(count <= most)?;
-    holds(node.is_root() || most / 2 <= count)?;
+    let count = number(page, 2, 2) as usize;
+    let least = if node.is_root() { 0 } else { most / 2 };
+    holds(is_node(page, kind, tree.key) && least <= count && count <= most)?;
     Ok((page, count))
+}
+
+/// Whether a page is a node of this kind, in the tree of a key.
+fn is_node(page: &[u8], kind: u8, key: u64) -> bool {
+    number(page, 0, 1) == u64::from(kind) && number(page, 1, 1) == key && are_zero(page, 4, 16)
 }
 
 /// Puts the children of an inner node at the end.
@@ -124,7 +126,7 @@ fn push_children<'a>(
     nodes: &mut Vec<Node<'a>>,
 ) -> Result<(), Refusal> {
     let mut left = Node {
-        page: number(page, 16, 4)?,
+        page: number(page, 16, 4),
         low: node.low,
         high: node.high,
     };
@@ -133,15 +135,10 @@ fn push_children<'a>(
         let separator = part(page, at, tree.width)?;
         at = at.saturating_add(tree.width);
         holds(left.admits(separator) && left.low != Some(separator))?;
-        push(
-            nodes,
-            Node {
-                high: Some(separator),
-                ..left
-            },
-        )?;
+        left.high = Some(separator);
+        push(nodes, left)?;
         left = Node {
-            page: number(page, at, 4)?,
+            page: number(page, at, 4),
             low: Some(separator),
             high: node.high,
         };
@@ -162,12 +159,20 @@ fn push_entries<'a>(
     for _ in 0..count {
         let entry = part(page, at, tree.entry)?;
         let key = part(entry, 0, tree.width)?;
-        holds(node.admits(key))?;
-        if let Some(last) = entries.last() {
-            holds(part(last, 0, tree.width)?.cmp(key).is_lt())?;
-        }
+        holds(node.admits(key) && are_below(entries.as_slice(), key))?;
         push(entries, entry)?;
         at = at.saturating_add(tree.entry);
     }
     Ok(())
+}
+
+/// Whether the tree key of the last entry, if there is one, is below this one.
+fn are_below(entries: &[&[u8]], key: &[u8]) -> bool {
+    match entries.last() {
+        Some(last) => match part(last, 0, key.len()) {
+            Ok(before) => before.cmp(key).is_lt(),
+            Err(_) => false,
+        },
+        None => true,
+    }
 }
