@@ -1,6 +1,6 @@
 //! What stands at a word of a deck.
 ghost use Rattle.std.specs.Prelude.{◌≡◌};
-ghost use Rattle.deck_listing.specs.Places.{role_by, role_of, place_behind, mark_of};
+ghost use Rattle.deck_listing.specs.Places.{is_files, is_verb, is_other, is_phrase, role_by, role_of, place_behind, mark_of};
 
 use deck_words::{Word, WordText};
 
@@ -44,33 +44,51 @@ pub enum Mark {
     Paragraph,
 }
 
-fn role_by(text: &str) -> Role
-    ensures { result ≡ role_by text.now }
+/// Whether a word begins a statement that names its files.
+fn is_files(text: &str) -> bool
+    ensures { result ≡ is_files text.now }
 {
-    if text == "OPEN" || text == "CLOSE" {
-        return Role::Files;
-    }
-    if text == "READ"
-        || text == "START"
-        || text == "WRITE"
-        || text == "REWRITE"
-        || text == "DELETE"
-    {
-        return Role::Verb;
-    }
-    if text == "MOVE" || text == "STOP" {
-        return Role::Other;
-    }
-    if text == "INPUT"
+    text == "OPEN" || text == "CLOSE"
+}
+
+/// Whether it begins a statement on one file.
+fn is_verb(text: &str) -> bool
+    ensures { result ≡ is_verb text.now }
+{
+    text == "READ" || text == "START" || text == "WRITE" || text == "REWRITE" || text == "DELETE"
+}
+
+/// Whether it begins a statement on none.
+fn is_other(text: &str) -> bool
+    ensures { result ≡ is_other text.now }
+{
+    text == "MOVE" || text == "STOP"
+}
+
+/// Whether it stands among the names of OPEN and CLOSE.
+fn is_phrase(text: &str) -> bool
+    ensures { result ≡ is_phrase text.now }
+{
+    text == "INPUT"
         || text == "OUTPUT"
         || text == "I-O"
         || text == "EXTEND"
         || text == "WITH"
         || text == "LOCK"
-    {
-        return Role::Phrase;
-    }
-    if text == "PROCEDURE" {
+}
+
+fn role_by(text: &str) -> Role
+    ensures { result ≡ role_by text.now }
+{
+    if is_files(text) {
+        Role::Files
+    } else if is_verb(text) {
+        Role::Verb
+    } else if is_other(text) {
+        Role::Other
+    } else if is_phrase(text) {
+        Role::Phrase
+    } else if text == "PROCEDURE" {
         Role::Heading
     } else {
         Role::Name
