@@ -7,8 +7,8 @@ use crate::keys::bad_layout;
 use crate::not_allowed::not_allowed;
 use arrayvec::ArrayVec;
 use deck_findings::{Finding, Hint, Reason, Shown, faulty_word, first_mistake, past_limit};
-use deck_names::{operands, outline_of, stands_twice, unknown_name};
-use deck_walk::{Place, Step, cut, place_of, walk_along};
+use deck_names::{Operand, Outline, operands, outline_of, stands_twice, unknown_name};
+use deck_walk::{Place, Step, Word, cut, place_of, walk_along};
 use deck_words::DeckFault;
 use std::alloc::{AllocError, Global};
 use std::fmt;
@@ -31,18 +31,22 @@ impl Diagnosis {
     pub fn says_nothing(&self) -> bool {
         self.why.as_str().is_empty()
     }
+
+    /// Writes all but the hints.
+    fn write_reason<W: fmt::Write>(&self, f: &mut fmt::Formatter<W>) -> fmt::Result {
+        let line = self.line;
+        let why = self.why.as_str();
+        if self.word.is_empty() {
+            return write!(f, "line {line}: {why}");
+        }
+        let word = Shown(&self.word);
+        write!(f, "line {line}, word {word}: {why}")
+    }
 }
 
 impl fmt::Display for Diagnosis {
     fn fmt<W: fmt::Write>(&self, f: &mut fmt::Formatter<W>) -> fmt::Result {
-        let line = self.line;
-        let why = self.why.as_str();
-        if self.word.is_empty() {
-            write!(f, "line {line}: {why}")?;
-        } else {
-            let word = Shown(&self.word);
-            write!(f, "line {line}, word {word}: {why}")?;
-        }
+        self.write_reason(f)?;
         for hint in &self.hints {
             write!(f, "\n  {hint}")?;
         }
@@ -97,6 +101,23 @@ fn told(bytes: &[u8], finding: Finding<'_>) -> Diagnosis
     }
 }
 
+/// What is found at the names that a deck describes, or in its statements.
+fn found_at_names<'a>(
+    alloc: Global,
+    steps: &[Step<'a>],
+    outline: &Outline<'a>,
+    operands: &[Operand<'a>],
+    fault: DeckFault,
+) -> Result<Option<Finding<'a>>, AllocError> {
+    match fault.code {
+        3 => Ok(unknown_name(outline, operands, fault.line)),
+        4 => Ok(stands_twice(outline, steps, fault.line)),
+        5 => not_allowed(alloc, outline, operands, fault.line),
+        7 => bad_layout(alloc, outline, fault.line),
+        _ => Ok(None),
+    }
+}
+
 /// What is found in the description or in the statements of a deck.
 fn found_in<'a>(
     alloc: Global,
@@ -107,13 +128,23 @@ fn found_in<'a>(
     let outline = outline_of(alloc, steps)?;
     let operands = operands(alloc, &outline.statements)?;
     match fault.code {
-        3 => Ok(unknown_name(&outline, &operands, fault.line)),
-        4 => Ok(stands_twice(&outline, steps, fault.line)),
-        5 => not_allowed(alloc, &outline, &operands, fault.line),
         6 => Ok(past_limit(length, steps, fault.line)),
-        7 => bad_layout(alloc, &outline, fault.line),
-        _ => Ok(None),
+        _ => found_at_names(alloc, steps, &outline, &operands, fault),
     }
+}
+
+/// What is found in a deck of these words.
+fn found_along<'a>(
+    alloc: Global,
+    bytes: &[u8],
+    words: &[Word<'a>],
+    fault: DeckFault,
+) -> Result<Option<Finding<'a>>, AllocError> {
+    let walk = walk_along(alloc, words)?;
+    if fault.code == 2 {
+        return first_mistake(alloc, bytes, &walk);
+    }
+    found_in(alloc, bytes.len(), &walk.steps, fault)
 }
 
 /// What is found in a deck.
@@ -126,11 +157,7 @@ fn found<'a>(
     if fault.code == 1 {
         return Ok(faulty_word(&words, fault.line));
     }
-    let walk = walk_along(alloc, &words)?;
-    if fault.code == 2 {
-        return first_mistake(alloc, bytes, &walk);
-    }
-    found_in(alloc, bytes.len(), &walk.steps, fault)
+    found_along(alloc, bytes, &words, fault)
 }
 
 /// Why a deck is refused with a fault, in words: what is told of the deck, or nothing but the line where nothing is found. It has to be the fault with which

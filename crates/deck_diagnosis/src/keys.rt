@@ -1,6 +1,6 @@
 //! The keys of a file.
 
-use crate::layout::{bad_description, bad_storage, entries_of, layout_of, number_of};
+use crate::layout::{bad_description, bad_storage, layout_of_file, number_of};
 use deck_findings::{Finding, Shown};
 use deck_names::{Mark, Outline};
 use deck_walk::{Role, Word};
@@ -110,26 +110,28 @@ fn bad_key<'a>(
     None
 }
 
+/// What is found at one of these keys.
+fn first_bad_key<'a>(keys: &[(Word<'a>, Field)], least: u64) -> Option<Finding<'a>> {
+    for (at, key) in keys.iter().enumerate() {
+        if let Some(finding) = bad_key(keys.get(..at)?, &key.0, &key.1, least) {
+            return Some(finding);
+        }
+    }
+    None
+}
+
 /// What is found at the keys of a file.
 fn bad_keys<'a>(
     alloc: Global,
     outline: &Outline<'a>,
     file: &[u8],
 ) -> Result<Option<Finding<'a>>, AllocError> {
-    let entries = entries_of(alloc, outline, file)?;
-    let Some(layout) = layout_of(alloc, &entries)? else {
+    let Some(layout) = layout_of_file(alloc, outline, file)? else {
         return Ok(None);
     };
     let least = least_of(outline, file, &layout);
     let keys = placed_keys(alloc, outline, file, &layout)?;
-    for (at, key) in keys.iter().enumerate() {
-        if let Some(before) = keys.as_slice().get(..at) {
-            if let Some(finding) = bad_key(before, &key.0, &key.1, least) {
-                return Ok(Some(finding));
-            }
-        }
-    }
-    Ok(None)
+    Ok(first_bad_key(&keys, least))
 }
 
 /// Whether a file has a word of this role in this line.

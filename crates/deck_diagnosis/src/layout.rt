@@ -2,7 +2,7 @@
 
 use arrayvec::ArrayVec;
 use deck_findings::{Finding, Shown};
-use deck_names::Outline;
+use deck_names::{Mark, Outline};
 use deck_walk::{Role, Word};
 use io_state::Name;
 use record_layout::{Item, Layout, Picture};
@@ -21,6 +21,15 @@ pub struct Entry<'a> {
 }
 
 impl<'a> Entry<'a> {
+    /// Nothing yet but a level.
+    fn of_level(level: Word<'a>) -> Self {
+        Entry {
+            level,
+            name: None,
+            picture: None,
+        }
+    }
+
     /// The word by which the item is told.
     fn word(&self) -> Word<'a> {
         match self.name {
@@ -67,8 +76,31 @@ fn name_of(word: &Option<Word<'_>>) -> Option<Name> {
     Some(name)
 }
 
+/// The item of which a mark tells: a new one at a level, or the last one, with its name or picture.
+fn described<'a>(last: Option<Entry<'a>>, mark: &Mark<'a>) -> Option<Entry<'a>> {
+    if mark.role == Role::Level {
+        return Some(Entry::of_level(mark.word));
+    }
+    let mut entry = last?;
+    if mark.is_item() {
+        entry.name = Some(mark.word);
+    }
+    if mark.role == Role::Picture {
+        entry.picture = Some(mark.word);
+    }
+    Some(entry)
+}
+
+/// Adds an item, if there is one.
+fn add<'a>(entries: &mut Vec<Entry<'a>>, item: Option<Entry<'a>>) -> Result<(), AllocError> {
+    if let Some(entry) = item {
+        entries.push(entry)?;
+    }
+    Ok(())
+}
+
 /// The items of a file in their order.
-pub fn entries_of<'a>(
+fn entries_of<'a>(
     alloc: Global,
     outline: &Outline<'a>,
     file: &[u8],
@@ -76,46 +108,34 @@ pub fn entries_of<'a>(
     let mut entries = Vec::new(alloc);
     let mut last: Option<Entry<'a>> = None;
     for mark in &outline.marks {
-        if !mark.is_of(file) {
-            continue;
-        }
-        match mark.role {
-            Role::Level => {
-                if let Some(entry) = last {
-                    entries.push(entry)?;
-                }
-                last = Some(Entry {
-                    level: mark.word,
-                    name: None,
-                    picture: None,
-                });
+        if mark.is_of(file) {
+            if mark.role == Role::Level {
+                add(&mut entries, last)?;
             }
-            Role::Record | Role::ItemName => {
-                if let Some(entry) = &mut last {
-                    entry.name = Some(mark.word);
-                }
-            }
-            Role::Picture => {
-                if let Some(entry) = &mut last {
-                    entry.picture = Some(mark.word);
-                }
-            }
-            _ => {}
+            last = described(last, mark);
         }
     }
-    if let Some(entry) = last {
-        entries.push(entry)?;
-    }
+    add(&mut entries, last)?;
     Ok(entries)
 }
 
 /// The places of items, if they are a record.
-pub fn layout_of(alloc: Global, entries: &[Entry<'_>]) -> Result<Option<Layout>, AllocError> {
+fn layout_of(alloc: Global, entries: &[Entry<'_>]) -> Result<Option<Layout>, AllocError> {
     let mut items = Vec::new(alloc);
     for entry in entries {
         items.push(entry.item())?;
     }
     Ok(Layout::build(alloc, &items).ok())
+}
+
+/// The places of the items of a file, if they are a record.
+pub fn layout_of_file(
+    alloc: Global,
+    outline: &Outline<'_>,
+    file: &[u8],
+) -> Result<Option<Layout>, AllocError> {
+    let entries = entries_of(alloc, outline, file)?;
+    layout_of(alloc, &entries)
 }
 
 /// Whether a picture has this letter or digit, the letter in capitals or small.
@@ -181,12 +201,16 @@ fn picture_length(entry: &Entry<'_>) -> u64 {
 
 /// Why a level number is none of a record.
 fn level_reason(level: u8, is_first: bool) -> Option<&'static str> {
+    if is_first {
+        return if level == 1 {
+            None
+        } else {
+            Some("a record description begins with level 01")
+        };
+    }
     match level {
-        1 if is_first => None,
         1 => Some("a file has one record description, and one 01 level"),
-        _ if is_first => Some("a record description begins with level 01"),
         88 => Some("there are no condition names, of level 88; leave the entry out"),
-        66 | 77 | 78 => Some("the levels in a record are 01 to 49"),
         0 | 50..=99 => Some("the levels in a record are 01 to 49"),
         _ => None,
     }
@@ -206,25 +230,32 @@ fn closed_to(levels: &Levels, level: u8) -> Levels {
     kept
 }
 
+fn of_no_picture<'a>(entry: &Entry<'a>) -> Finding<'a> {
+    Finding::saying(
+        &entry.word(),
+        "this item has neither a picture nor items of a greater level",
+    )
+}
+
+fn of_deeper<'a>(before: &Entry<'a>, entry: &Entry<'a>) -> Finding<'a> {
+    let name = Shown(before.word().text);
+    let mut finding = Finding::of_word(&entry.level);
+    let _ = write!(
+        finding.why,
+        "{name}, before it, has a picture, so it has no items of a greater level"
+    );
+    finding
+}
+
 /// What is found at a level behind the item before it.
 fn misfit<'a>(before: &Entry<'a>, entry: &Entry<'a>, levels: &Levels) -> Option<Finding<'a>> {
-    let name = before.word();
     let level = entry.level_number();
     let is_deeper = level > before.level_number();
     if before.picture.is_none() && !is_deeper {
-        return Some(Finding::saying(
-            &name,
-            "this item has neither a picture nor items of a greater level",
-        ));
+        return Some(of_no_picture(before));
     }
     if before.picture.is_some() && is_deeper {
-        let name = Shown(name.text);
-        let mut finding = Finding::of_word(&entry.level);
-        let _ = write!(
-            finding.why,
-            "{name}, before it, has a picture, so it has no items of a greater level"
-        );
-        return Some(finding);
+        return Some(of_deeper(before, entry));
     }
     if before.picture.is_some() && closed_to(levels, level).last() != Some(&level) {
         return Some(Finding::saying(
@@ -262,27 +293,47 @@ fn named_twice<'a>(before: &[Entry<'a>], entry: &Entry<'a>) -> Option<Finding<'a
     Some(finding)
 }
 
+/// The open levels behind an item of a level.
+fn opened(levels: &Levels, level: u8) -> Levels {
+    let mut open = closed_to(levels, level);
+    if open.last() != Some(&level) {
+        let _ = open.try_push(level);
+    }
+    open
+}
+
+/// What is found at an item behind those before it.
+fn bad_entry<'a>(before: &[Entry<'a>], entry: &Entry<'a>, levels: &Levels) -> Option<Finding<'a>> {
+    if let Some(reason) = level_reason(entry.level_number(), before.is_empty()) {
+        return Some(Finding::saying(&entry.level, reason));
+    }
+    if let Some(previous) = before.last() {
+        if let Some(finding) = misfit(previous, entry, levels) {
+            return Some(finding);
+        }
+    }
+    if let Some(picture) = &entry.picture {
+        if let Some(finding) = bad_picture(picture) {
+            return Some(finding);
+        }
+    }
+    named_twice(before, entry)
+}
+
+/// What is found at the last item.
+fn bad_last<'a>(last: &Entry<'a>) -> Option<Finding<'a>> {
+    if last.picture.is_some() {
+        return None;
+    }
+    Some(of_no_picture(last))
+}
+
 /// What is found at one of the items of a record.
-pub fn bad_item<'a>(entries: &[Entry<'a>]) -> Option<Finding<'a>> {
+fn bad_item<'a>(entries: &[Entry<'a>]) -> Option<Finding<'a>> {
     let mut levels = Levels::new();
-    let mut before: Option<Entry<'a>> = None;
     let mut length = 0u64;
     for (at, entry) in entries.iter().enumerate() {
-        let level = entry.level_number();
-        if let Some(reason) = level_reason(level, before.is_none()) {
-            return Some(Finding::saying(&entry.level, reason));
-        }
-        if let Some(before) = &before {
-            if let Some(finding) = misfit(before, entry, &levels) {
-                return Some(finding);
-            }
-        }
-        if let Some(picture) = &entry.picture {
-            if let Some(finding) = bad_picture(picture) {
-                return Some(finding);
-            }
-        }
-        if let Some(finding) = named_twice(entries.get(..at)?, entry) {
+        if let Some(finding) = bad_entry(entries.get(..at)?, entry, &levels) {
             return Some(finding);
         }
         length = length.saturating_add(picture_length(entry));
@@ -292,20 +343,30 @@ pub fn bad_item<'a>(entries: &[Entry<'a>]) -> Option<Finding<'a>> {
                 "with this item the record has more than 4,000 characters",
             ));
         }
-        levels = closed_to(&levels, level);
-        if levels.last() != Some(&level) {
-            let _ = levels.try_push(level);
-        }
-        before = Some(*entry);
+        levels = opened(&levels, entry.level_number());
     }
-    let last = before?;
-    if last.picture.is_some() {
-        return None;
+    bad_last(entries.last()?)
+}
+
+fn of_other_length<'a>(stated: &Word<'a>, length: u16) -> Finding<'a> {
+    let mut finding = Finding::of_word(stated);
+    let _ = write!(
+        finding.why,
+        "the length of this record, by its items, is {length}"
+    );
+    finding
+}
+
+/// What is found at a least length that is none of a record.
+fn bad_least<'a>(outline: &Outline<'a>, file: &[u8], length: u16) -> Option<Finding<'a>> {
+    let least = outline.word_of(Role::Least, file)?;
+    if number_of(least.text) == 0 {
+        return Some(Finding::saying(&least, "a record has at least one character"));
     }
-    Some(Finding::saying(
-        &last.word(),
-        "this item has neither a picture nor items of a greater level",
-    ))
+    if number_of(least.text) > u64::from(length) {
+        return Some(Finding::saying(&least, "the least length is more than the greatest one"));
+    }
+    None
 }
 
 /// What is found at a length that is not the record's.
@@ -315,21 +376,9 @@ fn bad_length<'a>(outline: &Outline<'a>, file: &[u8], length: u16) -> Option<Fin
         None => outline.word_of(Role::Greatest, file)?,
     };
     if number_of(stated.text) != u64::from(length) {
-        let mut finding = Finding::of_word(&stated);
-        let _ = write!(
-            finding.why,
-            "the length of this record, by its items, is {length}"
-        );
-        return Some(finding);
+        return Some(of_other_length(&stated, length));
     }
-    let least = outline.word_of(Role::Least, file)?;
-    if number_of(least.text) == 0 {
-        return Some(Finding::saying(&least, "a record has at least one character"));
-    }
-    if number_of(least.text) > u64::from(length) {
-        return Some(Finding::saying(&least, "the least length is more than the greatest one"));
-    }
-    None
+    bad_least(outline, file, length)
 }
 
 /// The picture of a 77 item.
@@ -356,30 +405,35 @@ fn digits_of(number: u16) -> u16 {
     }
 }
 
+/// What a 77 item of this picture lacks that has to hold so many digits.
+fn lacking_digits(picture: &Word<'_>, digits: u16) -> Option<&'static str> {
+    match Picture::parse(picture.text) {
+        Ok(read) if read.numeric && read.length >= digits => None,
+        Ok(read) if read.numeric => Some("needs"),
+        _ => Some("has to be"),
+    }
+}
+
 /// What is found at the 77 item on which the length of a record depends.
 fn bad_length_item<'a>(outline: &Outline<'a>, file: &[u8], length: u16) -> Option<Finding<'a>> {
     let depending = outline.word_of(Role::Depending, file)?;
     let picture = storage_picture(outline, &depending)?;
     let digits = digits_of(length);
     let name = Shown(depending.text);
-    match Picture::parse(picture.text) {
-        Ok(read) if read.numeric && read.length >= digits => None,
-        Ok(read) if read.numeric => {
-            let mut finding = Finding::of_word(&picture);
-            let _ = write!(
-                finding.why,
-                "{name} holds lengths up to {length}: it needs 9({digits})"
-            );
-            Some(finding)
-        }
-        _ => {
-            let mut finding = Finding::of_word(&picture);
-            let _ = write!(
-                finding.why,
-                "{name} holds lengths up to {length}: it has to be 9({digits})"
-            );
-            Some(finding)
-        }
+    let needs = lacking_digits(&picture, digits)?;
+    let mut finding = Finding::of_word(&picture);
+    let _ = write!(
+        finding.why,
+        "{name} holds lengths up to {length}: it {needs} 9({digits})"
+    );
+    Some(finding)
+}
+
+/// What is found at the lengths in the FD of a file whose record has this length.
+fn bad_lengths<'a>(outline: &Outline<'a>, file: &[u8], length: u16) -> Option<Finding<'a>> {
+    match bad_length(outline, file, length) {
+        Some(finding) => Some(finding),
+        None => bad_length_item(outline, file, length),
     }
 }
 
@@ -396,11 +450,7 @@ pub fn bad_description<'a>(
     let Some(layout) = layout_of(alloc, &entries)? else {
         return Ok(None);
     };
-    let length = layout.length();
-    match bad_length(outline, file, length) {
-        Some(finding) => Ok(Some(finding)),
-        None => Ok(bad_length_item(outline, file, length)),
-    }
+    Ok(bad_lengths(outline, file, layout.length()))
 }
 
 /// What is found at a 77 item of this line.

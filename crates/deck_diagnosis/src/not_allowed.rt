@@ -1,7 +1,7 @@
 //! What is not allowed where it stands.
 
 use crate::keys::field_of;
-use crate::layout::{entries_of, is_numeric, layout_of};
+use crate::layout::{is_numeric, layout_of_file};
 use deck_findings::{Finding, Hint, Shown};
 use deck_names::{Operand, Outline, keys_of};
 use deck_walk::{Kind, Role, Word};
@@ -81,40 +81,32 @@ fn of_access<'a>(operand: &Operand<'a>, what: &str, wants: &str, mode: &str) -> 
     finding
 }
 
+/// What an operand is that the access of its file does not allow, and which access it wants.
+fn wanted_access(operand: &Operand<'_>, mode: &str) -> Option<(&'static str, &'static str)> {
+    let is_sequential = mode == "SEQUENTIAL";
+    let is_random = mode == "RANDOM";
+    match operand.role {
+        Role::ExtendedFile if !is_sequential => Some(("OPEN EXTEND", "SEQUENTIAL")),
+        Role::File if is_random && operand.verb.says("START") => Some((
+            "START",
+            "SEQUENTIAL or DYNAMIC",
+        )),
+        Role::NextWord if is_random => Some(("READ NEXT", "SEQUENTIAL or DYNAMIC")),
+        Role::KeyWord if is_sequential => Some(("READ with KEY", "RANDOM or DYNAMIC")),
+        _ => None,
+    }
+}
+
 /// What is found at an operand that the access of its file does not allow.
 fn bad_access<'a>(outline: &Outline<'a>, operand: &Operand<'a>) -> Option<Finding<'a>> {
     let mode = mode_of(outline, operand.file_text());
-    match operand.role {
-        Role::ExtendedFile if mode != "SEQUENTIAL" => Some(of_access(
-            operand,
-            "OPEN EXTEND",
-            "SEQUENTIAL",
-            mode,
-        )),
-        Role::File if operand.verb.says("START") && mode == "RANDOM" => Some(of_access(
-            operand,
-            "START",
-            "SEQUENTIAL or DYNAMIC",
-            mode,
-        )),
-        Role::NextWord if mode == "RANDOM" => Some(of_access(
-            operand,
-            "READ NEXT",
-            "SEQUENTIAL or DYNAMIC",
-            mode,
-        )),
-        Role::KeyWord if mode == "SEQUENTIAL" => Some(of_access(
-            operand,
-            "READ with KEY",
-            "RANDOM or DYNAMIC",
-            mode,
-        )),
-        Role::KeyWord if operand.has_next => Some(Finding::saying(
-            &operand.word,
-            "a READ has NEXT or KEY, and not both",
-        )),
-        _ => None,
+    if let Some((what, wants)) = wanted_access(operand, mode) {
+        return Some(of_access(operand, what, wants, mode));
     }
+    if operand.role == Role::KeyWord && operand.has_next {
+        return Some(Finding::saying(&operand.word, "a READ has NEXT or KEY, and not both"));
+    }
+    None
 }
 
 /// Whether an item has the place of a key, or of its beginning, where that will do.
@@ -143,6 +135,22 @@ fn is_key_item(
     false
 }
 
+/// What is found at an operand that names an item that is no key.
+fn of_no_key<'a>(outline: &Outline<'a>, operand: &Operand<'a>) -> Finding<'a> {
+    let file = operand.file_text();
+    let name = Shown(file);
+    let mut finding = Finding::of_word(&operand.word);
+    let _ = if operand.role == Role::StartKey {
+        write!(
+            finding.why,
+            "neither a key of {name} nor an item at the beginning of one"
+        )
+    } else {
+        write!(finding.why, "no key of {name}")
+    };
+    finding.with_hint(keys_of(outline, file))
+}
+
 /// What is found at an operand of READ or START that is no key.
 fn bad_key<'a>(
     alloc: Global,
@@ -150,8 +158,7 @@ fn bad_key<'a>(
     operand: &Operand<'a>,
 ) -> Result<Option<Finding<'a>>, AllocError> {
     let file = operand.file_text();
-    let entries = entries_of(alloc, outline, file)?;
-    let Some(layout) = layout_of(alloc, &entries)? else {
+    let Some(layout) = layout_of_file(alloc, outline, file)? else {
         return Ok(None);
     };
     let Some(field) = field_of(&layout, &operand.word) else {
@@ -161,17 +168,7 @@ fn bad_key<'a>(
     if is_key_item(outline, file, &layout, &field, is_start) {
         return Ok(None);
     }
-    let name = Shown(file);
-    let mut finding = Finding::of_word(&operand.word);
-    let _ = if is_start {
-        write!(
-            finding.why,
-            "neither a key of {name} nor an item at the beginning of one"
-        )
-    } else {
-        write!(finding.why, "no key of {name}")
-    };
-    Ok(Some(finding.with_hint(keys_of(outline, file))))
+    Ok(Some(of_no_key(outline, operand)))
 }
 
 /// The picture of the item of a name.
@@ -199,6 +196,17 @@ fn is_of_digits(source: &Word<'_>) -> bool {
             && inner(source.text).iter().all(|byte| byte.is_ascii_digit()))
 }
 
+/// A line of what an item of digits takes.
+fn taken_instead(source: &Word<'_>) -> Hint {
+    let from = Shown(source.text);
+    let mut hint = Hint::new();
+    let _ = write!(
+        hint,
+        "it takes a number, a literal of digits, or ZEROS, and not {from}"
+    );
+    hint
+}
+
 /// What is found at an item that does not take the source of a MOVE.
 fn bad_target<'a>(outline: &Outline<'a>, operand: &Operand<'a>) -> Option<Finding<'a>> {
     let source = operand.source?;
@@ -209,13 +217,7 @@ fn bad_target<'a>(outline: &Outline<'a>, operand: &Operand<'a>) -> Option<Findin
     let digits = Shown(picture.text);
     let mut finding = Finding::of_word(&operand.word);
     let _ = write!(finding.why, "PIC {digits}, which takes digits alone");
-    let from = Shown(source.text);
-    let mut hint = Hint::new();
-    let _ = write!(
-        hint,
-        "it takes a number, a literal of digits, or ZEROS, and not {from}"
-    );
-    Some(finding.with_hint(hint))
+    Some(finding.with_hint(taken_instead(&source)))
 }
 
 fn of_operand<'a>(
