@@ -45,6 +45,48 @@ fn lacks_period(at: &Walker, word: &Word<'_>) -> bool {
     }
 }
 
+/// What is found at a word that decks do not have.
+fn not_read<'a>(word: &Word<'a>) -> Option<Finding<'a>> {
+    let text = without(word)?;
+    Some(Finding::saying(word, "not read").with_text(text))
+}
+
+/// What is found at a word that may be one of those that were expected, misspelt.
+fn perhaps_misspelt<'a>(
+    alloc: Global,
+    at: &Walker,
+    word: &Word<'a>,
+) -> Result<Option<Finding<'a>>, AllocError> {
+    let Some(text) = misspelt(alloc, at, word.text)? else {
+        return Ok(None);
+    };
+    let mut finding = Finding::of_word(word);
+    let _ = write!(finding.why, "perhaps {text}, misspelt");
+    Ok(Some(finding))
+}
+
+/// What is found at a word that is no verb, behind which this word comes.
+fn of_other_than_verb<'a>(
+    alloc: Global,
+    at: &Walker,
+    word: &Word<'a>,
+    behind: &Word<'a>,
+) -> Result<Finding<'a>, AllocError> {
+    let statements = Walker::at_statement();
+    let expected = expected(alloc, &statements)?;
+    if let Some(finding) = perhaps_misspelt(alloc, &statements, word)? {
+        return Ok(finding.with_hint(expected));
+    }
+    if lacks_period(at, behind) {
+        return Ok(Finding::saying(behind, "a period is missing before this word"));
+    }
+    let finding = Finding::saying(
+        word,
+        "no verb, and no name of a paragraph, which has a period behind it",
+    );
+    Ok(finding.with_hint(expected))
+}
+
 /// What is found at a word that was taken for the name of a paragraph, behind which this word comes.
 fn of_no_verb<'a>(
     alloc: Global,
@@ -61,24 +103,18 @@ fn of_no_verb<'a>(
             "END PROGRAM is not read; a deck ends with its last sentence",
         ));
     }
-    if let Some(text) = without(word) {
-        return Ok(Finding::saying(word, "not read").with_text(text));
+    match not_read(word) {
+        Some(finding) => Ok(finding),
+        None => of_other_than_verb(alloc, at, word, behind),
     }
-    let statements = Walker::at_statement();
-    let expected = expected(alloc, &statements)?;
-    if let Some(verb) = misspelt(alloc, &statements, word.text)? {
-        let mut finding = Finding::of_word(word);
-        let _ = write!(finding.why, "perhaps {verb}, misspelt");
-        return Ok(finding.with_hint(expected));
+}
+
+/// Whether a word stands where a name was expected, and can be none.
+fn is_no_name(alloc: Global, at: &Walker, word: &Word<'_>) -> Result<bool, AllocError> {
+    if wants_name(alloc, at)? && word.is_reserved() {
+        return Ok(true);
     }
-    if lacks_period(at, behind) {
-        return Ok(Finding::saying(behind, "a period is missing before this word"));
-    }
-    let finding = Finding::saying(
-        word,
-        "no verb, and no name of a paragraph, which has a period behind it",
-    );
-    Ok(finding.with_hint(expected))
+    Ok(wants_item_name(alloc, at)? && word.is_reserved() && !lacks_period(at, word))
 }
 
 /// A finding that says what a word cannot be, or how it may be meant.
@@ -87,21 +123,13 @@ fn of_spelling<'a>(
     at: &Walker,
     word: &Word<'a>,
 ) -> Result<Option<Finding<'a>>, AllocError> {
-    if wants_name(alloc, at)? && word.is_reserved() {
-        return Ok(Some(Finding::saying(word, "a reserved word, which can be no name")));
-    }
-    if wants_item_name(alloc, at)? && word.is_reserved() && !lacks_period(at, word) {
+    if is_no_name(alloc, at, word)? {
         return Ok(Some(Finding::saying(word, "a reserved word, which can be no name")));
     }
     if wants_source(alloc, at)? && word.is_name() {
         return Ok(Some(Finding::saying(word, "an item cannot be moved")));
     }
-    if let Some(text) = misspelt(alloc, at, word.text)? {
-        let mut finding = Finding::of_word(word);
-        let _ = write!(finding.why, "perhaps {text}, misspelt");
-        return Ok(Some(finding));
-    }
-    Ok(None)
+    perhaps_misspelt(alloc, at, word)
 }
 
 /// What is found at a word that does not fit where a walk stands.
@@ -117,8 +145,8 @@ fn of_word<'a>(
     if let Some(text) = without_here(at.home(), word) {
         return Ok(Finding::saying(word, "not read here").with_text(text));
     }
-    if let Some(text) = without(word) {
-        return Ok(Finding::saying(word, "not read").with_text(text));
+    if let Some(finding) = not_read(word) {
+        return Ok(finding);
     }
     let expected = expected(alloc, at)?;
     if let Some(finding) = of_spelling(alloc, at, word)? {
