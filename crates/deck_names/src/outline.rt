@@ -50,6 +50,23 @@ fn file_at<'a>(step: &Step<'a>, before: &'a [u8]) -> &'a [u8] {
     }
 }
 
+/// How many levels of a file stand up to the word of a role, where so many stand before it.
+fn levels_at(role: Role, before: u64) -> u64 {
+    match role {
+        Role::FdWord => 0,
+        Role::Level => before.saturating_add(1),
+        _ => before,
+    }
+}
+
+/// The role of a step as a mark, where so many levels of its file stand before it.
+fn role_at(step: &Step<'_>, levels: u64) -> Role {
+    if step.role == Role::ItemName && levels == 1 {
+        return Role::Record;
+    }
+    step.role
+}
+
 /// The outline of a deck that begins with these steps.
 pub fn outline_of<'a>(alloc: Global, steps: &[Step<'a>]) -> Result<Outline<'a>, AllocError> {
     let mut marks = Vec::new(alloc);
@@ -59,19 +76,11 @@ pub fn outline_of<'a>(alloc: Global, steps: &[Step<'a>]) -> Result<Outline<'a>, 
     let mut is_described = true;
     for step in steps {
         file = file_at(step, file);
-        let mut role = step.role;
-        if role == Role::ProcedureWord {
+        levels = levels_at(step.role, levels);
+        if step.role == Role::ProcedureWord {
             is_described = false;
         }
-        if role == Role::FdWord {
-            levels = 0;
-        }
-        if role == Role::Level {
-            levels = levels.saturating_add(1);
-        }
-        if role == Role::ItemName && levels == 1 {
-            role = Role::Record;
-        }
+        let role = role_at(step, levels);
         if !is_described {
             statements.push(*step)?;
         } else if role != Role::Other {

@@ -29,6 +29,7 @@ impl<'a> Operand<'a> {
     /// The next operand of the statement.
     fn then(self, step: &Step<'a>) -> Self {
         let mut operand = self;
+        operand.has_next = self.has_next || self.role == Role::NextWord;
         operand.word = step.word;
         operand.role = step.role;
         match step.role {
@@ -57,9 +58,8 @@ pub fn operands<'a>(alloc: Global, steps: &[Step<'a>]) -> Result<Vec<Operand<'a>
             last = Some(Operand::of_verb(step.word));
         } else if step.role != Role::Other {
             if let Some(before) = last {
-                let mut operand = before.then(step);
+                let operand = before.then(step);
                 operands.push(operand)?;
-                operand.has_next = operand.has_next || step.role == Role::NextWord;
                 last = Some(operand);
             }
         }

@@ -29,15 +29,19 @@ fn first_with<'a>(marks: &[Mark<'a>], role: Role, word: &Word<'_>) -> Option<Wor
     Some(mark.word)
 }
 
+/// What is found at a mark that does what one of those before it does.
+fn done_before<'a>(before: &[Mark<'a>], mark: &Mark<'a>) -> Option<Finding<'a>> {
+    let what = repeated(mark.role)?;
+    let first = first_with(before, mark.role, &mark.word)?;
+    Some(said_already(&mark.word, what, first.line))
+}
+
 /// What is found at a file that is selected, assigned or described a second time in this line.
 fn file_twice<'a>(outline: &Outline<'a>, line: u64) -> Option<Finding<'a>> {
     for (at, mark) in outline.marks.iter().enumerate() {
-        if mark.word.line != line {
-            continue;
-        }
-        if let Some(what) = repeated(mark.role) {
-            if let Some(first) = first_with(outline.marks.get(..at)?, mark.role, &mark.word) {
-                return Some(said_already(&mark.word, what, first.line));
+        if mark.word.line == line {
+            if let Some(finding) = done_before(outline.marks.get(..at)?, mark) {
+                return Some(finding);
             }
         }
     }

@@ -3,7 +3,7 @@
 use crate::among::{Among, keys_of, listed, perhaps};
 use crate::outline::{Mark, Outline};
 use crate::statement::Operand;
-use deck_findings::{Finding, Hint, Shown, without};
+use deck_findings::{Finding, Hint, Reason, Shown, without};
 use deck_walk::{Role, Word};
 use std::fmt::Write;
 
@@ -17,22 +17,39 @@ fn kind_of(role: Role) -> &'static str {
     }
 }
 
+/// Writes what has a name, where something else is wanted.
+fn say_kind(why: &mut Reason, mark: &Mark<'_>, wants: &str) {
+    let kind = kind_of(mark.role);
+    let file = Shown(mark.file);
+    let _ = if mark.file.is_empty() || mark.role == Role::Selected {
+        write!(why, "{kind}; {wants}")
+    } else {
+        write!(why, "{kind} of {file}; {wants}")
+    };
+}
+
 /// What is found at a name that something else has than what is wanted, or nothing.
 fn of_name<'a>(outline: &Outline<'a>, word: &Word<'a>, wants: &str, nothing: &str) -> Finding<'a> {
     let mut finding = Finding::of_word(word);
-    let _ = match outline.named(word) {
-        Some(mark) => {
-            let kind = kind_of(mark.role);
-            let file = Shown(mark.file);
-            if mark.file.is_empty() || mark.role == Role::Selected {
-                write!(finding.why, "{kind}; {wants}")
-            } else {
-                write!(finding.why, "{kind} of {file}; {wants}")
-            }
+    match outline.named(word) {
+        Some(mark) => say_kind(&mut finding.why, &mark, wants),
+        None => {
+            let _ = finding.why.write_str(nothing);
         }
-        None => finding.why.write_str(nothing),
-    };
+    }
     finding
+}
+
+/// Adds a line with the name of a kind that is spelled nearly as a word, and one with all names of the kind.
+fn with_names<'a>(
+    finding: Finding<'a>,
+    outline: &Outline<'_>,
+    among: &Among<'_>,
+    word: &Word<'_>,
+) -> Finding<'a> {
+    finding
+        .with_hint(perhaps(outline, among, word))
+        .with_hint(listed(outline, among))
 }
 
 /// What is found at an FD of this line of no selected file.
@@ -41,11 +58,7 @@ fn fd_of_no_file<'a>(outline: &Outline<'a>, line: u64) -> Option<Finding<'a>> {
         && mark.word.line == line
         && !outline.has_file(&mark.word))?;
     let finding = Finding::saying(&mark.word, "no SELECT entry selects a file of this name");
-    Some(
-        finding
-            .with_hint(perhaps(outline, &Among::Files, &mark.word))
-            .with_hint(listed(outline, &Among::Files)),
-    )
+    Some(with_names(finding, outline, &Among::Files, &mark.word))
 }
 
 fn has_fd(outline: &Outline<'_>, file: &[u8]) -> bool {
@@ -60,9 +73,7 @@ fn of_key<'a>(outline: &Outline<'a>, key: &Mark<'a>) -> Finding<'a> {
         finding.why,
         "a key has to be an item of the record of {file}, and none has this name"
     );
-    finding
-        .with_hint(perhaps(outline, &Among::ItemsOf(key.file), &key.word))
-        .with_hint(listed(outline, &Among::ItemsOf(key.file)))
+    with_names(finding, outline, &Among::ItemsOf(key.file), &key.word)
 }
 
 /// What is found in the SELECT entry of this file: it has no FD, or a key names no item.
@@ -97,6 +108,17 @@ fn has_storage(outline: &Outline<'_>, word: &Word<'_>) -> bool {
     outline.marks.iter().any(|mark| mark.role == Role::StorageName && mark.word.is_same(word))
 }
 
+/// What is found at DEPENDING ON and a name that no 77 item has.
+fn of_no_storage<'a>(outline: &Outline<'a>, word: &Word<'a>) -> Finding<'a> {
+    let finding = of_name(
+        outline,
+        word,
+        "DEPENDING ON wants a 77 item",
+        "no 77 item of WORKING-STORAGE has this name",
+    );
+    with_names(finding, outline, &Among::Storage, word)
+}
+
 /// What is found at DEPENDING ON and a name that no 77 item has, in an FD of this line.
 fn in_description<'a>(outline: &Outline<'a>, line: u64) -> Option<Finding<'a>> {
     let mut is_here = false;
@@ -105,17 +127,7 @@ fn in_description<'a>(outline: &Outline<'a>, line: u64) -> Option<Finding<'a>> {
             is_here = mark.word.line == line;
         }
         if is_here && mark.role == Role::Depending && !has_storage(outline, &mark.word) {
-            let finding = of_name(
-                outline,
-                &mark.word,
-                "DEPENDING ON wants a 77 item",
-                "no 77 item of WORKING-STORAGE has this name",
-            );
-            return Some(
-                finding
-                    .with_hint(perhaps(outline, &Among::Storage, &mark.word))
-                    .with_hint(listed(outline, &Among::Storage)),
-            );
+            return Some(of_no_storage(outline, &mark.word));
         }
     }
     None
@@ -134,10 +146,16 @@ fn file_meant<'a>(outline: &Outline<'a>, operand: &Operand<'a>) -> Hint {
     perhaps(outline, &Among::Files, &operand.word)
 }
 
-fn of_unknown_file<'a>(outline: &Outline<'a>, operand: &Operand<'a>) -> Finding<'a> {
+/// What the verb of an operand wants.
+fn wanted_by(operand: &Operand<'_>, what: &str) -> Hint {
     let verb = Shown(operand.verb.text);
     let mut wants = Hint::new();
-    let _ = write!(wants, "{verb} wants a file");
+    let _ = write!(wants, "{verb} wants {what}");
+    wants
+}
+
+fn of_unknown_file<'a>(outline: &Outline<'a>, operand: &Operand<'a>) -> Finding<'a> {
+    let wants = wanted_by(operand, "a file");
     let finding = of_name(
         outline,
         &operand.word,
@@ -164,9 +182,7 @@ fn record_meant<'a>(outline: &Outline<'a>, operand: &Operand<'a>) -> Hint {
 }
 
 fn of_unknown_record<'a>(outline: &Outline<'a>, operand: &Operand<'a>) -> Finding<'a> {
-    let verb = Shown(operand.verb.text);
-    let mut wants = Hint::new();
-    let _ = write!(wants, "{verb} wants a record");
+    let wants = wanted_by(operand, "a record");
     let finding = of_name(
         outline,
         &operand.word,
@@ -223,6 +239,14 @@ fn of_operand<'a>(outline: &Outline<'a>, operand: &Operand<'a>) -> Option<Findin
     }
 }
 
+/// What is found at a word, unless it is one that decks do not have.
+fn unless_not_read<'a>(word: &Word<'a>, finding: Finding<'a>) -> Finding<'a> {
+    match without(word) {
+        Some(text) => Finding::saying(word, "not read").with_text(text),
+        None => finding,
+    }
+}
+
 fn in_statements<'a>(
     outline: &Outline<'a>,
     operands: &[Operand<'a>],
@@ -231,10 +255,7 @@ fn in_statements<'a>(
     for operand in operands {
         if operand.word.line == line {
             if let Some(finding) = of_operand(outline, operand) {
-                return match without(&operand.word) {
-                    Some(text) => Some(Finding::saying(&operand.word, "not read").with_text(text)),
-                    None => Some(finding),
-                };
+                return Some(unless_not_read(&operand.word, finding));
             }
         }
     }
