@@ -19,12 +19,7 @@ pub fn number<'a>(
     ensures rule { rule_of result ≡ number_rule name.entry.now least most default.entry.now }
     ensures local { result.global ≡ false }
 {
-    Arg::new(alloc, name)
-        .long(name)
-        .value_name("N")
-        .default_value(default)
-        .help(help)
-        .value_parser(ValueParser::unsigned(least, most))
+    usual(alloc, name, "N", default, help).value_parser(ValueParser::unsigned(least, most))
 }
 
 /// The option `--first`: the greatest number stands for no bound, so help does not show it.
