@@ -2,3 +2,4 @@ pub mod NumberLemmas
 pub mod MetLemmas
 pub mod AskLemmas
 pub mod FlagLemmas
+pub mod ShapeLemmas
