@@ -159,6 +159,17 @@ fn deck_command<'a>(alloc: Global) -> Result<Command<'a>, AllocError>
     listed.arg(deck(alloc))
 }
 
+/// The first and the last value of a list.
+fn with_values<'a>(alloc: Global, list: Command<'a>) -> Result<Command<'a>, AllocError>
+    requires { (out-Command list).has_globals ≡ false }
+    ensures shape { IfOk result (λ command. app_of command ≡ with_rule (with_rule (app_of list.entry) (text_rule (codes "from"))) (text_rule (codes "to"))) }
+    ensures local { IfOk result (λ command. (out-Command command).has_globals ≡ false) }
+{
+    let from = text(alloc, "from", "V", "The first value, or its first bytes");
+    let to = text(alloc, "to", "V", "The last value, or its first bytes");
+    list.arg(from)?.arg(to)
+}
+
 /// The bounds of a list.
 fn with_bounds<'a>(alloc: Global, list: Command<'a>) -> Result<Command<'a>, AllocError>
     requires { (out-Command list).has_globals ≡ false }
@@ -174,9 +185,7 @@ fn with_bounds<'a>(alloc: Global, list: Command<'a>) -> Result<Command<'a>, Allo
         "0",
         "The key in whose order they are listed: 0 is the prime key, 1 to 8 the alternate keys",
     );
-    let from = text(alloc, "from", "V", "The first value, or its first bytes");
-    let to = text(alloc, "to", "V", "The last value, or its first bytes");
-    list.arg(key)?.arg(from)?.arg(to)
+    with_values(alloc, list.arg(key)?)
 }
 
 /// The form of a list.
