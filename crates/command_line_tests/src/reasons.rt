@@ -1,10 +1,12 @@
 //! What is found of files that are written byte by byte, as the format says: one that stands is sound, and of one that does not its reason is told.
 
+use crate::checks::{assert_equal, assert_equal_for, assert_that};
 use crate::slow::Slow;
 use crate::written::{one_record, put, put_all, three_keys, varying};
 use file_checker::{CheckFault, Finding, Reason, Verdict, check_file, examine_file};
 use page_marks::FaultPlace;
 use std::alloc::Global;
+use std::fmt::Debug;
 use std::process::Abort;
 use std::test::Fail;
 
@@ -23,33 +25,42 @@ const SOUND_THREE: Verdict = Verdict::Sound {
     pages: 6,
 };
 
-/// Whether this is found of the bytes.
-fn is_found(alloc: Global, bytes: &[u8], expected: Verdict) -> bool {
+/// What is found of the bytes.
+fn check(alloc: Global, bytes: &[u8]) -> Result<Verdict, CheckFault> {
     let mut reader = bytes;
-    match check_file(alloc, &mut reader) {
-        Ok(found) => found == expected,
-        Err(_) => false,
-    }
+    check_file(alloc, &mut reader)
 }
 
-/// Whether the bytes are unsound for this reason, which is met there.
-fn is_unsound(alloc: Global, bytes: &[u8], reason: Reason, place: FaultPlace) -> bool {
+/// The same, and where it is met.
+fn examine(alloc: Global, bytes: &[u8]) -> Result<Finding, CheckFault> {
     let mut reader = bytes;
-    match examine_file(alloc, &mut reader) {
-        Ok(found) => {
-            found == Finding::Unsound(reason, place)
-                && is_found(alloc, bytes, Verdict::Unsound(reason))
-        }
-        Err(_) => false,
-    }
+    examine_file(alloc, &mut reader)
+}
+
+/// The bytes are unsound for this reason, which is met there.
+fn is_unsound<W: Debug + Drop + Copy>(
+    rt: &impl Abort,
+    alloc: Global,
+    what: W,
+    bytes: &[u8],
+    reason: Reason,
+    place: FaultPlace,
+) {
+    let examined = examine(alloc, bytes);
+    assert_equal_for(rt, what, examined, Ok(Finding::Unsound(reason, place)));
+    let checked = check(alloc, bytes);
+    assert_equal_for(rt, what, checked, Ok(Verdict::Unsound(reason)));
 }
 
 #[test]
 fn each_file_that_stands_is_sound(rt: HostRuntime) -> Result<(), Fail> {
     let alloc = rt.alloc();
-    assert!(rt; is_found(alloc, &one_record(&rt, alloc)?, SOUND_ONE));
-    assert!(rt; is_found(alloc, &varying(&rt, alloc)?, SOUND_VARYING));
-    assert!(rt; is_found(alloc, &three_keys(&rt, alloc)?, SOUND_THREE));
+    let one = one_record(&rt, alloc)?;
+    assert_equal(&rt, check(alloc, &one), Ok(SOUND_ONE));
+    let varying = varying(&rt, alloc)?;
+    assert_equal(&rt, check(alloc, &varying), Ok(SOUND_VARYING));
+    let three = three_keys(&rt, alloc)?;
+    assert_equal(&rt, check(alloc, &three), Ok(SOUND_THREE));
     Ok(())
 }
 
@@ -59,8 +70,9 @@ fn a_file_may_be_longer_than_it_counts(rt: HostRuntime) -> Result<(), Fail> {
     let mut bytes = one_record(&rt, rt.alloc())?;
     bytes.push(b'X')?;
     let mut reader = &bytes[..];
-    assert!(rt; check_file(rt.alloc(), &mut reader)? == SOUND_ONE);
-    assert!(rt; reader == b"X".as_slice());
+    let found = check_file(rt.alloc(), &mut reader);
+    assert_equal(&rt, found, Ok(SOUND_ONE));
+    assert_equal(&rt, reader, b"X".as_slice());
     Ok(())
 }
 
@@ -184,19 +196,19 @@ const CHANGED_BYTES: [(usize, u8, Reason, FaultPlace, &str); 17] = [
 #[test]
 fn a_changed_byte_has_its_reason(rt: HostRuntime) -> Result<(), Fail> {
     let mut bytes = one_record(&rt, rt.alloc())?;
-    for (at, byte, reason, place, what) in CHANGED_BYTES {
+    for &(at, byte, reason, place, what) in &CHANGED_BYTES {
         let was = put(&rt, &mut bytes, at, byte);
-        assert!(rt; is_unsound(rt.alloc(), &bytes, reason, place), "{what}");
+        is_unsound(&rt, rt.alloc(), what, &bytes, reason, place);
         put(&rt, &mut bytes, at, was);
     }
     Ok(())
 }
 
-/// Whether the file that is cut to this length is short.
-fn is_short(alloc: Global, bytes: &[u8], length: usize) -> bool {
+/// The file that is cut to this length is short.
+fn is_short(rt: &impl Abort, alloc: Global, bytes: &[u8], length: usize) {
     match bytes.get(..length) {
-        Some(part) => is_unsound(alloc, part, Reason::Short, FaultPlace::File),
-        None => false,
+        Some(part) => is_unsound(rt, alloc, length, part, Reason::Short, FaultPlace::File),
+        None => assert_that(rt, false),
     }
 }
 
@@ -204,15 +216,22 @@ fn is_short(alloc: Global, bytes: &[u8], length: usize) -> bool {
 #[test]
 fn a_file_that_is_cut_is_short(rt: HostRuntime) -> Result<(), Fail> {
     let mut bytes = one_record(&rt, rt.alloc())?;
-    for gate in [b'C', b'D', 0] {
+    for &gate in b"CD\0" {
         put(&rt, &mut bytes, 0, gate);
-        for length in [0, 1, 4095, 4096, 4097, 8192, 12287] {
-            assert!(rt; is_short(rt.alloc(), &bytes, length), "{gate} {length}");
+        for &length in &[0, 1, 4095, 4096, 4097, 8192, 12287] {
+            is_short(&rt, rt.alloc(), &bytes, length);
         }
     }
     put(&rt, &mut bytes, 9, 7);
     // The gate comes before the rest of the first page.
-    assert!(rt; is_unsound(rt.alloc(), &bytes, Reason::Gate, FaultPlace::File));
+    is_unsound(
+        &rt,
+        rt.alloc(),
+        "another version",
+        &bytes,
+        Reason::Gate,
+        FaultPlace::File,
+    );
     Ok(())
 }
 
@@ -220,10 +239,15 @@ fn a_file_that_is_cut_is_short(rt: HostRuntime) -> Result<(), Fail> {
 fn a_page_that_nothing_reaches_is_lost(rt: HostRuntime) -> Result<(), Fail> {
     let mut bytes = one_record(&rt, rt.alloc())?;
     put(&rt, &mut bytes, 15, 4);
-    for _ in 0..4096 {
-        bytes.push(0)?;
-    }
-    assert!(rt; is_unsound(rt.alloc(), &bytes, Reason::Lost, FaultPlace::Page(3)));
+    bytes.extend_from_slice(&[0; 4096])?;
+    is_unsound(
+        &rt,
+        rt.alloc(),
+        "page 3",
+        &bytes,
+        Reason::Lost,
+        FaultPlace::Page(3),
+    );
     Ok(())
 }
 
@@ -359,10 +383,10 @@ const CHANGED_PARTS: [(usize, &[u8], Reason, FaultPlace, &str); 18] = [
 
 #[test]
 fn indexes_and_records_agree_both_ways(rt: HostRuntime) -> Result<(), Fail> {
-    for (at, part, reason, place, what) in CHANGED_PARTS {
+    for &(at, part, reason, place, what) in &CHANGED_PARTS {
         let mut bytes = three_keys(&rt, rt.alloc())?;
         put_all(&rt, &mut bytes, at, part);
-        assert!(rt; is_unsound(rt.alloc(), &bytes, reason, place), "{what}");
+        is_unsound(&rt, rt.alloc(), what, &bytes, reason, place);
     }
     Ok(())
 }
@@ -373,14 +397,8 @@ fn a_record_has_its_entry(rt: HostRuntime) -> Result<(), Fail> {
     let mut bytes = three_keys(&rt, rt.alloc())?;
     put(&rt, &mut bytes, 33, 4);
     put(&rt, &mut bytes, 16384 + 16 + 3 * 21, 1);
-    assert!(rt;
-        is_unsound(
-            rt.alloc(),
-            &bytes,
-            Reason::Index,
-            FaultPlace::Entry { page: 4, entry: 3 }
-        )
-    );
+    let place = FaultPlace::Entry { page: 4, entry: 3 };
+    is_unsound(&rt, rt.alloc(), "slot 3", &bytes, Reason::Index, place);
     Ok(())
 }
 
@@ -393,14 +411,8 @@ fn entries_that_are_exchanged_are_out_of_order(rt: HostRuntime) -> Result<(), Fa
         let right = put(&rt, &mut bytes, 4122 + i, left);
         put(&rt, &mut bytes, 4112 + i, right);
     }
-    assert!(rt;
-        is_unsound(
-            rt.alloc(),
-            &bytes,
-            Reason::Order,
-            FaultPlace::Entry { page: 1, entry: 0 }
-        )
-    );
+    let place = FaultPlace::Entry { page: 1, entry: 0 };
+    is_unsound(&rt, rt.alloc(), "entry 0", &bytes, Reason::Order, place);
     Ok(())
 }
 
@@ -445,10 +457,10 @@ const CHANGED_CHAINS: [(usize, u8, Reason, FaultPlace, &str); 5] = [
 
 #[test]
 fn a_free_page_is_reached_by_its_chain(rt: HostRuntime) -> Result<(), Fail> {
-    for (at, byte, reason, place, what) in CHANGED_CHAINS {
+    for &(at, byte, reason, place, what) in &CHANGED_CHAINS {
         let mut bytes = three_keys(&rt, rt.alloc())?;
         put(&rt, &mut bytes, at, byte);
-        assert!(rt; is_unsound(rt.alloc(), &bytes, reason, place), "{what}");
+        is_unsound(&rt, rt.alloc(), what, &bytes, reason, place);
     }
     Ok(())
 }
@@ -458,7 +470,14 @@ fn a_free_page_in_no_chain_is_lost(rt: HostRuntime) -> Result<(), Fail> {
     let mut bytes = three_keys(&rt, rt.alloc())?;
     put(&rt, &mut bytes, 19, 0);
     put(&rt, &mut bytes, 23, 0);
-    assert!(rt; is_unsound(rt.alloc(), &bytes, Reason::Lost, FaultPlace::Page(5)));
+    is_unsound(
+        &rt,
+        rt.alloc(),
+        "page 5",
+        &bytes,
+        Reason::Lost,
+        FaultPlace::Page(5),
+    );
     Ok(())
 }
 
@@ -483,21 +502,23 @@ fn check_slowly(
 #[test]
 fn a_file_may_come_in_parts(rt: HostRuntime) -> Result<(), Fail> {
     let bytes = one_record(&rt, rt.alloc())?;
-    for most in [1, 3, 4095, 4096, 5000] {
-        assert!(rt;
-            check_slowly(rt.alloc(), &bytes, most, 0, true)? == SOUND_ONE,
-            "{most}"
-        );
+    for &most in &[1, 3, 4095, 4096, 5000] {
+        let found = check_slowly(rt.alloc(), &bytes, most, 0, true);
+        assert_equal_for(&rt, most, found, Ok(SOUND_ONE));
     }
-    assert!(rt; check_slowly(rt.alloc(), &bytes, 4096, 999, false)? == SOUND_ONE);
+    let interrupted = check_slowly(rt.alloc(), &bytes, 4096, 999, false);
+    assert_equal(&rt, interrupted, Ok(SOUND_ONE));
     Ok(())
 }
 
-/// Whether a reader is a fault of the input that fails behind so many bytes.
-fn is_fault_behind(alloc: Global, bytes: &[u8], length: usize) -> bool {
+/// A reader is a fault of the input that fails behind so many bytes.
+fn is_fault_behind(rt: &impl Abort, alloc: Global, bytes: &[u8], length: usize) {
     match bytes.get(..length) {
-        Some(part) => check_slowly(alloc, part, 4096, 0, true) == Err(CheckFault::Input),
-        None => false,
+        Some(part) => {
+            let found = check_slowly(alloc, part, 4096, 0, true);
+            assert_equal_for(rt, length, found, Err(CheckFault::Input));
+        }
+        None => assert_that(rt, false),
     }
 }
 
@@ -506,9 +527,9 @@ fn a_reader_that_fails_is_a_fault(rt: HostRuntime) -> Result<(), Fail> {
     let bytes = one_record(&rt, rt.alloc())?;
     // A thousand interrupted reads in a row.
     let interrupted = check_slowly(rt.alloc(), &bytes, 4096, 1000, false);
-    assert!(rt; interrupted == Err(CheckFault::Input));
-    for length in [0, 1, 4096, 12287] {
-        assert!(rt; is_fault_behind(rt.alloc(), &bytes, length), "{length}");
+    assert_equal(&rt, interrupted, Err(CheckFault::Input));
+    for &length in &[0, 1, 4096, 12287] {
+        is_fault_behind(&rt, rt.alloc(), &bytes, length);
     }
     Ok(())
 }
@@ -536,7 +557,7 @@ fn what_may_stand(at: usize) -> Freedom {
 
 /// Whether a file is found sound where it may be, of which the byte at a place is changed, or stays the same.
 fn stands_rightly(alloc: Global, bytes: &[u8], at: usize, is_same: bool) -> bool {
-    let is_sound = is_found(alloc, bytes, SOUND_THREE);
+    let is_sound = check(alloc, bytes) == Ok(SOUND_THREE);
     match what_may_stand(at) {
         Freedom::None => is_sound == is_same,
         Freedom::Some => true,
@@ -544,18 +565,25 @@ fn stands_rightly(alloc: Global, bytes: &[u8], at: usize, is_same: bool) -> bool
     }
 }
 
+/// The byte at a place is changed to another, of which the file is found sound where it may be.
+fn changes(rt: &impl Abort, alloc: Global, bytes: &mut [u8], at: usize, byte: u8) {
+    let was = put(rt, bytes, at, byte);
+    let is_right = stands_rightly(alloc, bytes, at, byte == was);
+    assert_equal_for(rt, (at, byte), is_right, true);
+    put(rt, bytes, at, was);
+}
+
 // Each byte of the file of three keys is changed to 0, to 255 and to its complement, one at a time.
 #[test]
 fn no_changed_byte_that_has_a_meaning_is_sound(rt: HostRuntime) -> Result<(), Fail> {
-    let mut bytes = three_keys(&rt, rt.alloc())?;
+    let alloc = rt.alloc();
+    let mut bytes = three_keys(&rt, alloc)?;
     for at in 0..6 * 4096 {
         let was = put(&rt, &mut bytes, at, 0);
-        for byte in [0, 255, !was] {
-            put(&rt, &mut bytes, at, byte);
-            let is_right = stands_rightly(rt.alloc(), &bytes, at, byte == was);
-            assert!(rt; is_right, "byte {at} to {byte}");
-        }
         put(&rt, &mut bytes, at, was);
+        changes(&rt, alloc, &mut bytes, at, 0);
+        changes(&rt, alloc, &mut bytes, at, 255);
+        changes(&rt, alloc, &mut bytes, at, !was);
     }
     Ok(())
 }

@@ -1,6 +1,7 @@
 //! What each command tells of how far it is, and that `--quiet` silences it.
 
-use crate::writers::{DECK, RUN, run_with};
+use crate::checks::assert_equal_for;
+use crate::writers::{DECK, RUN, TRANSCRIPT, run_with};
 use progress::Progress;
 use std::fs;
 use std::os::fd::AsRawFd;
@@ -41,33 +42,34 @@ impl Progress for Counted {
     }
 }
 
-/// What the command of these words told, if it answered so.
-fn told<R: Files + AllocGlobal + Abort>(
+/// The command of these words answers so, and tells this.
+fn tells<R: Files + AllocGlobal + Abort>(
     rt: &R,
     words: &[&str],
     out: &str,
-) -> Result<Option<Counted>, Fail>
+    expected: Counted,
+) -> Result<(), Fail>
 where
     R::File: FileExt + LockFile + AsRawFd,
 {
     let mut counted = NOTHING;
     let ended = run_with(rt, words, 100, 100, 100, &mut counted)?;
-    if ended.is(0, out.as_bytes(), b"") {
-        Ok(Some(counted))
-    } else {
-        Ok(None)
-    }
+    assert_equal_for(rt, words, ended.is(0, out.as_bytes(), b""), true);
+    assert_equal_for(rt, words, counted == expected, true);
+    Ok(())
 }
 
 /// All of so many bytes were done, and wiped once.
-fn done(whole: u64, silenced: u64) -> Option<Counted> {
-    Some(Counted {
+fn done(whole: u64, silenced: u64) -> Counted {
+    Counted {
         done: whole,
         whole,
         wiped: 1,
         silenced,
-    })
+    }
 }
+
+const CHECKED: &str = "sound records 2 pages 3\n";
 
 const LINES: &str = "[0001]\n[0002]\n";
 
@@ -103,37 +105,25 @@ fn write_files(rt: &impl Files, folder: &str) -> Result<(), Fail> {
 #[test]
 fn long_commands_tell_how_far_they_are(rt: HostRuntime) -> Result<(), Fail> {
     write_files(&rt, "told")?;
-    assert!(rt; told(&rt, &LOAD, "loaded 2\n")? == done(14, 0));
+    tells(&rt, &LOAD, "loaded 2\n", done(14, 0))?;
     let length = fs::metadata(&rt, "told/cust.dat")?.len();
-    let checked = told(
-        &rt,
-        &["check", "told/cust.dat"],
-        "sound records 2 pages 3\n",
-    )?;
-    assert!(rt; checked == done(length, 0));
-    assert!(rt; told(&rt, &["list", "told/cust.dat"], LINES)? == done(length, 0));
-    Ok(())
+    tells(&rt, &["check", "told/cust.dat"], CHECKED, done(length, 0))?;
+    tells(&rt, &["list", "told/cust.dat"], LINES, done(length, 0))
 }
 
 #[test]
 fn quiet_silences_them(rt: HostRuntime) -> Result<(), Fail> {
     write_files(&rt, "quiet")?;
-    assert!(rt; told(&rt, &QUIET_LOAD, "loaded 2\n")? == done(14, 1));
+    tells(&rt, &QUIET_LOAD, "loaded 2\n", done(14, 1))?;
     let length = fs::metadata(&rt, "quiet/cust.dat")?.len();
-    let checked = told(
-        &rt,
-        &["check", "quiet/cust.dat", "--quiet"],
-        "sound records 2 pages 3\n",
-    )?;
-    assert!(rt; checked == done(length, 1));
-    assert!(rt; told(&rt, &["list", "--quiet", "quiet/cust.dat"], LINES)? == done(length, 1));
-    Ok(())
+    let check = ["check", "quiet/cust.dat", "--quiet"];
+    tells(&rt, &check, CHECKED, done(length, 1))?;
+    let list = ["list", "--quiet", "quiet/cust.dat"];
+    tells(&rt, &list, LINES, done(length, 1))
 }
 
 #[test]
 fn a_run_tells_nothing(rt: HostRuntime) -> Result<(), Fail> {
     fs::write(&rt, "cust.deck", DECK)?;
-    let transcript = "OPEN OUTPUT CUST 00\nCLOSE CUST 00\n";
-    assert!(rt; told(&rt, &RUN, transcript)? == Some(NOTHING));
-    Ok(())
+    tells(&rt, &RUN, TRANSCRIPT, NOTHING)
 }

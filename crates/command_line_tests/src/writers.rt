@@ -1,5 +1,6 @@
 //! The program, run over writers that refuse a byte.
 
+use crate::checks::{assert_equal, assert_equal_for, assert_that};
 use command_line::program;
 use command_outcomes::Fault;
 use folder_shelf::EmptyDisk;
@@ -29,7 +30,7 @@ PROCEDURE DIVISION.
     STOP RUN.
 ";
 
-const TRANSCRIPT: &str = "OPEN OUTPUT CUST 00\nCLOSE CUST 00\n";
+pub const TRANSCRIPT: &str = "OPEN OUTPUT CUST 00\nCLOSE CUST 00\n";
 
 pub const RUN: [&str; 4] = ["run", "cust.deck", "--folder", "."];
 
@@ -139,7 +140,20 @@ where
 fn output_may_be_taken_a_byte_at_a_time(rt: HostRuntime) -> Result<(), Fail> {
     fs::write(&rt, "cust.deck", DECK)?;
     let ended = run(&rt, &RUN, 1, 100, 100)?;
-    assert!(rt; ended.is(0, TRANSCRIPT.as_bytes(), b""));
+    assert_that(&rt, ended.is(0, TRANSCRIPT.as_bytes(), b""));
+    Ok(())
+}
+
+/// A run whose output has so much room writes the front that fits, and tells the fault.
+fn is_cut<R: Files + AllocGlobal + Abort>(rt: &R, room: usize) -> Result<(), Fail>
+where
+    R::File: FileExt + LockFile + AsRawFd,
+{
+    let whole = TRANSCRIPT.as_bytes();
+    assert!(rt; room <= whole.len());
+    let ended = run(rt, &RUN, 100, room, 100)?;
+    let is_so = ended.is(4, &whole[..room], b"cobix: output\n");
+    assert_equal_for(rt, room, is_so, true);
     Ok(())
 }
 
@@ -148,41 +162,58 @@ fn output_may_be_taken_a_byte_at_a_time(rt: HostRuntime) -> Result<(), Fail> {
 fn output_that_is_refused_is_told(rt: HostRuntime) -> Result<(), Fail> {
     fs::write(&rt, "cust.deck", DECK)?;
     let whole = TRANSCRIPT.as_bytes();
-    for room in [0, 1, 20, whole.len() - 1] {
-        let ended = run(&rt, &RUN, 100, room, 100)?;
-        assert!(rt; ended.is(4, &whole[..room], b"cobix: output\n"), "{room}");
+    for &room in &[0, 1, 20] {
+        is_cut(&rt, room)?;
     }
+    is_cut(&rt, whole.len() - 1)?;
     let ended = run(&rt, &RUN, 100, whole.len(), 0)?;
-    assert!(rt; ended.is(0, whole, b""));
+    assert_that(&rt, ended.is(0, whole, b""));
     let checked = run(&rt, &["check", "cust.dat"], 100, 5, 100)?;
-    assert!(rt; checked.is(4, b"sound", b"cobix: output\n"));
+    assert_that(&rt, checked.is(4, b"sound", b"cobix: output\n"));
     let helped = run(&rt, &["--help"], 100, 7, 100)?;
-    assert!(rt; helped.is(4, b"Indexed", b"cobix: output\n"));
+    assert_that(&rt, helped.is(4, b"Indexed", b"cobix: output\n"));
     Ok(())
 }
+
+/// A run that may write nothing of its output, and of its error so much, ends with this status.
+fn is_refused<R: Files + AllocGlobal + Abort>(
+    rt: &R,
+    words: &[&str],
+    status: u8,
+    told: &str,
+    room: usize,
+) -> Result<(), Fail>
+where
+    R::File: FileExt + LockFile + AsRawFd,
+{
+    let told = told.as_bytes();
+    assert!(rt; room <= told.len());
+    let ended = run(rt, words, 100, 0, room)?;
+    let is_so = ended.is(status, b"", &told[..room]);
+    assert_equal_for(rt, words, is_so, true);
+    Ok(())
+}
+
+// The words of a run, its exit status, and how what it tells begins.
+const REFUSED: [([&str; 4], u8, &str); 4] = [
+    (RUN, 4, "cobix: output\n"),
+    (
+        ["run", "empty.deck", "--folder", "."],
+        2,
+        "cobix: line 1: fault 2\n",
+    ),
+    (["run", "absent.deck", "--folder", "."], 4, "cobix: input\n"),
+    (["run", "cust.deck", "--fold", "."], 3, "error: "),
+];
 
 // The exit status is told in any case.
 #[test]
 fn standard_error_may_refuse_too(rt: HostRuntime) -> Result<(), Fail> {
     fs::write(&rt, "cust.deck", DECK)?;
     fs::write(&rt, "empty.deck", "")?;
-    for (words, status, told) in [
-        (RUN, 4, "cobix: output\n"),
-        (
-            ["run", "empty.deck", "--folder", "."],
-            2,
-            "cobix: line 1: fault 2\n",
-        ),
-        (["run", "absent.deck", "--folder", "."], 4, "cobix: input\n"),
-        (["run", "cust.deck", "--fold", "."], 3, "error: "),
-    ] {
-        for room in [0, 3] {
-            let ended = run(&rt, &words, 100, 0, room)?;
-            assert!(rt;
-                ended.is(status, b"", &told.as_bytes()[..room]),
-                "{words:?}"
-            );
-        }
+    for (words, status, told) in &REFUSED {
+        is_refused(&rt, words, *status, told, 0)?;
+        is_refused(&rt, words, *status, told, 3)?;
     }
     Ok(())
 }
@@ -196,6 +227,6 @@ fn told(rt: &HostRuntime, fault: Fault) -> (u8, Vec<u8>) {
 #[test]
 fn want_of_memory_is_told(rt: HostRuntime) {
     let (status, err) = told(&rt, Fault::of_input(ErrorKind::OutOfMemory.into()));
-    assert!(rt; status == 4);
-    assert!(rt; err.as_slice() == b"cobix: memory\n".as_slice());
+    assert_equal(&rt, status, 4);
+    assert_equal(&rt, err.as_slice(), b"cobix: memory\n");
 }

@@ -42,11 +42,13 @@ fn link(rt: &impl Abort, bytes: &mut [u8], page: u8, size: usize, first: usize, 
     }
 }
 
+// Where the numbers of the first page end.
+const PLACES: [usize; 11] = [9, 11, 15, 19, 23, 27, 31, 33, 34, 37, 47];
+
 // The first bytes: version, greatest length, pages, free pages, first heap page, first free slot, keys, least length, next stamp and records.
-fn put_numbers(rt: &impl Abort, bytes: &mut [u8], numbers: [u8; 11]) {
+fn put_numbers(rt: &impl Abort, bytes: &mut [u8], numbers: &[u8; 11]) {
     put_all(rt, bytes, 0, b"CCOBIXIF");
-    let places = [9, 11, 15, 19, 23, 27, 31, 33, 34, 37, 47];
-    for (&at, number) in places.iter().zip(numbers) {
+    for (&at, &number) in PLACES.iter().zip(numbers) {
         put(rt, bytes, at, number);
     }
 }
@@ -80,7 +82,7 @@ fn put_leaf(rt: &impl Abort, bytes: &mut [u8], page: usize, k: u8, entries: &[&[
 /// One record of 10 bytes with a prime key of 4: a header, a leaf, a page of 370 slots.
 pub fn one_record(rt: &impl Abort, alloc: Global) -> Result<Vec<u8>, Fail> {
     let mut bytes = zeros(alloc, 3)?;
-    put_numbers(rt, &mut bytes, [1, 10, 3, 0, 0, 2, 2, 1, 1, 0, 1]);
+    put_numbers(rt, &mut bytes, &[1, 10, 3, 0, 0, 2, 2, 1, 1, 0, 1]);
     put(rt, &mut bytes, 55, 1);
     put_key(rt, &mut bytes, 0, [0, 4, 0, 1]);
     put_leaf(rt, &mut bytes, 1, 0, &[b"0001\0\0\0\x02\0\0".as_slice()]);
@@ -93,7 +95,7 @@ pub fn one_record(rt: &impl Abort, alloc: Global) -> Result<Vec<u8>, Fail> {
 /// One record of 10 bytes, where 16 are the most, with a prime key of 4 and an alternate key of 6 from place 4 on: a header, two leaves, a page of 214 slots.
 pub fn varying(rt: &impl Abort, alloc: Global) -> Result<Vec<u8>, Fail> {
     let mut bytes = zeros(alloc, 4)?;
-    put_numbers(rt, &mut bytes, [2, 16, 4, 0, 0, 3, 3, 1, 2, 10, 1]);
+    put_numbers(rt, &mut bytes, &[2, 16, 4, 0, 0, 3, 3, 1, 2, 10, 1]);
     put(rt, &mut bytes, 55, 1);
     put_key(rt, &mut bytes, 0, [0, 4, 0, 1]);
     put_key(rt, &mut bytes, 1, [4, 6, 1, 2]);
@@ -111,33 +113,36 @@ pub fn varying(rt: &impl Abort, alloc: Global) -> Result<Vec<u8>, Fail> {
     Ok(bytes)
 }
 
+const PRIMES: [&[u8]; 3] = [
+    b"0001\0\0\0\x04\0\0",
+    b"0002\0\0\0\x04\0\x02",
+    b"0003\0\0\0\x04\0\x01",
+];
+
+const CODES: [&[u8]; 3] = [
+    b"AA\0\0\0\0\0\0\0\00001",
+    b"BB\0\0\0\0\0\0\0\00003",
+    b"CC\0\0\0\0\0\0\0\00002",
+];
+
+const CITIES: [&[u8]; 3] = [
+    b"OSLO\0\0\0\0\0\0\0\x010001",
+    b"OSLO\0\0\0\0\0\0\0\x030002",
+    b"ROME\0\0\0\0\0\0\0\x020003",
+];
+
 /// Three records of 12 bytes with a prime key of 4, a unique alternate key of 2 and one of 4 that has duplicates: a header, three leaves (pages 1 to 3), a page of
 /// 194 slots (page 4), and a free page (page 5).
 pub fn three_keys(rt: &impl Abort, alloc: Global) -> Result<Vec<u8>, Fail> {
     let mut bytes = zeros(alloc, 6)?;
-    put_numbers(rt, &mut bytes, [1, 12, 6, 5, 1, 4, 4, 3, 3, 0, 4]);
+    put_numbers(rt, &mut bytes, &[1, 12, 6, 5, 1, 4, 4, 3, 3, 0, 4]);
     put(rt, &mut bytes, 55, 3);
     put_key(rt, &mut bytes, 0, [0, 4, 0, 1]);
     put_key(rt, &mut bytes, 1, [4, 2, 1, 2]);
     put_key(rt, &mut bytes, 2, [6, 4, 2, 3]);
-    let primes = [
-        b"0001\0\0\0\x04\0\0".as_slice(),
-        b"0002\0\0\0\x04\0\x02".as_slice(),
-        b"0003\0\0\0\x04\0\x01".as_slice(),
-    ];
-    put_leaf(rt, &mut bytes, 1, 0, &primes);
-    let codes = [
-        b"AA\0\0\0\0\0\0\0\00001".as_slice(),
-        b"BB\0\0\0\0\0\0\0\00003".as_slice(),
-        b"CC\0\0\0\0\0\0\0\00002".as_slice(),
-    ];
-    put_leaf(rt, &mut bytes, 2, 1, &codes);
-    let cities = [
-        b"OSLO\0\0\0\0\0\0\0\x010001".as_slice(),
-        b"OSLO\0\0\0\0\0\0\0\x030002".as_slice(),
-        b"ROME\0\0\0\0\0\0\0\x020003".as_slice(),
-    ];
-    put_leaf(rt, &mut bytes, 3, 2, &cities);
+    put_leaf(rt, &mut bytes, 1, 0, &PRIMES);
+    put_leaf(rt, &mut bytes, 2, 1, &CODES);
+    put_leaf(rt, &mut bytes, 3, 2, &CITIES);
     put_all(rt, &mut bytes, 16384, b"H");
     put_all(rt, &mut bytes, 16400, b"\x01\0\0\0\0\0\0\0\x010001AAOSLO..");
     put_all(rt, &mut bytes, 16421, b"\x01\0\0\0\0\0\0\0\x020003BBROME..");
