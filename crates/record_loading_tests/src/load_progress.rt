@@ -1,5 +1,6 @@
 //! How far a load is, as it is told and as a terminal shows it.
 
+use crate::checks::{assert_equal, assert_that};
 use crate::loading::loads_with;
 use page_store::MemShelf;
 use progress::{Progress, ProgressReader, Silent, TerminalLine};
@@ -7,6 +8,7 @@ use record_loading::Load;
 use std::alloc::Global;
 use std::cell::Cell;
 use std::io::{self, Read};
+use std::process::Abort;
 use std::rt::Clock;
 use std::test::Fail;
 use std::time::Duration;
@@ -93,24 +95,37 @@ impl Clock for SetClock {
 // Each line has 9 bytes.
 const THREE: &str = "[0001AA]\n[0002BB]\n[0003CC]\n";
 
+/// A text that is loaded into a new file is answered so, whatever is told of progress.
+fn answers<P: Progress>(
+    rt: &impl Abort,
+    alloc: Global,
+    text: &str,
+    answer: &str,
+    progress: &mut P,
+) -> Result<(), Fail> {
+    let shelf = MemShelf::new(alloc);
+    let (_, told) = loads_with(alloc, shelf, Load::New, text, progress)?;
+    assert_equal(rt, told.as_str(), answer);
+    Ok(())
+}
+
 #[test]
 fn a_load_tells_how_far_it_is(rt: HostRuntime) -> Result<(), Fail> {
     let mut progress = Noted::new(rt.alloc());
-    let shelf = MemShelf::new(rt.alloc());
-    let (_, told) = loads_with(rt.alloc(), shelf, Load::New, THREE, &mut progress)?;
-    assert!(rt; told.as_str() == "loaded 3\n");
-    assert!(rt; progress.is(&[Told::At(9, 27), Told::At(18, 27), Told::At(27, 27)]));
+    answers(&rt, rt.alloc(), THREE, "loaded 3\n", &mut progress)?;
+    assert_that(
+        &rt,
+        progress.is(&[Told::At(9, 27), Told::At(18, 27), Told::At(27, 27)]),
+    );
     Ok(())
 }
 
 #[test]
 fn a_load_that_is_refused_tells_of_no_more(rt: HostRuntime) -> Result<(), Fail> {
     let mut progress = Noted::new(rt.alloc());
-    let shelf = MemShelf::new(rt.alloc());
     let text = "[0001AA]\n[0001BB]\n[0003CC]\n";
-    let (_, told) = loads_with(rt.alloc(), shelf, Load::New, text, &mut progress)?;
-    assert!(rt; told.as_str() == "line 2: status 22\n");
-    assert!(rt; progress.is(&[Told::At(9, 27)]));
+    answers(&rt, rt.alloc(), text, "line 2: status 22\n", &mut progress)?;
+    assert_that(&rt, progress.is(&[Told::At(9, 27)]));
     Ok(())
 }
 
@@ -126,25 +141,47 @@ fn a_reader_gives_its_bytes_and_tells_how_many_came(rt: HostRuntime) -> Result<(
             bytes.extend_from_slice(&part[..n])?;
         }
     }
-    assert!(rt; bytes.as_slice() == THREE.as_bytes());
-    assert!(rt; progress.is(&[Told::At(20, 27), Told::At(27, 27), Told::At(27, 27)]));
+    assert_equal(&rt, bytes.as_slice(), THREE.as_bytes());
+    assert_that(
+        &rt,
+        progress.is(&[Told::At(20, 27), Told::At(27, 27), Told::At(27, 27)]),
+    );
     Ok(())
 }
 
+/// So many bytes of 27 are done after so many milliseconds.
+fn at(clock: &SetClock, line: &mut impl Progress, done: u64, milliseconds: u64) {
+    clock.set(milliseconds);
+    line.at(done, 27);
+}
+
 /// What a terminal, or another writer, was given of a load of 27 bytes, whose parts of 9 bytes were done after so many milliseconds.
-fn shown(rt: &HostRuntime, is_terminal: bool, times: [u64; 3]) -> Result<Vec<u8>, Fail> {
+fn shown(alloc: Global, is_terminal: bool, times: [u64; 3]) -> Result<Vec<u8>, Fail> {
     let clock = SetClock::new();
-    let mut out = Vec::with_capacity(rt.alloc(), 1000)?;
+    let mut out = Vec::with_capacity(alloc, 1000)?;
     {
         let mut line = TerminalLine::new(&clock, &mut out, is_terminal);
-        for (done, milliseconds) in [(9, times[0]), (18, times[1]), (27, times[2])] {
-            clock.set(milliseconds);
-            line.at(done, 27);
-        }
+        at(&clock, &mut line, 9, times[0]);
+        at(&clock, &mut line, 18, times[1]);
+        at(&clock, &mut line, 27, times[2]);
         line.wipe();
         line.wipe();
     }
     Ok(out)
+}
+
+/// It was given these lines, one after another.
+fn shows(
+    rt: &impl Abort,
+    alloc: Global,
+    is_terminal: bool,
+    times: [u64; 3],
+    lines: &[&[u8]],
+) -> Result<(), Fail> {
+    let expected = lines.concat(alloc)?;
+    let found = shown(alloc, is_terminal, times)?;
+    assert_equal(rt, found.as_slice(), expected.as_slice());
+    Ok(())
 }
 
 const SECOND: &[u8] = b"cobix: 18 of 27 bytes\r";
@@ -155,25 +192,25 @@ const WIPED: &[u8] = b"                     \r";
 
 #[test]
 fn the_line_is_written_after_two_seconds(rt: HostRuntime) -> Result<(), Fail> {
-    assert!(rt; shown(&rt, true, [0, 1000, 1999])?.is_empty());
-    let late = [THIRD, WIPED].concat(rt.alloc())?;
-    assert!(rt; shown(&rt, true, [0, 1999, 2000])?.as_slice() == late.as_slice());
-    Ok(())
+    shows(&rt, rt.alloc(), true, [0, 1000, 1999], &[])?;
+    shows(&rt, rt.alloc(), true, [0, 1999, 2000], &[THIRD, WIPED])
 }
 
 #[test]
 fn the_line_is_written_twice_a_second_at_most(rt: HostRuntime) -> Result<(), Fail> {
-    let early = [SECOND, WIPED].concat(rt.alloc())?;
-    assert!(rt; shown(&rt, true, [0, 2000, 2499])?.as_slice() == early.as_slice());
-    let both = [SECOND, THIRD, WIPED].concat(rt.alloc())?;
-    assert!(rt; shown(&rt, true, [0, 2000, 2500])?.as_slice() == both.as_slice());
-    Ok(())
+    shows(&rt, rt.alloc(), true, [0, 2000, 2499], &[SECOND, WIPED])?;
+    shows(
+        &rt,
+        rt.alloc(),
+        true,
+        [0, 2000, 2500],
+        &[SECOND, THIRD, WIPED],
+    )
 }
 
 #[test]
 fn nothing_is_written_where_there_is_no_terminal(rt: HostRuntime) -> Result<(), Fail> {
-    assert!(rt; shown(&rt, false, [2000, 4000, 6000])?.is_empty());
-    Ok(())
+    shows(&rt, rt.alloc(), false, [2000, 4000, 6000], &[])
 }
 
 #[test]
@@ -183,11 +220,10 @@ fn nothing_is_written_once_it_is_silenced(rt: HostRuntime) -> Result<(), Fail> {
     {
         let mut line = TerminalLine::new(&clock, &mut out, true);
         line.silence();
-        clock.set(4000);
-        line.at(9, 27);
+        at(&clock, &mut line, 9, 4000);
         line.wipe();
     }
-    assert!(rt; out.is_empty());
+    assert_that(&rt, out.is_empty());
     Ok(())
 }
 
@@ -201,9 +237,15 @@ fn a_clock_that_fails_shows_no_line(rt: HostRuntime) -> Result<(), Fail> {
         line.at(9, 27);
         line.wipe();
     }
-    assert!(rt; out.is_empty());
+    assert_that(&rt, out.is_empty());
     Ok(())
 }
+
+const MORE: [&[u8]; 3] = [
+    b"cobix: 28 bytes\r",
+    b"cobix: 18446744073709551615 of 18446744073709551615 bytes\r",
+    b"                                                         \r",
+];
 
 #[test]
 fn more_bytes_than_were_known_are_told_alone(rt: HostRuntime) -> Result<(), Fail> {
@@ -211,25 +253,17 @@ fn more_bytes_than_were_known_are_told_alone(rt: HostRuntime) -> Result<(), Fail
     let mut out: Vec<u8> = Vec::with_capacity(rt.alloc(), 1000)?;
     {
         let mut line = TerminalLine::new(&clock, &mut out, true);
-        clock.set(2000);
-        line.at(28, 27);
+        at(&clock, &mut line, 28, 2000);
         clock.set(3000);
         line.at(u64::MAX, u64::MAX);
         line.wipe();
     }
-    let told = [
-        b"cobix: 28 bytes\r".as_slice(),
-        b"cobix: 18446744073709551615 of 18446744073709551615 bytes\r".as_slice(),
-        b"                                                         \r".as_slice(),
-    ];
-    assert!(rt; out.as_slice() == told.concat(rt.alloc())?.as_slice());
+    let told = MORE.concat(rt.alloc())?;
+    assert_equal(&rt, out.as_slice(), told.as_slice());
     Ok(())
 }
 
 #[test]
 fn a_silent_load_is_answered_as_any_other(rt: HostRuntime) -> Result<(), Fail> {
-    let shelf = MemShelf::new(rt.alloc());
-    let (_, told) = loads_with(rt.alloc(), shelf, Load::New, THREE, &mut Silent)?;
-    assert!(rt; told.as_str() == "loaded 3\n");
-    Ok(())
+    answers(&rt, rt.alloc(), THREE, "loaded 3\n", &mut Silent)
 }

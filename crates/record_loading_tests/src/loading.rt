@@ -25,7 +25,19 @@ fn codes() -> Result<Schema, Fault> {
     schema(6, 8, &[part(0, 4, false), part(4, 2, false)])
 }
 
-/// What is told of a load over a shelf, whose units are forgotten: its lines, or that the name has a file.
+/// The lines that are told of the end of a load, or that the name has a file.
+fn told(alloc: Global, end: ShelfEnd) -> Result<String, Fail> {
+    match end {
+        ShelfEnd::IsThere => Ok("is there".to_string(alloc)?),
+        ShelfEnd::Loaded(end) => {
+            let mut answer = Vec::new(alloc);
+            add_answer(&mut answer, end)?;
+            Ok(String::from_utf8(answer)?)
+        }
+    }
+}
+
+/// What is told of a load over a shelf, whose units are forgotten.
 pub fn loads(
     alloc: Global,
     shelf: MemShelf,
@@ -58,15 +70,7 @@ pub fn loads_with<P: Progress>(
         NonZeroUsize::MIN,
         progress,
     );
-    let told = match end? {
-        ShelfEnd::IsThere => "is there".to_string(alloc)?,
-        ShelfEnd::Loaded(end) => {
-            let mut answer = Vec::new(alloc);
-            add_answer(&mut answer, end)?;
-            String::from_utf8(answer)?
-        }
-    };
-    Ok((shelf, told))
+    Ok((shelf, told(alloc, end?)?))
 }
 
 /// The lines of the records of the file on a shelf, whose units are forgotten.
