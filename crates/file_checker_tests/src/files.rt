@@ -124,17 +124,30 @@ pub fn bytes_of<S: Shelf>(alloc: Global, shelf: &mut S) -> Result<Vec<u8>, Fail>
     Ok(bytes)
 }
 
+/// Makes a file on a shelf, with records of so many numbers but for the first ones, which are removed, and closes it.
+fn makes(
+    rt: &impl Abort,
+    alloc: Global,
+    shelf: &mut MemShelf,
+    schema: &Schema,
+    count: u32,
+    removed: u32,
+) -> Result<(), Fail> {
+    let frames = NonZeroUsize::new(4096).unwrap_or(NonZeroUsize::MIN);
+    shelf.attach(&[name()])?;
+    let mut held = ShelfFile::create(alloc, shelf, 0, frames, 100_000, schema)?;
+    fills(rt, &mut held, shelf, count, removed)?;
+    held.close(shelf)?;
+    Ok(())
+}
+
 /// The bytes of a file that was closed with records of so many numbers, but for the first ones, which were removed.
 pub fn made(rt: &impl Abort, alloc: Global, count: u32, removed: u32) -> Result<Vec<u8>, Fail> {
     let schema = Schema::from_parts(LENGTH, LENGTH, &KEYS);
     assert_that(rt, schema.is_some());
     let mut shelf = MemShelf::new(alloc);
-    shelf.attach(&[name()])?;
     if let Some(schema) = schema {
-        let frames = NonZeroUsize::new(4096).unwrap_or(NonZeroUsize::MIN);
-        let mut held = ShelfFile::create(alloc, &mut shelf, 0, frames, 100_000, &schema)?;
-        fills(rt, &mut held, &mut shelf, count, removed)?;
-        held.close(&mut shelf)?;
+        makes(rt, alloc, &mut shelf, &schema, count, removed)?;
     }
     bytes_of(alloc, &mut shelf)
 }

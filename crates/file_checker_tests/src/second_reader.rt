@@ -8,7 +8,7 @@ mod rows;
 mod tree;
 
 use first_page::{FirstPage, KeyRow, read_first_page};
-use heap::read_heap;
+use heap::{Heap, read_heap};
 use numbers::{PAGE, are_zero, number, page, part, take};
 pub use refusal::Refusal;
 use refusal::holds;
@@ -28,27 +28,42 @@ pub fn read(alloc: Global, bytes: &[u8]) -> Result<Standing, Refusal> {
     let first = read_first_page(bytes)?;
     let bytes = part(bytes, 0, (first.pages as usize).saturating_mul(PAGE))?;
     let mut taken = vec![in alloc; false; first.pages as usize]?;
-    take(taken.as_mut_slice(), 0)?;
-    free_pages(bytes, &first, taken.as_mut_slice())?;
-    let heap = read_heap(alloc, bytes, &first, taken.as_mut_slice())?;
-    let Some((prime, alternates)) = first.keys.as_slice().split_first() else {
-        return Err(Refusal::Broken);
-    };
-    let found = entries(
-        alloc,
-        bytes,
-        prime_tree(*prime),
-        *prime,
-        taken.as_mut_slice(),
-    )?;
-    let rows = read_rows(alloc, &first, &heap, found.as_slice(), *prime)?;
-    let rows = rows.as_slice();
-    alternates_stand(alloc, bytes, rows, *prime, alternates, taken.as_mut_slice())?;
+    parts_stand(alloc, bytes, &first, taken.as_mut_slice())?;
     holds(taken.iter().all(|is_taken| *is_taken))?;
     Ok(Standing {
         records: first.records,
         pages: first.pages,
     })
+}
+
+/// Each part of a file stands, and takes its pages.
+fn parts_stand(
+    alloc: Global,
+    bytes: &[u8],
+    first: &FirstPage,
+    taken: &mut [bool],
+) -> Result<(), Refusal> {
+    let Some((prime, alternates)) = first.keys.as_slice().split_first() else {
+        return Err(Refusal::Broken);
+    };
+    take(taken, 0)?;
+    free_pages(bytes, first, taken)?;
+    let heap = read_heap(alloc, bytes, first, taken)?;
+    let rows = prime_rows(alloc, bytes, first, &heap, *prime, taken)?;
+    alternates_stand(alloc, bytes, rows.as_slice(), *prime, alternates, taken)
+}
+
+/// The records that the prime index leads to.
+fn prime_rows<'a>(
+    alloc: Global,
+    bytes: &'a [u8],
+    first: &FirstPage,
+    heap: &Heap<'a>,
+    prime: KeyRow,
+    taken: &mut [bool],
+) -> Result<Vec<Row<'a>>, Refusal> {
+    let found = entries(alloc, bytes, prime_tree(prime), prime, taken)?;
+    read_rows(alloc, first, heap, found.as_slice(), prime)
 }
 
 /// The free pages are as many as are counted.
