@@ -4,6 +4,8 @@ use Rattle.clap.specs.Words.{Text}
 use Rattle.record_layout.specs.Schema.{Schema}
 use Rattle.file_header.specs.declared.header.Header.{Header}
 use Rattle.schema_listing.specs.declared.first_page.Refusal.{Refusal}
+use Rattle.schema_listing.specs.declared.listing.ListingFault.{ListingFault}
+use Rattle.schema_listing.specs.declared.listing.ListingFault.TheVariants.{Input as Unread, Output as Unwritten, Memory as NoMemory}
 use Rattle.schema_listing.specs.Listing.{Tells}
 use Rattle.schema_listing.specs.Comparing.{TellsDifferences}
 use Rattle.file_commands.specs.DeckFile.{IsDeckAsked, IsHalf}
@@ -12,6 +14,12 @@ use Rattle.command_outcomes.specs.declared.fault.Fault.{Fault}
 use Rattle.command_outcomes.specs.declared.fault.Fault.TheVariants.{Deck as DeckRefused, NoSuchFile, Form as NoForm, Input, Output, Memory}
 use Rattle.command_outcomes.specs.declared.outcome.Outcome.{Outcome}
 use Rattle.command_outcomes.specs.declared.outcome.Outcome.TheVariants.{SchemaTold, SchemaCompared, SchemaRefused}
+
+-- why nothing is told, or not all
+abbrev pub listing_told_as : ListingFault → Fault
+listing_told_as Unread = Input
+listing_told_as Unwritten = Output
+listing_told_as NoMemory = Memory
 
 -- its lines were written, or it was told why the page is none
 abbrev pub TellsAs : (before after : Option (List ℕ)) → Result Header Refusal → Outcome → Type 0

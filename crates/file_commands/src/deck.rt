@@ -1,5 +1,5 @@
 //! The deck in a file, and a file of it.
-ghost use Rattle.std.specs.Prelude.{◌≡◌, ℕ, List, find, option_map, IfOk, IfErr};
+ghost use Rattle.std.specs.Prelude.{◌≡◌, ℕ, List, None, find, option_map, IfOk, IfErr};
 ghost use Rattle.deck_reader.specs.Deck.{IsDeck};
 ghost use Rattle.deck_runner.specs.DeckRun.{IsNoDeck};
 ghost use Rattle.deck_words.specs.declared.fault.DeckFault.{DeckFault as ToldFault};
@@ -63,6 +63,7 @@ pub fn deck_at<R: Files, I: Read>(
 /// The file of a name in a deck.
 pub fn file_in<'a>(deck: &'a Deck, name: &str) -> Result<&'a FileDesc, Fault>
     ensures file { IfOk result (λ file. IsFileOf deck.now.files name.now file.now) }
+    ensures none { IfErr result (λ fault. find (is_named name.now) deck.now.files ≡ None) }
     ensures fault { IfErr result (λ fault. fault ≡ Fault.NoSuchFile) }
 {
     match file_named(deck.files.as_slice(), name) {

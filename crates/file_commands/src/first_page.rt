@@ -5,7 +5,7 @@ ghost use Rattle.file_control.specs.Description.{FileDesc as ToldFile};
 ghost use Rattle.schema_listing.specs.Listing.{read_in};
 ghost use Rattle.file_commands.specs.DeckFile.{IsDeckFile};
 ghost use Rattle.file_commands.specs.Front.{IsDeckNamed};
-ghost use Rattle.file_commands.specs.Schema.{TellsAs, ComparesAs, IsOfSchema, IsSchemaDone, IsSchemaFault};
+ghost use Rattle.file_commands.specs.Schema.{TellsAs, ComparesAs, IsOfSchema, IsSchemaDone, IsSchemaFault, listing_told_as};
 ghost use Rattle.command_outcomes.specs.Status.{status_of};
 
 use crate::comparing::compare_path;
@@ -19,7 +19,8 @@ use system_files::LockFile;
 
 /// Why nothing is told of a file, or not all.
 pub fn fault_of(fault: ListingFault) -> Fault
-    ensures { status_of result ≡ 4 }
+    ensures told { result ≡ listing_told_as fault }
+    ensures status { status_of result ≡ 4 }
 {
     match fault {
         ListingFault::Input => Fault::Input,
