@@ -1,4 +1,5 @@
--- How a program stands in its text. Free form has no columns; in fixed form a compiler reads columns 8 to 72 of each line.
+-- How a program stands in its text. Free form has no columns; in fixed form a compiler reads
+-- columns 8 to 72 of each line.
 use Rattle.std.specs.Prelude.{◌≡◌, ◌≤◌, ℕ, List, [], ◌++◌, length, flat_map, codes, All}
 use Rattle.cobol_program.specs.declared.form.Form.{Form}
 use Rattle.cobol_program.specs.declared.form.Form.TheVariants.{Free, Fixed}

@@ -73,7 +73,8 @@ impl Lines {
 
     /// Adds a line, or keeps in mind that it is lacking.
     fn add(&mut self, line: Line)
-        ensures { self.new.lacks_memory ≡ false → (self.old.lacks_memory ≡ false) × (self.new.ended.items ≡ self.old.ended.items ++ line ∷ []) }
+        ensures { self.new.lacks_memory ≡ false → (self.old.lacks_memory ≡ false)
+            × (self.new.ended.items ≡ self.old.ended.items ++ line ∷ []) }
     {
         if !self.lacks_memory {
             self.lacks_memory = self.ended.push(line).is_err();

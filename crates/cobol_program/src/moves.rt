@@ -32,7 +32,8 @@ fn add_piece(lines: &mut Lines, file: usize, place: usize, length: usize, piece:
     lines.period();
 }
 
-/// Moves bytes to so many bytes of the area of a file or more, which spaces fill: a literal for each 24 bytes.
+/// Moves bytes to so many bytes of the area of a file or more, which spaces fill: a literal for
+/// each 24 bytes.
 fn add_bytes(lines: &mut Lines, file: usize, place: usize, room: usize, bytes: &[u8])
     requires fits { length bytes.now ≤ room }
     requires place { place + room ≤ 2 ^ 32 }

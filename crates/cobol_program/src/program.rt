@@ -31,7 +31,8 @@ fn program(alloc: Global, deck: &Deck, form: Form) -> Result<String, AllocError>
     lines.text(alloc, form)
 }
 
-/// The COBOL program of the deck that the bytes are, or the first fault, as `read_deck` tells it: code 8 on line 0 for want of memory, for the deck or for its program.
+/// The COBOL program of the deck that the bytes are, or the first fault, as `read_deck` tells it:
+/// code 8 on line 0 for want of memory, for the deck or for its program.
 pub fn write_program(alloc: Global, bytes: &[u8], form: Form) -> Result<String, DeckFault>
     ensures deck { IsOk result → (deck : ReadDeck) × IsDeck bytes.now deck }
     ensures layout { IfOk result (λ text. IsLaidOut form (string_bytes text)) }

@@ -54,7 +54,8 @@ fn add_key(lines: &mut Lines, u: usize, k: usize, length: u16) {
     lines.period();
 }
 
-/// Adds the record of so many bytes that a key is an item of, with each leading part of the key that is an item, too.
+/// Adds the record of so many bytes that a key is an item of, with each leading part of the key
+/// that is an item, too.
 pub fn add_key_record(
     lines: &mut Lines,
     u: usize,

@@ -23,16 +23,22 @@ pub record EndsUnbegun (s : Streams) (outcome : Result Outcome Fault) : Type 0 w
   pub told : outcome ≡ Err fault
 
 -- the requests were answered, and how that ended is what was done
-pub record EndsServed {S : Type 0} (shown : Shown S) (IsNew : S → Type 0) (s : Streams) (outcome : Result Outcome Fault) : Type 0 where
+pub record EndsServed {S : Type 0} (shown : Shown S) (IsNew : S → Type 0) (s : Streams)
+    (outcome : Result Outcome Fault) : Type 0 where
   pub end : Result Unit ServeFault
   pub served : ServedRequests shown IsNew s end
   pub told : outcome ≡ outcome_of_end (session_end_as end)
 
 -- one of the two, over libraries that are new
-abbrev pub CameToServe : {S : Type 0} → Shown S → (IsNew : S → Type 0) → Streams → Result Outcome Fault → Type 0
+abbrev pub CameToServe : {S : Type 0} → Shown S → (IsNew : S → Type 0) → Streams → Result Outcome Fault
+    → Type 0
 CameToServe shown IsNew s outcome = EndsUnbegun s outcome ⊎ EndsServed shown IsNew s outcome
 
--- where the words ask for a session, it came to this over the folder that they name, with their limit of pages and number of frames: libraries that are new are over these
-abbrev pub ServedAsAsked : {S : Type 0} → Shown S → (IsNew : (folder : List ℕ) (pages frames : ℕ) → S → Type 0) → List Text → Streams → Result Outcome Fault → Type 0
+-- where the words ask for a session, it came to this over the folder that they name, with their
+-- limit of pages and number of frames: libraries that are new are over these
+abbrev pub ServedAsAsked : {S : Type 0} → Shown S
+    → (IsNew : (folder : List ℕ) (pages frames : ℕ) → S → Type 0) → List Text → Streams
+    → Result Outcome Fault → Type 0
 ServedAsAsked shown IsNew words s outcome =
-    (folder : Text) (pages frames : ℕ) → AskServe words folder pages frames → CameToServe shown (IsNew folder pages frames) s outcome
+    (folder : Text) (pages frames : ℕ) → AskServe words folder pages frames
+    → CameToServe shown (IsNew folder pages frames) s outcome

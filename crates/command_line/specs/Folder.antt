@@ -14,5 +14,6 @@ abbrev pub folder_after : (List ℕ → Unseen) → List ArrayString → List Ev
 folder_after disk names calls = folder_state disk (map (λ name. name.bytes) names) calls
 
 -- what is so of the folder of this path before the first call on it, and of what it holds after these calls
-abbrev pub OverFolder : (List ℕ → Unseen) → List ℕ → List ArrayString → List Event → (ShelfState → ShelfState → Type 0) → Type 0
+abbrev pub OverFolder : (List ℕ → Unseen) → List ℕ → List ArrayString → List Event
+    → (ShelfState → ShelfState → Type 0) → Type 0
 OverFolder disk path names calls IsSo = IsSo (folder_at_first disk path) (folder_after disk names calls)

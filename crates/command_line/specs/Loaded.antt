@@ -27,12 +27,15 @@ abbrev pub load_of : Bool → Load
 load_of true = Into
 load_of false = New
 
--- a load of a text into the file of a name in the folder of this path: how it ended, and what it left where it came to nothing; all other names stand for what they
--- stood for; and no crash leaves a false file
-pub record LoadsFolder (disk : List ℕ → Unseen) (folder name : List ℕ) (schema : Schema) (load : Load) (list : Listing) (result : Result ShelfEnd Fault) : Type 0 where
+-- a load of a text into the file of a name in the folder of this path: how it ended, and what it
+-- left where it came to nothing; all other names stand for what they stood for; and no crash leaves
+-- a false file
+pub record LoadsFolder (disk : List ℕ → Unseen) (folder name : List ℕ) (schema : Schema) (load : Load)
+    (list : Listing) (result : Result ShelfEnd Fault) : Type 0 where
   pub names : List ArrayString
   pub calls : List Event
-  pub ends : OverFolder disk folder names calls (λ first last. IfOk result (λ end. Ends name schema load list first end last))
+  pub ends : OverFolder disk folder names calls (λ first last.
+      IfOk result (λ end. Ends name schema load list first end last))
   pub nothing : OverFolder disk folder names calls (λ first last. OnErr result (LeavesFiles first last))
   pub others : OverFolder disk folder names calls (KeepsOthers name)
   pub safe : OverFolder disk folder names calls (IsSafe name)
@@ -42,9 +45,11 @@ abbrev pub WritesAnswer : ShelfEnd → (before behind : Option (List ℕ)) → T
 WritesAnswer IsThere before behind = behind ≡ before
 WritesAnswer (Loaded end) before behind = Appends before behind (answer_of end)
 
--- the bytes are a deck that has a file of this name, a text was loaded into that file in this folder, in the form that a word asks for, and it was told how that ended
+-- the bytes are a deck that has a file of this name, a text was loaded into that file in this
+-- folder, in the form that a word asks for, and it was told how that ended
 pub record LoadsDeck
-    (disk : List ℕ → Unseen) (IsTheText : List ℕ → Type 0) (bytes folder name word : List ℕ) (into : Bool) (before behind : Option (List ℕ)) (end : ShelfEnd) : Type 0 where
+    (disk : List ℕ → Unseen) (IsTheText : List ℕ → Type 0) (bytes folder name word : List ℕ) (into : Bool)
+    (before behind : Option (List ℕ)) (end : ShelfEnd) : Type 0 where
   pub deck : Deck
   pub is_deck : IsDeck bytes deck
   pub file : FileDesc

@@ -33,7 +33,13 @@ pub record Begun : Type 0 where
 
 -- the same, by its parts
 abbrev pub begun : (List ℕ → Unseen) → List ℕ → List ArrayString → List Event → ℕ → Begun
-begun disk bytes names calls faults = record { bytes = bytes; disk = disk; names = names; calls = calls; faults = faults }
+begun disk bytes names calls faults = record {
+  bytes = bytes;
+  disk = disk;
+  names = names;
+  calls = calls;
+  faults = faults;
+}
 
 -- how a run ended, as what was done
 abbrev pub outcome_of : Result RunEnd Fault → Result Outcome Fault
@@ -50,10 +56,13 @@ pub record Written : Type 0 where
   pub before : Option (List ℕ)
   pub behind : Option (List ℕ)
 
--- the run of these bytes over the folder of this path, with this limit of pages and this number of frames, came to this
-pub record CameTo (folder : List ℕ) (limit frames : ℕ) (run : Begun) (out : Written) (outcome : Result Outcome Fault) : Type 0 where
+-- the run of these bytes over the folder of this path, with this limit of pages and this number of
+-- frames, came to this
+pub record CameTo (folder : List ℕ) (limit frames : ℕ) (run : Begun) (out : Written)
+    (outcome : Result Outcome Fault) : Type 0 where
   pub exact : (end : RunEnd) → outcome ≡ Ok (Ended end) → end.clean ≡ true
-      → OverFolder run.disk folder run.names run.calls (λ first last. IsExactRun run.bytes first last out.before out.behind end)
+      → OverFolder run.disk folder run.names run.calls
+      (λ first last. IsExactRun run.bytes first last out.before out.behind end)
   pub whole : (end : RunEnd) → outcome ≡ Ok (Ended end)
       → OverFolder run.disk folder run.names run.calls (λ first last. OnShelf run.bytes first last (λ deck.
       Told out.before out.behind end (Runs limit frames first last 0 run.faults deck)))
@@ -66,13 +75,17 @@ pub record CameTo (folder : List ℕ) (limit frames : ℕ) (run : Begun) (out : 
   pub sound : OverFolder run.disk folder run.names run.calls StaysSound
 
 -- a run came to its end or to a fault, or was not begun since a file, a folder or memory was wanting
-abbrev pub CameToEnd : (folder : List ℕ) (limit frames : ℕ) → Option Begun → Written → Result Outcome Fault → Type 0
-CameToEnd folder limit frames (Some run) out outcome = CameTo folder limit frames run out outcome × IfOk outcome IsEnd
+abbrev pub CameToEnd : (folder : List ℕ) (limit frames : ℕ) → Option Begun → Written → Result Outcome Fault
+    → Type 0
+CameToEnd folder limit frames (Some run) out outcome =
+    CameTo folder limit frames run out outcome × IfOk outcome IsEnd
 CameToEnd folder limit frames None out (Ok outcome) = ⊥
 CameToEnd folder limit frames None out (Err fault) = status_of fault ≡ 4
 
--- the words ask for a run, and this run, over the folder that they name, with their limit of pages and number of frames, came to this
-pub record RanAsAsked (words : List Text) (run : Begun) (out : Written) (outcome : Result Outcome Fault) : Type 0 where
+-- the words ask for a run, and this run, over the folder that they name, with their limit of pages
+-- and number of frames, came to this
+pub record RanAsAsked (words : List Text) (run : Begun) (out : Written)
+    (outcome : Result Outcome Fault) : Type 0 where
   pub deck : Text
   pub folder : Text
   pub pages : ℕ
@@ -82,7 +95,8 @@ pub record RanAsAsked (words : List Text) (run : Begun) (out : Written) (outcome
 
 -- the words ask for the list of a deck, or for a deck as a COBOL program
 abbrev pub AskOfDeck : List Text → Type 0
-AskOfDeck words = ((deck : Text) × AskDeck words deck) ⊎ ((deck : Text) × (fixed : Bool) × AskCobol words deck fixed)
+AskOfDeck words = ((deck : Text) × AskDeck words deck)
+    ⊎ ((deck : Text) × (fixed : Bool) × AskCobol words deck fixed)
 
 -- the words ask for a load
 pub record AskForLoad (words : List Text) : Type 0 where
@@ -115,26 +129,37 @@ pub record AskForSchema (words : List Text) : Type 0 where
   pub name : Option Text
   pub asked : AskSchema words file deck name
 
--- the words ask for a file of a deck: to load a text into it, to have the columns of its record, or to hold its schema against that of a file
+-- the words ask for a file of a deck: to load a text into it, to have the columns of its record, or
+-- to hold its schema against that of a file
 abbrev pub AskOfFile : List Text → Type 0
 AskOfFile words =
-    AskForLoad words ⊎ ((list : AskForRecords words) × IsDeckAsked list.form.deck list.form.name) ⊎ ((schema : AskForSchema words) × IsDeckAsked schema.deck schema.name)
+    AskForLoad words ⊎ ((list : AskForRecords words) × IsDeckAsked list.form.deck list.form.name)
+    ⊎ ((schema : AskForSchema words) × IsDeckAsked schema.deck schema.name)
 
--- the words ask for a list in a form that has this fault, for a schema beside half of what is to be held against it, or for a load by a word that asks for no form
+-- the words ask for a list in a form that has this fault, for a schema beside half of what is to be
+-- held against it, or for a load by a word that asks for no form
 abbrev pub AskForNoForm : List Text → FormFault → Type 0
 AskForNoForm words fault =
-    ((list : AskForRecords words) × HasFormFault list.form fault) ⊎ ((schema : AskForSchema words) × IsHalf schema.deck schema.name × (fault ≡ HalfDeck))
+    ((list : AskForRecords words) × HasFormFault list.form fault)
+    ⊎ ((schema : AskForSchema words) × IsHalf schema.deck schema.name × (fault ≡ HalfDeck))
     ⊎ ((load : AskForLoad words) × (fault ≡ Kind) × IsNoFormWord load.form)
 
--- what was done for the words: help was written for those that ask for it, files checked for those that ask for that, records listed for those that ask for them, a program written for those that ask for one in COBOL, a text loaded for those that ask for that, the pages of a file counted for those that ask for that, requests answered for those that ask for a session, a schema told, compared or refused for those that ask for one, and a run came to its end or to a
--- fault for those that ask for one; a fault that is told of the words is theirs. The input, the output or memory may fail for any words.
+-- what was done for the words: help was written for those that ask for it, files checked for those
+-- that ask for that, records listed for those that ask for them, a program written for those that
+-- ask for one in COBOL, a text loaded for those that ask for that, the pages of a file counted for
+-- those that ask for that, requests answered for those that ask for a session, a schema told,
+-- compared or refused for those that ask for one, and a run came to its end or to a fault for those
+-- that ask for one; a fault that is told of the words is theirs. The input, the output or memory
+-- may fail for any words.
 abbrev pub Did : List Text → Option Begun → Written → Result Outcome Fault → Type 0
 Did words None out (Ok Helped) = (text : Error) × AskHelp words text
 Did words None out (Ok (Checked verdict)) = (file : Text) × (quiet : Bool) × AskCheck words (file ∷ []) quiet
 Did words None out (Ok (CheckedAll sound)) = (files : List Text) × (quiet : Bool) × AskCheck words files quiet
-Did words None out (Ok Served) = (folder : Text) × (pages : ℕ) × (frames : ℕ) × AskServe words folder pages frames
+Did words None out (Ok Served) = (folder : Text) × (pages : ℕ) × (frames : ℕ)
+    × AskServe words folder pages frames
 Did words None out (Ok SchemaTold) = (file : Text) × AskSchema words file None None
-Did words None out (Ok (SchemaCompared told)) = (schema : AskForSchema words) × IsDeckAsked schema.deck schema.name
+Did words None out (Ok (SchemaCompared told)) = (schema : AskForSchema words)
+    × IsDeckAsked schema.deck schema.name
 Did words None out (Ok (SchemaRefused refusal)) = AskForSchema words
 Did words None out (Ok Explained) = (kind : Text) × (number : Text) × AskExplain words kind number
 Did words None out (Ok Listed) = (deck : Text) × AskDeck words deck

@@ -31,7 +31,8 @@ pub record Given (File : Type 0) : Type 0 where
   pub of_folder : List ℕ → Unseen
 
 -- the same, by its parts
-abbrev pub given_by : {File : Type 0} → (File → Option (List ℕ)) → Option (List ℕ) → (List ℕ → Unseen) → Given File
+abbrev pub given_by : {File : Type 0} → (File → Option (List ℕ)) → Option (List ℕ) → (List ℕ → Unseen)
+    → Given File
 given_by of_file of_input of_folder =
     record { of_file = of_file; of_input = of_input; of_folder = of_folder }
 

@@ -13,8 +13,10 @@ use Rattle.command_outcomes.specs.declared.fault.Fault.{Fault}
 use Rattle.command_outcomes.specs.declared.fault.Fault.TheVariants.{Input, Output, Memory}
 
 -- a library over a folder that was asked this and answered so
-abbrev pub over_folder : (limit frames : ℕ) → (List ℕ → Unseen) → List ArrayString → List Event → List Held → (faults : ℕ) → LibraryState
-over_folder limit frames disk names calls held faults = over limit frames (folder_after disk names calls) held faults
+abbrev pub over_folder : (limit frames : ℕ) → (List ℕ → Unseen) → List ArrayString → List Event → List Held
+    → (faults : ℕ) → LibraryState
+over_folder limit frames disk names calls held faults =
+    over limit frames (folder_after disk names calls) held faults
 
 -- a library over the folder of this path that was asked nothing yet
 abbrev pub IsNewOver : (limit frames : ℕ) → (List ℕ → Unseen) → List ℕ → LibraryState → Type 0

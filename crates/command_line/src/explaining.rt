@@ -9,7 +9,8 @@ use command_outcomes::{Fault, Outcome};
 use explanations::{REASONS, explanation_of};
 use std::io::Write;
 
-/// Writes what is explained of a number of a kind. `Unexplained`: there is no such number, and nothing was written.
+/// Writes what is explained of a number of a kind. `Unexplained`: there is no such number, and
+/// nothing was written.
 pub fn explain<W: Write>(kind: &str, number: &str, out: &mut W) -> Result<Outcome, Fault>
     ensures done { IfOk result (λ outcome. outcome ≡ Outcome.Explained) }
     ensures text { IfOk result (λ _.
@@ -30,5 +31,6 @@ pub fn explain<W: Write>(kind: &str, number: &str, out: &mut W) -> Result<Outcom
 
 /// Each reason of a check is explained.
 pub fn every_reason_is_explained()
-    ensures { (reason : ToldReason) → IsSome (text_in (map (λ row. (row.0.now, row.1.now)) REASONS) (digit_of (number_of reason))) }
+    ensures { (reason : ToldReason) → IsSome (text_in (map (λ row. (row.0.now, row.1.now)) REASONS)
+        (digit_of (number_of reason))) }
 {}

@@ -29,7 +29,8 @@ use system_files::LockFile;
 /// The most bytes of an answer: two lines, with a number and two statuses.
 const MOST_BYTES: usize = 64;
 
-/// What is asked of a load: the name of a file in the deck, the path of a text, the word for its form, whether the file is there, and the limits of its pages.
+/// What is asked of a load: the name of a file in the deck, the path of a text, the word for its
+/// form, whether the file is there, and the limits of its pages.
 #[derive(Clone, Copy)]
 pub struct Loading<'a> {
     pub file: &'a str,
@@ -79,7 +80,8 @@ fn load_over_folder<R: Files, D: Disk, P: Progress>(
 where
     R::File: FileExt + LockFile,
     requires whole { IsWhole form.now file.now.schema.greatest }
-    ensures loads { LoadsFolder D.Disk.unseen (string_bytes folder) file.now.file file.now.schema load (listing form.now text.now) result }
+    ensures loads { LoadsFolder D.Disk.unseen (string_bytes folder) file.now.file file.now.schema load
+        (listing form.now text.now) result }
     ensures fault { IfErr result (λ fault. status_of fault ≡ 4) }
 {
     let shelf: FolderShelf<&R, D> = FolderShelf::new(rt, alloc, folder);
@@ -102,10 +104,12 @@ where
     }
 }
 
-/// Writes the lines that tell of a load, for which there is room; or nothing, where the name has a file already.
+/// Writes the lines that tell of a load, for which there is room; or nothing, where the name has a
+/// file already.
 fn write_answer<W: Write>(room: Vec<u8>, end: ShelfEnd, out: &mut W) -> Result<Outcome, Fault>
     requires { room.items ≡ [] }
-    ensures done { IfOk result (λ outcome. (outcome ≡ Outcome.Loaded end) × WritesAnswer end (W.contents out.old) (W.contents out.new)) }
+    ensures done { IfOk result (λ outcome. (outcome ≡ Outcome.Loaded end)
+        × WritesAnswer end (W.contents out.old) (W.contents out.new)) }
     ensures fault { IfErr result (λ fault. status_of fault ≡ 4) }
 {
     let mut answer = room;
@@ -119,8 +123,8 @@ fn write_answer<W: Write>(room: Vec<u8>, end: ShelfEnd, out: &mut W) -> Result<O
 }
 
 #[tactic(auto, using(file_commands::proofs::DeckLemmas::not_there))]
-/// Loads a text of this kind into a file of the deck that the bytes are, over the files of a folder, and tells how that ended. `Deck`, `NoSuchFile`: nothing was read,
-/// written or changed.
+/// Loads a text of this kind into a file of the deck that the bytes are, over the files of a
+/// folder, and tells how that ended. `Deck`, `NoSuchFile`: nothing was read, written or changed.
 pub fn load_deck<R: Files, D: Disk, I: Read, P: Progress, W: Write>(
     rt: &R,
     alloc: Global,
@@ -135,8 +139,10 @@ pub fn load_deck<R: Files, D: Disk, I: Read, P: Progress, W: Write>(
 where
     R::File: FileExt + LockFile,
     ensures loaded { IfOk result (λ outcome. (end : _) × (outcome ≡ Outcome.Loaded end)
-        × LoadsDeck D.Disk.unseen (IsTextNamed R.File.remaining (I.remaining input.old.reader) asked.entry.text.now)
-        bytes.now (string_bytes folder) asked.entry.file.now (word_of kind) asked.entry.into (W.contents out.old) (W.contents out.new) end) }
+        × LoadsDeck D.Disk.unseen (IsTextNamed R.File.remaining
+        (I.remaining input.old.reader) asked.entry.text.now)
+        bytes.now (string_bytes folder) asked.entry.file.now (word_of kind) asked.entry.into
+        (W.contents out.old) (W.contents out.new) end) }
     ensures untouched { IfErr result (λ fault. status_of fault ≢ 4 → out.new ≡ out.old) }
     ensures fault { IfErr result IsDeckFault }
 {

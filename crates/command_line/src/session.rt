@@ -74,8 +74,9 @@ fn ended(end: Result<(), ServeFault>) -> Result<(), Fault>
     }
 }
 
-/// Answers the requests of an input over the files of a folder: as the definitions say of them, over libraries that are new at first. What the input gave is noted
-/// in it. `Memory`: nothing was read or written.
+/// Answers the requests of an input over the files of a folder: as the definitions say of them,
+/// over libraries that are new at first. What the input gave is noted in it. `Memory`: nothing was
+/// read or written.
 pub fn serve_folder<'a, R: Files, D: Disk, I: Read + ReadsAhead, W: Write>(
     rt: &'a R,
     alloc: Global,
@@ -89,9 +90,11 @@ where
     ensures served { result ≢ Err Fault.Memory → (end : Result Unit ToldFault) × (result ≡ session_end_as end)
         × Served ⟦<ShelfLibrary<FolderShelf<&'a R, D>> as Library>⟧.shown
         (λ library. IsNewOver limits.pages (non_zero_usize_get limits.frames) D.Disk.unseen folder.now
-        (over_folder library.limit (non_zero_usize_get library.frames) D.Disk.unseen library.shelf.units.items library.shelf.folder.calls.events
+        (over_folder library.limit (non_zero_usize_get library.frames) D.Disk.unseen
+        library.shelf.units.items library.shelf.folder.calls.events
         library.units.items library.shelf.faults))
-        (streams (source_of I.remaining input.old) (source_of I.remaining input.new) (W.contents out.old) (W.contents out.new)) end }
+        (streams (source_of I.remaining input.old) (source_of I.remaining input.new) (W.contents out.old)
+        (W.contents out.new)) end }
     ensures memory { result ≡ Err Fault.Memory → (input.new ≡ input.old) × (out.new ≡ out.old) }
     ensures fault { IfErr result (λ fault. status_of fault ≡ 4) }
 {

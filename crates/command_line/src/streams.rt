@@ -14,7 +14,8 @@ const FIRST_OTHER: i32 = 3;
 /// The number of standard output.
 const OUTPUT: i32 = 1;
 
-/// A file that holds a number and gives and takes nothing; a system without the null device has its root folder.
+/// A file that holds a number and gives and takes nothing; a system without the null device has its
+/// root folder.
 fn open_nothing<R: Files>(rt: &R) -> Result<R::File, Fault>
     ensures { IfErr result (λ fault. status_of fault ≡ 4) }
 {
@@ -24,8 +25,9 @@ fn open_nothing<R: Files>(rt: &R) -> Result<R::File, Fault>
     }
 }
 
-/// Takes the number of each standard stream that is closed, for as long as the answer lives. A file that is opened gets the least free number, so without this a
-/// data file might be what standard output is written to.
+/// Takes the number of each standard stream that is closed, for as long as the answer lives. A file
+/// that is opened gets the least free number, so without this a data file might be what standard
+/// output is written to.
 ///
 /// Output where standard output is closed; Input where nothing can be opened; Memory.
 pub fn hold_closed_streams<R: Files>(rt: &R, alloc: Global) -> Result<Vec<R::File>, Fault>

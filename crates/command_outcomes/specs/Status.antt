@@ -60,7 +60,9 @@ abbrev pub status_of_count : FileStatisticsEnd → ℕ
 status_of_count CountListed = 0
 status_of_count (NotCounted reason place) = 1
 
--- the exit status that tells what was done: that a run or a session ended, whatever its verbs answered, a verdict, whether a file has a schema, that of a deck, or a list, or whether all lines were loaded
+-- the exit status that tells what was done: that a run or a session ended, whatever its verbs
+-- answered, a verdict, whether a file has a schema, that of a deck, or a list, or whether all lines
+-- were loaded
 abbrev pub status_for : Outcome → ℕ
 status_for Helped = 0
 status_for (Checked verdict) = status_by verdict

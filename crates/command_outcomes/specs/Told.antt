@@ -1,4 +1,5 @@
--- How the program tells why a run did not end, and why the words of its command line ask for nothing. All of this is ours.
+-- How the program tells why a run did not end, and why the words of its command line ask for
+-- nothing. All of this is ours.
 use Rattle.deck_runner.specs.declared.fault.RunFault.{RunFault}
 use Rattle.deck_runner.specs.declared.fault.RunFault.TheVariants.{Deck as DeckRefused, Output as LineRefused, Memory as NoMemory}
 use Rattle.command_words.specs.declared.fault.WordsFault.{WordsFault}

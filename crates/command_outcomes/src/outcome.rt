@@ -102,7 +102,8 @@ fn tell_list<E: Write>(list: FileList, err: &mut E) -> io::Result<()> {
     }
 }
 
-/// Tells the reason for which a file is not sound: its number, and then where it was met and what it means, unless that is the file as a whole.
+/// Tells the reason for which a file is not sound: its number, and then where it was met and what
+/// it means, unless that is the file as a whole.
 fn tell_reason<E: Write>(reason: Reason, place: FaultPlace, err: &mut E) -> io::Result<()> {
     let number = reason.number();
     writeln!(err, "unsound {number}")?;
@@ -123,7 +124,8 @@ pub fn status_by_verdict(verdict: Verdict) -> u8
 }
 
 impl Outcome {
-    /// Tells why a file has no schema or no list, or was not made, on standard error, as far as that takes it, and answers the exit status.
+    /// Tells why a file has no schema or no list, or was not made, on standard error, as far as
+    /// that takes it, and answers the exit status.
     fn tell<E: Write>(self, err: &mut E) -> u8
         ensures { result ≡ status_for self }
     {
@@ -160,7 +162,8 @@ impl Outcome {
     }
 }
 
-/// The exit status of what happened. A fault, and why a file has no schema or no list, is told as far as the writer takes it.
+/// The exit status of what happened. A fault, and why a file has no schema or no list, is told as
+/// far as the writer takes it.
 pub fn tell<E: Write>(outcome: Result<Outcome, Fault>, err: &mut E) -> u8
     ensures { result ≡ exit_status outcome }
 {

@@ -1,4 +1,5 @@
--- What the words of a command line ask for. All of this is ours; which words give an argument which values, and which are a fault, is a definition of `clap`.
+-- What the words of a command line ask for. All of this is ours; which words give an argument which
+-- values, and which are a fault, is a definition of `clap`.
 use Rattle.std.specs.Prelude.{◌≡◌, ◌⊎◌, ◌≤◌, ◌<◌, ◌^◌, ℕ, Bool, true, false, List, [], map, Option, Some, option_map, codes}
 use Rattle.std.specs.Str.Parse.{IsNumeral, digits_value, without_leading_plus}
 use Rattle.clap.specs.Words.{IsAmong, Row, Text, all_of, first_of, one_of, fault_of, kind_of, subcommand_of}
@@ -12,7 +13,8 @@ use Rattle.command_words.specs.declared.request.Request.TheVariants.{Run, Check,
 -- the text is this number
 abbrev pub IsNumber : ℕ → Text → ℕ → Type 0
 IsNumber bits text n =
-    IsNumeral 10 (without_leading_plus text) × (digits_value 10 (without_leading_plus text) < 2 ^ bits) × (n ≡ digits_value 10 (without_leading_plus text))
+    IsNumeral 10 (without_leading_plus text) × (digits_value 10 (without_leading_plus text) < 2 ^ bits)
+    × (n ≡ digits_value 10 (without_leading_plus text))
 
 -- the numbers of pages and frames that a run may have, and a session
 pub record AreLimits (rows : List Row) (pages frames : ℕ) : Type 0 where
@@ -59,7 +61,8 @@ pub record IsServe (met : Option (Text × List Row)) (folder : Text) (pages fram
   pub folder_given : first_of (codes "folder") rows ≡ Some folder
   pub limits : AreLimits rows pages frames
 
--- the subcommand that was met is to tell the schema of this file, or to hold it against that of a file of a deck
+-- the subcommand that was met is to tell the schema of this file, or to hold it against that of a
+-- file of a deck
 pub record IsSchema (met : Option (Text × List Row)) (file : Text) (deck name : Option Text) : Type 0 where
   pub rows : List Row
   pub is : met ≡ Some (codes "schema", rows)
@@ -80,7 +83,8 @@ pub record IsDeck (met : Option (Text × List Row)) (deck : Text) : Type 0 where
   pub is : met ≡ Some (codes "deck", rows)
   pub deck_given : first_of (codes "deck") rows ≡ Some deck
 
--- the words that ask for the form of a list: which it is, and what its columns are: those between cuts, or those of a file of a deck
+-- the words that ask for the form of a list: which it is, and what its columns are: those between
+-- cuts, or those of a file of a deck
 pub record FormText : Type 0 where
   pub kind : Text
   pub cut : Option Text
@@ -102,8 +106,10 @@ pub record IsForm (rows : List Row) (form : FormText) : Type 0 where
   pub deck_is : first_of (codes "deck") rows ≡ form.deck
   pub name_is : first_of (codes "name") rows ≡ form.name
 
--- the subcommand that was met is to list records of this file in the order of a key, from a value on, to a value, and so many at most, in a form, with progress or not
-pub record IsList (met : Option (Text × List Row)) (file : Text) (key : ℕ) (from to : Option Text) (first : ℕ) (form : FormText) (quiet : Bool) : Type 0 where
+-- the subcommand that was met is to list records of this file in the order of a key, from a value
+-- on, to a value, and so many at most, in a form, with progress or not
+pub record IsList (met : Option (Text × List Row)) (file : Text) (key : ℕ) (from to : Option Text)
+    (first : ℕ) (form : FormText) (quiet : Bool) : Type 0 where
   pub rows : List Row
   pub is : met ≡ Some (codes "list", rows)
   pub file_given : first_of (codes "file") rows ≡ Some file
@@ -127,8 +133,10 @@ pub record IsCobol (met : Option (Text × List Row)) (deck : Text) (fixed : Bool
   pub fixed_given : one_of (codes "fixed") rows ≡ Some fixed_text
   pub fixed_is : IsFlag fixed_text fixed
 
--- the subcommand that was met is to load the lines of this text, in a form, into a file of this deck over this folder, into the one that is there or not, with these limits, with progress or not
-pub record IsLoad (met : Option (Text × List Row)) (deck folder file text form : Text) (into : Bool) (pages frames : ℕ) (quiet : Bool) : Type 0 where
+-- the subcommand that was met is to load the lines of this text, in a form, into a file of this
+-- deck over this folder, into the one that is there or not, with these limits, with progress or not
+pub record IsLoad (met : Option (Text × List Row)) (deck folder file text form : Text) (into : Bool)
+    (pages frames : ℕ) (quiet : Bool) : Type 0 where
   pub rows : List Row
   pub is : met ≡ Some (codes "load", rows)
   pub deck_given : first_of (codes "deck") rows ≡ Some deck
@@ -153,16 +161,21 @@ abbrev pub IsMet : Option (Text × List Row) → Request → Type 0
 IsMet met (Run deck folder limits) = IsRun met deck.now folder.now limits.pages limits.frames.value
 IsMet met (Check files quiet) = IsCheck met (map (λ file. file.now) files.items) quiet
 IsMet met (Serve folder limits) = IsServe met folder.now limits.pages limits.frames.value
-IsMet met (Schema file deck name) = IsSchema met file.now (option_map (λ text. text.now) deck) (option_map (λ text. text.now) name)
+IsMet met (Schema file deck name) = IsSchema met file.now (option_map (λ text. text.now) deck)
+    (option_map (λ text. text.now) name)
 IsMet met (Explain kind number) = IsExplain met kind.now number.now
 IsMet met (Deck deck) = IsDeck met deck.now
-IsMet met (ListRecords file key from to first form quiet) = IsList met file.now key (option_map (λ text. text.now) from) (option_map (λ text. text.now) to) first (form_text form) quiet
+IsMet met (ListRecords file key from to first form quiet) =
+    IsList met file.now key (option_map (λ text. text.now) from) (option_map (λ text. text.now) to) first
+    (form_text form) quiet
 IsMet met (Cobol deck fixed) = IsCobol met deck.now fixed
-IsMet met (Load deck folder file text form into limits quiet) = IsLoad met deck.now folder.now file.now text.now form.now into limits.pages limits.frames.value quiet
+IsMet met (Load deck folder file text form into limits quiet) =
+    IsLoad met deck.now folder.now file.now text.now form.now into limits.pages limits.frames.value quiet
 IsMet met (Stat file) = IsStat met file.now
 IsMet met (Help text) = ⊥
 
--- the subcommand that was met is no run, session, schema, explanation or list of a deck, or its values are none that it can have
+-- the subcommand that was met is no run, session, schema, explanation or list of a deck, or its
+-- values are none that it can have
 pub record IsNoRunOrList (met : Option (Text × List Row)) : Type 0 where
   pub no_run : (deck folder : Text) (pages frames : ℕ) → ¬ (IsRun met deck folder pages frames)
   pub no_serve : (folder : Text) (pages frames : ℕ) → ¬ (IsServe met folder pages frames)
@@ -172,9 +185,11 @@ pub record IsNoRunOrList (met : Option (Text × List Row)) : Type 0 where
 
 -- and no list of records, no program in COBOL, no load and no count
 pub record IsNoRecords (met : Option (Text × List Row)) : Type 0 where
-  pub no_list : (file : Text) (key : ℕ) (from to : Option Text) (first : ℕ) (form : FormText) (quiet : Bool) → ¬ (IsList met file key from to first form quiet)
+  pub no_list : (file : Text) (key : ℕ) (from to : Option Text) (first : ℕ) (form : FormText)
+      (quiet : Bool) → ¬ (IsList met file key from to first form quiet)
   pub no_cobol : (deck : Text) (fixed : Bool) → ¬ (IsCobol met deck fixed)
-  pub no_load : (deck folder file text form : Text) (into : Bool) (pages frames : ℕ) (quiet : Bool) → ¬ (IsLoad met deck folder file text form into pages frames quiet)
+  pub no_load : (deck folder file text form : Text) (into : Bool) (pages frames : ℕ) (quiet : Bool)
+      → ¬ (IsLoad met deck folder file text form into pages frames quiet)
   pub no_stat : (file : Text) → ¬ (IsStat met file)
 
 -- it is none of these, and no check
@@ -197,7 +212,8 @@ IsShown text = (kind_of text ≡ DisplayHelp) ⊎ (kind_of text ≡ DisplayVersi
 
 -- the words, the program's name first, ask for the run of this deck over this folder, with these limits
 abbrev pub AskRun : List Text → (deck folder : Text) (pages frames : ℕ) → Type 0
-AskRun words deck folder pages frames = AreFaultless words × IsRun (subcommand_of program_app words) deck folder pages frames
+AskRun words deck folder pages frames = AreFaultless words
+    × IsRun (subcommand_of program_app words) deck folder pages frames
 
 -- for the check of these files, with progress or not
 abbrev pub AskCheck : List Text → (files : List Text) (quiet : Bool) → Type 0
@@ -205,11 +221,13 @@ AskCheck words files quiet = AreFaultless words × IsCheck (subcommand_of progra
 
 -- to serve the files of this folder, with these limits
 abbrev pub AskServe : List Text → (folder : Text) (pages frames : ℕ) → Type 0
-AskServe words folder pages frames = AreFaultless words × IsServe (subcommand_of program_app words) folder pages frames
+AskServe words folder pages frames = AreFaultless words
+    × IsServe (subcommand_of program_app words) folder pages frames
 
 -- for the schema of this file, or to hold it against that of a file of a deck
 abbrev pub AskSchema : List Text → (file : Text) (deck name : Option Text) → Type 0
-AskSchema words file deck name = AreFaultless words × IsSchema (subcommand_of program_app words) file deck name
+AskSchema words file deck name = AreFaultless words
+    × IsSchema (subcommand_of program_app words) file deck name
 
 -- to explain the number of this kind
 abbrev pub AskExplain : List Text → (kind number : Text) → Type 0
@@ -220,17 +238,21 @@ abbrev pub AskDeck : List Text → (deck : Text) → Type 0
 AskDeck words deck = AreFaultless words × IsDeck (subcommand_of program_app words) deck
 
 -- to list records of this file in a form, with progress or not
-abbrev pub AskList : List Text → (file : Text) (key : ℕ) (from to : Option Text) (first : ℕ) (form : FormText) (quiet : Bool) → Type 0
-AskList words file key from to first form quiet = AreFaultless words × IsList (subcommand_of program_app words) file key from to first form quiet
+abbrev pub AskList : List Text → (file : Text) (key : ℕ) (from to : Option Text) (first : ℕ)
+    (form : FormText) (quiet : Bool) → Type 0
+AskList words file key from to first form quiet =
+    AreFaultless words × IsList (subcommand_of program_app words) file key from to first form quiet
 
 -- to write this deck in COBOL
 abbrev pub AskCobol : List Text → (deck : Text) (fixed : Bool) → Type 0
 AskCobol words deck fixed = AreFaultless words × IsCobol (subcommand_of program_app words) deck fixed
 
 -- to load the lines of this text, in a form, into a file of this deck, with progress or not
-abbrev pub AskLoad : List Text → (deck folder file text form : Text) (into : Bool) (pages frames : ℕ) (quiet : Bool) → Type 0
+abbrev pub AskLoad : List Text → (deck folder file text form : Text) (into : Bool) (pages frames : ℕ)
+    (quiet : Bool) → Type 0
 AskLoad words deck folder file text form into pages frames quiet =
-    AreFaultless words × IsLoad (subcommand_of program_app words) deck folder file text form into pages frames quiet
+    AreFaultless words × IsLoad (subcommand_of program_app words) deck folder file text form into pages
+    frames quiet
 
 -- to count what this file has
 abbrev pub AskStat : List Text → (file : Text) → Type 0
@@ -245,15 +267,20 @@ abbrev pub Ask : List Text → Request → Type 0
 Ask words (Run deck folder limits) = AskRun words deck.now folder.now limits.pages limits.frames.value
 Ask words (Check files quiet) = AskCheck words (map (λ file. file.now) files.items) quiet
 Ask words (Serve folder limits) = AskServe words folder.now limits.pages limits.frames.value
-Ask words (Schema file deck name) = AskSchema words file.now (option_map (λ text. text.now) deck) (option_map (λ text. text.now) name)
+Ask words (Schema file deck name) = AskSchema words file.now (option_map (λ text. text.now) deck)
+    (option_map (λ text. text.now) name)
 Ask words (Explain kind number) = AskExplain words kind.now number.now
 Ask words (Deck deck) = AskDeck words deck.now
-Ask words (ListRecords file key from to first form quiet) = AskList words file.now key (option_map (λ text. text.now) from) (option_map (λ text. text.now) to) first (form_text form) quiet
+Ask words (ListRecords file key from to first form quiet) =
+    AskList words file.now key (option_map (λ text. text.now) from)
+    (option_map (λ text. text.now) to) first (form_text form) quiet
 Ask words (Cobol deck fixed) = AskCobol words deck.now fixed
-Ask words (Load deck folder file text form into limits quiet) = AskLoad words deck.now folder.now file.now text.now form.now into limits.pages limits.frames.value quiet
+Ask words (Load deck folder file text form into limits quiet) =
+    AskLoad words deck.now folder.now file.now text.now form.now into limits.pages limits.frames.value quiet
 Ask words (Stat file) = AskStat words file.now
 Ask words (Help text) = AskHelp words text
 
 -- for nothing, and the text tells why
 abbrev pub AskNothing : List Text → Error → Type 0
-AskNothing words text = (HaveFault words text × (IsShown text → ⊥)) ⊎ (AreFaultless words × IsNone (subcommand_of program_app words))
+AskNothing words text = (HaveFault words text × (IsShown text → ⊥))
+    ⊎ (AreFaultless words × IsNone (subcommand_of program_app words))

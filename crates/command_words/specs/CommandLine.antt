@@ -1,4 +1,5 @@
--- The command line of the program: its subcommands, and the arguments of each. All of this is ours, in the words of `clap`.
+-- The command line of the program: its subcommands, and the arguments of each. All of this is ours,
+-- in the words of `clap`.
 use Rattle.std.specs.Prelude.{ℕ, [], ◌∷◌, Some, true, false, codes}
 use Rattle.clap.specs.Words.{App, Shape, Rule, Text, new_rule}
 use Rattle.clap.specs.Simple.{new_shape}
@@ -16,7 +17,10 @@ option_rule name = record (word_rule name) { long = Some name }
 
 -- words of which at least one has to be given
 abbrev pub words_rule : Text → Rule
-words_rule name = record (word_rule name) { range = Some (record { start_inclusive = 1; end_inclusive = usize_max }) }
+words_rule name = record (word_rule name) {
+  range = Some
+      (record { start_inclusive = 1; end_inclusive = usize_max });
+}
 
 -- an option that is a text
 abbrev pub text_rule : Text → Rule
@@ -53,7 +57,10 @@ run_shape = record (new_shape (codes "run")) {
 
 -- `check FILE.. [--quiet]`
 abbrev pub check_shape : Shape
-check_shape = record (new_shape (codes "check")) { rules = words_rule (codes "file") ∷ flag_rule (codes "quiet") ∷ [] }
+check_shape = record (new_shape (codes "check")) {
+  rules = words_rule (codes "file") ∷ flag_rule
+      (codes "quiet") ∷ [];
+}
 
 -- `serve --folder DIR [--pages N] [--frames N]`
 abbrev pub serve_shape : Shape
@@ -65,11 +72,17 @@ serve_shape = record (new_shape (codes "serve")) {
 
 -- `schema FILE [--deck DECK --file NAME]`
 abbrev pub schema_shape : Shape
-schema_shape = record (new_shape (codes "schema")) { rules = word_rule (codes "file") ∷ text_rule (codes "deck") ∷ name_rule ∷ [] }
+schema_shape = record (new_shape (codes "schema")) {
+  rules = word_rule (codes "file") ∷ text_rule
+      (codes "deck") ∷ name_rule ∷ [];
+}
 
 -- `explain KIND NUMBER`
 abbrev pub explain_shape : Shape
-explain_shape = record (new_shape (codes "explain")) { rules = word_rule (codes "kind") ∷ word_rule (codes "number") ∷ [] }
+explain_shape = record (new_shape (codes "explain")) {
+  rules = word_rule (codes "kind") ∷ word_rule
+      (codes "number") ∷ [];
+}
 
 -- `deck DECK`
 abbrev pub deck_shape : Shape
@@ -79,21 +92,28 @@ deck_shape = record (new_shape (codes "deck")) { rules = word_rule (codes "deck"
 abbrev pub first_rule : Rule
 first_rule = number_rule (codes "first") 0 18446744073709551615 (codes "18446744073709551615")
 
--- `list FILE [--key N] [--from V] [--to V] [--first N] [--as FORM] [--cut N,N..] [--deck DECK --file NAME] [--quiet]`
+-- `list FILE [--key N] [--from V] [--to V] [--first N] [--as FORM] [--cut N,N..] [--deck DECK
+-- --file NAME] [--quiet]`
 abbrev pub list_shape : Shape
 list_shape = record (new_shape (codes "list")) {
-  rules = word_rule (codes "file") ∷ number_rule (codes "key") 0 8 (codes "0") ∷ text_rule (codes "from") ∷ text_rule (codes "to")
-      ∷ first_rule ∷ usual_rule (codes "as") (codes "text") ∷ text_rule (codes "cut") ∷ text_rule (codes "deck") ∷ name_rule ∷ flag_rule (codes "quiet") ∷ [];
+  rules = word_rule (codes "file") ∷ number_rule (codes "key") 0 8 (codes "0") ∷ text_rule
+      (codes "from") ∷ text_rule (codes "to")
+      ∷ first_rule ∷ usual_rule (codes "as") (codes "text") ∷ text_rule (codes "cut") ∷ text_rule
+      (codes "deck") ∷ name_rule ∷ flag_rule (codes "quiet") ∷ [];
 }
 
 -- `cobol DECK [--fixed]`
 abbrev pub cobol_shape : Shape
-cobol_shape = record (new_shape (codes "cobol")) { rules = word_rule (codes "deck") ∷ flag_rule (codes "fixed") ∷ [] }
+cobol_shape = record (new_shape (codes "cobol")) {
+  rules = word_rule (codes "deck") ∷ flag_rule
+      (codes "fixed") ∷ [];
+}
 
 -- `load DECK --folder DIR --file NAME TEXT [--as FORM] [--into] [--pages N] [--frames N] [--quiet]`
 abbrev pub load_shape : Shape
 load_shape = record (new_shape (codes "load")) {
-  rules = word_rule (codes "deck") ∷ option_rule (codes "folder") ∷ option_rule (codes "file") ∷ word_rule (codes "text") ∷ usual_rule (codes "as") (codes "text")
+  rules = word_rule (codes "deck") ∷ option_rule (codes "folder") ∷ option_rule (codes "file") ∷ word_rule
+      (codes "text") ∷ usual_rule (codes "as") (codes "text")
       ∷ flag_rule (codes "into")
       ∷ number_rule (codes "pages") 16 4294967295 (codes "1048576")
       ∷ number_rule (codes "frames") 1 4096 (codes "64") ∷ flag_rule (codes "quiet") ∷ [];
@@ -128,12 +148,15 @@ lists_app = record {
 abbrev pub records_app : App
 records_app = record {
   top = record program_shape { is_leaf = false };
-  subs = run_shape ∷ check_shape ∷ serve_shape ∷ schema_shape ∷ explain_shape ∷ deck_shape ∷ list_shape ∷ cobol_shape ∷ load_shape ∷ [];
+  subs = run_shape ∷ check_shape ∷ serve_shape ∷ schema_shape ∷ explain_shape ∷ deck_shape ∷ list_shape ∷
+      cobol_shape ∷ load_shape ∷ [];
 }
 
--- one of these, to list or load records, to write a deck in COBOL or to count what a file has, or help or the version
+-- one of these, to list or load records, to write a deck in COBOL or to count what a file has, or
+-- help or the version
 abbrev pub program_app : App
 program_app = record {
   top = record program_shape { is_leaf = false };
-  subs = run_shape ∷ check_shape ∷ serve_shape ∷ schema_shape ∷ explain_shape ∷ deck_shape ∷ list_shape ∷ cobol_shape ∷ load_shape ∷ stat_shape ∷ [];
+  subs = run_shape ∷ check_shape ∷ serve_shape ∷ schema_shape ∷ explain_shape ∷ deck_shape ∷ list_shape ∷
+      cobol_shape ∷ load_shape ∷ stat_shape ∷ [];
 }

@@ -12,8 +12,10 @@ use std::alloc::{AllocError, Global};
 
 /// The limits of a run, of a session or of a load.
 fn limits_of(files: &ArgMatches<'_>) -> Option<Limits>
-    ensures some { IfSome result (λ limits. AreLimits (rows_of (found_of files.now)) limits.pages limits.frames.value) }
-    ensures none { result ≡ None → (pages frames : ℕ) → AreLimits (rows_of (found_of files.now)) pages frames → ⊥ }
+    ensures some { IfSome result (λ limits. AreLimits
+        (rows_of (found_of files.now)) limits.pages limits.frames.value) }
+    ensures none { result ≡ None → (pages frames : ℕ)
+        → AreLimits (rows_of (found_of files.now)) pages frames → ⊥ }
 {
     let pages = files.get_one("pages")?;
     let frames = files.get_one("frames")?;
@@ -23,7 +25,8 @@ fn limits_of(files: &ArgMatches<'_>) -> Option<Limits>
 /// The run that the matches ask for, if they ask for one.
 fn run_of<'a>(matches: &ArgMatches<'a>) -> Option<Request<'a>>
     ensures some { IfSome result (IsMet (subcommand_rows_of matches.now)) }
-    ensures none { result ≡ None → (deck folder : List ℕ) (pages frames : ℕ) → IsRun (subcommand_rows_of matches.now) deck folder pages frames → ⊥ }
+    ensures none { result ≡ None → (deck folder : List ℕ) (pages frames : ℕ)
+        → IsRun (subcommand_rows_of matches.now) deck folder pages frames → ⊥ }
 {
     let run = matches.subcommand_matches("run")?;
     let deck = run.get_str("deck")?;
@@ -47,7 +50,8 @@ fn quiet_of(long: &ArgMatches<'_>) -> Option<bool>
 /// The checks that the matches ask for, if they ask for some.
 fn check_of<'a>(alloc: Global, matches: &ArgMatches<'a>) -> Result<Option<Request<'a>>, AllocError>
     ensures some { IfOk result (λ found. IfSome found (IsMet (subcommand_rows_of matches.now))) }
-    ensures none { IfOk result (λ found. found ≡ None → (files : List (List ℕ)) (quiet : Bool) → IsCheck (subcommand_rows_of matches.now) files quiet → ⊥) }
+    ensures none { IfOk result (λ found. found ≡ None → (files : List (List ℕ)) (quiet : Bool)
+        → IsCheck (subcommand_rows_of matches.now) files quiet → ⊥) }
 {
     let check = match matches.subcommand_matches("check") {
         Some(check) => check,
@@ -69,7 +73,8 @@ fn check_of<'a>(alloc: Global, matches: &ArgMatches<'a>) -> Result<Option<Reques
 /// The session that the matches ask for, if they ask for one.
 fn serve_of<'a>(matches: &ArgMatches<'a>) -> Option<Request<'a>>
     ensures some { IfSome result (IsMet (subcommand_rows_of matches.now)) }
-    ensures none { result ≡ None → (folder : List ℕ) (pages frames : ℕ) → IsServe (subcommand_rows_of matches.now) folder pages frames → ⊥ }
+    ensures none { result ≡ None → (folder : List ℕ) (pages frames : ℕ)
+        → IsServe (subcommand_rows_of matches.now) folder pages frames → ⊥ }
 {
     let serve = matches.subcommand_matches("serve")?;
     let folder = serve.get_str("folder")?;
@@ -80,7 +85,8 @@ fn serve_of<'a>(matches: &ArgMatches<'a>) -> Option<Request<'a>>
 /// The schema that the matches ask for, if they ask for one.
 fn schema_of<'a>(matches: &ArgMatches<'a>) -> Option<Request<'a>>
     ensures some { IfSome result (IsMet (subcommand_rows_of matches.now)) }
-    ensures none { result ≡ None → (file : List ℕ) (deck name : Option (List ℕ)) → IsSchema (subcommand_rows_of matches.now) file deck name → ⊥ }
+    ensures none { result ≡ None → (file : List ℕ) (deck name : Option (List ℕ))
+        → IsSchema (subcommand_rows_of matches.now) file deck name → ⊥ }
 {
     let schema = matches.subcommand_matches("schema")?;
     let file = schema.get_str("file")?;
@@ -94,7 +100,8 @@ fn schema_of<'a>(matches: &ArgMatches<'a>) -> Option<Request<'a>>
 /// The explanation that the matches ask for, if they ask for one.
 fn explain_of<'a>(matches: &ArgMatches<'a>) -> Option<Request<'a>>
     ensures some { IfSome result (IsMet (subcommand_rows_of matches.now)) }
-    ensures none { result ≡ None → (kind number : List ℕ) → IsExplain (subcommand_rows_of matches.now) kind number → ⊥ }
+    ensures none { result ≡ None → (kind number : List ℕ)
+        → IsExplain (subcommand_rows_of matches.now) kind number → ⊥ }
 {
     let explain = matches.subcommand_matches("explain")?;
     let kind = explain.get_str("kind")?;
@@ -129,7 +136,8 @@ fn form_of<'a>(list: &ArgMatches<'a>) -> Option<FormWords<'a>>
 /// The list that the matches ask for, if they ask for one.
 fn list_of<'a>(matches: &ArgMatches<'a>) -> Option<Request<'a>>
     ensures some { IfSome result (IsMet (subcommand_rows_of matches.now)) }
-    ensures none { result ≡ None → (file : List ℕ) (key : ℕ) (from to : Option (List ℕ)) (first : ℕ) (form : FormText) (quiet : Bool)
+    ensures none { result ≡ None → (file : List ℕ) (key : ℕ) (from to : Option (List ℕ)) (first : ℕ)
+        (form : FormText) (quiet : Bool)
         → IsList (subcommand_rows_of matches.now) file key from to first form quiet → ⊥ }
 {
     let list = matches.subcommand_matches("list")?;
@@ -152,7 +160,8 @@ fn list_of<'a>(matches: &ArgMatches<'a>) -> Option<Request<'a>>
 /// The program in COBOL that the matches ask for, if they ask for one.
 fn cobol_of<'a>(matches: &ArgMatches<'a>) -> Option<Request<'a>>
     ensures some { IfSome result (IsMet (subcommand_rows_of matches.now)) }
-    ensures none { result ≡ None → (deck : List ℕ) (fixed : Bool) → IsCobol (subcommand_rows_of matches.now) deck fixed → ⊥ }
+    ensures none { result ≡ None → (deck : List ℕ) (fixed : Bool)
+        → IsCobol (subcommand_rows_of matches.now) deck fixed → ⊥ }
 {
     let cobol = matches.subcommand_matches("cobol")?;
     let deck = cobol.get_str("deck")?;
@@ -163,7 +172,8 @@ fn cobol_of<'a>(matches: &ArgMatches<'a>) -> Option<Request<'a>>
 /// The load that the matches ask for, if they ask for one.
 fn load_of<'a>(matches: &ArgMatches<'a>) -> Option<Request<'a>>
     ensures some { IfSome result (IsMet (subcommand_rows_of matches.now)) }
-    ensures none { result ≡ None → (deck folder file text form : List ℕ) (into : Bool) (pages frames : ℕ) (quiet : Bool)
+    ensures none { result ≡ None → (deck folder file text form : List ℕ) (into : Bool) (pages frames : ℕ)
+        (quiet : Bool)
         → IsLoad (subcommand_rows_of matches.now) deck folder file text form into pages frames quiet → ⊥ }
 {
     let load = matches.subcommand_matches("load")?;
@@ -197,7 +207,8 @@ fn stat_of<'a>(matches: &ArgMatches<'a>) -> Option<Request<'a>>
     Some(Request::Stat { file })
 }
 
-/// A run, a session, a schema, an explanation or the list of a deck that the matches ask for, if they ask for one.
+/// A run, a session, a schema, an explanation or the list of a deck that the matches ask for, if
+/// they ask for one.
 fn run_or_list_of<'a>(matches: &ArgMatches<'a>) -> Option<Request<'a>>
     ensures some { IfSome result (IsMet (subcommand_rows_of matches.now)) }
     ensures none { result ≡ None → IsNoRunOrList (subcommand_rows_of matches.now) }

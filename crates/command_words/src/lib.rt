@@ -1,8 +1,10 @@
-//! What the words of a command line ask the program for: a run, checks, a session, a schema, an explanation, the list of a deck, the records of a file, a
-//! program in COBOL, a load, a count, or help.
+//! What the words of a command line ask the program for: a run, checks, a session, a schema, an
+//! explanation, the list of a deck, the records of a file, a program in COBOL, a load, a count, or
+//! help.
 //!
-//! The words are parsed by `clap`. What they ask for is a definition over its own of what an option's value is, so `read_words` says in both outcomes
-//! which words ask for what. The texts of help and usage are shown by tests.
+//! The words are parsed by `clap`. What they ask for is a definition over its own of what an
+//! option's value is, so `read_words` says in both outcomes which words ask for what. The texts of
+//! help and usage are shown by tests.
 //!
 //! Read `specs/Asks.antt`, then `request`; `subcommands` has the words and options of each.
 #![tactic(auto)]

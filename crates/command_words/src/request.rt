@@ -31,7 +31,8 @@ pub enum Request<'a> {
         folder: &'a str,
         limits: Limits,
     },
-    /// The schema of the file of this path, by its first page; or how it differs from that of the file of this name in a deck.
+    /// The schema of the file of this path, by its first page; or how it differs from that of the
+    /// file of this name in a deck.
     Schema {
         file: &'a str,
         deck: Option<&'a str>,
@@ -46,8 +47,8 @@ pub enum Request<'a> {
     Deck {
         deck: &'a str,
     },
-    /// The records of the file of this path, in the order of a key: from this value on, to that one, and so many at most, in this form; without progress where it
-    /// is quiet.
+    /// The records of the file of this path, in the order of a key: from this value on, to that
+    /// one, and so many at most, in this form; without progress where it is quiet.
     List {
         file: &'a str,
         key: u8,
@@ -62,8 +63,9 @@ pub enum Request<'a> {
         deck: &'a str,
         fixed: bool,
     },
-    /// To write the lines of the text of this path, or of standard input where it is `-`, which are in this form, as records into the file of this name in the deck in
-    /// the file of a path: into the file that is there, or into a new one; without progress where it is quiet.
+    /// To write the lines of the text of this path, or of standard input where it is `-`, which are
+    /// in this form, as records into the file of this name in the deck in the file of a path: into
+    /// the file that is there, or into a new one; without progress where it is quiet.
     Load {
         deck: &'a str,
         folder: &'a str,
@@ -97,7 +99,8 @@ impl Request<'_> {
 /// What an error of the parse means: it shows help, or tells a mistake.
 fn without_matches<'a>(error: Error) -> Result<Request<'a>, WordsFault>
     ensures help { IfOk result (λ request. (request ≡ Request.Help error) × IsShown error) }
-    ensures mistake { IfErr result (λ fault. (text : _) → fault ≡ WordsFault.Usage text → (text ≡ error) × (IsShown error → ⊥) × (kind_of error ≢ ErrorKind.OutOfMemory)) }
+    ensures mistake { IfErr result (λ fault. (text : _) → fault ≡ WordsFault.Usage text → (text ≡ error)
+        × (IsShown error → ⊥) × (kind_of error ≢ ErrorKind.OutOfMemory)) }
 {
     if error.kind() == ErrorKind::OutOfMemory {
         return Err(WordsFault::Memory);
@@ -109,10 +112,12 @@ fn without_matches<'a>(error: Error) -> Result<Request<'a>, WordsFault>
     }
 }
 
-/// What the words ask for, of which the first is the program's name. `Usage`: they are not understood. `Memory`.
+/// What the words ask for, of which the first is the program's name. `Usage`: they are not
+/// understood. `Memory`.
 pub fn read_words<'a>(alloc: Global, words: &'a [String]) -> Result<Request<'a>, WordsFault>
     ensures asked { IfOk result (Ask (map string_bytes words.entry.now)) }
-    ensures nothing { IfErr result (λ fault. (text : _) → fault ≡ WordsFault.Usage text → AskNothing (map string_bytes words.entry.now) text) }
+    ensures nothing { IfErr result (λ fault. (text : _) → fault ≡ WordsFault.Usage text
+        → AskNothing (map string_bytes words.entry.now) text) }
 {
     let mut command = command(alloc)?;
     match command.try_get_matches_from_mut(words) {

@@ -14,7 +14,8 @@ use std::alloc::{AllocError, Global};
 /// `run` or `load` with its deck and its folder.
 fn with_files<'a>(alloc: Global, run: Command<'a>) -> Result<Command<'a>, AllocError>
     requires { (out-Command run).has_globals ≡ false }
-    ensures shape { IfOk result (λ command. app_of command ≡ with_rule (with_rule (app_of run.entry) (word_rule (codes "deck"))) (option_rule (codes "folder"))) }
+    ensures shape { IfOk result (λ command. app_of command ≡ with_rule
+        (with_rule (app_of run.entry) (word_rule (codes "deck"))) (option_rule (codes "folder"))) }
     ensures local { IfOk result (λ command. (out-Command command).has_globals ≡ false) }
 {
     run.arg(deck(alloc))?
@@ -24,7 +25,9 @@ fn with_files<'a>(alloc: Global, run: Command<'a>) -> Result<Command<'a>, AllocE
 /// `run`, `serve` or `load` with its limits.
 fn with_limits<'a>(alloc: Global, files: Command<'a>) -> Result<Command<'a>, AllocError>
     requires { (out-Command files).has_globals ≡ false }
-    ensures shape { IfOk result (λ command. app_of command ≡ with_rule (with_rule (app_of files.entry) (number_rule (codes "pages") 16 4294967295 (codes "1048576"))) (number_rule (codes "frames") 1 4096 (codes "64"))) }
+    ensures shape { IfOk result (λ command. app_of command ≡ with_rule
+        (with_rule (app_of files.entry) (number_rule (codes "pages") 16 4294967295 (codes "1048576")))
+        (number_rule (codes "frames") 1 4096 (codes "64"))) }
     ensures local { IfOk result (λ command. (out-Command command).has_globals ≡ false) }
 {
     let pages = number(
@@ -49,7 +52,8 @@ fn with_limits<'a>(alloc: Global, files: Command<'a>) -> Result<Command<'a>, All
 /// `check`, `list` or `load` with the option by which it shows no progress.
 fn with_quiet<'a>(alloc: Global, long: Command<'a>) -> Result<Command<'a>, AllocError>
     requires { (out-Command long).has_globals ≡ false }
-    ensures shape { IfOk result (λ command. app_of command ≡ with_rule (app_of long.entry) (flag_rule (codes "quiet"))) }
+    ensures shape { IfOk result (λ command. app_of command ≡ with_rule (app_of long.entry)
+        (flag_rule (codes "quiet"))) }
     ensures local { IfOk result (λ command. (out-Command command).has_globals ≡ false) }
 {
     long.arg(flag(
@@ -106,7 +110,8 @@ fn with_deck<'a>(
     help: &'a str,
 ) -> Result<Command<'a>, AllocError>
     requires { (out-Command listed).has_globals ≡ false }
-    ensures shape { IfOk result (λ command. app_of command ≡ with_rule (with_rule (app_of listed.entry) (text_rule (codes "deck"))) name_rule) }
+    ensures shape { IfOk result (λ command. app_of command ≡ with_rule
+        (with_rule (app_of listed.entry) (text_rule (codes "deck"))) name_rule) }
     ensures local { IfOk result (λ command. (out-Command command).has_globals ≡ false) }
 {
     listed
@@ -162,7 +167,8 @@ fn deck_command<'a>(alloc: Global) -> Result<Command<'a>, AllocError>
 /// The first and the last value of a list.
 fn with_values<'a>(alloc: Global, list: Command<'a>) -> Result<Command<'a>, AllocError>
     requires { (out-Command list).has_globals ≡ false }
-    ensures shape { IfOk result (λ command. app_of command ≡ with_rule (with_rule (app_of list.entry) (text_rule (codes "from"))) (text_rule (codes "to"))) }
+    ensures shape { IfOk result (λ command. app_of command ≡ with_rule
+        (with_rule (app_of list.entry) (text_rule (codes "from"))) (text_rule (codes "to"))) }
     ensures local { IfOk result (λ command. (out-Command command).has_globals ≡ false) }
 {
     let from = text(alloc, "from", "V", "The first value, or its first bytes");
@@ -173,7 +179,8 @@ fn with_values<'a>(alloc: Global, list: Command<'a>) -> Result<Command<'a>, Allo
 /// The bounds of a list.
 fn with_bounds<'a>(alloc: Global, list: Command<'a>) -> Result<Command<'a>, AllocError>
     requires { (out-Command list).has_globals ≡ false }
-    ensures shape { IfOk result (λ command. app_of command ≡ with_rule (with_rule (with_rule (app_of list.entry) (number_rule (codes "key") 0 8 (codes "0")))
+    ensures shape { IfOk result (λ command. app_of command ≡ with_rule
+        (with_rule (with_rule (app_of list.entry) (number_rule (codes "key") 0 8 (codes "0")))
         (text_rule (codes "from"))) (text_rule (codes "to"))) }
     ensures local { IfOk result (λ command. (out-Command command).has_globals ≡ false) }
 {
@@ -191,7 +198,8 @@ fn with_bounds<'a>(alloc: Global, list: Command<'a>) -> Result<Command<'a>, Allo
 /// The form of a list.
 fn with_form<'a>(alloc: Global, list: Command<'a>) -> Result<Command<'a>, AllocError>
     requires { (out-Command list).has_globals ≡ false }
-    ensures shape { IfOk result (λ command. app_of command ≡ with_rule (with_rule (with_rule (with_rule (app_of list.entry) (usual_rule (codes "as") (codes "text")))
+    ensures shape { IfOk result (λ command. app_of command ≡ with_rule
+        (with_rule (with_rule (with_rule (app_of list.entry) (usual_rule (codes "as") (codes "text")))
         (text_rule (codes "cut"))) (text_rule (codes "deck"))) name_rule) }
     ensures local { IfOk result (λ command. (out-Command command).has_globals ≡ false) }
 {
@@ -253,7 +261,8 @@ fn cobol_command<'a>(alloc: Global) -> Result<Command<'a>, AllocError>
 /// A load with the name of its file, and its text.
 fn with_names<'a>(alloc: Global, load: Command<'a>) -> Result<Command<'a>, AllocError>
     requires { (out-Command load).has_globals ≡ false }
-    ensures shape { IfOk result (λ command. app_of command ≡ with_rule (with_rule (app_of load.entry) (option_rule (codes "file"))) (word_rule (codes "text"))) }
+    ensures shape { IfOk result (λ command. app_of command ≡ with_rule
+        (with_rule (app_of load.entry) (option_rule (codes "file"))) (word_rule (codes "text"))) }
     ensures local { IfOk result (λ command. (out-Command command).has_globals ≡ false) }
 {
     let file = option(
@@ -274,7 +283,8 @@ fn with_names<'a>(alloc: Global, load: Command<'a>) -> Result<Command<'a>, Alloc
 /// The options of a load, and its text.
 fn with_text<'a>(alloc: Global, load: Command<'a>) -> Result<Command<'a>, AllocError>
     requires { (out-Command load).has_globals ≡ false }
-    ensures shape { IfOk result (λ command. app_of command ≡ with_rule (with_rule (with_rule (with_rule (app_of load.entry) (option_rule (codes "file")))
+    ensures shape { IfOk result (λ command. app_of command ≡ with_rule
+        (with_rule (with_rule (with_rule (app_of load.entry) (option_rule (codes "file")))
         (word_rule (codes "text"))) (usual_rule (codes "as") (codes "text"))) (flag_rule (codes "into"))) }
     ensures local { IfOk result (λ command. (out-Command command).has_globals ≡ false) }
 {

@@ -16,8 +16,10 @@ use std::fmt;
 /// The most bytes of a word that are told.
 const TOLD_LIMIT: usize = 31;
 
-/// The line at which a deck goes wrong, the word there, at most 31 bytes of it, or none, why, and what else there is to say. It is written as `line 26, word X(12:
-/// no picture; a picture is X(n) or 9(n)`, with a further line, behind two spaces, for each of the hints, and no line end behind the last.
+/// The line at which a deck goes wrong, the word there, at most 31 bytes of it, or none, why, and
+/// what else there is to say. It is written as `line 26, word X(12: no picture; a picture is X(n)
+/// or 9(n)`, with a further line, behind two spaces, for each of the hints, and no line end behind
+/// the last.
 #[derive(Debug, Drop)]
 pub struct Diagnosis {
     pub line: u64,
@@ -160,8 +162,9 @@ fn found<'a>(
     found_along(alloc, bytes, &words, fault)
 }
 
-/// Why a deck is refused with a fault, in words: what is told of the deck, or nothing but the line where nothing is found. It has to be the fault with which
-/// `read_deck` refuses the deck: of another one something is told that has nothing to do with it.
+/// Why a deck is refused with a fault, in words: what is told of the deck, or nothing but the line
+/// where nothing is found. It has to be the fault with which `read_deck` refuses the deck: of
+/// another one something is told that has nothing to do with it.
 pub fn diagnose(alloc: Global, bytes: &[u8], fault: DeckFault) -> Result<Diagnosis, AllocError>
     ensures { IfOk result (TellsOf bytes.now) }
 {

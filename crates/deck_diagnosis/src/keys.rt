@@ -171,7 +171,8 @@ fn of_file<'a>(
     Ok(None)
 }
 
-/// What is found at items that are no record, or at keys that are none, of a file whose SELECT or FD is in this line; or at a 77 item of this line.
+/// What is found at items that are no record, or at keys that are none, of a file whose SELECT or
+/// FD is in this line; or at a 77 item of this line.
 pub fn bad_layout<'a>(
     alloc: Global,
     outline: &Outline<'a>,

@@ -1,6 +1,6 @@
--- The divisions before the procedure: file control entries, file descriptions, and the working storage.
--- ANSI X3.23-1985, Nucleus and Indexed I-O modules: identification, environment and data divisions. Which paragraphs and
--- sections there are is ours.
+-- The divisions before the procedure: file control entries, file descriptions, and the working
+-- storage. ANSI X3.23-1985, Nucleus and Indexed I-O modules: identification, environment and data
+-- divisions. Which paragraphs and sections there are is ours.
 use Rattle.std.specs.Prelude.{ℕ, List, [], codes, Option, Some, None, option_map, option_and_then}
 use Rattle.deck_words.specs.Rule.{Rule, optional, onto, where_it_gives, each_behind}
 use Rattle.deck_words.specs.Notation.{the, name, period, ◌▸◌, ◌⊗◌, ◌<$>◌}
@@ -16,7 +16,8 @@ heading first second = the first ▸ the second ▸ period
 
 -- IDENTIFICATION DIVISION . PROGRAM-ID . name .
 unfoldable pub identification : Rule (Unit {0})
-identification = heading (codes "IDENTIFICATION") (codes "DIVISION") ▸ the (codes "PROGRAM-ID") ▸ period ▸ name ▸ period
+identification = heading (codes "IDENTIFICATION") (codes "DIVISION") ▸ the
+    (codes "PROGRAM-ID") ▸ period ▸ name ▸ period
 
 unfoldable pub may_identification : Rule (Unit {0})
 may_identification = (λ _. tt) <$> optional identification
@@ -33,7 +34,8 @@ entries = each_behind more_entry []
 -- [IDENTIFICATION ..] ENVIRONMENT DIVISION . INPUT-OUTPUT SECTION . FILE-CONTROL . {select}..
 unfoldable pub file_control_paragraph : Rule (List FileControlEntry)
 file_control_paragraph =
-    may_identification ▸ heading (codes "ENVIRONMENT") (codes "DIVISION") ▸ heading (codes "INPUT-OUTPUT") (codes "SECTION")
+    may_identification ▸ heading (codes "ENVIRONMENT") (codes "DIVISION") ▸ heading (codes "INPUT-OUTPUT")
+    (codes "SECTION")
     ▸ the (codes "FILE-CONTROL") ▸ period ▸ entries
 
 -- ---- data division
@@ -48,7 +50,8 @@ descriptions selected = each_behind (more_description selected) []
 -- DATA DIVISION . FILE SECTION . {fd}..
 unfoldable pub file_section : List FileControlEntry → Rule (List FileDescription)
 file_section selected =
-    heading (codes "DATA") (codes "DIVISION") ▸ heading (codes "FILE") (codes "SECTION") ▸ descriptions selected
+    heading (codes "DATA") (codes "DIVISION") ▸ heading (codes "FILE")
+    (codes "SECTION") ▸ descriptions selected
 
 abbrev pub listed : {A : Type 0} → Option (List A) → List A
 listed None = []
@@ -75,4 +78,11 @@ SpellsDivisions written words rest =
 -- what is read, and the rest
 abbrev pub reads_divisions : List Word → Option (Divisions × List Word)
 reads_divisions words =
-    option_and_then (λ a. option_map (λ b. (record { entries = a.0; descriptions = b.0.0; storage = b.0.1 }, b.1)) ((data_division a.0).reads a.1)) (file_control_paragraph.reads words)
+    option_and_then (λ a. option_map (λ b. (
+      record {
+        entries = a.0;
+        descriptions = b.0.0;
+        storage = b.0.1;
+      },
+      b.1,
+    )) ((data_division a.0).reads a.1)) (file_control_paragraph.reads words)

@@ -1,6 +1,6 @@
 -- The file control entry.
--- ANSI X3.23-1985, Indexed I-O module, FILE-CONTROL entry. Which clauses there are, that INDEXED and RECORD KEY have to
--- stand, and what a file name is, is ours.
+-- ANSI X3.23-1985, Indexed I-O module, FILE-CONTROL entry. Which clauses there are, that INDEXED
+-- and RECORD KEY have to stand, and what a file name is, is ours.
 use Rattle.std.specs.Prelude.{ℕ, ◌==◌, Bool, true, false, ◌&&◌, ◌||◌, List, [], ◌∷◌, ◌++◌, length, nat_le, nat_lt, unwrap_or, if◌then◌else◌, codes, Option, Some, None, option_map}
 use Rattle.std.specs.Char.{is_ascii_digit}
 use Rattle.std.specs.List.{list_all, list_any}
@@ -12,7 +12,8 @@ use Rattle.deck_words.specs.Rule.{Rule, optional, some_onto, where_it_gives}
 use Rattle.deck_words.specs.Notation.{the, name, literal, period, ◌▸◌, ◌◂◌, ◌⊗◌, ◌∣◌, ◌<$>◌, is_there, may}
 use Rattle.record_layout.specs.SchemaFault.{KeyClause}
 
--- a file, as its entry describes it: its name in the program, the name of its file in the folder, and its keys
+-- a file, as its entry describes it: its name in the program, the name of its file in the folder,
+-- and its keys
 pub record FileControlEntry : Type 0 where
   pub name : List ℕ
   pub file_name : List ℕ
@@ -89,8 +90,10 @@ once (Some _) said = None
 -- with one clause more, unless it is one a second time, or a ninth alternate
 abbrev pub with_clause : Clauses → Clause → Option Clauses
 with_clause clauses Indexed = if clauses.indexed then None else Some (record clauses { indexed = true })
-with_clause clauses (AccessMode mode) = option_map (λ access. record clauses { access = access }) (once clauses.access mode)
-with_clause clauses (RecordKey key) = option_map (λ k. record clauses { record_key = k }) (once clauses.record_key key)
+with_clause clauses (AccessMode mode) = option_map (λ access. record clauses { access = access })
+    (once clauses.access mode)
+with_clause clauses (RecordKey key) = option_map (λ k. record clauses { record_key = k })
+    (once clauses.record_key key)
 with_clause clauses (Alternate key) =
     if nat_lt (length clauses.alternate_keys) 8
     then Some (record clauses { alternate_keys = clauses.alternate_keys ++ key ∷ [] }) else None
@@ -136,7 +139,8 @@ entry_of parts =
 
 -- a deck has at most eight entries
 unfoldable pub select_word : List FileControlEntry → Rule (Unit {0})
-select_word earlier = where_it_gives (λ _. if nat_lt (length earlier) 8 then Some tt else None) (the (codes "SELECT"))
+select_word earlier = where_it_gives (λ _. if nat_lt (length earlier) 8 then Some tt else None)
+    (the (codes "SELECT"))
 
 abbrev pub is_selected : List FileControlEntry → List ℕ → Bool
 is_selected earlier name = list_any (λ entry. bytes_eq entry.name name) earlier
@@ -150,7 +154,8 @@ new_name earlier = where_it_gives (λ text. if is_selected earlier text then Non
 
 -- a file name of no earlier entry
 unfoldable pub new_file_name : List FileControlEntry → Rule (List ℕ)
-new_file_name earlier = where_it_gives (λ text. if is_assigned earlier text then None else Some text) file_name
+new_file_name earlier = where_it_gives (λ text. if is_assigned earlier text then None else Some text)
+    file_name
 
 -- SELECT [OPTIONAL] name ASSIGN [TO] literal {clause}.. .
 unfoldable pub select_behind : List FileControlEntry → Rule FileControlEntry

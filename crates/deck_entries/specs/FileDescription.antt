@@ -1,6 +1,6 @@
--- File description entries, their items, and the items of the working storage.
--- ANSI X3.23-1985, Indexed I-O module, file description entry, and Nucleus module, data description entry. Which clauses
--- there are is ours.
+-- File description entries, their items, and the items of the working storage. ANSI X3.23-1985,
+-- Indexed I-O module, file description entry, and Nucleus module, data description entry. Which
+-- clauses there are is ours.
 use Rattle.std.specs.Prelude.{ℕ, Bool, true, false, not, ◌&&◌, List, [], ◌∷◌, ◌++◌, nat_le, if◌then◌else◌, codes, Option, Some, None}
 use Rattle.std.specs.List.{list_any}
 use Rattle.std.specs.Str.{bytes_eq}
@@ -63,7 +63,8 @@ varying_of lengths = Varying (record { least = lengths.0; greatest = lengths.1.0
 -- [IS] VARYING [IN] [SIZE] [FROM] number TO number [CHARACTERS] DEPENDING [ON] name
 unfoldable pub varying : Rule RecordLength
 varying =
-    varying_of <$> may (codes "IS") ▸ the (codes "VARYING") ▸ may (codes "IN") ▸ may (codes "SIZE") ▸ may (codes "FROM")
+    varying_of <$> may (codes "IS") ▸ the (codes "VARYING") ▸ may (codes "IN") ▸ may (codes "SIZE") ▸ may
+    (codes "FROM")
     ▸ count ⊗ (the (codes "TO") ▸ count)
     ⊗ (may (codes "CHARACTERS") ▸ the (codes "DEPENDING") ▸ may (codes "ON") ▸ name)
 
@@ -140,7 +141,8 @@ is_described earlier name = list_any (λ description. bytes_eq description.name 
 -- the name of an entry that no earlier description has
 unfoldable pub described_name : List FileControlEntry → List FileDescription → Rule (List ℕ)
 described_name entries earlier =
-    where_it_gives (λ text. if is_selected entries text && not (is_described earlier text) then Some text else None) name
+    where_it_gives (λ text. if is_selected entries text
+    && not (is_described earlier text) then Some text else None) name
 
 abbrev pub description_of : List ℕ × (Clauses × List Entry) → FileDescription
 description_of parts = record { name = parts.0; lengths = parts.1.0.lengths; items = parts.1.1 }

@@ -107,7 +107,8 @@ fn described_name(
     entries: &[Selected],
     earlier: &[Described],
 ) -> Result<Name, Refusal>
-    ensures { Reads ((described_name entries.now earlier.now).reads parser.old) (map_result (λ name. name.bytes) result) parser.new }
+    ensures { Reads ((described_name entries.now earlier.now).reads parser.old)
+        (map_result (λ name. name.bytes) result) parser.new }
 {
     let unknown = parser.fault(Cause::Unknown);
     let twice = parser.fault(Cause::Twice);

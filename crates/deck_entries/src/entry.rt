@@ -8,7 +8,8 @@ use io_state::{Access, FileName, Name};
 use std::alloc::{AllocError, Global};
 use std::marker::Model;
 
-/// Alternate keys in the order of their clauses: the item that is the key, and whether records may share a value of it.
+/// Alternate keys in the order of their clauses: the item that is the key, and whether records may
+/// share a value of it.
 #[derive(Drop)]
 pub struct AlternateKeys {
     keys: Vec<(Name, bool)>,
@@ -56,8 +57,8 @@ impl AlternateKeys {
     }
 }
 
-/// A file, as its entry describes it: its name in the program, the name of its file in the folder, and its keys. Contracts see
-/// the names as their bytes.
+/// A file, as its entry describes it: its name in the program, the name of its file in the folder,
+/// and its keys. Contracts see the names as their bytes.
 #[derive(Drop)]
 pub struct FileControlEntry {
     pub name: Name,

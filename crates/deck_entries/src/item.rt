@@ -48,7 +48,8 @@ impl Items {
         name: Option<Name>,
         picture: Option<Name>,
     ) -> Result<(), AllocError>
-        ensures { OnOk result (self.new ≡ self.old ++ entry_of (record { level = level; name = name; picture = picture }) ∷ []) }
+        ensures { OnOk result (self.new ≡ self.old ++ entry_of
+            (record { level = level; name = name; picture = picture }) ∷ []) }
     {
         self.items.push(Item {
             level,
@@ -81,7 +82,8 @@ fn level(parser: &mut Parser<'_>) -> Result<u8, Refusal>
 
 #[tactic(auto, unfolding(crate::specs::FileDescription::item_name, deck_words::specs::Notation::the, deck_words::specs::Notation::name))]
 fn item_name(parser: &mut Parser<'_>) -> Result<Option<Name>, Refusal>
-    ensures { Reads (item_name.reads parser.old) (map_result (λ n. option_map (λ name. name.bytes) n) result) parser.new }
+    ensures { Reads (item_name.reads parser.old) (map_result
+        (λ n. option_map (λ name. name.bytes) n) result) parser.new }
 {
     if parser.sees_name() {
         let name = parser.name()?;
@@ -93,7 +95,8 @@ fn item_name(parser: &mut Parser<'_>) -> Result<Option<Name>, Refusal>
 
 #[tactic(auto, unfolding(crate::specs::FileDescription::may_item_name, crate::specs::FileDescription::item_name, deck_words::specs::Notation::the, deck_words::specs::Notation::name))]
 fn may_item_name(parser: &mut Parser<'_>) -> Result<Option<Name>, Refusal>
-    ensures { Reads (may_item_name.reads parser.old) (map_result (λ n. option_map (λ name. name.bytes) n) result) parser.new }
+    ensures { Reads (may_item_name.reads parser.old)
+        (map_result (λ n. option_map (λ name. name.bytes) n) result) parser.new }
 {
     if parser.sees_name_or(b"FILLER") {
         return item_name(parser);
@@ -112,7 +115,8 @@ pub fn picture_clause(parser: &mut Parser<'_>) -> Result<Name, Refusal>
 
 #[tactic(auto, unfolding(crate::specs::FileDescription::may_picture_clause, crate::specs::FileDescription::picture_clause, deck_words::specs::Notation::the))]
 fn may_picture_clause(parser: &mut Parser<'_>) -> Result<Option<Name>, Refusal>
-    ensures { Reads (may_picture_clause.reads parser.old) (map_result (λ n. option_map (λ name. name.bytes) n) result) parser.new }
+    ensures { Reads (may_picture_clause.reads parser.old)
+        (map_result (λ n. option_map (λ name. name.bytes) n) result) parser.new }
 {
     if parser.sees_one_of(&[b"PIC", b"PICTURE"]) {
         let picture = picture_clause(parser)?;

@@ -1,11 +1,11 @@
-//! The entries of a deck up to its procedure, as they are written: file control entries, file descriptions with their items, and
-//! the items of the working storage.
+//! The entries of a deck up to its procedure, as they are written: file control entries, file
+//! descriptions with their items, and the items of the working storage.
 //!
-//! `read_divisions` answers exactly what the divisions before the procedure spell by the grammar. Whether items are a layout and
-//! keys are items of a record is not known here.
+//! `read_divisions` answers exactly what the divisions before the procedure spell by the grammar.
+//! Whether items are a layout and keys are items of a record is not known here.
 //!
-//! Read `specs/FileControlEntry.antt`, `specs/FileDescription.antt` and `specs/Divisions.antt` for the grammar, and then
-//! `divisions`.
+//! Read `specs/FileControlEntry.antt`, `specs/FileDescription.antt` and `specs/Divisions.antt` for
+//! the grammar, and then `divisions`.
 #![tactic(auto)]
 
 mod clauses;

@@ -9,8 +9,8 @@ use deck_words::{Parser, Refusal};
 use io_state::Name;
 use std::marker::Model;
 
-/// The least and the greatest length of records, and the item that has the length of one. Lengths are counted up to 4,001.
-/// Contracts see the item's name as its bytes.
+/// The least and the greatest length of records, and the item that has the length of one. Lengths
+/// are counted up to 4,001. Contracts see the item's name as its bytes.
 #[derive(Drop)]
 pub struct VaryingLength {
     pub least: u64,

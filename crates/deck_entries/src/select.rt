@@ -203,7 +203,8 @@ fn select_word(parser: &mut Parser<'_>, earlier: &[Selected]) -> Result<(), Refu
 
 #[tactic(auto, unfolding(crate::specs::FileControlEntry::new_name))]
 fn new_name(parser: &mut Parser<'_>, earlier: &[Selected]) -> Result<Name, Refusal>
-    ensures { Reads ((new_name earlier.now).reads parser.old) (map_result (λ name. name.bytes) result) parser.new }
+    ensures { Reads ((new_name earlier.now).reads parser.old)
+        (map_result (λ name. name.bytes) result) parser.new }
 {
     let twice = parser.fault(Cause::Twice);
     let name = parser.name()?;
@@ -220,7 +221,8 @@ fn new_file_name(
     alloc: Global,
     earlier: &[Selected],
 ) -> Result<FileName, Refusal>
-    ensures { Reads ((new_file_name earlier.now).reads parser.old) (map_result (λ name. name.bytes) result) parser.new }
+    ensures { Reads ((new_file_name earlier.now).reads parser.old)
+        (map_result (λ name. name.bytes) result) parser.new }
 {
     let twice = parser.fault(Cause::Twice);
     let name = file_name(parser, alloc)?;

@@ -1,8 +1,8 @@
-//! What is found at the words of a deck, before any name is looked up: bytes that are no word, a word with which no deck goes on, a clause a second time, too
-//! much or too many.
+//! What is found at the words of a deck, before any name is looked up: bytes that are no word, a
+//! word with which no deck goes on, a clause a second time, too much or too many.
 //!
-//! A finding has a word, why it is told, and further lines. What is found is a heuristic, shown by cases; nothing is proved of it but that it is safe. Its
-//! texts are bounded by their types.
+//! A finding has a word, why it is told, and further lines. What is found is a heuristic, shown by
+//! cases; nothing is proved of it but that it is safe. Its texts are bounded by their types.
 //!
 //! Read `finding`, then `mistake`, which has what is said of a word that cannot stand where it stands.
 #![tactic(auto)]

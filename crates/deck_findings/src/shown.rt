@@ -5,7 +5,8 @@ use std::fmt;
 /// The most bytes of a word that are shown.
 const SHOWN_LIMIT: usize = 30;
 
-/// Bytes of a deck: the first of them, with a question mark for each that cannot be printed, and three points where more follow.
+/// Bytes of a deck: the first of them, with a question mark for each that cannot be printed, and
+/// three points where more follow.
 #[derive(Clone, Copy)]
 pub struct Shown<'a>(pub &'a [u8]);
 

@@ -22,26 +22,31 @@ digits_word false = []
 -- an item: its name, its place from 0, its length, and whether it is of digits
 abbrev pub item_line : Placed → List ℕ
 item_line item =
-    codes "  item " ++ (item_name item.name ++ (codes " offset " ++ (decimal item.field.offset ++ (codes " length "
+    codes "  item " ++ (item_name item.name ++ (codes " offset "
+    ++ (decimal item.field.offset ++ (codes " length "
     ++ (decimal item.field.length ++ (digits_word item.field.numeric ++ codes "\n"))))))
 
 -- ---- keys
 
 -- the item has a name, and is the very bytes of the key
 abbrev pub is_key_item : KeyPart → Placed → Bool
-is_key_item key item = is_some item.name && (item.field.offset == key.offset && item.field.length == key.length)
+is_key_item key item = is_some item.name && (item.field.offset == key.offset
+    && item.field.length == key.length)
 
 -- the name of the first such item
 abbrev pub key_name : List Placed → KeyPart → List ℕ
-key_name layout key = item_name (option_and_then (λ (item : Placed). item.name) (find (is_key_item key) layout))
+key_name layout key = item_name (option_and_then (λ (item : Placed). item.name)
+    (find (is_key_item key) layout))
 
 abbrev pub key_kind : ℕ → Bool → List ℕ
-key_kind k duplicates = if k == 0 then codes "prime" else (if duplicates then codes "duplicates" else codes "unique")
+key_kind k duplicates = if k == 0 then codes "prime" else
+    (if duplicates then codes "duplicates" else codes "unique")
 
 -- a key: its number, its item's name, and whether two records may have one value of it
 abbrev pub key_line : ℕ → List ℕ → KeyPart → List ℕ
 key_line k name key =
-    codes "  key " ++ (decimal k ++ (codes " " ++ (name ++ (codes " offset " ++ (decimal key.offset ++ (codes " length "
+    codes "  key " ++ (decimal k ++ (codes " " ++ (name
+    ++ (codes " offset " ++ (decimal key.offset ++ (codes " length "
     ++ (decimal key.length ++ (codes " " ++ (key_kind k key.duplicates ++ codes "\n")))))))))
 
 -- ---- files
@@ -57,12 +62,14 @@ optional_word false = []
 
 -- the least and the greatest length of records, or the only one
 abbrev pub lengths_text : (least greatest : ℕ) → List ℕ
-lengths_text least greatest = if least == greatest then decimal greatest else decimal least ++ (codes " to " ++ decimal greatest)
+lengths_text least greatest = if least == greatest then decimal greatest else decimal least
+    ++ (codes " to " ++ decimal greatest)
 
 -- a file: its name, its name in the folder, the lengths of its records, and how it is accessed
 abbrev pub heading : (name file lengths access optional : List ℕ) → List ℕ
 heading name file lengths access optional =
-    codes "file " ++ (name ++ (codes " " ++ (file ++ (codes " record " ++ (lengths ++ (codes " access " ++ (access ++ (optional ++ codes "\n"))))))))
+    codes "file " ++ (name ++ (codes " " ++ (file ++ (codes " record "
+    ++ (lengths ++ (codes " access " ++ (access ++ (optional ++ codes "\n"))))))))
 
 -- ---- verbs and paragraphs
 
@@ -83,11 +90,14 @@ verb_text Delete = codes "DELETE"
 -- a verb: its number, the line of the deck, and what it does to which file
 abbrev pub verb_line : ℕ → Verb → List ℕ
 verb_line line verb =
-    codes "verb " ++ (decimal verb.number ++ (codes " line " ++ (decimal line ++ (codes " " ++ (verb_text verb.statement ++ (codes " " ++ (verb.file ++ codes "\n")))))))
+    codes "verb " ++ (decimal verb.number ++ (codes " line "
+    ++ (decimal line ++ (codes " " ++ (verb_text verb.statement
+    ++ (codes " " ++ (verb.file ++ codes "\n")))))))
 
 -- the same without a line
 abbrev pub lineless_verb : Verb → List ℕ
-lineless_verb verb = codes "verb " ++ (decimal verb.number ++ (codes " " ++ (verb_text verb.statement ++ (codes " " ++ (verb.file ++ codes "\n")))))
+lineless_verb verb = codes "verb " ++ (decimal verb.number
+    ++ (codes " " ++ (verb_text verb.statement ++ (codes " " ++ (verb.file ++ codes "\n")))))
 
 abbrev pub paragraph_line : (line : ℕ) (name : List ℕ) → List ℕ
 paragraph_line line name = codes "paragraph " ++ (name ++ (codes " line " ++ (decimal line ++ codes "\n")))

@@ -1,4 +1,5 @@
--- The list of a deck: its files with their items and keys, and its verbs and paragraphs in the order of their lines. All of this is ours.
+-- The list of a deck: its files with their items and keys, and its verbs and paragraphs in the
+-- order of their lines. All of this is ours.
 use Rattle.std.specs.Prelude.{◌≡◌, ℕ, ◌+◌, List, [], ◌∷◌, ◌++◌, flat_map, Option, Some, None}
 use Rattle.record_layout.specs.Layout.{Placed}
 use Rattle.record_layout.specs.declared.schema.KeyPart.{KeyPart}
@@ -24,10 +25,12 @@ key_lines layout k (key ∷ keys) = key_line k (key_name layout key) key ++ key_
 
 abbrev pub heading_of : FileDesc → List ℕ
 heading_of file =
-    heading file.name file.file (lengths_text file.schema.least file.schema.greatest) (access_word file.access) (optional_word file.optional)
+    heading file.name file.file (lengths_text file.schema.least file.schema.greatest)
+    (access_word file.access) (optional_word file.optional)
 
 abbrev pub file_lines : FileDesc → List ℕ
-file_lines file = heading_of file ++ (flat_map item_line file.layout ++ key_lines file.layout 0 file.schema.keys)
+file_lines file = heading_of file ++ (flat_map item_line file.layout
+    ++ key_lines file.layout 0 file.schema.keys)
 
 -- ---- the procedure
 
@@ -50,18 +53,22 @@ left_at VerbWord (verb ∷ verbs) = verbs
 left_at Nothing verbs = verbs
 left_at Paragraph verbs = verbs
 
--- the lines of the words from a place on, where these verbs are still to come: the n-th verb of the deck stands at the n-th word at which a verb stands
+-- the lines of the words from a place on, where these verbs are still to come: the n-th verb of the
+-- deck stands at the n-th word at which a verb stands
 abbrev pub procedure_lines : Place → List Word → List Verb → List ℕ
 procedure_lines place [] verbs = flat_map lineless_verb verbs
 procedure_lines place (word ∷ words) verbs =
     line_at (mark_of place (role_of word)) word verbs
-    ++ procedure_lines (place_behind place (role_of word)) words (left_at (mark_of place (role_of word)) verbs)
+    ++ procedure_lines (place_behind place (role_of word)) words
+    (left_at (mark_of place (role_of word)) verbs)
 
 -- ---- decks
 
 abbrev pub listing : Deck → List Word → List ℕ
-listing deck words = flat_map file_lines deck.files ++ procedure_lines Description words (verbs_behind deck.files [] deck.statements)
+listing deck words = flat_map file_lines deck.files
+    ++ procedure_lines Description words (verbs_behind deck.files [] deck.statements)
 
 -- the text is the list of the deck that the bytes are
 abbrev pub Lists : List ℕ → List ℕ → Type 0
-Lists bytes text = (deck : Deck) × IsDeck bytes deck × ((words : List Word) × HasWords bytes words × (text ≡ listing deck words))
+Lists bytes text = (deck : Deck) × IsDeck bytes deck
+    × ((words : List Word) × HasWords bytes words × (text ≡ listing deck words))

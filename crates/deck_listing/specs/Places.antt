@@ -1,6 +1,6 @@
--- Which words of a deck a verb stands at, and which name a paragraph. All of this is ours.
--- The words are those of a deck that is accepted: so INPUT, READ and the like are no names, and a word directly behind a period, that begins no statement, names a
--- paragraph.
+-- Which words of a deck a verb stands at, and which name a paragraph. All of this is ours. The
+-- words are those of a deck that is accepted: so INPUT, READ and the like are no names, and a word
+-- directly behind a period, that begins no statement, names a paragraph.
 use Rattle.std.specs.Prelude.{ℕ, Bool, ◌||◌, if◌then◌else◌, List, codes}
 use Rattle.std.specs.Str.{bytes_eq}
 use Rattle.deck_words.specs.Word.{Word, WordKind}
@@ -21,7 +21,8 @@ is_files text = bytes_eq text (codes "OPEN") || bytes_eq text (codes "CLOSE")
 -- those that begin a statement on one file
 abbrev pub is_verb : List ℕ → Bool
 is_verb text =
-    bytes_eq text (codes "READ") || bytes_eq text (codes "START") || bytes_eq text (codes "WRITE") || bytes_eq text (codes "REWRITE")
+    bytes_eq text (codes "READ") || bytes_eq text (codes "START") || bytes_eq text (codes "WRITE")
+    || bytes_eq text (codes "REWRITE")
     || bytes_eq text (codes "DELETE")
 
 -- those that begin a statement on none
@@ -31,7 +32,8 @@ is_other text = bytes_eq text (codes "MOVE") || bytes_eq text (codes "STOP")
 -- those that stand among the names of OPEN and CLOSE
 abbrev pub is_phrase : List ℕ → Bool
 is_phrase text =
-    bytes_eq text (codes "INPUT") || bytes_eq text (codes "OUTPUT") || bytes_eq text (codes "I-O") || bytes_eq text (codes "EXTEND")
+    bytes_eq text (codes "INPUT") || bytes_eq text (codes "OUTPUT") || bytes_eq text (codes "I-O")
+    || bytes_eq text (codes "EXTEND")
     || bytes_eq text (codes "WITH") || bytes_eq text (codes "LOCK")
 
 -- what a word may do by its text
@@ -55,7 +57,8 @@ role_of word = role_in word.kind word.text
 
 -- ---- places
 
--- where the word behind stands: in the description, until PROCEDURE was met; behind a period; behind OPEN or CLOSE; or elsewhere in a statement
+-- where the word behind stands: in the description, until PROCEDURE was met; behind a period;
+-- behind OPEN or CLOSE; or elsewhere in a statement
 abbrev pub place_behind : Place → Role → Place
 place_behind Description Heading = Statement
 place_behind Description _ = Description
@@ -67,7 +70,8 @@ place_behind Naming Phrase = Naming
 place_behind Naming Name = Naming
 place_behind _ _ = Statement
 
--- what stands at a word: a verb on one file, the name of a file that is opened or closed, or the name of a paragraph
+-- what stands at a word: a verb on one file, the name of a file that is opened or closed, or the
+-- name of a paragraph
 abbrev pub mark_of : Place → Role → Mark
 mark_of Description _ = Nothing
 mark_of _ Verb = VerbWord

@@ -18,7 +18,8 @@ name_at files u = option_map_or (λ file. file.name) (slice_get files u) []
 
 -- these verbs, and the one that a statement is; MOVE and STOP RUN are none
 abbrev pub with_verb : List FileDesc → List Verb → Statement → List Verb
-with_verb files verbs (Perform u statement) = verbs ++ record { number = length verbs + 1; file = name_at files u; statement = statement } ∷ []
+with_verb files verbs (Perform u statement) = verbs
+    ++ record { number = length verbs + 1; file = name_at files u; statement = statement } ∷ []
 with_verb files verbs (Move u field source) = verbs
 with_verb files verbs (MoveLength i source) = verbs
 with_verb files verbs StopRun = verbs

@@ -14,7 +14,8 @@ fn is_key_item(key: &KeyPart, item: &Placed) -> bool
 
 /// The first item with a name that is the very bytes of a key.
 fn key_item<'a>(items: &'a [Placed], key: &KeyPart) -> Option<&'a Placed>
-    ensures { option_map (λ item. item.now) result ≡ find (λ item. is_key_item key.now (item_of item)) items.now }
+    ensures { option_map (λ item. item.now) result ≡ find
+        (λ item. is_key_item key.now (item_of item)) items.now }
 {
     items.iter().find(|item| is_key_item(key, item))
 }

@@ -1,9 +1,11 @@
 //! The list of a deck: its files with their items and keys, and its verbs and paragraphs with their lines.
 //!
-//! `list_deck` answers exactly the list of the deck that the bytes are, or a fault exactly where they are none. A verb has the number of its line in the
-//! transcript. It stands at the line of its word, and that of an OPEN or a CLOSE at the line of the file's name.
+//! `list_deck` answers exactly the list of the deck that the bytes are, or a fault exactly where
+//! they are none. A verb has the number of its line in the transcript. It stands at the line of its
+//! word, and that of an OPEN or a CLOSE at the line of the file's name.
 //!
-//! Read `specs/Lines.antt` for the lines, `specs/Places.antt` for the words at which a verb stands, `specs/Listing.antt` for the list, and then `listing`.
+//! Read `specs/Lines.antt` for the lines, `specs/Places.antt` for the words at which a verb stands,
+//! `specs/Listing.antt` for the list, and then `listing`.
 #![tactic(auto)]
 
 mod key_name;

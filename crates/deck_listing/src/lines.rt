@@ -100,7 +100,8 @@ pub fn add_heading(
     optional: bool,
 ) -> Result<(), AllocError>
     ensures { OnOk result (string_bytes text.new ≡ string_bytes text.old
-        ++ heading name.now file.now (lengths_text lengths.0 lengths.1) (access_word access) (optional_word optional)) }
+        ++ heading name.now file.now (lengths_text lengths.0 lengths.1) (access_word access)
+        (optional_word optional)) }
 {
     write!(text, "file {name} {file} record ")?;
     add_lengths(text, lengths.0, lengths.1)?;

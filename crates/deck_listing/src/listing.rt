@@ -19,7 +19,8 @@ use std::alloc::{AllocError, Global};
 
 /// Adds the lines of items.
 fn add_items(text: &mut String, items: &[Placed]) -> Result<(), AllocError>
-    ensures { OnOk result (string_bytes text.new ≡ string_bytes text.old ++ flat_map item_line (map item_of items.now)) }
+    ensures { OnOk result (string_bytes text.new ≡ string_bytes text.old
+        ++ flat_map item_line (map item_of items.now)) }
 {
     for item in items {
         add_item(text, item)?;
@@ -29,7 +30,8 @@ fn add_items(text: &mut String, items: &[Placed]) -> Result<(), AllocError>
 
 /// Adds the lines of keys.
 fn add_keys(text: &mut String, items: &[Placed], keys: &[KeyPart]) -> Result<(), AllocError>
-    ensures { OnOk result (string_bytes text.new ≡ string_bytes text.old ++ key_lines (map item_of items.now) 0 keys.now) }
+    ensures { OnOk result (string_bytes text.new ≡ string_bytes text.old
+        ++ key_lines (map item_of items.now) 0 keys.now) }
 {
     let mut k = 0;
     let mut rest = keys;
@@ -80,7 +82,8 @@ fn listing(alloc: Global, deck: &Deck, words: &Words<'_>) -> Result<String, Allo
     Ok(text)
 }
 
-/// The list of the deck that the bytes are, or the first fault, as `read_deck` tells it: code 8 on line 0 for want of memory, for the deck or for its list.
+/// The list of the deck that the bytes are, or the first fault, as `read_deck` tells it: code 8 on
+/// line 0 for want of memory, for the deck or for its list.
 pub fn list_deck(alloc: Global, bytes: &[u8]) -> Result<String, DeckFault>
     ensures list { IfOk result (λ text. Lists bytes.now (string_bytes text)) }
     ensures none { IfErr result (λ fault. fault.code ≢ 8 → (deck : ReadDeck) → IsDeck bytes.now deck → ⊥) }

@@ -12,7 +12,8 @@ use std::alloc::AllocError;
 
 /// Adds the lines of the verbs for which there is no word.
 fn add_lineless(text: &mut String, verbs: &[Verb]) -> Result<(), AllocError>
-    ensures { OnOk result (string_bytes text.new ≡ string_bytes text.old ++ flat_map lineless_verb verbs.now) }
+    ensures { OnOk result (string_bytes text.new ≡ string_bytes text.old
+        ++ flat_map lineless_verb verbs.now) }
 {
     for verb in verbs {
         add_lineless_verb(text, verb)?;
@@ -22,7 +23,8 @@ fn add_lineless(text: &mut String, verbs: &[Verb]) -> Result<(), AllocError>
 
 /// Adds the line of a paragraph's name.
 fn add_name(text: &mut String, word: &Word<'_>) -> Result<(), AllocError>
-    ensures { OnOk result (string_bytes text.new ≡ string_bytes text.old ++ name_line word.now.line (plain_text word.now)) }
+    ensures { OnOk result (string_bytes text.new ≡ string_bytes text.old
+        ++ name_line word.now.line (plain_text word.now)) }
 {
     match word.plain() {
         Some(name) => add_paragraph(text, word.line, name.as_str()),
@@ -58,7 +60,8 @@ fn add_at<'v>(
 
 /// Adds the lines of a procedure.
 pub fn add_procedure(text: &mut String, words: &Words<'_>, verbs: &[Verb]) -> Result<(), AllocError>
-    ensures { OnOk result (string_bytes text.new ≡ string_bytes text.old ++ procedure_lines Place.Description words.now verbs.now) }
+    ensures { OnOk result (string_bytes text.new ≡ string_bytes text.old
+        ++ procedure_lines Place.Description words.now verbs.now) }
 {
     let mut words = words.copy();
     let mut place = Place::Description;

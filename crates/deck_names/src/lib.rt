@@ -1,4 +1,5 @@
-//! The names of a deck: what each is the name of, in which file, and what is found where a name is unknown or there twice.
+//! The names of a deck: what each is the name of, in which file, and what is found where a name is
+//! unknown or there twice.
 //!
 //! What is found is a heuristic, shown by cases; nothing is proved of it but that it is safe.
 //!

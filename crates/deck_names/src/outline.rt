@@ -3,7 +3,8 @@
 use deck_walk::{Role, Step, Word};
 use std::alloc::{AllocError, Global};
 
-/// A word of the description, what it is there for, and the name of its file; none in the working storage. The first item of a file has the role of a record.
+/// A word of the description, what it is there for, and the name of its file; none in the working
+/// storage. The first item of a file has the role of a record.
 #[derive(Clone, Copy)]
 pub struct Mark<'a> {
     pub role: Role,

@@ -1,5 +1,6 @@
 -- A deck: which words spell it, and which bytes are it.
--- ANSI X3.23-1985, Nucleus module: the divisions of a source program. Its free form, and which divisions there are, is ours.
+-- ANSI X3.23-1985, Nucleus module: the divisions of a source program. Its free form, and which
+-- divisions there are, is ours.
 use Rattle.std.specs.Prelude.{◌≡◌, ℕ, List, [], drop, All}
 use Rattle.deck_words.specs.Word.{Word}
 use Rattle.deck_words.specs.Words.{HasWords}

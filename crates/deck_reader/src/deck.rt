@@ -16,8 +16,8 @@ use file_control::{
 use procedure_division::{Names, StatementList, one_procedure, only_allowed, procedure};
 use std::alloc::Global;
 
-/// The files of a deck in the order of their SELECT entries, its 77-level items in the order of their entries, and its
-/// statements in their order.
+/// The files of a deck in the order of their SELECT entries, its 77-level items in the order of
+/// their entries, and its statements in their order.
 #[derive(Drop)]
 pub struct Deck {
     pub files: FileList,
@@ -32,7 +32,8 @@ fn statements_of(
     items: &[LengthItem],
     words: &Words<'_>,
 ) -> Result<StatementList, DeckFault>
-    ensures statements { IfOk result (λ list. (procedure (names_of files.now items.now)).Spells list words.now []) }
+    ensures statements { IfOk result (λ list. (procedure (names_of files.now items.now)).Spells list
+        words.now []) }
     ensures none { IfErr result (λ fault. fault.code ≢ 8 → (statements : List Statement) →
         (procedure (names_of files.now items.now)).Spells statements words.now [] → ⊥) }
     ensures told { IfErr result IsTold }
@@ -71,9 +72,9 @@ fn every_deck_can_be_run()
     only_allowed();
 }
 
-/// The deck that the bytes are, or the first fault, by its code and its line: first those of the words (1 and 6), then those of
-/// the words up to PROCEDURE, then those of the files and 77-level items, and then those of the procedure. Or code 8 on line 0,
-/// for want of memory.
+/// The deck that the bytes are, or the first fault, by its code and its line: first those of the
+/// words (1 and 6), then those of the words up to PROCEDURE, then those of the files and 77-level
+/// items, and then those of the procedure. Or code 8 on line 0, for want of memory.
 pub fn read_deck(alloc: Global, bytes: &[u8]) -> Result<Deck, DeckFault>
     ensures deck { IfOk result (IsDeck bytes.now) }
     ensures none { IfErr result (λ fault. fault.code ≢ 8 → (deck : Deck) → IsDeck bytes.now deck → ⊥) }

@@ -1,7 +1,7 @@
 //! A deck, read whole: from its bytes to its files, its length items and its statements.
 //!
-//! `read_deck` answers exactly the deck that the bytes are, or a fault. No bytes are two decks, and what a deck says of its
-//! files, items and keys is what a run can rely on.
+//! `read_deck` answers exactly the deck that the bytes are, or a fault. No bytes are two decks, and
+//! what a deck says of its files, items and keys is what a run can rely on.
 //!
 //! Read specs/Deck for what a deck is, and then `deck`.
 #![tactic(auto)]

@@ -26,8 +26,8 @@ use Rattle.deck_runner.specs.Conditions.{IsStatementIn}
 abbrev pub area_before : FileDesc → List ℕ
 area_before file = blank_area (length_of file.layout) file.layout
 
--- a file of a deck: its connector is closed and not locked, its record area is blank, and its file name stands for what it stands
--- for in the library
+-- a file of a deck: its connector is closed and not locked, its record area is blank, and its file
+-- name stands for what it stands for in the library
 abbrev pub file_before : World → FileDesc → RunFile
 file_before world file = record {
   name = file.name;
@@ -45,7 +45,10 @@ abbrev pub item_before : LengthItem → LengthValue
 item_before item = record { digits = item.digits; value = 0 }
 
 abbrev pub run_before : World → Deck → Run
-run_before world deck = record { files = map (file_before world) deck.files; items = map item_before deck.items }
+run_before world deck = record {
+  files = map (file_before world) deck.files;
+  items = map item_before deck.items;
+}
 
 -- the same file as it stands in memory
 abbrev pub running_before : FileDesc → Running
@@ -60,7 +63,8 @@ running_before file = record {
 
 -- each file name of the deck stands for what the run leaves
 abbrev pub WorldIsLeft : World → Deck → Run → Type 0
-WorldIsLeft world deck run = map (named_in world) (file_names deck.files) ≡ map (λ file. file.state.named) run.files
+WorldIsLeft world deck run = map (named_in world) (file_names deck.files) ≡ map
+    (λ file. file.state.named) run.files
 
 -- the name of no file of the deck
 abbrev pub is_elsewhere : Deck → List ℕ → Bool
@@ -68,7 +72,8 @@ is_elsewhere deck name = list_any (λ other. bytes_eq other name) (file_names de
 
 -- all other names stand for what they stood for
 abbrev pub SameElsewhere : Deck → World → World → Type 0
-SameElsewhere deck old new = (name : List ℕ) → is_elsewhere deck name ≡ false → named_in new name ≡ named_in old name
+SameElsewhere deck old new = (name : List ℕ) → is_elsewhere deck name ≡ false
+    → named_in new name ≡ named_in old name
 
 -- every name does
 abbrev pub SameNames : World → World → Type 0
@@ -84,8 +89,8 @@ abbrev pub WhereFilesAreTrue : {S : Type 0} → Shown S → (old new : S) → De
 WhereFilesAreTrue library old new deck claim =
     IsTrue (library.is_honest new) → All (library.IsShownTruly old) (file_names deck.files) → claim
 
--- the stretch before the first step: the library keeps what every call of it does, the units have the names of the deck's files, and no
--- image changes
+-- the stretch before the first step: the library keeps what every call of it does, the units have
+-- the names of the deck's files, and no image changes
 pub record IsAttached {S : Type 0} (library : Shown S) (old begun : S) (deck : Deck) : Type 0 where
   pub keeps : Keeps library old begun
   pub names : unit_names (library.world begun) ≡ file_names deck.files
@@ -95,20 +100,23 @@ pub record IsAttached {S : Type 0} (library : Shown S) (old begun : S) (deck : D
 abbrev pub program_names : Deck → List (List ℕ)
 program_names deck = map (λ file. file.name) deck.files
 
--- such steps lead with these lines from the deck before its first statement to what the library shows then, where the files are true; and
--- in any library the lines are those of the deck's files
-pub record DeckLeads {S : Type 0} (library : Shown S) (old new : S) (deck : Deck) (AreSuch : Point S → List Line → Point S → Type 0) (lines : List Line) : Type 0 where
+-- such steps lead with these lines from the deck before its first statement to what the library
+-- shows then, where the files are true; and in any library the lines are those of the deck's files
+pub record DeckLeads {S : Type 0} (library : Shown S) (old new : S) (deck : Deck) (AreSuch : Point S
+    → List Line → Point S → Type 0) (lines : List Line) : Type 0 where
   pub steps : WhereFilesAreTrue library old new deck
       ((begun : S) × (next : Run) × IsAttached library old begun deck
-      × AreSuch (record { run = run_before (library.world old) deck; library = begun }) lines (record { run = next; library = new })
+      × AreSuch (record { run = run_before (library.world old) deck; library = begun }) lines
+      (record { run = next; library = new })
       × WorldIsLeft (library.world new) deck next)
   pub lines_are : AreLinesOf library (program_names deck) old new lines
 
 -- ---- the deck in memory
 
--- the files and items of a deck in memory, and its file names attached to a library: together they show the deck before its first
--- statement, and what a run needs is so
-pub record IsBegun {S : Type 0} (library : Shown S) (old new : S) (deck : Deck) (begun : RunningDeck) : Type 0 where
+-- the files and items of a deck in memory, and its file names attached to a library: together they
+-- show the deck before its first statement, and what a run needs is so
+pub record IsBegun {S : Type 0} (library : Shown S) (old new : S) (deck : Deck)
+    (begun : RunningDeck) : Type 0 where
   pub keeps : Keeps library old new
   pub run : run_in library (state new begun) ≡ run_before (library.world old) deck
   pub many : length begun.files.items ≡ length deck.files

@@ -8,9 +8,11 @@ use Rattle.deck_runner.specs.Reads.{only_reads, IsOfReading}
 use Rattle.deck_runner.specs.RunEnd.{end_of}
 
 -- before a statement the writer took all that was held, or the statement only reads and nothing was done
-abbrev pub MakesWay : (written written_after : Option (List ℕ)) → (held held_after : List ℕ) → FileStatement → Type 0
+abbrev pub MakesWay : (written written_after : Option (List ℕ)) → (held held_after : List ℕ)
+    → FileStatement → Type 0
 MakesWay written written_after held held_after statement =
-    (IsTrue (only_reads statement) × Appends written written_after [] × (held_after ≡ held)) ⊎ (Appends written written_after held × (held_after ≡ []))
+    (IsTrue (only_reads statement) × Appends written written_after [] × (held_after ≡ held))
+    ⊎ (Appends written written_after held × (held_after ≡ []))
 
 -- the text of a run so far: what the writer has, if that is known, and what is held
 pub record SoFar : Type 0 where
@@ -38,7 +40,8 @@ pub record GoOut (old new : SoFar) (lines : List Line) : Type 0 where
   pub appends : Appends old.written new.written (flat_map text_of taken)
   pub held : AreHeld new.held kept
 
--- of these lines the writer took the first ones, and then a proper front of one; those behind that one are of statements that only read
+-- of these lines the writer took the first ones, and then a proper front of one; those behind that
+-- one are of statements that only read
 pub record AreRefused (old new : Option (List ℕ)) (lines : List Line) : Type 0 where
   pub taken : List Line
   pub failed : Line
@@ -54,9 +57,11 @@ pub record AreRefused (old new : Option (List ℕ)) (lines : List Line) : Type 0
 -- lines of which this is so came behind those that were held, and this is told of them
 abbrev pub Come : (old new : SoFar) → RunEnd → (List Line → Type 0) → Type 0
 Come old new end AreLines =
-    (lines : List Line) × (end ≡ end_of lines) × AreLines lines × ((held : List Line) → AreHeld old.held held → GoOut old new (held ++ lines))
+    (lines : List Line) × (end ≡ end_of lines) × AreLines lines
+    × ((held : List Line) → AreHeld old.held held → GoOut old new (held ++ lines))
 
 -- the same, but the writer refused one of them, or of those that were held
 abbrev pub ComeInPart : (old : SoFar) → (new : Option (List ℕ)) → (List Line → Type 0) → Type 0
 ComeInPart old new AreLines =
-    (lines : List Line) × AreLines lines × ((held : List Line) → AreHeld old.held held → AreRefused old.written new (held ++ lines))
+    (lines : List Line) × AreLines lines × ((held : List Line) → AreHeld old.held held
+    → AreRefused old.written new (held ++ lines))

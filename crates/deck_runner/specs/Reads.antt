@@ -28,8 +28,8 @@ pub record FilesStay {S : Type 0} (library : Shown S) (before after : Point S) :
   pub rows : map (λ file. file.state.file) after.run.files ≡ map (λ file. file.state.file) before.run.files
   pub images : (name : List ℕ) → Stays library.Throughout before.library after.library name
 
--- the law: in a run that was broken off, where all lines behind the first ones are of statements that only read, the files are as they were
--- behind the first ones
+-- the law: in a run that was broken off, where all lines behind the first ones are of statements
+-- that only read, the files are as they were behind the first ones
 abbrev pub ReadsChangeNoFile : {S : Type 0} → Shown S → Type 0
 ReadsChangeNoFile {S} library =
     (statements : List Statement) → (run : Point S) → (first behind : List Line) → (next : Point S)

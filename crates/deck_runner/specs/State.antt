@@ -37,12 +37,14 @@ IsSafeIn library s = IsSafe (library.world s.library) s.deck.files.items (length
 
 -- what is so of one that is
 abbrev pub IsTrustedIn : {S : Type 0} → Shown S → State S → Type 0
-IsTrustedIn library s = IsTrusted (library.IsShownTruly s.library) (library.world s.library) s.deck.files.items
+IsTrustedIn library s = IsTrusted (library.IsShownTruly s.library)
+    (library.world s.library) s.deck.files.items
 
 -- ---- a part of a run
 
--- every part of a run: what needs no trust is kept, the names, the schemas and the number of the items stay, what was true stays true, the
--- library keeps what every call of it does, its units keep their names, and no other name is touched
+-- every part of a run: what needs no trust is kept, the names, the schemas and the number of the
+-- items stay, what was true stays true, the library keeps what every call of it does, its units
+-- keep their names, and no other name is touched
 pub record GoesOn {S : Type 0} (library : Shown S) (old new : State S) : Type 0 where
   pub keeps : Keeps library old.library new.library
   pub safe : IsSafeIn library new
@@ -65,16 +67,20 @@ is_close Write = false
 is_close Rewrite = false
 is_close Delete = false
 
--- what is so of a line in a library that need not be believed: its name is that of a file of the deck, and 30 is answered by a CLOSE alone
--- where the device has met no fault
+-- what is so of a line in a library that need not be believed: its name is that of a file of the
+-- deck, and 30 is answered by a CLOSE alone where the device has met no fault
 pub record IsLineOf (names : List (List ℕ)) (old new : ℕ) (line : Line) : Type 0 where
   pub name : Contains names line.name
   pub cause : line.status ≡ PermanentError → HasRisen old new ⊎ IsTrue (is_close line.statement)
 
 abbrev pub AreLinesOf : {S : Type 0} → Shown S → List (List ℕ) → (old new : S) → List Line → Type 0
-AreLinesOf library names old new lines = All (IsLineOf names (library.fault_count old) (library.fault_count new)) lines
+AreLinesOf library names old new lines = All (IsLineOf names (library.fault_count old)
+    (library.fault_count new)) lines
 
--- such steps lead from the one state to the other with these lines, where the library has not lied by then and what it showed was true before
-pub record Leads {S : Type 0} (library : Shown S) (old new : State S) (AreSuch : Point S → List Line → Point S → Type 0) (lines : List Line) : Type 0 where
-  pub steps : IsTrue (library.is_honest new.library) → IsTrustedIn library old → AreSuch (point_in library old) lines (point_in library new)
+-- such steps lead from the one state to the other with these lines, where the library has not lied
+-- by then and what it showed was true before
+pub record Leads {S : Type 0} (library : Shown S) (old new : State S) (AreSuch : Point S → List Line
+    → Point S → Type 0) (lines : List Line) : Type 0 where
+  pub steps : IsTrue (library.is_honest new.library) → IsTrustedIn library old
+      → AreSuch (point_in library old) lines (point_in library new)
   pub lines_are : AreLinesOf library (names_in old.deck) old.library new.library lines

@@ -1,4 +1,5 @@
--- A run as steps: each statement answers and leaves what it should, or a fault has marred it. All of this is ours.
+-- A run as steps: each statement answers and leaves what it should, or a fault has marred it. All
+-- of this is ours.
 use Rattle.std.specs.Prelude.{◌≡◌, ℕ, suc, true, false, List, [], ◌∷◌, ◌++◌, slice_get, Option, Some, None, ◌⊎◌, if◌then◌else◌}
 use Rattle.std.specs.List.{list_all}
 use Rattle.verbs.specs.Connector.{Outcome}
@@ -43,11 +44,13 @@ IsStep (MoveLength i source) run lines next = (lines ≡ []) × (next ≡ after 
 IsStep StopRun run lines next = (lines ≡ []) × (next ≡ run)
 
 -- statements one after another, with their lines, where each is a step of this kind
-abbrev pub AreStepsOf : {X : Type 0} → (Statement → X → List Line → X → Type 0) → List Statement → X → List Line → X → Type 0
+abbrev pub AreStepsOf : {X : Type 0} → (Statement → X → List Line → X → Type 0) → List Statement → X
+    → List Line → X → Type 0
 AreStepsOf IsOne [] run lines next = (lines ≡ []) × (next ≡ run)
 AreStepsOf {X} IsOne (statement ∷ rest) run lines next =
     (first : List Line) × (between : X) × (others : List Line)
-    × IsOne statement run first between × AreStepsOf IsOne rest between others next × (lines ≡ first ++ others)
+    × IsOne statement run first between × AreStepsOf IsOne rest between others next
+    × (lines ≡ first ++ others)
 
 abbrev pub AreSteps : List Statement → Run → List Line → Run → Type 0
 AreSteps = AreStepsOf IsStep
@@ -72,23 +75,30 @@ abbrev pub closes_from : ℕ → List RunFile → List Statement
 closes_from u [] = []
 closes_from u (file ∷ files) = close_of u file ++ closes_from (suc u) files
 
--- a whole run of such steps: the statements up to STOP RUN, and then the closes of the files that are open there
-abbrev pub IsRunOf : {X : Type 0} → (Statement → X → List Line → X → Type 0) → (X → List Statement) → List Statement → X → List Line → X → Type 0
+-- a whole run of such steps: the statements up to STOP RUN, and then the closes of the files that
+-- are open there
+abbrev pub IsRunOf : {X : Type 0} → (Statement → X → List Line → X → Type 0) → (X → List Statement)
+    → List Statement → X → List Line → X → Type 0
 IsRunOf {X} IsOne closes statements run lines next =
     (stopped : X) × (first : List Line) × (others : List Line)
-    × AreStepsOf IsOne (until_stop statements) run first stopped × AreStepsOf IsOne (closes stopped) stopped others next × (lines ≡ first ++ others)
+    × AreStepsOf IsOne (until_stop statements) run first stopped
+    × AreStepsOf IsOne (closes stopped) stopped others next × (lines ≡ first ++ others)
 
 -- some such steps, from the first statement on
-abbrev pub AreStepsInPart : {X : Type 0} → (Statement → X → List Line → X → Type 0) → List Statement → X → List Line → X → Type 0
+abbrev pub AreStepsInPart : {X : Type 0} → (Statement → X → List Line → X → Type 0) → List Statement → X
+    → List Line → X → Type 0
 AreStepsInPart IsOne statements run lines next =
-    (done : List Statement) × (rest : List Statement) × (statements ≡ done ++ rest) × AreStepsOf IsOne done run lines next
+    (done : List Statement) × (rest : List Statement) × (statements ≡ done ++ rest)
+    × AreStepsOf IsOne done run lines next
 
 -- a run that was broken off, before STOP RUN or among the closes
-abbrev pub IsRunInPart : {X : Type 0} → (Statement → X → List Line → X → Type 0) → (X → List Statement) → List Statement → X → List Line → X → Type 0
+abbrev pub IsRunInPart : {X : Type 0} → (Statement → X → List Line → X → Type 0) → (X → List Statement)
+    → List Statement → X → List Line → X → Type 0
 IsRunInPart {X} IsOne closes statements run lines next =
     AreStepsInPart IsOne (until_stop statements) run lines next
     ⊎ ((stopped : X) × (first : List Line) × (others : List Line)
-    × AreStepsOf IsOne (until_stop statements) run first stopped × AreStepsInPart IsOne (closes stopped) stopped others next × (lines ≡ first ++ others))
+    × AreStepsOf IsOne (until_stop statements) run first stopped
+    × AreStepsInPart IsOne (closes stopped) stopped others next × (lines ≡ first ++ others))
 
 abbrev pub IsRun : List Statement → Run → List Line → Run → Type 0
 IsRun = IsRunOf IsStep (λ run. closes_from 0 run.files)
@@ -98,5 +108,6 @@ IsRun = IsRunOf IsStep (λ run. closes_from 0 run.files)
 -- a run whose lines are all clean has the lines of the definition, and leaves what that leaves
 abbrev pub CleanRunsAreExact : Type 0
 CleanRunsAreExact =
-    (statements : List Statement) → (run : Run) → (lines : List Line) → (next : Run) → IsRun statements run lines next → list_all is_clean lines ≡ true
+    (statements : List Statement) → (run : Run) → (lines : List Line) → (next : Run)
+    → IsRun statements run lines next → list_all is_clean lines ≡ true
     → (lines ≡ lines_of_run statements run) × (next ≡ after_run statements run)

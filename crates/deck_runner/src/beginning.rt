@@ -1,4 +1,5 @@
-//! A deck before its first statement: its files and length items in memory, and its file names attached to a library.
+//! A deck before its first statement: its files and length items in memory, and its file names
+//! attached to a library.
 ghost use Rattle.std.specs.Prelude.{◌≡◌, ◌≤◌, All, IfOk, IfErr, length, map};
 ghost use Rattle.record_layout.specs.Area.{blank_area};
 ghost use Rattle.record_layout.specs.Layout.{length_of};
@@ -83,8 +84,8 @@ fn names_of(files: &[FileDesc]) -> FileNames
     names
 }
 
-/// Makes the files and length items of a deck, and attaches its file names to the library. `Memory` leaves what each name stands
-/// for, as a success does.
+/// Makes the files and length items of a deck, and attaches its file names to the library. `Memory`
+/// leaves what each name stands for, as a success does.
 pub fn begin<L: Library>(alloc: Global, deck: &Deck, library: &mut L) -> Result<RunningDeck, Fault>
     requires { CanBeRun deck.now }
     ensures begun { IfOk result (λ begun. IsBegun L.shown library.old library.new deck.now begun) }

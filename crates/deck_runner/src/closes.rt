@@ -24,10 +24,12 @@ impl RunningDeck {
         requires place { u < length self.old.files.items }
         ensures goes { GoesOn L.shown (state library.old self.old) (state library.new self.new) }
         ensures one { IfOk result (λ end. end.lines ≤ 1) }
-        ensures done { IfOk result (λ end. Come (so_far (W.contents out.old) held.old) (so_far (W.contents out.new) held.new) end
+        ensures done { IfOk result (λ end. Come (so_far (W.contents out.old) held.old)
+            (so_far (W.contents out.new) held.new) end
             (Leads L.shown (state library.old self.old) (state library.new self.new) (ClosesAt L.shown u))) }
         ensures refused { OnErr result (ComeInPart (so_far (W.contents out.old) held.old) (W.contents out.new)
-            (Leads L.shown (state library.old self.old) (state library.new self.new) (ClosesAtInPart L.shown u))) }
+            (Leads L.shown (state library.old self.old) (state library.new self.new)
+            (ClosesAtInPart L.shown u))) }
     {
         let file = &self.files[u];
         let open = file.is_open();
@@ -48,10 +50,12 @@ impl RunningDeck {
         requires safe { IsSafeIn L.shown (state library.old self.old) }
         ensures goes { GoesOn L.shown (state library.old self.old) (state library.new self.new) }
         ensures few { IfOk result (λ end. end.lines ≤ length self.old.files.items) }
-        ensures done { IfOk result (λ end. Come (so_far (W.contents out.old) held.old) (so_far (W.contents out.new) held.new) end
+        ensures done { IfOk result (λ end. Come (so_far (W.contents out.old) held.old)
+            (so_far (W.contents out.new) held.new) end
             (Leads L.shown (state library.old self.old) (state library.new self.new) (ClosesFiles L.shown))) }
         ensures refused { OnErr result (ComeInPart (so_far (W.contents out.old) held.old) (W.contents out.new)
-            (Leads L.shown (state library.old self.old) (state library.new self.new) (ClosesInPart L.shown))) }
+            (Leads L.shown (state library.old self.old) (state library.new self.new)
+            (ClosesInPart L.shown))) }
     {
         let mut end = RunEnd::none();
         for u in 0..self.files.len() {

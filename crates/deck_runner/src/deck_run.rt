@@ -49,28 +49,34 @@ fn run_read<L: Library, W: Write>(
     }
 }
 
-/// Runs the deck that the bytes are over the files of the library: its statements in order up to STOP RUN, and then the closes of
-/// the files still open, in the order of their SELECT entries. Each statement on a file has its line in `out`.
+/// Runs the deck that the bytes are over the files of the library: its statements in order up to
+/// STOP RUN, and then the closes of the files still open, in the order of their SELECT entries.
+/// Each statement on a file has its line in `out`.
 ///
-/// A run whose end is clean has written exactly the transcript of the definitions, and each file name of the deck stands for what
-/// they leave. `Deck`: the bytes are no deck, and nothing was written or changed. `Memory`: memory was wanted before the first
-/// statement, and nothing was written or changed. `Output`: the writer refused a line; it holds all lines before it and a proper
-/// front of it. Nothing was performed behind the statement of that line but READ and START, which change no file: no close either.
+/// A run whose end is clean has written exactly the transcript of the definitions, and each file
+/// name of the deck stands for what they leave. `Deck`: the bytes are no deck, and nothing was
+/// written or changed. `Memory`: memory was wanted before the first statement, and nothing was
+/// written or changed. `Output`: the writer refused a line; it holds all lines before it and a
+/// proper front of it. Nothing was performed behind the statement of that line but READ and START,
+/// which change no file: no close either.
 pub fn run_deck<L: Library, W: Write>(
     alloc: Global,
     bytes: &[u8],
     library: &mut L,
     out: &mut W,
 ) -> Result<RunEnd, RunFault>
-    ensures exact { IfOk result (λ end. end.clean ≡ true → OfDeck L.shown bytes.now library.old library.new (λ deck.
+    ensures exact { IfOk result (λ end. end.clean ≡ true
+        → OfDeck L.shown bytes.now library.old library.new (λ deck.
         WhereFilesAreTrue L.shown library.old library.new deck
         (RunsExactly (W.contents out.old) (W.contents out.new)
         (L.shown.world library.old) (L.shown.world library.new) end deck))) }
     ensures run { IfOk result (λ end. OfDeck L.shown bytes.now library.old library.new (λ deck.
-        Told (W.contents out.old) (W.contents out.new) end (RunsWhole L.shown library.old library.new deck))) }
+        Told (W.contents out.old) (W.contents out.new) end
+        (RunsWhole L.shown library.old library.new deck))) }
     ensures output { IfErr result (λ fault. fault ≡ RunFault.Output →
         OfDeck L.shown bytes.now library.old library.new (λ deck.
-        ToldInPart (W.contents out.old) (W.contents out.new) (RunsInPart L.shown library.old library.new deck))) }
+        ToldInPart (W.contents out.old) (W.contents out.new)
+        (RunsInPart L.shown library.old library.new deck))) }
     ensures nothing { IfErr result (λ fault. fault ≢ RunFault.Output →
         (out.new ≡ out.old) × IsUntouched L.shown library.old library.new) }
     ensures refused { IfErr result (IsRefusedDeck bytes.now) }

@@ -24,14 +24,15 @@ fn only_reads(statement: &FileStatement) -> bool
     )
 }
 
-/// Hands all lines that are held to the writer before a statement that may change a file. A refusal leaves a proper front of them in
-/// the writer.
+/// Hands all lines that are held to the writer before a statement that may change a file. A refusal
+/// leaves a proper front of them in the writer.
 pub fn make_way<W: Write>(
     held: &mut HeldText,
     statement: &FileStatement,
     out: &mut W,
 ) -> Result<(), Refused>
-    ensures ready { OnOk result (MakesWay (W.contents out.old) (W.contents out.new) held.old held.new statement.now) }
+    ensures ready { OnOk result (MakesWay (W.contents out.old)
+        (W.contents out.new) held.old held.new statement.now) }
     ensures refused { OnErr result (AppendsFront (W.contents out.old) (W.contents out.new) held.old) }
 {
     if only_reads(statement) {

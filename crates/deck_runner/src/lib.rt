@@ -1,13 +1,16 @@
 //! The run of a deck: from its bytes to its transcript.
 //!
-//! `read_deck`, handed on, reads a deck; `run_deck` reads one and runs it over any library. The transcript is the fold of the deck's statements up to STOP RUN over its
-//! files and length items, followed by the closes of the files that are still open, in the order of their SELECT entries. Each
-//! statement is what the definitions say or a step that a fault has marred, and at each moment a crash leaves no false file. Memory
-//! is taken for the deck, its files, its items and the lines on their way to the writer before the first statement, and by the library;
-//! for nothing else.
+//! `read_deck`, handed on, reads a deck; `run_deck` reads one and runs it over any library. The
+//! transcript is the fold of the deck's statements up to STOP RUN over its files and length items,
+//! followed by the closes of the files that are still open, in the order of their SELECT entries.
+//! Each statement is what the definitions say or a step that a fault has marred, and at each moment
+//! a crash leaves no false file. Memory is taken for the deck, its files, its items and the lines
+//! on their way to the writer before the first statement, and by the library; for nothing else.
 //!
-//! Read specs/Line for a line of the transcript, specs/Run for the fold, specs/Steps and specs/Stretches for a run as steps,
-//! specs/NoFalseFile for what a crash may leave, specs/HeldLines and specs/Reads for the lines on their way to the writer, specs/Beginning for a deck before its first statement, and then `run_deck`.
+//! Read specs/Line for a line of the transcript, specs/Run for the fold, specs/Steps and
+//! specs/Stretches for a run as steps, specs/NoFalseFile for what a crash may leave,
+//! specs/HeldLines and specs/Reads for the lines on their way to the writer, specs/Beginning for a
+//! deck before its first statement, and then `run_deck`.
 #![tactic(auto)]
 
 mod beginning;

@@ -12,7 +12,8 @@ use record_layout::{Field, Source, put};
 use std::marker::Model;
 use verbs::{Answer, Connector};
 
-/// A file of a run: its name, the place of the length item that its records depend on, its connector and its record area.
+/// A file of a run: its name, the place of the length item that its records depend on, its
+/// connector and its record area.
 #[derive(Drop)]
 pub struct RunningFile {
     name: Name,
@@ -38,7 +39,12 @@ impl RunningFile {
     pub fn new(name: Name, depends_on: Option<usize>, connector: Connector, area: Vec<u8>) -> Self
         requires area { count_of area.items ≡ connector.connector.schema.greatest }
         requires short { count_of area.items ≤ 4000 }
-        ensures { result ≡ record { name = name.bytes; depends_on = depends_on; held = connector; area = area.items } }
+        ensures { result ≡ record {
+          name = name.bytes;
+          depends_on = depends_on;
+          held = connector;
+          area = area.items;
+        } }
     {
         RunningFile {
             name,

@@ -25,8 +25,9 @@ fn is_stop(statement: &Statement) -> bool
 }
 
 impl RunningDeck {
-    /// Performs a statement on the file of a place, and adds its line to those that are held. Before a statement that may change a file
-    /// the writer takes all of them; where it refuses one, the statement is not performed.
+    /// Performs a statement on the file of a place, and adds its line to those that are held.
+    /// Before a statement that may change a file the writer takes all of them; where it refuses
+    /// one, the statement is not performed.
     pub fn run_verb<L: Library, W: Write>(
         &mut self,
         u: usize,
@@ -39,7 +40,8 @@ impl RunningDeck {
         requires statement { CanPerform self.old u statement.now }
         ensures goes { GoesOn L.shown (state library.old self.old) (state library.new self.new) }
         ensures one { IfOk result (λ end. end.lines ≤ 1) }
-        ensures done { IfOk result (λ end. Come (so_far (W.contents out.old) held.old) (so_far (W.contents out.new) held.new) end
+        ensures done { IfOk result (λ end. Come (so_far (W.contents out.old) held.old)
+            (so_far (W.contents out.new) held.new) end
             (Leads L.shown (state library.old self.old) (state library.new self.new)
             (IsStretch L.shown (PerformStatement u statement.now)))) }
         ensures refused { OnErr result (ComeInPart (so_far (W.contents out.old) held.old) (W.contents out.new)
@@ -64,7 +66,8 @@ impl RunningDeck {
         requires statement { IsStatementIn self.old statement.now }
         ensures goes { GoesOn L.shown (state library.old self.old) (state library.new self.new) }
         ensures one { IfOk result (λ end. end.lines ≤ 1) }
-        ensures done { IfOk result (λ end. Come (so_far (W.contents out.old) held.old) (so_far (W.contents out.new) held.new) end
+        ensures done { IfOk result (λ end. Come (so_far (W.contents out.old) held.old)
+            (so_far (W.contents out.new) held.new) end
             (Leads L.shown (state library.old self.old) (state library.new self.new)
             (IsStretch L.shown statement.now))) }
         ensures refused { OnErr result (ComeInPart (so_far (W.contents out.old) held.old) (W.contents out.new)
@@ -105,7 +108,8 @@ impl RunningDeck {
         requires statements { All (IsStatementIn self.old) statements.now }
         ensures goes { GoesOn L.shown (state library.old self.old) (state library.new self.new) }
         ensures few { IfOk result (λ end. end.lines ≤ length statements.now) }
-        ensures done { IfOk result (λ end. Come (so_far (W.contents out.old) held.old) (so_far (W.contents out.new) held.new) end
+        ensures done { IfOk result (λ end. Come (so_far (W.contents out.old) held.old)
+            (so_far (W.contents out.new) held.new) end
             (Leads L.shown (state library.old self.old) (state library.new self.new)
             (AreStretches L.shown (until_stop statements.now)))) }
         ensures refused { OnErr result (ComeInPart (so_far (W.contents out.old) held.old) (W.contents out.new)

@@ -45,7 +45,8 @@ fn record_length(items: &[RunningItem], file: &RunningFile) -> u16
 /// Moves the length of a record that was delivered to the item that the file depends on.
 fn note_length(items: &mut [RunningItem], depends_on: Option<usize>, delivered: Option<&[u8]>)
     requires { IsItemPlace (length items.old) depends_on }
-    ensures { items.new ≡ items_after_read depends_on (option_map (λ bytes. bytes.now) delivered.entry) items.old }
+    ensures { items.new ≡ items_after_read depends_on
+        (option_map (λ bytes. bytes.now) delivered.entry) items.old }
 {
     if let (Some(item), Some(bytes)) = (depends_on, delivered) {
         items[item].note(bytes.len());
@@ -53,8 +54,8 @@ fn note_length(items: &mut [RunningItem], depends_on: Option<usize>, delivered: 
 }
 
 impl RunningDeck {
-    /// Performs a statement on the file of a place, which is that of the library's unit of that number, and makes its line. Tells
-    /// whether the line is clean.
+    /// Performs a statement on the file of a place, which is that of the library's unit of that
+    /// number, and makes its line. Tells whether the line is clean.
     pub fn perform_on<L: Library>(
         &mut self,
         u: usize,

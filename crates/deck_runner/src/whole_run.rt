@@ -16,9 +16,10 @@ use procedure_division::Statement;
 use std::io::Write;
 
 impl RunningDeck {
-    /// Runs the statements up to STOP RUN, and then closes the files that are still open. Each statement that is performed has its
-    /// line in `out`, where no line is held before. A refusal ends the run behind the statement of that line, or behind statements after
-    /// it that only read.
+    /// Runs the statements up to STOP RUN, and then closes the files that are still open. Each
+    /// statement that is performed has its line in `out`, where no line is held before. A refusal
+    /// ends the run behind the statement of that line, or behind statements after it that only
+    /// read.
     pub fn run<L: Library, W: Write>(
         &mut self,
         statements: &[Statement],
@@ -49,7 +50,8 @@ pub fn clean_runs_are_exact()
     ensures { CleanRunsAreExact }
 {}
 
-/// In every run, also in one that was broken off, the lines before the first unclean one are the first lines of the definition's.
+/// In every run, also in one that was broken off, the lines before the first unclean one are the
+/// first lines of the definition's.
 pub fn clean_fronts_are_exact<L: Library>(_library: &L)
     ensures { CleanFrontsAreExact L.shown }
 {}
@@ -59,14 +61,15 @@ pub fn no_false_file<L: Library>(_library: &L)
     ensures { NoFalseFile L.shown }
 {}
 
-/// In so many words: where the images of a name at the start of the run are known, each image at each moment is one of those and of those
-/// in its ledger, and behind the first CLOSE of a change one of its ledger alone.
+/// In so many words: where the images of a name at the start of the run are known, each image at
+/// each moment is one of those and of those in its ledger, and behind the first CLOSE of a change
+/// one of its ledger alone.
 pub fn images_are_of_ledger<L: Library>(_library: &L)
     ensures { ImagesAreOfLedger L.shown }
 {}
 
-/// READ and START change no file: where a run was broken off, and all lines behind some are of these, each file is as it was behind the
-/// statements of those.
+/// READ and START change no file: where a run was broken off, and all lines behind some are of
+/// these, each file is as it was behind the statements of those.
 pub fn reads_change_no_file<L: Library>(_library: &L)
     ensures { ReadsChangeNoFile L.shown }
 {}

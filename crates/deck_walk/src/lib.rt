@@ -1,8 +1,10 @@
-//! A second reading of a deck, for words only: it cuts the bytes into words with their lines, and walks along the grammar up to the first word that does not
-//! fit. It decides nothing: whether bytes are a deck is for the reader of decks to say.
+//! A second reading of a deck, for words only: it cuts the bytes into words with their lines, and
+//! walks along the grammar up to the first word that does not fit. It decides nothing: whether
+//! bytes are a deck is for the reader of decks to say.
 //!
-//! What is proved: each place that `place_of` tells is a place of the deck, at the line that it tells. Which words there are, how far a walk goes and what
-//! was expected there is a heuristic, shown by cases. Nothing else relies on it.
+//! What is proved: each place that `place_of` tells is a place of the deck, at the line that it
+//! tells. Which words there are, how far a walk goes and what was expected there is a heuristic,
+//! shown by cases. Nothing else relies on it.
 //!
 //! Read `grammar`, which has a row for each phrase, then `walker`.
 #![tactic(auto)]

@@ -21,7 +21,8 @@ pub struct Step<'a> {
     pub role: Role,
 }
 
-/// The first word that does not fit, or none where the deck ends too early, and where the walk stands before it.
+/// The first word that does not fit, or none where the deck ends too early, and where the walk
+/// stands before it.
 #[derive(Clone, Copy)]
 pub struct Mistake<'a> {
     pub word: Option<Word<'a>>,
@@ -61,7 +62,8 @@ impl Walker {
         self.parts.iter().any(|part| part.has_to_be())
     }
 
-    /// What may come next: the parts up to the first that has to be there, or else those with which the phrases of a home begin, and of those beyond it.
+    /// What may come next: the parts up to the first that has to be there, or else those with which
+    /// the phrases of a home begin, and of those beyond it.
     pub fn wanted(&self, alloc: Global) -> Result<Vec<Part>, AllocError> {
         let mut wanted = Vec::new(alloc);
         for part in self.parts {

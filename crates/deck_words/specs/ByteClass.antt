@@ -26,7 +26,8 @@ is_small byte = nat_le 97 byte && nat_le byte 122
 
 -- a byte of a plain word: a letter, a digit, a hyphen or a parenthesis
 abbrev pub is_of_word : ℕ → Bool
-is_of_word byte = is_capital byte || is_small byte || is_ascii_digit byte || byte == 45 || byte == 40 || byte == 41
+is_of_word byte = is_capital byte || is_small byte || is_ascii_digit byte || byte == 45 || byte == 40
+    || byte == 41
 
 -- a byte of a name: a capital, a digit or a hyphen
 abbrev pub is_of_name : ℕ → Bool

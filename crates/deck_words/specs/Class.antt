@@ -58,7 +58,8 @@ differ (Some false) (Some other) = other
 -- no text is both of these: one is a text that the other lacks, or one has capitals and the other none
 abbrev pub are_texts_apart : Texts → Texts → Bool
 are_texts_apart some others =
-    lacks others (only_text some) || (lacks some (only_text others) || differ (has_capitals some) (has_capitals others))
+    lacks others (only_text some) || (lacks some (only_text others)
+    || differ (has_capitals some) (has_capitals others))
 
 -- ---- words
 

@@ -30,7 +30,8 @@ literal_at line (Some cut) =
 abbrev pub run_at : ℕ → List ℕ → Option Next
 run_at line bytes =
     let end = prefix_len is_of_run bytes in
-    if ends_run (drop end bytes) then option_map {U = Next} (λ words. (words, rest_of line (drop end bytes))) (run_words line (take end bytes)) else None
+    if ends_run (drop end bytes) then option_map {U = Next}
+    (λ words. (words, rest_of line (drop end bytes))) (run_words line (take end bytes)) else None
 
 abbrev pub front_of : ℕ → List ℕ → Option Next
 front_of line [] = None

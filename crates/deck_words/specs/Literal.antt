@@ -12,7 +12,10 @@ abbrev pub cut_literal : ℕ → List ℕ → Option (List ℕ × List ℕ)
 cut_literal mark [] = None
 cut_literal mark (b ∷ []) = if b == mark then Some ([], []) else None
 cut_literal mark (b ∷ c ∷ bytes) =
-    if b == mark then (if c == mark then with_first mark (cut_literal mark bytes) else Some ([], c ∷ bytes)) else (
+    if b == mark then (if c == mark then with_first mark (cut_literal mark bytes) else Some (
+      [],
+      c ∷ bytes,
+    )) else (
     if is_of_literal b then with_first b (cut_literal mark (c ∷ bytes)) else None)
 
 -- the text alone, and nothing where no mark closes it

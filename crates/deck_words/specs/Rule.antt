@@ -1,5 +1,5 @@
--- Rules of a grammar: which words spell a value, and how the words are read. `Spells` is the grammar; `reads` looks one
--- word ahead, and `is_fit` says that this is enough.
+-- Rules of a grammar: which words spell a value, and how the words are read. `Spells` is the
+-- grammar; `reads` looks one word ahead, and `is_fit` says that this is enough.
 use Rattle.std.specs.Prelude.{◌≡◌, ℕ, zero, suc, Bool, true, false, not, ◌&&◌, ◌⊎◌, if◌then◌else◌, List, [], ◌∷◌, ◌++◌, length, Option, Some, None, option_and_then, option_map, IsTrue}
 use Rattle.deck_words.specs.Class.{Class, is_in, begins, all_apart}
 use Rattle.deck_words.specs.Word.{Word}
@@ -21,7 +21,8 @@ pub record Rule (A : Type 0) : Type 1 where
 -- ---- one word
 
 abbrev pub SpellsOne : Class → List ℕ → List Word → List Word → Type 0
-SpellsOne class text words rest = (word : Word) × (words ≡ word ∷ rest) × IsTrue (is_in class word) × (text ≡ word.text)
+SpellsOne class text words rest = (word : Word) × (words ≡ word ∷ rest) × IsTrue (is_in class word)
+    × (text ≡ word.text)
 
 abbrev pub reads_one : Class → List Word → Option (List ℕ × List Word)
 reads_one class [] = None
@@ -29,15 +30,24 @@ reads_one class (word ∷ rest) = if is_in class word then Some (word.text, rest
 
 -- a word of a class, which says its text
 abbrev pub one : Class → Rule (List ℕ)
-one class = record { Spells = SpellsOne class; reads = reads_one class; starts = class ∷ []; goes_on = []; may_be_empty = false; is_fit = true }
+one class = record {
+  Spells = SpellsOne class;
+  reads = reads_one class;
+  starts = class ∷ [];
+  goes_on = [];
+  may_be_empty = false;
+  is_fit = true;
+}
 
 -- ---- one rule after another
 
 abbrev pub SpellsBoth : {A B C : Type 0} → (A → B → C) → Rule A → Rule B → C → List Word → List Word → Type 0
-SpellsBoth f p q z words rest = (x : _) × (y : _) × (middle : List Word) × (z ≡ f x y) × p.Spells x words middle × q.Spells y middle rest
+SpellsBoth f p q z words rest = (x : _) × (y : _) × (middle : List Word) × (z ≡ f x y)
+    × p.Spells x words middle × q.Spells y middle rest
 
 abbrev pub reads_both : {A B C : Type 0} → (A → B → C) → Rule A → Rule B → List Word → Option (C × List Word)
-reads_both f p q words = option_and_then (λ a. option_map (λ b. (f a.0 b.0, b.1)) (q.reads a.1)) (p.reads words)
+reads_both f p q words = option_and_then (λ a. option_map (λ b. (f a.0 b.0, b.1)) (q.reads a.1))
+    (p.reads words)
 
 abbrev pub in_turn : {A B C : Type 0} → (A → B → C) → Rule A → Rule B → Rule C
 in_turn f p q = record {
@@ -56,7 +66,8 @@ SpellsOptional p None words rest = words ≡ rest
 SpellsOptional p (Some x) words rest = p.Spells x words rest
 
 abbrev pub reads_optional : {A : Type 0} → Rule A → List Word → Option (Option A × List Word)
-reads_optional p words = if begins p.starts words then option_map (λ a. (Some a.0, a.1)) (p.reads words) else Some (None, words)
+reads_optional p words = if begins p.starts words then option_map (λ a. (Some a.0, a.1))
+    (p.reads words) else Some (None, words)
 
 abbrev pub optional : {A : Type 0} → Rule A → Rule (Option A)
 optional p = record {
@@ -83,18 +94,24 @@ either p q = record {
   starts = p.starts ++ q.starts;
   goes_on = p.goes_on ++ q.goes_on;
   may_be_empty = q.may_be_empty;
-  is_fit = p.is_fit && (q.is_fit && (not p.may_be_empty && (not q.may_be_empty && all_apart q.starts p.starts)));
+  is_fit = p.is_fit && (q.is_fit && (not p.may_be_empty
+      && (not q.may_be_empty && all_apart q.starts p.starts)));
 }
 
 -- ---- any number of times
 
 abbrev pub SpellsMany : {A : Type 0} → Rule A → List A → List Word → List Word → Type 0
 SpellsMany p [] words rest = words ≡ rest
-SpellsMany p (x ∷ xs) words rest = (middle : List Word) × p.Spells x words middle × SpellsMany p xs middle rest
+SpellsMany p (x ∷ xs) words rest = (middle : List Word) × p.Spells x words middle
+    × SpellsMany p xs middle rest
 
 abbrev pub reads_many_from : {A : Type 0} → Rule A → ℕ → List Word → Option (List A × List Word)
 reads_many_from p zero words = Some ([], words)
-reads_many_from p (suc turns) words = if begins p.starts words then option_and_then (λ a. option_map (λ b. (a.0 ∷ b.0, b.1)) (reads_many_from p turns a.1)) (p.reads words) else Some ([], words)
+reads_many_from p (suc turns) words = if begins p.starts words then option_and_then
+    (λ a. option_map (λ b. (a.0 ∷ b.0, b.1)) (reads_many_from p turns a.1)) (p.reads words) else Some (
+      [],
+      words,
+    )
 
 abbrev pub many : {A : Type 0} → Rule A → Rule (List A)
 many p = record {
@@ -116,9 +133,12 @@ added add s (x ∷ xs) = option_and_then (λ t. added add t xs) (add s x)
 abbrev pub SpellsOnto : {A S : Type 0} → (S → A → Option S) → S → Rule A → S → List Word → List Word → Type 0
 SpellsOnto add s p t words rest = (xs : _) × (added add s xs ≡ Some t) × SpellsMany p xs words rest
 
-abbrev pub reads_onto_from : {A S : Type 0} → (S → A → Option S) → Rule A → ℕ → S → List Word → Option (S × List Word)
+abbrev pub reads_onto_from : {A S : Type 0} → (S → A → Option S) → Rule A → ℕ → S → List Word
+    → Option (S × List Word)
 reads_onto_from add p zero s words = Some (s, words)
-reads_onto_from add p (suc turns) s words = if begins p.starts words then option_and_then (λ a. option_and_then (λ t. reads_onto_from add p turns t a.1) (add s a.0)) (p.reads words) else Some (s, words)
+reads_onto_from add p (suc turns) s words = if begins p.starts words then option_and_then
+    (λ a. option_and_then (λ t. reads_onto_from add p turns t a.1) (add s a.0)) (p.reads words) else Some
+    (s, words)
 
 abbrev pub onto : {A S : Type 0} → (S → A → Option S) → S → Rule A → Rule S
 onto add s p = record {
@@ -133,10 +153,12 @@ onto add s p = record {
 -- ---- once or more, each value added to what there is
 
 abbrev pub SpellsSome : {A S : Type 0} → (S → A → Option S) → S → Rule A → S → List Word → List Word → Type 0
-SpellsSome add s p t words rest = (x : _) × (xs : _) × (added add s (x ∷ xs) ≡ Some t) × SpellsMany p (x ∷ xs) words rest
+SpellsSome add s p t words rest = (x : _) × (xs : _) × (added add s (x ∷ xs) ≡ Some t)
+    × SpellsMany p (x ∷ xs) words rest
 
 abbrev pub reads_some : {A S : Type 0} → (S → A → Option S) → S → Rule A → List Word → Option (S × List Word)
-reads_some add s p words = option_and_then (λ a. option_and_then (λ t. reads_onto_from add p (length a.1) t a.1) (add s a.0)) (p.reads words)
+reads_some add s p words = option_and_then (λ a.
+    option_and_then (λ t. reads_onto_from add p (length a.1) t a.1) (add s a.0)) (p.reads words)
 
 abbrev pub some_onto : {A S : Type 0} → (S → A → Option S) → S → Rule A → Rule S
 some_onto add s p = record {
@@ -153,14 +175,16 @@ some_onto add s p = record {
 -- the values that the rules spell in turn, from a first one on up to a last one
 abbrev pub SpellsTurns : {S : Type 0} → (S → Rule S) → S → List S → S → List Word → List Word → Type 0
 SpellsTurns next s [] t words rest = (s ≡ t) × (words ≡ rest)
-SpellsTurns next s (u ∷ us) t words rest = (middle : List Word) × (next s).Spells u words middle × SpellsTurns next u us t middle rest
+SpellsTurns next s (u ∷ us) t words rest = (middle : List Word) × (next s).Spells u words middle
+    × SpellsTurns next u us t middle rest
 
 abbrev pub SpellsFurther : {S : Type 0} → (S → Rule S) → S → S → List Word → List Word → Type 0
 SpellsFurther next s t words rest = (us : _) × SpellsTurns next s us t words rest
 
 abbrev pub reads_further_from : {S : Type 0} → (S → Rule S) → ℕ → S → List Word → Option (S × List Word)
 reads_further_from next zero s words = Some (s, words)
-reads_further_from next (suc turns) s words = if begins (next s).starts words then option_and_then (λ a. reads_further_from next turns a.0 a.1) ((next s).reads words) else Some (s, words)
+reads_further_from next (suc turns) s words = if begins (next s).starts words then option_and_then
+    (λ a. reads_further_from next turns a.0 a.1) ((next s).reads words) else Some (s, words)
 
 abbrev pub reads_further : {S : Type 0} → (S → Rule S) → S → List Word → Option (S × List Word)
 reads_further next s words = reads_further_from next (length words) s words
@@ -192,4 +216,11 @@ reads_as f p words = option_and_then (λ a. option_map (λ y. (y, a.1)) (f a.0))
 
 -- the value that a function gives for that of a rule, where it gives one
 abbrev pub where_it_gives : {A B : Type 0} → (A → Option B) → Rule A → Rule B
-where_it_gives f p = record { Spells = SpellsAs f p; reads = reads_as f p; starts = p.starts; goes_on = p.goes_on; may_be_empty = p.may_be_empty; is_fit = p.is_fit }
+where_it_gives f p = record {
+  Spells = SpellsAs f p;
+  reads = reads_as f p;
+  starts = p.starts;
+  goes_on = p.goes_on;
+  may_be_empty = p.may_be_empty;
+  is_fit = p.is_fit;
+}

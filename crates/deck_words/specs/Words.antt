@@ -1,5 +1,5 @@
--- The words of a deck, and its faults. A deck is cut into pieces, and each piece gives its words; no order of reading is
--- known here.
+-- The words of a deck, and its faults. A deck is cut into pieces, and each piece gives its words;
+-- no order of reading is known here.
 -- ANSI X3.23-1985, Nucleus module, character-strings and separators. The limits, and the two marks, are ours.
 use Rattle.std.specs.Prelude.{◌≡◌, ℕ, ◌+◌, ◌-◌, ◌<◌, ◌≤◌, ◌==◌, Bool, ◌&&◌, ◌||◌, if◌then◌else◌, List, [], ◌∷◌, ◌++◌, length, take, map, slice_index, nat_le, Option, Some, None, option_map, IsTrue, codes}
 use Rattle.std.specs.List.{list_all}
@@ -18,7 +18,8 @@ use Rattle.deck_words.specs.Word.{Plain, Literal, Sign, Period}
 -- one of = > >= <
 abbrev pub is_sign : List ℕ → Bool
 is_sign text =
-    bytes_eq text (codes "=") || bytes_eq text (codes ">") || bytes_eq text (codes ">=") || bytes_eq text (codes "<")
+    bytes_eq text (codes "=") || bytes_eq text (codes ">") || bytes_eq text (codes ">=")
+    || bytes_eq text (codes "<")
 
 abbrev pub sign_in : List ℕ → Option (List ℕ)
 sign_in text = if is_sign text then Some text else None
@@ -39,7 +40,8 @@ abbrev pub run_words : ℕ → List ℕ → Option (List Word)
 run_words line run =
     let body = take (length run - 1) run in
     let last = slice_index run (length run - 1) in
-    if last == 46 then option_map (λ words. words ++ word_of line Period (codes ".") ∷ []) (body_words line body) else (
+    if last == 46 then option_map (λ words. words ++ word_of line Period (codes ".") ∷ [])
+    (body_words line body) else (
     if last == 44 || last == 59 then body_words line body else body_words line run)
 
 -- white space or the end comes after a run
@@ -52,7 +54,8 @@ EndsRun (byte ∷ after) = IsTrue (is_space byte)
 -- the text as it stands between two marks: a mark in it is doubled
 abbrev pub doubled : ℕ → List ℕ → List ℕ
 doubled mark [] = []
-doubled mark (byte ∷ text) = if byte == mark then mark ∷ mark ∷ doubled mark text else byte ∷ doubled mark text
+doubled mark (byte ∷ text) = if byte == mark then mark ∷ mark ∷ doubled mark text else byte ∷ doubled mark
+    text
 
 -- 1 to 1,000 bytes, none of which ends a line
 abbrev pub IsLiteralText : List ℕ → Type 0
@@ -106,11 +109,13 @@ abbrev pub IsCutIntoWords : Rest → List Piece → List Word → Rest → Type 
 IsCutIntoWords from [] words end = (from ≡ end) × (words ≡ [])
 IsCutIntoWords from (piece ∷ pieces) words end =
     (new : List Word) × (more : List Word) × (after : List ℕ) × (from.bytes ≡ written piece ++ after)
-    × GivesWords from.line piece after new × (words ≡ new ++ more) × IsCutIntoWords (rest_of (line_after from.line piece) after) pieces more end
+    × GivesWords from.line piece after new × (words ≡ new ++ more)
+    × IsCutIntoWords (rest_of (line_after from.line piece) after) pieces more end
 
 -- up to here a deck is cut into pieces, which give these words; it begins at line 1, and is not too long
 abbrev pub HasWordsUpTo : List ℕ → List Word → Rest → Type 0
-HasWordsUpTo bytes words end = (length bytes ≤ 1048576) × ((pieces : List Piece) × IsCutIntoWords (rest_of 1 bytes) pieces words end)
+HasWordsUpTo bytes words end = (length bytes ≤ 1048576)
+    × ((pieces : List Piece) × IsCutIntoWords (rest_of 1 bytes) pieces words end)
 
 -- a deck has these words
 abbrev pub HasWords : List ℕ → List Word → Type 0
@@ -120,14 +125,17 @@ HasWords bytes words = (line : ℕ) × HasWordsUpTo bytes words (rest_of line []
 abbrev pub IsStuck : Rest → Type 0
 IsStuck rest =
     (0 < length rest.bytes)
-    × ((piece : Piece) (after : List ℕ) (words : List Word) → rest.bytes ≡ written piece ++ after → GivesWords rest.line piece after words → ⊥)
+    × ((piece : Piece) (after : List ℕ) (words : List Word) → rest.bytes ≡ written piece ++ after
+    → GivesWords rest.line piece after words → ⊥)
 
--- why a deck has no words: it is too long, or what is left behind some pieces begins with none; or there was no memory
+-- why a deck has no words: it is too long, or what is left behind some pieces begins with none; or
+-- there was no memory
 abbrev pub RefusesWords : List ℕ → Refusal → Type 0
 RefusesWords bytes Memory = Unit {0}
 RefusesWords bytes (Fault line Limit) = (line ≡ 1) × (1048576 < length bytes)
 RefusesWords bytes (Fault line BadWord) =
-    (words : List Word) × (rest : List ℕ) × HasWordsUpTo bytes words (rest_of line rest) × IsStuck (rest_of line rest)
+    (words : List Word) × (rest : List ℕ) × HasWordsUpTo bytes words (rest_of line rest)
+    × IsStuck (rest_of line rest)
 RefusesWords bytes (Fault line Expected) = ⊥
 RefusesWords bytes (Fault line Unknown) = ⊥
 RefusesWords bytes (Fault line Twice) = ⊥

@@ -1,11 +1,11 @@
 //! The words of a deck, and the parser and the rules by which the divisions are read.
 //!
-//! `words` answers exactly the words of the bytes, or the first fault with its line. No deck has two readings. A rule of the
-//! grammar says which words spell a value, and how they are read with one word of look-ahead; a step of the parser reads what
-//! its rule does.
+//! `words` answers exactly the words of the bytes, or the first fault with its line. No deck has
+//! two readings. A rule of the grammar says which words spell a value, and how they are read with
+//! one word of look-ahead; a step of the parser reads what its rule does.
 //!
-//! Read `specs/Words.antt` for the rules of words, `specs/Rule.antt` and `specs/Notation.antt` for the rules of a grammar, and
-//! then `scanner` and `parser`.
+//! Read `specs/Words.antt` for the rules of words, `specs/Rule.antt` and `specs/Notation.antt` for
+//! the rules of a grammar, and then `scanner` and `parser`.
 #![tactic(auto)]
 
 mod byte_class;

@@ -9,8 +9,8 @@ use crate::run::run_piece;
 use crate::spelling::Spelling;
 use std::marker::Model;
 
-/// What a piece gives: a word, if there is one, a period behind it, if there is one, and what is left of the deck behind the
-/// piece, with its line. Contracts see the words and what is left.
+/// What a piece gives: a word, if there is one, a period behind it, if there is one, and what is
+/// left of the deck behind the piece, with its line. Contracts see the words and what is left.
 #[derive(Drop)]
 pub struct Piece<'a> {
     pub word: Option<Spelling<'a>>,

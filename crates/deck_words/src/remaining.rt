@@ -7,8 +7,8 @@ use crate::piece::{Piece, front_piece};
 use crate::word::{Word, WordText};
 use std::marker::Model;
 
-/// The words of a deck from a place on. They are cut from the bytes of the deck one by one, so they take no memory. Contracts
-/// see a list of words.
+/// The words of a deck from a place on. They are cut from the bytes of the deck one by one, so they
+/// take no memory. Contracts see a list of words.
 #[derive(Drop)]
 pub struct Words<'a> {
     line: u64,
@@ -99,7 +99,8 @@ impl<'a> Words<'a> {
 
     /// Takes the next word.
     pub fn next(&mut self) -> Option<Word<'a>>
-        ensures { MatchOption result ((self.old ≡ []) × (self.new ≡ [])) (λ word. self.old ≡ word ∷ self.new) }
+        ensures { MatchOption result ((self.old ≡ []) × (self.new ≡ []))
+            (λ word. self.old ≡ word ∷ self.new) }
     {
         if self.period {
             self.period = false;

@@ -37,8 +37,9 @@ fn scan(bytes: &[u8]) -> Result<Words<'_>, Refusal>
     Ok(Words::new(bytes, count, last_line))
 }
 
-/// The words of a deck, or its first fault: code 6, at line 1, for more than `DECK_LIMIT` bytes; or code 1 for bytes that are no
-/// word, at the line of the first of them. It takes no memory: the words are cut from the bytes again where they are read.
+/// The words of a deck, or its first fault: code 6, at line 1, for more than `DECK_LIMIT` bytes; or
+/// code 1 for bytes that are no word, at the line of the first of them. It takes no memory: the
+/// words are cut from the bytes again where they are read.
 pub fn words(bytes: &[u8]) -> Result<Words<'_>, DeckFault>
     ensures words { IfOk result (HasWords bytes.now) }
     ensures fault { IfErr result (HasFault bytes.now) }
@@ -46,7 +47,8 @@ pub fn words(bytes: &[u8]) -> Result<Words<'_>, DeckFault>
     Ok(scan(bytes)?)
 }
 
-/// A deck has one reading: no two lists of words, no fault beside words, and no two faults but want of memory.
+/// A deck has one reading: no two lists of words, no fault beside words, and no two faults but want
+/// of memory.
 pub fn one_reading()
     ensures words { (bytes : List ℕ) (a b : List Word) → HasWords bytes a → HasWords bytes b → a ≡ b }
     ensures apart { (bytes : List ℕ) (words : List Word) (fault : DeckFault) →

@@ -46,7 +46,8 @@ pub enum Spelled<'a> {
     Sign(Sign),
 }
 
-/// A word other than a period, and the line of its first byte. It takes no copy of the deck. Contracts see the word.
+/// A word other than a period, and the line of its first byte. It takes no copy of the deck.
+/// Contracts see the word.
 #[derive(Drop)]
 pub struct Spelling<'a> {
     pub line: u64,

@@ -1,7 +1,8 @@
 //! The statuses of verbs.
 
-/// The table of statuses: of each its variant, its two digits, what it means in a line (in parts, where a terminal is too narrow for it), and the rest of its
-/// explanation. A call hands all rows to the macro that it names, behind the tokens that follow the name.
+/// The table of statuses: of each its variant, its two digits, what it means in a line (in parts,
+/// where a terminal is too narrow for it), and the rest of its explanation. A call hands all rows
+/// to the macro that it names, behind the tokens that follow the name.
 #[macro_export]
 macro_rules! statuses {
     ($then:ident $($with:tt)*) => {

@@ -1,7 +1,7 @@
 //! What is explained of statuses, codes of a refused deck and reasons of the check, in words.
 //!
-//! `explanation_of` answers the text for two words, as `status 30`, or nothing where they name nothing. Each status, code and reason is explained, which
-//! `all_are_explained` says.
+//! `explanation_of` answers the text for two words, as `status 30`, or nothing where they name
+//! nothing. Each status, code and reason is explained, which `all_are_explained` says.
 //!
 //! Read `specs/Explained.antt`, then `tables`.
 #![tactic(auto)]

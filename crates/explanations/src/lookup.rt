@@ -17,14 +17,18 @@ fn text_of(rows: &[(&'static str, &'static str)], number: &str) -> Option<&'stat
 
 /// The text of a number in a table.
 fn text_in(rows: &[(&'static str, &'static str)], number: &str) -> Option<&'static str>
-    ensures { option_map (λ text. text.now) result ≡ text_in (map (λ row. (row.0.now, row.1.now)) rows.now) number.now }
+    ensures { option_map (λ text. text.now) result ≡ text_in
+        (map (λ row. (row.0.now, row.1.now)) rows.now) number.now }
 {
     text_of(rows, number)
 }
 
-/// What is explained of a status, a code of a refused deck or a reason of the check: `status 30`, `fault 7`, `unsound 6`. None: these words name none of them.
+/// What is explained of a status, a code of a refused deck or a reason of the check: `status 30`,
+/// `fault 7`, `unsound 6`. None: these words name none of them.
 pub fn explanation_of(kind: &str, number: &str) -> Option<&'static str>
-    ensures { option_map (λ text. text.now) result ≡ explained (map (λ row. (row.0.now, row.1.now)) STATUSES) (map (λ row. (row.0.now, row.1.now)) FAULTS) (map (λ row. (row.0.now, row.1.now)) REASONS) kind.now number.now }
+    ensures { option_map (λ text. text.now) result ≡ explained
+        (map (λ row. (row.0.now, row.1.now)) STATUSES) (map (λ row. (row.0.now, row.1.now)) FAULTS)
+        (map (λ row. (row.0.now, row.1.now)) REASONS) kind.now number.now }
 {
     match kind {
         "status" => text_in(&STATUSES, number),
@@ -36,6 +40,8 @@ pub fn explanation_of(kind: &str, number: &str) -> Option<&'static str>
 
 /// Each status is explained, and each cause for which a deck is refused.
 pub fn all_are_explained()
-    ensures statuses { (status : Status) → IsSome (text_in (map (λ row. (row.0.now, row.1.now)) STATUSES) (digits_of status)) }
-    ensures causes { (cause : Cause) → IsSome (text_in (map (λ row. (row.0.now, row.1.now)) FAULTS) (digit_of (code_of cause))) }
+    ensures statuses { (status : Status) → IsSome (text_in (map (λ row. (row.0.now, row.1.now)) STATUSES)
+        (digits_of status)) }
+    ensures causes { (cause : Cause) → IsSome (text_in (map (λ row. (row.0.now, row.1.now)) FAULTS)
+        (digit_of (code_of cause))) }
 {}

@@ -30,7 +30,8 @@ pub record HasGivenPages (before after : Option (List ℕ)) (most : ℕ) : Type 
   pub few : count ≤ most
   pub given : HasGiven before after (4096 * count)
 
--- Where the reading of so many pages ends without an answer, what was read: for want of input, fewer bytes than they have; for want of memory, whole pages.
+-- Where the reading of so many pages ends without an answer, what was read: for want of input,
+-- fewer bytes than they have; for want of memory, whole pages.
 abbrev pub BreaksOff : Option (List ℕ) → Option (List ℕ) → ℕ → CheckFault → Type 0
 BreaksOff before after count Input = HasGivenLess before after (4096 * count)
 BreaksOff before after count Memory = HasGivenPages before after count

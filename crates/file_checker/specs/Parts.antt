@@ -18,13 +18,15 @@ use Rattle.open_file.specs.Stands.{Stands}
 use Rattle.row_checks.specs.Alternate.{AlternateStands}
 
 -- the index stands in pages of its own, and its entries are those of the rows
-pub record AlternateFound (opened : OpenFile) (list : List (List ℕ)) (primes : List Spot) (index : AltIndex) (own : List ℕ) : Type 0 where
+pub record AlternateFound (opened : OpenFile) (list : List (List ℕ)) (primes : List Spot)
+    (index : AltIndex) (own : List ℕ) : Type 0 where
   pub spots : List Spot
   pub tree : TreeStands index.tree (pages_in list) (entries_at index.tree.shape list spots) own
   pub rows : AlternateStands opened list primes index spots
 
 -- so do the first alternate indexes, so many, and their pages were reached now
-pub record AlternatesFound (opened : OpenFile) (list : List (List ℕ)) (primes : List Spot) (count : ℕ) (before after : ℕ → Bool) : Type 0 where
+pub record AlternatesFound (opened : OpenFile) (list : List (List ℕ)) (primes : List Spot) (count : ℕ)
+    (before after : ℕ → Bool) : Type 0 where
   pub owns : List (List ℕ)
   pub as_many : length owns ≡ count
   pub marks : Marks before after (all_of owns)

@@ -48,7 +48,8 @@ pub record HasPages (bytes : List ℕ) (header : Header) (list : List (List ℕ)
 abbrev pub IsShown : List ℕ → (Header → List (List ℕ) → Type 0) → Type 0
 IsShown bytes P = (header : Header) × (list : List (List ℕ)) × HasPages bytes header list × P header list
 
--- What is known of the bytes by the reason that is told: the first three are those of a file that cannot be opened, and tell why in this order.
+-- What is known of the bytes by the reason that is told: the first three are those of a file that
+-- cannot be opened, and tell why in this order.
 abbrev pub HasReason : List ℕ → Reason → Type 0
 HasReason bytes Short = (length bytes < 4096) ⊎ (length bytes < 4096 * counted_in bytes)
 HasReason bytes Gate = IsLong bytes × (slice_index bytes 0 ≢ 67)
@@ -68,13 +69,15 @@ IsRight bytes (Unsound reason) = HasReason bytes reason
 abbrev pub asked_in : List ℕ → ℕ
 asked_in bytes = 4096 + 4096 * (counted_in bytes - 1)
 
--- what was read for a verdict: all bytes that are asked for and no more, or all that there are where they are too few
+-- what was read for a verdict: all bytes that are asked for and no more, or all that there are
+-- where they are too few
 pub record IsReadFor (bytes : List ℕ) (after : Option (List ℕ)) (verdict : Verdict) : Type 0 where
   pub whole : verdict ≢ Unsound Short → HasGiven (Some bytes) after (asked_in bytes)
   pub short : verdict ≡ Unsound Short → IsAtEnd after
 
--- What was read where no verdict is told: for want of input, fewer bytes than are asked for; for want of memory, whole pages of a file whose first page is
--- accepted.
+-- What was read where no verdict is told: for want of input, fewer bytes than are asked for; for
+-- want of memory, whole pages of a file whose first page is accepted.
 abbrev pub GivesUp : List ℕ → Option (List ℕ) → CheckFault → Type 0
 GivesUp bytes after Input = HasGivenLess (Some bytes) after (asked_in bytes)
-GivesUp bytes after Memory = HasGivenPages (Some bytes) after (counted_in bytes) × ((header : Header) × (header_in (page_of bytes 0) ≡ Some header))
+GivesUp bytes after Memory = HasGivenPages (Some bytes) after (counted_in bytes)
+    × ((header : Header) × (header_in (page_of bytes 0) ≡ Some header))

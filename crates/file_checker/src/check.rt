@@ -77,11 +77,15 @@ fn examine_accepted<R: Read>(
     }
 }
 
-/// Examines a file: answers what `check_file` answers of it, and where a reason was met. It reads as `check_file` does, and has its faults.
+/// Examines a file: answers what `check_file` answers of it, and where a reason was met. It reads
+/// as `check_file` does, and has its faults.
 pub fn examine_file<R: Read>(alloc: Global, reader: &mut R) -> Result<Finding, CheckFault>
-    ensures right { IfSome (R.remaining reader.old) (λ bytes. IfOk result (λ finding. IsRight bytes (verdict_of finding))) }
-    ensures read { IfSome (R.remaining reader.old) (λ bytes. IfOk result (λ finding. IsReadFor bytes (R.remaining reader.new) (verdict_of finding))) }
-    ensures fault { IfSome (R.remaining reader.old) (λ bytes. IfErr result (GivesUp bytes (R.remaining reader.new))) }
+    ensures right { IfSome (R.remaining reader.old)
+        (λ bytes. IfOk result (λ finding. IsRight bytes (verdict_of finding))) }
+    ensures read { IfSome (R.remaining reader.old)
+        (λ bytes. IfOk result (λ finding. IsReadFor bytes (R.remaining reader.new) (verdict_of finding))) }
+    ensures fault { IfSome (R.remaining reader.old)
+        (λ bytes. IfErr result (GivesUp bytes (R.remaining reader.new))) }
 {
     let mut first = [0; PAGE_SIZE];
     if !read_page(reader, &mut first)? {
@@ -93,14 +97,17 @@ pub fn examine_file<R: Read>(alloc: Global, reader: &mut R) -> Result<Finding, C
     }
 }
 
-/// Checks a file. As many pages are read as its first page counts, once and in order, and kept in memory until the answer; a page that is counted and does not
-/// come takes none. The bytes behind them are left to the reader.
+/// Checks a file. As many pages are read as its first page counts, once and in order, and kept in
+/// memory until the answer; a page that is counted and does not come takes none. The bytes behind
+/// them are left to the reader.
 ///
 /// Input where the reader fails, or is interrupted a thousand times in a row; Memory.
 pub fn check_file<R: Read>(alloc: Global, reader: &mut R) -> Result<Verdict, CheckFault>
     ensures right { IfSome (R.remaining reader.old) (λ bytes. IfOk result (IsRight bytes)) }
-    ensures read { IfSome (R.remaining reader.old) (λ bytes. IfOk result (IsReadFor bytes (R.remaining reader.new))) }
-    ensures fault { IfSome (R.remaining reader.old) (λ bytes. IfErr result (GivesUp bytes (R.remaining reader.new))) }
+    ensures read { IfSome (R.remaining reader.old)
+        (λ bytes. IfOk result (IsReadFor bytes (R.remaining reader.new))) }
+    ensures fault { IfSome (R.remaining reader.old)
+        (λ bytes. IfErr result (GivesUp bytes (R.remaining reader.new))) }
 {
     let finding = examine_file(alloc, reader)?;
     Ok(finding.verdict())

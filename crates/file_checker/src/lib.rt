@@ -1,8 +1,9 @@
 //! The check of a file, whoever wrote it: whether its bytes stand for an indexed file of so many records.
 //!
-//! All counted pages are read into a list, once and in order. Walks find that each part of the file stands and that each page belongs to one part; then
-//! indexes and records are compared. Where the answer is Sound, the file can be opened, and no call on it will find damage. `examine_file` tells also where
-//! a reason was met.
+//! All counted pages are read into a list, once and in order. Walks find that each part of the file
+//! stands and that each page belongs to one part; then indexes and records are compared. Where the
+//! answer is Sound, the file can be opened, and no call on it will find damage. `examine_file`
+//! tells also where a reason was met.
 //!
 //! Read `specs/Sound.antt`, then `check`, then `parts`.
 #![tactic(auto)]

@@ -21,7 +21,8 @@ use record_heap::walk_heap;
 use row_checks::{check_alternate, check_rows};
 use std::alloc::Global;
 
-/// Walks the index of each alternate key, and compares it with the rows to which the entries of `primes` lead.
+/// Walks the index of each alternate key, and compares it with the rows to which the entries of
+/// `primes` lead.
 fn check_alternates(
     alloc: Global,
     pages: &[[u8; PAGE_SIZE]],
@@ -31,8 +32,10 @@ fn check_alternates(
 ) -> Result<(), Stop>
     requires shaped { IsShaped file.now }
     requires many { (j : ℕ) (index : AltIndex) → j < length file.now.alternates.items
-        → index ≡ slice_index_or file.now.alternates.items j index → index.tree.count ≡ length (spots_in primes.now) }
-    ensures found { OnOk result (AlternatesFound file.now pages.now (spots_in primes.now) (length file.now.alternates.items)
+        → index ≡ slice_index_or file.now.alternates.items j index
+        → index.tree.count ≡ length (spots_in primes.now) }
+    ensures found { OnOk result (AlternatesFound file.now pages.now (spots_in primes.now)
+        (length file.now.alternates.items)
         (marked_in reached.old) (marked_in reached.new)) }
     ensures stop { IfErr result StopsWalk }
 {
@@ -59,8 +62,8 @@ fn first_lost(reached: &[bool]) -> FaultPlace {
     }
 }
 
-/// Checks the pages of a file, all that its header counts, where none is marked yet. Each part is walked, and its entries and records are compared, and in
-/// the end no page may be without a mark.
+/// Checks the pages of a file, all that its header counts, where none is marked yet. Each part is
+/// walked, and its entries and records are compared, and in the end no page may be without a mark.
 fn check_parts(
     alloc: Global,
     pages: &[[u8; PAGE_SIZE]],

@@ -15,9 +15,11 @@ const MOST_INTERRUPTED: u32 = 1000;
 fn read_part<R: Read>(reader: &mut R, part: &mut [u8]) -> Result<usize, CheckFault>
     ensures within { IfOk result (λ n. n ≤ length part.new) }
     ensures length { length part.new ≡ length part.old }
-    ensures bytes { IfOk result (λ n. Consumes (R.remaining reader.old) (R.remaining reader.new) (take n part.new)) }
+    ensures bytes { IfOk result (λ n. Consumes (R.remaining reader.old) (R.remaining reader.new)
+        (take n part.new)) }
     ensures end { IfOk result (λ n. n ≡ 0 → 0 < length part.old → IsAtEnd (R.remaining reader.new)) }
-    ensures input { IfErr result (λ fault. (fault ≡ CheckFault.Input) × Keeps (R.remaining reader.old) (R.remaining reader.new)) }
+    ensures input { IfErr result (λ fault. (fault ≡ CheckFault.Input)
+        × Keeps (R.remaining reader.old) (R.remaining reader.new)) }
 {
     for _ in 0..MOST_INTERRUPTED {
         match reader.read(part) {
@@ -70,7 +72,8 @@ pub fn skip_pages<R: Read>(reader: &mut R, count: u32) -> Result<bool, CheckFaul
     Ok(true)
 }
 
-/// Has room for a page more in a list that is to have so many in the end: for twice as many as it has, but for no more than these.
+/// Has room for a page more in a list that is to have so many in the end: for twice as many as it
+/// has, but for no more than these.
 fn make_room(pages: &mut Vec<[u8; PAGE_SIZE]>, count: usize) -> Result<(), CheckFault>
     ensures same { pages.new.items ≡ pages.old.items }
     ensures memory { IfErr result (λ fault. fault ≡ CheckFault.Memory) }
@@ -91,7 +94,8 @@ pub fn push_page(pages: &mut Vec<[u8; PAGE_SIZE]>, page: [u8; PAGE_SIZE]) -> Res
     pages.push(page).map_err(|_| CheckFault::Memory)
 }
 
-/// Reads pages behind those of the list until there are so many, and answers whether there were enough bytes for them.
+/// Reads pages behind those of the list until there are so many, and answers whether there were
+/// enough bytes for them.
 ///
 /// Memory is taken for pages that came, and not for those that are only counted.
 pub fn read_pages<R: Read>(
@@ -108,7 +112,8 @@ pub fn read_pages<R: Read>(
         → AreRead known (R.remaining reader.old) pages.old.items → HasLess (4096 * count) known) }
     ensures end { IfOk result (λ whole. whole ≡ false → IsAtEnd (R.remaining reader.new)) }
     ensures fault { IfErr result (λ fault. (known : Option (List ℕ))
-        → AreRead known (R.remaining reader.old) pages.old.items → BreaksOff known (R.remaining reader.new) count fault) }
+        → AreRead known (R.remaining reader.old) pages.old.items
+        → BreaksOff known (R.remaining reader.new) count fault) }
 {
     let wanted = count as usize;
     let mut page = [0; PAGE_SIZE];

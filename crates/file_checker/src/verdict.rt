@@ -9,7 +9,8 @@ pub enum Verdict {
     Unsound(Reason),
 }
 
-/// Why a file is not sound. The first three are told in this order, before all others; of the others any that holds may be told.
+/// Why a file is not sound. The first three are told in this order, before all others; of the
+/// others any that holds may be told.
 #[derive(Clone, Copy, Debug, PartialEq, Eq)]
 pub enum Reason {
     /// There are fewer bytes than a page has, or than the page count needs.

@@ -42,7 +42,8 @@ IsDeckFile IsRead None (Some name) file = ⊥
 IsDeckFile IsRead (Some deck) None file = ⊥
 IsDeckFile IsRead (Some deck) (Some name) file = IsOfDeck (IsRead deck) name file
 
--- why nothing came of a file of a deck: the deck is refused or has no such file, or the input, the output or memory failed
+-- why nothing came of a file of a deck: the deck is refused or has no such file, or the input, the
+-- output or memory failed
 abbrev pub IsDeckFault : Fault → Type 0
 IsDeckFault (DeckRefused fault) = ⊤
 IsDeckFault NoSuchFile = ⊤

@@ -16,14 +16,17 @@ use Rattle.command_outcomes.specs.declared.fault.Fault.TheVariants.{Deck as Deck
 
 -- the columns are those between the cuts of a text, which rise from 1 on
 abbrev pub IsCutInto : Word → List Column → Type 0
-IsCutInto text columns = (cuts : List ℕ) × AreCuts text cuts × (do_rise 0 cuts ≡ true) × (map part_of columns ≡ cut_parts 1 0 cuts)
+IsCutInto text columns = (cuts : List ℕ) × AreCuts text cuts × (do_rise 0 cuts ≡ true)
+    × (map part_of columns ≡ cut_parts 1 0 cuts)
 
 -- the columns are the elementary items of the record of the file of this name in a deck
 abbrev pub AreItemsOf : (IsRead : List ℕ → Type 0) → (name : Word) → List Column → Type 0
-AreItemsOf IsRead name columns = (file : FileDesc) × IsOfDeck IsRead name file × (map part_of columns ≡ item_parts file.layout)
+AreItemsOf IsRead name columns = (file : FileDesc) × IsOfDeck IsRead name file
+    × (map part_of columns ≡ item_parts file.layout)
 
 -- the columns are those that are asked for: by cuts, by a deck and the name of a file in it, or by nothing
-abbrev pub AreColumns : (IsRead : Word → List ℕ → Type 0) → (cut deck name : Option Word) → List Column → Type 0
+abbrev pub AreColumns : (IsRead : Word → List ℕ → Type 0) → (cut deck name : Option Word) → List Column
+    → Type 0
 AreColumns IsRead None None None columns = map part_of columns ≡ whole_part ∷ []
 AreColumns IsRead (Some text) None None columns = IsCutInto text columns
 AreColumns IsRead None (Some deck) (Some name) columns = AreItemsOf (IsRead deck) name columns
@@ -39,18 +42,23 @@ HasNoColumns asked = (asked.cut ≡ None) × (asked.deck ≡ None) × (asked.nam
 -- the form is the one that is asked for, with its columns: text has none
 abbrev pub IsFormAsked : (IsRead : Word → List ℕ → Type 0) → FormText → Form → Type 0
 IsFormAsked IsRead asked Text = (asked.kind ≡ codes "text") × HasNoColumns asked
-IsFormAsked IsRead asked (Csv columns) = (asked.kind ≡ codes "csv") × AreColumns IsRead asked.cut asked.deck asked.name columns.items
-IsFormAsked IsRead asked (Json columns) = (asked.kind ≡ codes "json") × AreColumns IsRead asked.cut asked.deck asked.name columns.items
+IsFormAsked IsRead asked (Csv columns) = (asked.kind ≡ codes "csv")
+    × AreColumns IsRead asked.cut asked.deck asked.name columns.items
+IsFormAsked IsRead asked (Json columns) = (asked.kind ≡ codes "json")
+    × AreColumns IsRead asked.cut asked.deck asked.name columns.items
 
 -- the texts of a form have this fault
 abbrev pub HasFormFault : FormText → FormFault → Type 0
-HasFormFault asked Kind = (asked.kind ≢ codes "text") × (asked.kind ≢ codes "csv") × (asked.kind ≢ codes "json")
+HasFormFault asked Kind = (asked.kind ≢ codes "text") × (asked.kind ≢ codes "csv")
+    × (asked.kind ≢ codes "json")
 HasFormFault asked TextColumns = (asked.kind ≡ codes "text") × (HasNoColumns asked → ⊥)
 HasFormFault asked CutAndDeck = IsSome asked.cut × IsDeckAsked asked.deck asked.name
 HasFormFault asked HalfDeck = IsHalf asked.deck asked.name
-HasFormFault asked Cuts = (text : Word) × (asked.cut ≡ Some text) × ((cuts : List ℕ) → AreCuts text cuts → do_rise 0 cuts ≡ true → ⊥)
+HasFormFault asked Cuts = (text : Word) × (asked.cut ≡ Some text)
+    × ((cuts : List ℕ) → AreCuts text cuts → do_rise 0 cuts ≡ true → ⊥)
 
--- why the columns of a form are not there: its texts have a fault, the deck is refused or does not have the file, or the input or memory failed
+-- why the columns of a form are not there: its texts have a fault, the deck is refused or does not
+-- have the file, or the input or memory failed
 abbrev pub IsFormRefused : FormText → Fault → Type 0
 IsFormRefused asked (DeckRefused fault) = IsDeckAsked asked.deck asked.name
 IsFormRefused asked NoSuchFile = IsDeckAsked asked.deck asked.name

@@ -16,7 +16,8 @@ use Rattle.command_outcomes.specs.declared.fault.Fault.TheVariants.{NotListed, I
 abbrev pub WritesList : List ℕ → (before behind : Option (List ℕ)) → Type 0
 WritesList bytes before behind = (text : List ℕ) × Lists bytes text × Appends before behind text
 
--- the bytes are no deck, the fault is not want of memory, and the word that is told stands in them, at the line that is told
+-- the bytes are no deck, the fault is not want of memory, and the word that is told stands in them,
+-- at the line that is told
 abbrev pub AreRefused : List ℕ → RefusedDeck → Type 0
 AreRefused bytes refused =
     (refused.fault.code ≢ 8) × ((deck : Deck) → IsDeck bytes deck → ⊥) × TellsOf bytes refused.diagnosis
@@ -32,7 +33,8 @@ IsInCobol bytes form text = ((deck : Deck) × IsDeck bytes deck) × IsLaidOut fo
 
 -- a program of the deck that the bytes are was written, in fixed form or in free form
 abbrev pub WritesCobol : List ℕ → (fixed : Bool) → (before behind : Option (List ℕ)) → Type 0
-WritesCobol bytes fixed before behind = (text : List ℕ) × IsInCobol bytes (form_of fixed) text × Appends before behind text
+WritesCobol bytes fixed before behind = (text : List ℕ) × IsInCobol bytes (form_of fixed) text
+    × Appends before behind text
 
 -- why a deck is not listed: it is refused, or the input, the output or memory failed
 abbrev pub IsListFault : Fault → Type 0

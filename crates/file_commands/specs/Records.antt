@@ -14,5 +14,7 @@ pub record IsAskedFor (key : ℕ) (from to : Option (List ℕ)) (first : ℕ) (a
   pub first_is : asked.first ≡ first
 
 -- the list of these bytes in a form ended so
-abbrev pub ListsRecords : Form → List ℕ → (key : ℕ) (from to : Option (List ℕ)) (first : ℕ) → (before behind : Option (List ℕ)) → FileList → Type 0
-ListsRecords form bytes key from to first before behind list = (asked : Asked) × IsAskedFor key from to first asked × EndsWithIn form bytes asked before behind list
+abbrev pub ListsRecords : Form → List ℕ → (key : ℕ) (from to : Option (List ℕ)) (first : ℕ)
+    → (before behind : Option (List ℕ)) → FileList → Type 0
+ListsRecords form bytes key from to first before behind list =
+    (asked : Asked) × IsAskedFor key from to first asked × EndsWithIn form bytes asked before behind list

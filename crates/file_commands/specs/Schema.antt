@@ -36,7 +36,8 @@ IsOfSchema outcome = ⊥
 -- its differences from the schema of a deck were written, or it was told why the page is none
 abbrev pub ComparesAs : Schema → (before after : Option (List ℕ)) → Result Header Refusal → Outcome → Type 0
 ComparesAs deck before after read (SchemaCompared told) = TellsDifferences deck before after read (Ok told)
-ComparesAs deck before after read (SchemaRefused refusal) = TellsDifferences deck before after read (Err refusal)
+ComparesAs deck before after read (SchemaRefused refusal) =
+    TellsDifferences deck before after read (Err refusal)
 ComparesAs deck before after read outcome = ⊥
 
 -- this was done for the schema of a file that was held against that of a deck
@@ -45,14 +46,16 @@ IsOfComparison (SchemaCompared told) = ⊤
 IsOfComparison (SchemaRefused refusal) = ⊤
 IsOfComparison outcome = ⊥
 
--- this was done for a schema beside a deck and a name, which may be given: without them it is told, and with both of them compared
+-- this was done for a schema beside a deck and a name, which may be given: without them it is told,
+-- and with both of them compared
 abbrev pub IsSchemaDone : (deck name : Option Text) → Outcome → Type 0
 IsSchemaDone deck name SchemaTold = (deck ≡ None) × (name ≡ None)
 IsSchemaDone deck name (SchemaCompared told) = IsDeckAsked deck name
 IsSchemaDone deck name (SchemaRefused refusal) = ⊤
 IsSchemaDone deck name outcome = ⊥
 
--- why a schema is not told or compared: half of what is to be held against it is given, the deck is refused or does not have the file, or the input, the output or memory failed
+-- why a schema is not told or compared: half of what is to be held against it is given, the deck is
+-- refused or does not have the file, or the input, the output or memory failed
 abbrev pub IsSchemaFault : (deck name : Option Text) → Fault → Type 0
 IsSchemaFault deck name (DeckRefused fault) = IsDeckAsked deck name
 IsSchemaFault deck name NoSuchFile = IsDeckAsked deck name

@@ -11,4 +11,5 @@ is_sound (Unsound reason) = false
 -- so many verdicts, each of which is such a one, and whether all of them are of sound files
 abbrev pub AreVerdicts : (Verdict → Type 0) → ℕ → Bool → Type 0
 AreVerdicts IsSuch count sound =
-    (verdicts : List Verdict) × (length verdicts ≡ count) × All IsSuch verdicts × (sound ≡ list_all is_sound verdicts)
+    (verdicts : List Verdict) × (length verdicts ≡ count) × All IsSuch verdicts
+    × (sound ≡ list_all is_sound verdicts)

@@ -16,7 +16,8 @@ use std::rt::Files;
 /// The program of the deck that the bytes are.
 fn program_of(alloc: Global, bytes: &[u8], form: Form) -> Result<String, Fault>
     ensures text { IfOk result (λ text. IsInCobol bytes.now form (string_bytes text)) }
-    ensures refused { IfErr result (λ fault. (told : _) → fault ≡ Fault.NotListed told → AreRefused bytes.now told) }
+    ensures refused { IfErr result (λ fault. (told : _) → fault ≡ Fault.NotListed told
+        → AreRefused bytes.now told) }
     ensures fault { IfErr result IsListFault }
 {
     match write_program(alloc, bytes, form) {

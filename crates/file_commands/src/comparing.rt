@@ -19,14 +19,16 @@ use std::io::{Read, Write};
 use std::rt::Files;
 use system_files::LockFile;
 
-/// Writes how the schema of the file that a reader has differs from that of a deck, by its first page alone; or nothing, where that page is none.
+/// Writes how the schema of the file that a reader has differs from that of a deck, by its first
+/// page alone; or nothing, where that page is none.
 fn write_differences<R: Read + Drop, W: Write>(
     alloc: Global,
     reader: R,
     deck: &Schema,
     out: &mut W,
 ) -> Result<Outcome, Fault>
-    ensures told { IfSome (R.remaining reader) (λ bytes. IfOk result (ComparesAs deck.now (W.contents out.old) (W.contents out.new) (read_in bytes))) }
+    ensures told { IfSome (R.remaining reader) (λ bytes.
+        IfOk result (ComparesAs deck.now (W.contents out.old) (W.contents out.new) (read_in bytes))) }
     ensures kind { IfOk result IsOfComparison }
     ensures fault { IfErr result (λ fault. status_of fault ≡ 4) }
 {
@@ -56,8 +58,9 @@ where
     write_differences(alloc, file, deck, out)
 }
 
-/// Writes how the schema of the file of a path, as long as no run changes it, differs from that of a file of the deck in the file of another path. `Deck`, `NoSuchFile`: the
-/// deck is refused, or does not have the file. Nothing was written.
+/// Writes how the schema of the file of a path, as long as no run changes it, differs from that of
+/// a file of the deck in the file of another path. `Deck`, `NoSuchFile`: the deck is refused, or
+/// does not have the file. Nothing was written.
 pub fn compare_path<R: Files, I: Read, W: Write>(
     rt: &R,
     alloc: Global,
@@ -71,7 +74,9 @@ where
     R::File: LockFile,
     ensures told { IfOk result (λ outcome. (described : ToldFile)
         × IsOfDeck (IsDeckNamed R.File.remaining (I.remaining input.old) deck.now) name.now described
-        × ((file : R.File) × IfSome (R.File.remaining file) (λ bytes. ComparesAs described.schema (W.contents out.old) (W.contents out.new) (read_in bytes) outcome))) }
+        × ((file : R.File) × IfSome (R.File.remaining file)
+        (λ bytes. ComparesAs described.schema (W.contents out.old) (W.contents out.new)
+        (read_in bytes) outcome))) }
     ensures kind { IfOk result IsOfComparison }
     ensures untouched { IfErr result (λ fault. status_of fault ≢ 4 → out.new ≡ out.old) }
     ensures fault { IfErr result IsDeckFault }

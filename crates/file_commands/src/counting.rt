@@ -33,8 +33,10 @@ pub fn count_path<R: Files, W: Write>(
 ) -> Result<Outcome, Fault>
 where
     R::File: LockFile,
-    ensures counted { IfOk result (λ outcome. (end : _) × (outcome ≡ Outcome.Counted end) × ((file : R.File) × (bytes : List ℕ)
-        × IsFrontOfInput 18446744073709551615 (R.File.remaining file) bytes × EndsWith bytes (W.contents out.old) (W.contents out.new) end)) }
+    ensures counted { IfOk result (λ outcome. (end : _) × (outcome ≡ Outcome.Counted end)
+        × ((file : R.File) × (bytes : List ℕ)
+        × IsFrontOfInput 18446744073709551615 (R.File.remaining file) bytes
+        × EndsWith bytes (W.contents out.old) (W.contents out.new) end)) }
     ensures fault { IfErr result (λ fault. status_of fault ≡ 4) }
 {
     let bytes = match read_file(rt, alloc, path, &mut Silent) {

@@ -17,7 +17,8 @@ fn cut_of(text: &str) -> Option<u16>
 
 /// Adds the number that a text is.
 fn push_cut(cuts: &mut Vec<u16>, text: &str) -> Result<(), Fault>
-    ensures cut { OnOk result ((n : ℕ) × IsNumber 16 text.now n × (cuts.new.items ≡ cuts.old.items ++ n ∷ [])) }
+    ensures cut { OnOk result ((n : ℕ) × IsNumber 16 text.now n
+        × (cuts.new.items ≡ cuts.old.items ++ n ∷ [])) }
     ensures none { result ≡ Err (Fault.Form FormFault.Cuts) → (n : ℕ) → IsNumber 16 text.now n → ⊥ }
     ensures fault { IfErr result (λ fault. (fault ≡ Fault.Form FormFault.Cuts) ⊎ (fault ≡ Fault.Memory)) }
 {
@@ -30,7 +31,8 @@ fn push_cut(cuts: &mut Vec<u16>, text: &str) -> Result<(), Fault>
     }
 }
 
-/// The cuts of a text. `Form`: between two commas, or before the first or behind the last one, is no number up to 65,535. `Memory`.
+/// The cuts of a text. `Form`: between two commas, or before the first or behind the last one, is
+/// no number up to 65,535. `Memory`.
 pub fn read_cuts(alloc: Global, text: &str) -> Result<Vec<u16>, Fault>
     ensures cuts { IfOk result (λ cuts. AreCuts text.now cuts.items) }
     ensures none { result ≡ Err (Fault.Form FormFault.Cuts) → (cuts : List ℕ) → AreCuts text.now cuts → ⊥ }

@@ -18,7 +18,8 @@ use std::rt::Files;
 /// The deck that the bytes are.
 pub fn deck_of(alloc: Global, bytes: &[u8]) -> Result<Deck, Fault>
     ensures deck { IfOk result (IsDeck bytes.now) }
-    ensures refused { IfErr result (λ fault. (told : ToldFault) → fault ≡ Fault.Deck told → IsNoDeck bytes.now told) }
+    ensures refused { IfErr result (λ fault. (told : ToldFault) → fault ≡ Fault.Deck told
+        → IsNoDeck bytes.now told) }
     ensures fault { IfErr result IsDeckFault }
 {
     match read_deck(alloc, bytes) {

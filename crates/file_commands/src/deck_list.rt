@@ -38,7 +38,8 @@ pub fn refused(alloc: Global, bytes: &[u8], fault: DeckFault) -> Fault
 /// The list of the deck that the bytes are.
 fn list(alloc: Global, bytes: &[u8]) -> Result<String, Fault>
     ensures list { IfOk result (λ text. Lists bytes.now (string_bytes text)) }
-    ensures refused { IfErr result (λ fault. (told : _) → fault ≡ Fault.NotListed told → AreRefused bytes.now told) }
+    ensures refused { IfErr result (λ fault. (told : _) → fault ≡ Fault.NotListed told
+        → AreRefused bytes.now told) }
     ensures fault { IfErr result IsListFault }
 {
     match list_deck(alloc, bytes) {

@@ -26,7 +26,8 @@ const MOST_INTERRUPTED: u32 = 1000;
 fn read_part<R: Read>(reader: &mut R, part: &mut [u8]) -> Result<usize, Fault>
     ensures within { IfOk result (λ n. n ≤ length part.new) }
     ensures length { length part.new ≡ length part.old }
-    ensures bytes { IfOk result (λ n. Consumes (R.remaining reader.old) (R.remaining reader.new) (take n part.new)) }
+    ensures bytes { IfOk result (λ n. Consumes (R.remaining reader.old) (R.remaining reader.new)
+        (take n part.new)) }
     ensures end { IfOk result (λ n. n ≡ 0 → 0 < length part.old → IsAtEnd (R.remaining reader.new)) }
     ensures fault { IfErr result (λ fault. status_of fault ≡ 4) }
 {
@@ -143,14 +144,16 @@ fn read_all<F: OpenFile + Read + Drop, P: Progress>(
     file: F,
     progress: &mut P,
 ) -> Result<Vec<u8>, Fault>
-    ensures bytes { IfOk result (λ bytes. IsFrontOfInput 18446744073709551615 (F.remaining file) bytes.items) }
+    ensures bytes { IfOk result (λ bytes. IsFrontOfInput 18446744073709551615
+        (F.remaining file) bytes.items) }
     ensures fault { IfErr result (λ fault. status_of fault ≡ 4) }
 {
     let mut reader = with_progress(file, progress);
     read_front(alloc, &mut reader, usize::MAX)
 }
 
-/// The bytes of the file of a path, as long as no run changes it: all of them, or as many as memory could ever hold. It is told how many have come.
+/// The bytes of the file of a path, as long as no run changes it: all of them, or as many as memory
+/// could ever hold. It is told how many have come.
 pub fn read_file<R: Files, P: Progress>(
     rt: &R,
     alloc: Global,
@@ -159,7 +162,8 @@ pub fn read_file<R: Files, P: Progress>(
 ) -> Result<Vec<u8>, Fault>
 where
     R::File: LockFile,
-    ensures bytes { IfOk result (λ bytes. (file : R.File) × IsFrontOfInput 18446744073709551615 (R.File.remaining file) bytes.items) }
+    ensures bytes { IfOk result (λ bytes. (file : R.File)
+        × IsFrontOfInput 18446744073709551615 (R.File.remaining file) bytes.items) }
     ensures fault { IfErr result (λ fault. status_of fault ≡ 4) }
 {
     let file = open_shared(rt, path)?;

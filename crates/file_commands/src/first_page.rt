@@ -29,13 +29,15 @@ pub fn fault_of(fault: ListingFault) -> Fault
     }
 }
 
-/// Writes the lines that tell of the file that a reader has, by its first page alone; or nothing, where that page is none.
+/// Writes the lines that tell of the file that a reader has, by its first page alone; or nothing,
+/// where that page is none.
 fn write_schema<R: Read + Drop, W: Write>(
     alloc: Global,
     reader: R,
     out: &mut W,
 ) -> Result<Outcome, Fault>
-    ensures told { IfSome (R.remaining reader) (λ bytes. IfOk result (TellsAs (W.contents out.old) (W.contents out.new) (read_in bytes))) }
+    ensures told { IfSome (R.remaining reader) (λ bytes.
+        IfOk result (TellsAs (W.contents out.old) (W.contents out.new) (read_in bytes))) }
     ensures kind { IfOk result IsOfSchema }
     ensures fault { IfErr result (λ fault. status_of fault ≡ 4) }
 {
@@ -76,15 +78,21 @@ pub fn schema<R: Files, I: Read, W: Write>(
 ) -> Result<Outcome, Fault>
 where
     R::File: LockFile,
-    ensures told { IfOk result (λ outcome. IsOfSchema outcome → (file : R.File) × IfSome (R.File.remaining file)
+    ensures told { IfOk result (λ outcome. IsOfSchema outcome → (file : R.File)
+        × IfSome (R.File.remaining file)
         (λ bytes. TellsAs (W.contents out.old) (W.contents out.new) (read_in bytes) outcome)) }
-    ensures compared { IfOk result (λ outcome. (told : _) → outcome ≡ Outcome.SchemaCompared told → (described : ToldFile)
+    ensures compared { IfOk result (λ outcome. (told : _) → outcome ≡ Outcome.SchemaCompared told
+        → (described : ToldFile)
         × IsDeckFile (IsDeckNamed R.File.remaining (I.remaining input.old))
         (option_map (λ text. text.now) deck.entry) (option_map (λ text. text.now) name.entry) described
-        × ((file : R.File) × IfSome (R.File.remaining file) (λ bytes. ComparesAs described.schema (W.contents out.old) (W.contents out.new) (read_in bytes) outcome))) }
-    ensures done { IfOk result (IsSchemaDone (option_map (λ text. text.now) deck.entry) (option_map (λ text. text.now) name.entry)) }
+        × ((file : R.File) × IfSome (R.File.remaining file)
+        (λ bytes. ComparesAs described.schema (W.contents out.old) (W.contents out.new)
+        (read_in bytes) outcome))) }
+    ensures done { IfOk result (IsSchemaDone (option_map (λ text. text.now) deck.entry)
+        (option_map (λ text. text.now) name.entry)) }
     ensures untouched { IfErr result (λ fault. status_of fault ≢ 4 → out.new ≡ out.old) }
-    ensures fault { IfErr result (IsSchemaFault (option_map (λ text. text.now) deck.entry) (option_map (λ text. text.now) name.entry)) }
+    ensures fault { IfErr result (IsSchemaFault (option_map (λ text. text.now) deck.entry)
+        (option_map (λ text. text.now) name.entry)) }
 {
     match (deck, name) {
         (None, None) => schema_path(rt, alloc, path, out),

@@ -19,7 +19,8 @@ use std::rt::Files;
 /// The columns between the cuts of a text.
 fn columns_between(alloc: Global, text: &str) -> Result<Vec<Column>, Fault>
     ensures columns { IfOk result (λ columns. IsCutInto text.now columns.items) }
-    ensures none { result ≡ Err (Fault.Form FormFault.Cuts) → (cuts : List ℕ) → AreCuts text.now cuts → do_rise 0 cuts ≡ true → ⊥ }
+    ensures none { result ≡ Err (Fault.Form FormFault.Cuts) → (cuts : List ℕ) → AreCuts text.now cuts
+        → do_rise 0 cuts ≡ true → ⊥ }
     ensures fault { IfErr result (λ fault. (fault ≡ Fault.Form FormFault.Cuts) ⊎ (fault ≡ Fault.Memory)) }
 {
     let cuts = match read_cuts(alloc, text) {
@@ -103,7 +104,8 @@ fn text_form(asked: FormWords<'_>) -> Result<Form, Fault>
     }
 }
 
-/// The form that words ask for, with its columns. `Form`: they ask for none. `Deck`, `NoSuchFile`: the deck is refused, or does not have the file.
+/// The form that words ask for, with its columns. `Form`: they ask for none. `Deck`, `NoSuchFile`:
+/// the deck is refused, or does not have the file.
 pub fn form_of<R: Files, I: Read>(
     rt: &R,
     alloc: Global,

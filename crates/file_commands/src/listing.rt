@@ -19,7 +19,8 @@ use std::io::{Read, Write};
 use std::rt::Files;
 use system_files::LockFile;
 
-/// What is asked of the list of a file: the number of a key, the first and the last value, and how many records at most.
+/// What is asked of the list of a file: the number of a key, the first and the last value, and how
+/// many records at most.
 #[derive(Clone, Copy)]
 pub struct Bounds<'a> {
     pub key: u8,
@@ -42,7 +43,8 @@ fn value_of(text: &str) -> Result<Key, Fault>
 
 /// A last value, if there is one.
 fn last_of(text: Option<&str>) -> Result<Option<Key>, Fault>
-    ensures value { IfOk result (λ key. option_map (λ key. key.items) key ≡ option_map (λ text. text.now) text.entry) }
+    ensures value { IfOk result (λ key. option_map (λ key. key.items) key ≡ option_map
+        (λ text. text.now) text.entry) }
     ensures fault { IfErr result (λ fault. fault ≡ Fault.LongValue) }
 {
     match text {
@@ -53,7 +55,9 @@ fn last_of(text: Option<&str>) -> Result<Option<Key>, Fault>
 
 /// What the words of a command line ask of a list.
 fn asked_by(bounds: Bounds<'_>) -> Result<Asked, Fault>
-    ensures asked { IfOk result (IsAskedFor bounds.entry.key (option_map (λ text. text.now) bounds.entry.from) (option_map (λ text. text.now) bounds.entry.to) bounds.entry.first) }
+    ensures asked { IfOk result (IsAskedFor bounds.entry.key
+        (option_map (λ text. text.now) bounds.entry.from)
+        (option_map (λ text. text.now) bounds.entry.to) bounds.entry.first) }
     ensures fault { IfErr result (λ fault. fault ≡ Fault.LongValue) }
 {
     let from = value_of(bounds.from.unwrap_or(""))?;
@@ -80,8 +84,9 @@ fn ended(end: Result<FileList, ListFault>) -> Result<Outcome, Fault>
     }
 }
 
-/// Writes the lines of the records of the file of a path that are asked for, in the form that is asked for. `LongValue`: nothing was read or written. `Form`, `Deck`,
-/// `NoSuchFile`: there is no such form, and the file was not read. While it is read, it is told how many bytes have come.
+/// Writes the lines of the records of the file of a path that are asked for, in the form that is
+/// asked for. `LongValue`: nothing was read or written. `Form`, `Deck`, `NoSuchFile`: there is no
+/// such form, and the file was not read. While it is read, it is told how many bytes have come.
 pub fn list_records<R: Files, I: Read, P: Progress, W: Write>(
     rt: &R,
     alloc: Global,
@@ -97,8 +102,10 @@ where
     ensures records { IfOk result (λ outcome. (list : _) × (outcome ≡ Outcome.Records list)
         × ((written : _)
         × IsFormAsked (IsDeckNamed R.File.remaining (I.remaining input.old)) (form_text form.entry) written
-        × ((file : R.File) × (bytes : List ℕ) × IsFrontOfInput 18446744073709551615 (R.File.remaining file) bytes
-        × ListsRecords written bytes bounds.entry.key (option_map (λ text. text.now) bounds.entry.from) (option_map (λ text. text.now) bounds.entry.to) bounds.entry.first
+        × ((file : R.File) × (bytes : List ℕ) × IsFrontOfInput 18446744073709551615
+        (R.File.remaining file) bytes
+        × ListsRecords written bytes bounds.entry.key (option_map (λ text. text.now) bounds.entry.from)
+        (option_map (λ text. text.now) bounds.entry.to) bounds.entry.first
         (W.contents out.old) (W.contents out.new) list))) }
     ensures untouched { IfErr result (λ fault. status_of fault ≢ 4 → out.new ≡ out.old) }
     ensures fault { IfErr result (IsListRefused (form_text form.entry)) }

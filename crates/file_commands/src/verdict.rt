@@ -65,7 +65,8 @@ fn verdict_of<R: Files, P: Progress>(
 ) -> Result<Verdict, Fault>
 where
     R::File: LockFile,
-    ensures right { IfOk result (λ verdict. (file : R.File) × IfSome (R.File.remaining file) (λ bytes. IsRight bytes verdict)) }
+    ensures right { IfOk result (λ verdict. (file : R.File)
+        × IfSome (R.File.remaining file) (λ bytes. IsRight bytes verdict)) }
     ensures fault { IfErr result (λ fault. status_of fault ≡ 4) }
 {
     let file = open_shared(rt, path)?;
@@ -102,7 +103,8 @@ fn all_sound(verdict: Verdict, others: bool) -> bool
     matches!(verdict, Verdict::Sound { .. }) && others
 }
 
-/// Checks the files of paths one after another, and writes each verdict behind the path: whether all of them are sound. A file that cannot be read ends it.
+/// Checks the files of paths one after another, and writes each verdict behind the path: whether
+/// all of them are sound. A file that cannot be read ends it.
 fn check_files<R: Files, P: Progress, W: Write>(
     rt: &R,
     alloc: Global,
@@ -112,7 +114,8 @@ fn check_files<R: Files, P: Progress, W: Write>(
 ) -> Result<bool, Fault>
 where
     R::File: LockFile,
-    ensures right { IfOk result (AreVerdicts (λ verdict. (file : R.File) × IfSome (R.File.remaining file) (λ bytes. IsRight bytes verdict)) (length paths.now)) }
+    ensures right { IfOk result (AreVerdicts (λ verdict. (file : R.File)
+        × IfSome (R.File.remaining file) (λ bytes. IsRight bytes verdict)) (length paths.now)) }
     ensures fault { IfErr result (λ fault. status_of fault ≡ 4) }
 {
     match paths {
@@ -139,7 +142,8 @@ pub fn check_paths<R: Files, P: Progress, W: Write>(
 where
     R::File: LockFile,
     ensures right { IfOk result (λ outcome. (sound : _) × (outcome ≡ Outcome.CheckedAll sound)
-        × AreVerdicts (λ verdict. (file : R.File) × IfSome (R.File.remaining file) (λ bytes. IsRight bytes verdict)) (length paths.now) sound) }
+        × AreVerdicts (λ verdict. (file : R.File) × IfSome (R.File.remaining file)
+        (λ bytes. IsRight bytes verdict)) (length paths.now) sound) }
     ensures fault { IfErr result (λ fault. status_of fault ≡ 4) }
 {
     match check_files(rt, alloc, paths, progress, out) {

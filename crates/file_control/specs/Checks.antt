@@ -7,4 +7,5 @@ use Rattle.deck_entries.specs.FileControlEntry.{FileControlEntry}
 -- each key names one of the items
 abbrev pub are_keys_named : List Entry → FileControlEntry → Bool
 are_keys_named items entry =
-    is_name_of items (Some entry.record_key) && list_all (λ key. is_name_of items (Some key.name)) entry.alternate_keys
+    is_name_of items (Some entry.record_key) && list_all
+    (λ key. is_name_of items (Some key.name)) entry.alternate_keys

@@ -10,8 +10,8 @@ abbrev pub IsPlaceIn : ℕ → Option ℕ → Type 0
 IsPlaceIn count None = Unit {0}
 IsPlaceIn count (Some place) = place < count
 
--- a file of a description with so many length items: a record, its keys, the greatest length of which is the record's, and a length
--- item that is there
+-- a file of a description with so many length items: a record, its keys, the greatest length of
+-- which is the record's, and a length item that is there
 pub record IsDescribedFile (count : ℕ) (file : FileDesc) : Type 0 where
   pub layout : IsRecord file.layout
   pub schema : IsSchema file.schema
@@ -21,7 +21,8 @@ pub record IsDescribedFile (count : ℕ) (file : FileDesc) : Type 0 where
 abbrev pub file_names : List FileDesc → List (List ℕ)
 file_names files = map (λ file. file.file) files
 
--- files and items: no two files have one file name, there are eight files at most, and an item has 18 digits at most
+-- files and items: no two files have one file name, there are eight files at most, and an item has
+-- 18 digits at most
 pub record AreDescribed (files : List FileDesc) (items : List LengthItem) : Type 0 where
   pub files_are : All (IsDescribedFile (length items)) files
   pub distinct : IsDistinct bytes_eq (file_names files)

@@ -1,6 +1,7 @@
--- The description of a deck: its files, in the order of their file control entries, and its 77-level items.
--- ANSI X3.23-1985, Indexed I-O module, FILE-CONTROL entry, file description entry and RECORD clause. That data names are
--- unique in a deck, and that a 77-level item is one of digits, is ours.
+-- The description of a deck: its files, in the order of their file control entries, and its
+-- 77-level items. ANSI X3.23-1985, Indexed I-O module, FILE-CONTROL entry, file description entry
+-- and RECORD clause. That data names are unique in a deck, and that a 77-level item is one of
+-- digits, is ours.
 use Rattle.std.specs.Prelude.{◌≡◌, ℕ, ◌≤◌, ◌==◌, Bool, true, false, not, ◌&&◌, List, [], ◌∷◌, ◌++◌, nat_le, nat_lt, slice_get, position, if◌then◌else◌, Option, Some, None}
 use Rattle.std.specs.List.{list_all, list_any, find}
 use Rattle.std.specs.Str.{bytes_eq}
@@ -46,7 +47,8 @@ pub record LengthItem : Type 0 where
 
 -- the picture is one of so many digits
 abbrev pub HasDigits : List ℕ → ℕ → Type 0
-HasDigits text digits = (picture : Picture) × IsPicture text picture × (picture.numeric ≡ true) × (picture.length ≡ digits)
+HasDigits text digits = (picture : Picture) × IsPicture text picture × (picture.numeric ≡ true)
+    × (picture.length ≡ digits)
 
 -- each entry of the working storage is an item of digits, and its name is new behind these
 abbrev pub AreItems : List (List ℕ) → List StorageEntry → List LengthItem → Type 0
@@ -60,7 +62,8 @@ AreItems names (entry ∷ entries) (item ∷ items) =
 abbrev pub HaveDigits : List StorageEntry → List LengthItem → Type 0
 HaveDigits [] items = items ≡ []
 HaveDigits (entry ∷ entries) [] = ⊥
-HaveDigits (entry ∷ entries) (item ∷ items) = (item.name ≡ entry.name) × HasDigits entry.picture item.digits × HaveDigits entries items
+HaveDigits (entry ∷ entries) (item ∷ items) = (item.name ≡ entry.name)
+    × HasDigits entry.picture item.digits × HaveDigits entries items
 
 -- ---- lengths
 
@@ -69,7 +72,8 @@ abbrev pub least_length : Option RecordLength → ℕ → Option ℕ
 least_length None greatest = Some greatest
 least_length (Some (Fixed n)) greatest = if n == greatest then Some greatest else None
 least_length (Some (Varying lengths)) greatest =
-    if nat_le 1 lengths.least && (nat_le lengths.least lengths.greatest && lengths.greatest == greatest) then Some lengths.least else None
+    if nat_le 1 lengths.least && (nat_le lengths.least lengths.greatest
+    && lengths.greatest == greatest) then Some lengths.least else None
 
 -- how many digits a record's length has
 abbrev pub digit_count : ℕ → ℕ
@@ -90,7 +94,8 @@ abbrev pub DependsOn : List StorageEntry → Option RecordLength → Option ℕ 
 DependsOn storage None place = place ≡ None
 DependsOn storage (Some (Fixed n)) place = place ≡ None
 DependsOn storage (Some (Varying lengths)) None = ⊥
-DependsOn storage (Some (Varying lengths)) (Some place) = IsLengthItem storage lengths.item lengths.greatest place
+DependsOn storage (Some (Varying lengths)) (Some place) =
+    IsLengthItem storage lengths.item lengths.greatest place
 
 -- ---- files
 
@@ -111,7 +116,8 @@ record_name [] = None
 record_name (item ∷ items) = item.name
 
 -- the file of an entry and a description, behind these data names of earlier files
-pub record IsFile (names : List (List ℕ)) (storage : List StorageEntry) (entry : FileControlEntry) (description : FileDescription) (file : FileDesc) : Type 0 where
+pub record IsFile (names : List (List ℕ)) (storage : List StorageEntry) (entry : FileControlEntry)
+    (description : FileDescription) (file : FileDesc) : Type 0 where
   pub name : file.name ≡ entry.name
   pub file_name : file.file ≡ entry.file_name
   pub access : file.access ≡ entry.access
@@ -128,9 +134,11 @@ abbrev pub description_of_file : List FileDescription → List ℕ → Option Fi
 description_of_file descriptions name = find (λ description. bytes_eq description.name name) descriptions
 
 -- the files of these entries, behind these data names, and all data names then
-abbrev pub AreFiles : List FileDescription → List StorageEntry → List (List ℕ) → List FileControlEntry → List FileDesc → List (List ℕ) → Type 0
+abbrev pub AreFiles : List FileDescription → List StorageEntry → List (List ℕ) → List FileControlEntry
+    → List FileDesc → List (List ℕ) → Type 0
 AreFiles descriptions storage names [] files after = (files ≡ []) × (after ≡ names)
 AreFiles descriptions storage names (entry ∷ entries) [] after = ⊥
 AreFiles descriptions storage names (entry ∷ entries) (file ∷ files) after =
     (description : FileDescription) × (description_of_file descriptions entry.name ≡ Some description)
-    × IsFile names storage entry description file × AreFiles descriptions storage (with_names names description.items) entries files after
+    × IsFile names storage entry description file × AreFiles descriptions storage
+    (with_names names description.items) entries files after

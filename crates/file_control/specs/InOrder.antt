@@ -8,4 +8,5 @@ use denote.Ref.{Bor}
 
 -- the set has the names of the list, and no other
 abbrev pub AreInOrder : BTreeSet (Bor (List ℕ)) → List (List ℕ) → Type 0
-AreInOrder set names = (name : List ℕ) → contains_by (λ key. slice_cmp nat_cmp name key.now) set ≡ has_name names name
+AreInOrder set names = (name : List ℕ) → contains_by
+    (λ key. slice_cmp nat_cmp name key.now) set ≡ has_name names name

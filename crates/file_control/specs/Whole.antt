@@ -1,5 +1,6 @@
 -- The whole description of a deck, as its words spell it.
--- ANSI X3.23-1985, Nucleus module, environment and data divisions. That the description ends before the word PROCEDURE is ours.
+-- ANSI X3.23-1985, Nucleus module, environment and data divisions. That the description ends before
+-- the word PROCEDURE is ours.
 use Rattle.std.specs.Prelude.{◌≡◌, ◌≤◌, ℕ, true, List, [], ◌∷◌, length, drop, codes}
 use Rattle.deck_words.specs.Class.{this, begins}
 use Rattle.deck_words.specs.Word.{Word}
@@ -11,7 +12,8 @@ use Rattle.file_control.specs.Description.{FileDesc, LengthItem, AreFiles, AreIt
 -- the divisions describe these files and items
 abbrev pub Describe : Divisions → List FileDesc → List LengthItem → Type 0
 Describe divisions files items =
-    (names : List (List ℕ)) × AreFiles divisions.descriptions divisions.storage [] divisions.entries files names
+    (names : List (List ℕ)) × AreFiles divisions.descriptions divisions.storage [] divisions.entries files
+    names
     × AreItems names divisions.storage items
 
 -- the words up to the word PROCEDURE, so many of them, are divisions that describe these files and items

@@ -10,7 +10,8 @@ use std::alloc::{AllocError, Global};
 use std::collections::BTreeSet;
 use std::marker::Model;
 
-/// Names of data items, which contracts see as a list. They are kept in their order too, so that a name is found by a search.
+/// Names of data items, which contracts see as a list. They are kept in their order too, so that a
+/// name is found by a search.
 #[derive(Drop)]
 pub struct DataNames<'a> {
     names: Vec<&'a str>,

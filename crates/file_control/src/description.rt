@@ -13,8 +13,8 @@ use deck_entries::{Divisions, read_divisions};
 use deck_words::{Cause, DeckFault, Parser, Refusal, Words};
 use std::alloc::Global;
 
-/// The files of a deck in the order of their SELECT entries, its 77-level items, and how many words were read: the word
-/// behind them is PROCEDURE.
+/// The files of a deck in the order of their SELECT entries, its 77-level items, and how many words
+/// were read: the word behind them is PROCEDURE.
 #[derive(Drop)]
 pub struct Description {
     pub files: FileList,
@@ -67,11 +67,13 @@ fn read(alloc: Global, words: &Words<'_>) -> Result<Description, Refusal>
     })
 }
 
-/// The description that the words up to PROCEDURE are, or the first fault. The faults of the words come first, in their order: code
-/// 2 for a word with which no deck goes on, 4 for a clause, a name or a file name a second time, 6 for a ninth entry, a ninth alternate
-/// key and a number of more than 18 digits, 5 for a literal that is no file name, 3 for a description of a file without an
-/// entry. Then those of each file, in the order of the entries, and of the 77-level items: 3 for a name that nothing has, 7 for
-/// items, lengths and keys that are none, 4 for a data name that is there already. Or code 8.
+/// The description that the words up to PROCEDURE are, or the first fault. The faults of the words
+/// come first, in their order: code 2 for a word with which no deck goes on, 4 for a clause, a name
+/// or a file name a second time, 6 for a ninth entry, a ninth alternate key and a number of more
+/// than 18 digits, 5 for a literal that is no file name, 3 for a description of a file without an
+/// entry. Then those of each file, in the order of the entries, and of the 77-level items: 3 for a
+/// name that nothing has, 7 for items, lengths and keys that are none, 4 for a data name that is
+/// there already. Or code 8.
 pub fn read_description(alloc: Global, words: &Words<'_>) -> Result<Description, DeckFault>
     ensures description { IfOk result (IsDescription words.now) }
     ensures none { IfErr result (λ fault. fault.code ≢ 8 →
@@ -89,5 +91,6 @@ pub fn are_described()
 
 /// No words have two descriptions.
 pub fn one_description()
-    ensures { (a b : Description) (words : List Word) → IsDescription words a → IsDescription words b → a ≡ b }
+    ensures { (a b : Description) (words : List Word) → IsDescription words a → IsDescription words b
+        → a ≡ b }
 {}

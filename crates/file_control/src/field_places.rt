@@ -13,7 +13,8 @@ pub type FieldPlaces = BTreeMap<Name, Field>;
 
 /// Adds the place of an item that stands before the others.
 fn add_item(fields: &mut FieldPlaces, item: &Placed) -> Result<(), AllocError>
-    ensures { OnOk result ((items : List PlacedItem) → AreFields fields.old items → AreFields fields.new (item_of item.now ∷ items)) }
+    ensures { OnOk result ((items : List PlacedItem) → AreFields fields.old items
+        → AreFields fields.new (item_of item.now ∷ items)) }
 {
     if let Some(name) = item.name {
         fields.insert(name, item.field)?;
@@ -21,7 +22,8 @@ fn add_item(fields: &mut FieldPlaces, item: &Placed) -> Result<(), AllocError>
     Ok(())
 }
 
-/// The places of the items of a layout. The last item is put in first, so that the first item of a name is the one that stays.
+/// The places of the items of a layout. The last item is put in first, so that the first item of a
+/// name is the one that stays.
 pub fn fields_by_name(alloc: Global, layout: &Layout) -> Result<FieldPlaces, AllocError>
     ensures { IfOk result (λ fields. AreFields fields layout.now) }
 {

@@ -20,8 +20,9 @@ use record_layout::{Field, Item, Layout, LayoutFault, Schema, one_outcome};
 use std::alloc::Global;
 use std::marker::Model;
 
-/// A file of a deck: its name in the program, the name of its file in the folder, the name of its record, the places of the
-/// items, the same by their names, the keys, and the place among the 77-level items of the one that a record's length depends on.
+/// A file of a deck: its name in the program, the name of its file in the folder, the name of its
+/// record, the places of the items, the same by their names, the keys, and the place among the
+/// 77-level items of the one that a record's length depends on.
 #[derive(Drop)]
 pub struct FileDesc {
     pub name: Name,
@@ -114,7 +115,8 @@ fn are_names_new(names: &DataNames<'_>, described: &Described) -> bool
 
 fn place_of(storage: &[StorageItem], described: &Described) -> Result<Option<usize>, Cause>
     ensures place { IfOk result (DependsOn storage.now described.now.lengths) }
-    ensures none { IfErr result (λ cause. (place : Option ℕ) → DependsOn storage.now described.now.lengths place → ⊥) }
+    ensures none { IfErr result (λ cause. (place : Option ℕ)
+        → DependsOn storage.now described.now.lengths place → ⊥) }
 {
     depends_on(storage, &described.lengths)
 }
@@ -286,9 +288,10 @@ fn whole_file(
     )
 }
 
-/// The file of an entry and its description, behind the data names of earlier files. The faults are looked for in this order:
-/// a key that names no item, items that are no layout, lengths that are not the record's, a data name that is there, an item
-/// that cannot hold a record's length, and any other fault of the keys.
+/// The file of an entry and its description, behind the data names of earlier files. The faults are
+/// looked for in this order: a key that names no item, items that are no layout, lengths that are
+/// not the record's, a data name that is there, an item that cannot hold a record's length, and any
+/// other fault of the keys.
 pub fn file(
     alloc: Global,
     selected: &Selected,

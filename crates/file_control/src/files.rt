@@ -133,7 +133,8 @@ pub fn files_of<'a>(
     storage: &[StorageItem],
     names: &mut DataNames<'a>,
 ) -> Result<FileList, Refusal>
-    ensures files { IfOk result (λ files. AreFiles descriptions.now storage.now names.old entries.now files names.new) }
+    ensures files { IfOk result (λ files. AreFiles descriptions.now storage.now names.old entries.now files
+        names.new) }
     ensures none { IfErr result (λ refusal. IsFault refusal → (files : List File) (after : List (List ℕ)) →
         AreFiles descriptions.now storage.now names.old entries.now files after → ⊥) }
 {
@@ -151,11 +152,12 @@ pub fn files_of<'a>(
     Ok(files)
 }
 
-/// Looks whether each 77-level item has digits and a name that is new behind these. The names are not wanted behind that, and
-/// give their memory back.
+/// Looks whether each 77-level item has digits and a name that is new behind these. The names are
+/// not wanted behind that, and give their memory back.
 pub fn check_items<'a>(storage: &'a [StorageItem], names: DataNames<'a>) -> Result<(), Refusal>
     ensures items { OnOk result ((items : List Digits) × AreItems names.entry storage.now items) }
-    ensures none { IfErr result (λ refusal. IsFault refusal → (items : List Digits) → AreItems names.entry storage.now items → ⊥) }
+    ensures none { IfErr result (λ refusal. IsFault refusal → (items : List Digits)
+        → AreItems names.entry storage.now items → ⊥) }
 {
     let mut names = names;
     let mut rest = storage;
@@ -175,7 +177,8 @@ pub fn check_items<'a>(storage: &'a [StorageItem], names: DataNames<'a>) -> Resu
 /// The 77-level items, whatever their names are.
 pub fn items_of(alloc: Global, storage: &[StorageItem]) -> Result<ItemList, Refusal>
     ensures items { IfOk result (HaveDigits storage.now) }
-    ensures none { IfErr result (λ refusal. IsFault refusal → (items : List Digits) → HaveDigits storage.now items → ⊥) }
+    ensures none { IfErr result (λ refusal. IsFault refusal → (items : List Digits)
+        → HaveDigits storage.now items → ⊥) }
 {
     let mut items = ItemList::with_capacity(alloc, storage.len())?;
     let mut rest = storage;

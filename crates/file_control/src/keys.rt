@@ -33,7 +33,8 @@ fn is_item(items: &[Item], name: &[u8]) -> bool
 }
 
 fn are_items(items: &[Item], keys: &[(Name, bool)]) -> bool
-    ensures { result ≡ list_all (λ key. is_name_of (map entry_of items.now) (Some (clause_of key).name)) keys.now }
+    ensures { result ≡ list_all (λ key. is_name_of (map entry_of items.now) (Some (clause_of key).name))
+        keys.now }
 {
     keys.iter()
         .all(|key| is_item(items, key.0.as_str().as_bytes()))
@@ -42,7 +43,8 @@ fn are_items(items: &[Item], keys: &[(Name, bool)]) -> bool
 /// Whether each of the alternate keys is an item.
 #[tactic(auto, using(crate::proofs::NameLemmas::all_of_map))]
 fn are_alternates_named(items: &[Item], keys: &[(Name, bool)]) -> bool
-    ensures { result ≡ list_all (λ clause. is_name_of (map entry_of items.now) (Some clause.name)) (map clause_of keys.now) }
+    ensures { result ≡ list_all (λ clause. is_name_of (map entry_of items.now) (Some clause.name))
+        (map clause_of keys.now) }
 {
     are_items(items, keys)
 }

@@ -67,7 +67,8 @@ fn has_room(item: &StorageItem, greatest: u64) -> bool
 /// The place of the item that a record's length depends on. It is unknown, or has too few digits or none.
 pub fn length_item(storage: &[StorageItem], name: &[u8], greatest: u64) -> Result<usize, Cause>
     ensures place { IfOk result (λ place. IsLengthItem storage.now name.now greatest place) }
-    ensures none { IfErr result (λ cause. (place : ℕ) → IsLengthItem storage.now name.now greatest place → ⊥) }
+    ensures none { IfErr result (λ cause. (place : ℕ) → IsLengthItem storage.now name.now greatest place
+        → ⊥) }
 {
     let Some(place) = place_of(storage, name) else {
         return Err(Cause::Unknown);

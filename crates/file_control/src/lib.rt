@@ -1,11 +1,13 @@
 //! The files of a deck and its 77-level items, as its words up to PROCEDURE describe them.
 //!
-//! `words` gives the words of a deck. `read_description` answers exactly the description that the words up to PROCEDURE spell:
-//! the files in the order of their SELECT entries, each with the layout and the keys of its records, and the 77-level items. Or
-//! it answers a fault, and the words spell none. No words spell two. `are_described` says what is true of every description.
+//! `words` gives the words of a deck. `read_description` answers exactly the description that the
+//! words up to PROCEDURE spell: the files in the order of their SELECT entries, each with the
+//! layout and the keys of its records, and the 77-level items. Or it answers a fault, and the words
+//! spell none. No words spell two. `are_described` says what is true of every description.
 //!
-//! Read `specs/Description.antt` for the files, `specs/Whole.antt` for the whole description and `specs/Described.antt` for what
-//! is true of it, and then `description`. The grammar of the entries is in `deck_entries`, the words are in `deck_words`.
+//! Read `specs/Description.antt` for the files, `specs/Whole.antt` for the whole description and
+//! `specs/Described.antt` for what is true of it, and then `description`. The grammar of the
+//! entries is in `deck_entries`, the words are in `deck_words`.
 #![tactic(auto)]
 
 mod data_names;

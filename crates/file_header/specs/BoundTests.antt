@@ -8,7 +8,8 @@ use Rattle.file_header.specs.declared.header.TreeNumbers.{TreeNumbers}
 
 -- whether a tree has 1 to 20 levels, and its root within the pages
 abbrev pub is_tree : ℕ → TreeNumbers → Bool
-is_tree pages tree = nat_le 1 tree.height && nat_le tree.height 20 && nat_le 1 tree.root && nat_lt tree.root pages
+is_tree pages tree = nat_le 1 tree.height && nat_le tree.height 20 && nat_le 1 tree.root
+    && nat_lt tree.root pages
 
 -- whether the numbers are within their bounds
 abbrev pub is_within : Header → Bool
@@ -24,7 +25,8 @@ is_within header =
 
 -- whether each number has room in its bytes
 abbrev pub has_room : Header → Bool
-has_room header = nat_lt header.pages (2 ^ 32) && nat_lt header.free_slot (2 ^ 16) && nat_lt header.records (2 ^ 64)
+has_room header = nat_lt header.pages (2 ^ 32) && nat_lt header.free_slot (2 ^ 16)
+    && nat_lt header.records (2 ^ 64)
 
 -- whether a part has 1 to 250 bytes, and each record has it whole
 abbrev pub is_key : ℕ → KeyPart → Bool
@@ -54,4 +56,5 @@ is_schema schema =
 -- whether it is a header that a file may have
 unfoldable pub is_header : Header → Bool
 is_header header =
-    is_schema header.schema && (length header.trees.items == length header.schema.keys) && is_within header && has_room header
+    is_schema header.schema && (length header.trees.items == length header.schema.keys) && is_within header
+    && has_room header

@@ -11,7 +11,8 @@ pub record AreTreeNumbers (pages : ℕ) (tree : TreeNumbers) : Type 0 where
   pub behind : 1 ≤ tree.root
   pub within : tree.root < pages
 
--- links are within the pages, and page 0 is none; the free pages are fewer than the pages; stamps begin with 1
+-- links are within the pages, and page 0 is none; the free pages are fewer than the pages; stamps
+-- begin with 1
 pub record AreLinksWithin (header : Header) : Type 0 where
   pub counted : 1 + length header.schema.keys ≤ header.pages
   pub trees : All (AreTreeNumbers header.pages) header.trees.items

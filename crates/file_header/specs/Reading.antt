@@ -38,7 +38,11 @@ rows_in page count = chunks 16 count (drop 64 page)
 
 -- the part of a record that a row tells
 abbrev pub part_in : List ℕ → KeyPart
-part_in row = record { offset = number_in row 0 2; length = number_in row 2 2; duplicates = slice_index row 4 == 2 }
+part_in row = record {
+  offset = number_in row 0 2;
+  length = number_in row 2 2;
+  duplicates = slice_index row 4 == 2;
+}
 
 -- the tree that a row tells
 abbrev pub tree_in : List ℕ → TreeNumbers
@@ -47,7 +51,11 @@ tree_in row = record { height = slice_index row 5; root = number_in row 8 4 }
 -- the lengths and the keys that a page tells
 abbrev pub schema_in : List ℕ → Schema
 schema_in page =
-    record { least = least_in page; greatest = greatest_in page; keys = map part_in (rows_in page (key_count_in page)) }
+    record {
+      least = least_in page;
+      greatest = greatest_in page;
+      keys = map part_in (rows_in page (key_count_in page));
+    }
 
 -- what stands at the places of the table, whether or not the page is a first page
 unfoldable pub numbers_in : List ℕ → Header

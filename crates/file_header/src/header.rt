@@ -14,9 +14,10 @@ pub struct TreeNumbers {
     pub root: u32,
 }
 
-/// What the first page says of a file: the schema of its records, the page count (the header among them), the first and
-/// the number of its free pages, its first heap page, its first free slot, the next stamp, the number of records, and the
-/// tree of each key, in the order of the keys. Page 0 is none.
+/// What the first page says of a file: the schema of its records, the page count (the header among
+/// them), the first and the number of its free pages, its first heap page, its first free slot, the
+/// next stamp, the number of records, and the tree of each key, in the order of the keys. Page 0 is
+/// none.
 #[derive(Drop)]
 pub struct Header {
     pub schema: Schema,
@@ -36,7 +37,8 @@ impl Header {
     ghost use Rattle.file_header.specs.FirstPage.{header_bytes, closed_page};
     ghost use Rattle.file_header.specs.Reading.{header_in, IsFirstPage};
 
-    /// Writes the whole page. Its gate is open: the byte of the gate is the business of whoever closes the file.
+    /// Writes the whole page. Its gate is open: the byte of the gate is the business of whoever
+    /// closes the file.
     pub fn write(&self, page: &mut [u8; PAGE_SIZE])
         ensures { page.new ≡ header_bytes self.now }
     {
@@ -47,9 +49,9 @@ impl Header {
         page[end..].fill(0);
     }
 
-    /// The header of a file, by its first page, where that page is accepted: its gate is closed, each byte is as a header
-    /// writes it, and the numbers are within their bounds. That the file has as many pages as it counts is for the caller to
-    /// look at.
+    /// The header of a file, by its first page, where that page is accepted: its gate is closed,
+    /// each byte is as a header writes it, and the numbers are within their bounds. That the file
+    /// has as many pages as it counts is for the caller to look at.
     pub fn read(page: &[u8; PAGE_SIZE]) -> Option<Header>
         ensures header { result ≡ header_in page.now }
         ensures accepted { IfSome result (λ header. IsFirstPage header page.now) }

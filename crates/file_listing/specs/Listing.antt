@@ -17,18 +17,24 @@ use Rattle.file_listing.specs.declared.listing.FileList.TheVariants.{Listed, NoK
 abbrev pub StandFor : List ℕ → (Schema → File → Type 0) → Type 0
 StandFor bytes P = (schema : Schema) × (file : File) × AreClosed schema file bytes × P schema file
 
--- a list of these bytes in a form ends so: the list of their rows that are asked for was written; or nothing was, since they stand for a file that does not have the key,
--- or a check tells this reason
+-- a list of these bytes in a form ends so: the list of their rows that are asked for was written;
+-- or nothing was, since they stand for a file that does not have the key, or a check tells this
+-- reason
 abbrev pub EndsWithIn : Form → List ℕ → Asked → (before behind : Option (List ℕ)) → FileList → Type 0
-EndsWithIn form bytes asked before behind Listed = StandFor bytes (λ schema file. WritesLines form schema file asked before behind)
-EndsWithIn form bytes asked before behind NoKey = StandFor bytes (λ schema file. (length schema.keys ≤ asked.key) × (behind ≡ before))
-EndsWithIn form bytes asked before behind (Unsound reason) = IsRight bytes (IsRefused reason) × (behind ≡ before)
+EndsWithIn form bytes asked before behind Listed =
+    StandFor bytes (λ schema file. WritesLines form schema file asked before behind)
+EndsWithIn form bytes asked before behind NoKey =
+    StandFor bytes (λ schema file. (length schema.keys ≤ asked.key) × (behind ≡ before))
+EndsWithIn form bytes asked before behind (Unsound reason) =
+    IsRight bytes (IsRefused reason) × (behind ≡ before)
 
 -- it ends before its end: nothing was written, or a front of the list
 abbrev pub BreaksOffIn : Form → List ℕ → Asked → (before behind : Option (List ℕ)) → Type 0
-BreaksOffIn form bytes asked before behind = (behind ≡ before) ⊎ StandFor bytes (λ schema file. WritesFront form schema file asked before behind)
+BreaksOffIn form bytes asked before behind = (behind ≡ before)
+    ⊎ StandFor bytes (λ schema file. WritesFront form schema file asked before behind)
 
-abbrev pub EndsIn : Form → List ℕ → Asked → (before behind : Option (List ℕ)) → Result FileList ListFault → Type 0
+abbrev pub EndsIn : Form → List ℕ → Asked → (before behind : Option (List ℕ)) → Result FileList ListFault
+    → Type 0
 EndsIn form bytes asked before behind (Ok end) = EndsWithIn form bytes asked before behind end
 EndsIn form bytes asked before behind (Err fault) = BreaksOffIn form bytes asked before behind
 

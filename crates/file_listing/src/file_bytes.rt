@@ -7,7 +7,8 @@ use io_state::{Fault, FileName};
 use page_store::Shelf;
 use std::alloc::Global;
 
-/// The bytes of a file, as a shelf on which the file has the empty name. No call writes: one that would answers `Fault::Device`.
+/// The bytes of a file, as a shelf on which the file has the empty name. No call writes: one that
+/// would answers `Fault::Device`.
 #[derive(Drop)]
 pub struct FileBytes {
     alloc: Global,

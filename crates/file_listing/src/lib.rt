@@ -1,9 +1,12 @@
 //! The list of the records in the bytes of a file, whoever wrote them.
 //!
-//! `list_file` checks the bytes, and then writes the lines of the records that are asked for, as `record_listing` has them; `list_file_as` does so in another form. A line is written only of a file that is
-//! sound. The bytes are read once, before the first line, so nothing holds the file while its lines are read by another program.
+//! `list_file` checks the bytes, and then writes the lines of the records that are asked for, as
+//! `record_listing` has them; `list_file_as` does so in another form. A line is written only of a
+//! file that is sound. The bytes are read once, before the first line, so nothing holds the file
+//! while its lines are read by another program.
 //!
-//! Read `specs/Listing.antt` for what is promised, then `listing`; `file_bytes` is a shelf that has these bytes and is never written.
+//! Read `specs/Listing.antt` for what is promised, then `listing`; `file_bytes` is a shelf that has
+//! these bytes and is never written.
 #![tactic(auto)]
 
 mod file_bytes;

@@ -52,9 +52,11 @@ fn list_sound<W: Write>(
     }
 }
 
-/// Writes the lines of the records that are asked for of the file that has these bytes, in a form, once a check has found them sound.
+/// Writes the lines of the records that are asked for of the file that has these bytes, in a form,
+/// once a check has found them sound.
 ///
-/// `Output`: the writer refused a line; a front of the list may have been written. `Memory`: the same, or nothing was written. `Input` never comes of bytes that are there.
+/// `Output`: the writer refused a line; a front of the list may have been written. `Memory`: the
+/// same, or nothing was written. `Input` never comes of bytes that are there.
 pub fn list_file_as<W: Write>(
     alloc: Global,
     bytes: Vec<u8>,
@@ -72,7 +74,8 @@ pub fn list_file_as<W: Write>(
     }
 }
 
-/// Writes the lines of the records that are asked for of the file that has these bytes, as text, once a check has found them sound. It is `list_file_as` with `Form::Text`.
+/// Writes the lines of the records that are asked for of the file that has these bytes, as text,
+/// once a check has found them sound. It is `list_file_as` with `Form::Text`.
 pub fn list_file<W: Write>(
     alloc: Global,
     bytes: Vec<u8>,

@@ -15,7 +15,8 @@ pub record NumberedFile (S : Type 0) : Type 0 where
   pub name : List ℕ
   pub memory : FileInMemory S
 
--- the file of each number, if it is not free; and the numbers of the open files, the one that was opened first at the front
+-- the file of each number, if it is not free; and the numbers of the open files, the one that was
+-- opened first at the front
 pub record Files (S : Type 0) : Type 0 where
   pub places : List (Option (NumberedFile S))
   pub opened : List ℕ
@@ -77,9 +78,11 @@ pub record IsNumberedFile {S : Type 0} (shown : Shown S) (file : NumberedFile S)
   pub area : length file.memory.area ≡ (schema_of file).greatest
   pub short : length file.memory.area ≤ 4000
 
--- there are 64 places; no two files have one name; and the open files are those in the order of opening, each once
+-- there are 64 places; no two files have one name; and the open files are those in the order of
+-- opening, each once
 pub record AreFiles {S : Type 0} (files : Files S) : Type 0 where
   pub places : length files.places ≡ number_limit
-  pub names : (m n : ℕ) → (a b : NumberedFile S) → file_at files m ≡ Some a → file_at files n ≡ Some b → a.name ≡ b.name → m ≡ n
+  pub names : (m n : ℕ) → (a b : NumberedFile S) → file_at files m ≡ Some a → file_at files n ≡ Some b
+      → a.name ≡ b.name → m ≡ n
   pub opened : (number : ℕ) → list_any (eqb number) files.opened ≡ is_open_in (file_at files number)
   pub order : IsOrder files.opened

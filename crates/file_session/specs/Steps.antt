@@ -69,13 +69,15 @@ file_described d library = record {
 }
 
 -- the file of a description, over the library that was given
-pub record IsDescribedOver {S : Type 0} (shown : Shown S) (d : Described) (given : S) (file : NumberedFile S) : Type 0 where
+pub record IsDescribedOver {S : Type 0} (shown : Shown S) (d : Described) (given : S)
+    (file : NumberedFile S) : Type 0 where
   pub library : S
   pub attached : AttachesName shown d.name given library
   pub is : file ≡ file_described d library
 
 -- a file was described: its number has it, over the library that was given
-pub record Describes {S : Type 0} (shown : Shown S) (d : Described) (given : S) (old new : Files S) : Type 0 where
+pub record Describes {S : Type 0} (shown : Shown S) (d : Described) (given : S)
+    (old new : Files S) : Type 0 where
   pub allowed : CanBeDescribed old d
   pub file : NumberedFile S
   pub over : IsDescribedOver shown d given file
@@ -94,7 +96,8 @@ is_of_keys schema Write = true
 is_of_keys schema Rewrite = true
 is_of_keys schema Delete = true
 
--- why a verb is refused: there is no file, its key is none of the file, or the bytes are more than the record area has
+-- why a verb is refused: there is no file, its key is none of the file, or the bytes are more than
+-- the record area has
 abbrev pub refusal_by : {S : Type 0} → Option (NumberedFile S) → Performed → Option Refusal
 refusal_by None p = Some Number
 refusal_by (Some file) p =
@@ -110,21 +113,26 @@ abbrev pub with_bytes : {S : Type 0} → List ℕ → FileInMemory S → FileInM
 with_bytes bytes file = record file { area = bytes ++ drop (length bytes) file.area }
 
 -- the file of a place has performed the statement, with the bytes put into its area
-pub record PerformsAt {S : Type 0} (shown : Shown S) (p : Performed) (old : Option (NumberedFile S)) (answer : Answer) (new : Option (NumberedFile S)) : Type 0 where
+pub record PerformsAt {S : Type 0} (shown : Shown S) (p : Performed) (old : Option (NumberedFile S))
+    (answer : Answer) (new : Option (NumberedFile S)) : Type 0 where
   pub before : NumberedFile S
   pub after : NumberedFile S
   pub was : old ≡ Some before
   pub is : new ≡ Some after
   pub name : after.name ≡ before.name
-  pub performed : IsPerformed shown 0 p.statement p.length (with_bytes p.bytes before.memory) answer after.memory
+  pub performed : IsPerformed shown 0 p.statement p.length
+      (with_bytes p.bytes before.memory) answer after.memory
 
--- the file of the number has performed the statement, with the bytes put into its area. Every other number has the file that it had
-pub record Performs {S : Type 0} (shown : Shown S) (p : Performed) (old : Files S) (answer : Answer) (new : Files S) : Type 0 where
+-- the file of the number has performed the statement, with the bytes put into its area. Every other
+-- number has the file that it had
+pub record Performs {S : Type 0} (shown : Shown S) (p : Performed) (old : Files S) (answer : Answer)
+    (new : Files S) : Type 0 where
   pub before : NumberedFile S
   pub after : NumberedFile S
   pub file : file_at old p.file ≡ Some before
   pub name : after.name ≡ before.name
-  pub performed : IsPerformed shown 0 p.statement p.length (with_bytes p.bytes before.memory) answer after.memory
+  pub performed : IsPerformed shown 0 p.statement p.length
+      (with_bytes p.bytes before.memory) answer after.memory
   pub places : new.places ≡ (with_file old p.file (Some after)).places
   pub opened : new.opened ≡ order_after p.file (is_open after) old.opened
 
@@ -143,7 +151,8 @@ abbrev pub refusal_of_release : {S : Type 0} → Files S → ℕ → Option Refu
 refusal_of_release files number = refusal_of_file (file_at files number)
 
 -- the place is empty, and its library given back
-pub record ReleasesAt {S : Type 0} (old : Option (NumberedFile S)) (library : S) (new : Option (NumberedFile S)) : Type 0 where
+pub record ReleasesAt {S : Type 0} (old : Option (NumberedFile S)) (library : S)
+    (new : Option (NumberedFile S)) : Type 0 where
   pub file : NumberedFile S
   pub was : old ≡ Some file
   pub closed : is_open file ≡ false
@@ -163,17 +172,20 @@ abbrev pub close_of : ℕ → Performed
 close_of number = record { file = number; statement = Close false; length = 0; bytes = [] }
 
 -- the file of a place has performed CLOSE
-pub record ClosesAt {S : Type 0} (shown : Shown S) (old : Option (NumberedFile S)) (status : Status) (new : Option (NumberedFile S)) : Type 0 where
+pub record ClosesAt {S : Type 0} (shown : Shown S) (old : Option (NumberedFile S)) (status : Status)
+    (new : Option (NumberedFile S)) : Type 0 where
   pub before : NumberedFile S
   pub after : NumberedFile S
   pub was : old ≡ Some before
   pub is : new ≡ Some after
   pub name : after.name ≡ before.name
   pub closed : is_open after ≡ false
-  pub performed : IsPerformed shown 0 (Close false) 0 (with_bytes [] before.memory) (silent status) after.memory
+  pub performed : IsPerformed shown 0 (Close false) 0 (with_bytes [] before.memory)
+      (silent status) after.memory
 
 -- it has performed CLOSE, and the open files are the others, in their order
-pub record ClosesFirst {S : Type 0} (shown : Shown S) (old : Files S) (status : Status) (new : Files S) : Type 0 where
+pub record ClosesFirst {S : Type 0} (shown : Shown S) (old : Files S) (status : Status)
+    (new : Files S) : Type 0 where
   pub first : ℕ
   pub rest : List ℕ
   pub was : old.opened ≡ first ∷ rest

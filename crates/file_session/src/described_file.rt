@@ -12,7 +12,8 @@ use io_state::{FileName, FileStatement, Status};
 use std::marker::Model;
 use verbs::{Answer, Connector};
 
-/// A described file: its name, its connector and how many keys it has, the library whose unit 0 it is, and its record area.
+/// A described file: its name, its connector and how many keys it has, the library whose unit 0 it
+/// is, and its record area.
 #[derive(Drop)]
 pub struct DescribedFile<L: Library + Drop> {
     name: FileName,
@@ -103,7 +104,8 @@ impl<L: Library + Drop> DescribedFile<L> {
     pub fn perform(&mut self, statement: &FileStatement, length: u16, bytes: &[u8]) -> Answer
         requires key { is_of_keys (schema_of self.old) statement.now ≡ true }
         requires room { count_of bytes.now ≤ count_of self.old.memory.area }
-        ensures performed { IsPerformed L.shown 0 statement.now «length» (with_bytes bytes.now self.old.memory)
+        ensures performed { IsPerformed L.shown 0 statement.now «length»
+            (with_bytes bytes.now self.old.memory)
             result self.new.memory }
         ensures name { self.new.name ≡ self.old.name }
     {

@@ -58,9 +58,11 @@ impl<L: Library + Drop> Session<L> {
         self.files.iter().any(|place| place::has_name(place, name))
     }
 
-    /// Gives a number to the file of a description, over a library of its own. The file is closed, and its record area all spaces.
+    /// Gives a number to the file of a description, over a library of its own. The file is closed,
+    /// and its record area all spaces.
     pub fn describe(&mut self, description: &Description<'_>, library: L) -> Result<(), Refusal>
-        ensures described { OnOk result (Describes L.shown (described_of description.now) library self.old self.new) }
+        ensures described { OnOk result (Describes L.shown
+            (described_of description.now) library self.old self.new) }
         ensures refused { IfErr result (RefusesDescription self.old (described_of description.now)) }
         ensures err { OnErr result (self.new ≡ self.old) }
     {

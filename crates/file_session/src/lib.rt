@@ -1,8 +1,9 @@
 //! The files of a session of requests, by number.
 //!
-//! A session has up to 64 described files. Each has a connector, a library of its own whose unit 0 it is, and a record area.
-//! A call on the file of a number leaves every other one as it is. A request that is refused changes nothing, and which
-//! refusal comes is told exactly, but for want of memory. The open files are closed in the order in which they were opened.
+//! A session has up to 64 described files. Each has a connector, a library of its own whose unit 0
+//! it is, and a record area. A call on the file of a number leaves every other one as it is. A
+//! request that is refused changes nothing, and which refusal comes is told exactly, but for want
+//! of memory. The open files are closed in the order in which they were opened.
 //!
 //! Read specs/Files for what a session shows, specs/Steps for what each call changes, and then `Session`.
 #![tactic(auto)]

@@ -10,8 +10,8 @@ use request_frames::{Performance, Refusal};
 use verbs::Answer;
 
 impl<L: Library + Drop> Session<L> {
-    /// Puts the bytes into the beginning of the file's record area, and performs the statement. `record` has the record that was
-    /// delivered.
+    /// Puts the bytes into the beginning of the file's record area, and performs the statement.
+    /// `record` has the record that was delivered.
     pub fn perform(&mut self, performance: &Performance<'_>) -> Result<Answer, Refusal>
         ensures performed { IfOk result (λ answer.
             Performs L.shown (performed_of performance.now) self.old answer self.new) }

@@ -19,7 +19,8 @@ bar_of fill = replicate (fill / 5) 35 ++ replicate (20 - fill / 5) 32
 -- the number of a level, and what it has
 abbrev pub level_place : ℕ → Level → List ℕ
 level_place number level =
-    count_text (codes "  level ") number ++ (count_text (codes " pages ") level.pages ++ count_text (codes " entries ") level.entries)
+    count_text (codes "  level ") number ++ (count_text (codes " pages ") level.pages
+    ++ count_text (codes " entries ") level.entries)
 
 -- how full it is
 abbrev pub level_fill : ℕ → List ℕ
@@ -53,12 +54,14 @@ keys_text k [] = []
 keys_text k (key ∷ keys) = key_text k key ++ keys_text (k + 1) keys
 
 abbrev pub other_pages : FileStatistics → List ℕ
-other_pages counts = count_text (codes ", keys ") counts.trees ++ (count_text (codes ", free ") counts.free ++ codes "\n")
+other_pages counts = count_text (codes ", keys ") counts.trees
+    ++ (count_text (codes ", free ") counts.free ++ codes "\n")
 
 abbrev pub kinds_text : FileStatistics → List ℕ
 kinds_text counts = count_text (codes ": header 1, heap ") counts.heap ++ other_pages counts
 
--- the pages by their kinds: one is the header; those of the heap, of the trees of the keys, and those that are free
+-- the pages by their kinds: one is the header; those of the heap, of the trees of the keys, and
+-- those that are free
 abbrev pub page_line : FileStatistics → List ℕ
 page_line counts = count_text (codes "pages ") counts.pages ++ kinds_text counts
 

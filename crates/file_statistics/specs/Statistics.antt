@@ -54,13 +54,16 @@ abbrev pub all_key_pages : List KeyStatistics → ℕ
 all_key_pages [] = 0
 all_key_pages (key ∷ keys) = key.pages + all_key_pages keys
 
--- what is counted of the trees of a file that stands: the prime key's, and those of the first alternate keys, so many
-pub record AreKeys (opened : OpenFile) (pages : PageMap) (file : File) (stands : Stands opened pages file) (count : ℕ) (keys : List KeyStatistics) : Type 0 where
+-- what is counted of the trees of a file that stands: the prime key's, and those of the first
+-- alternate keys, so many
+pub record AreKeys (opened : OpenFile) (pages : PageMap) (file : File) (stands : Stands opened pages file)
+    (count : ℕ) (keys : List KeyStatistics) : Type 0 where
   pub prime : (key : KeyStatistics) → key ≡ slice_index_or keys 0 key
       → AreKeyCounts opened.prime.tree opened.prime.width pages
       (map prime_bytes (prime_entries opened.schema stands.places file.rows))
       (own_at stands.parts.owns 1) stands.parts.prime_stands.tree key
-  pub alternates : (j : ℕ) (index : AltIndex) (within : j < length opened.alternates.items) (is : index ≡ slice_index_or opened.alternates.items j index) (key : KeyStatistics)
+  pub alternates : (j : ℕ) (index : AltIndex) (within : j < length opened.alternates.items)
+      (is : index ≡ slice_index_or opened.alternates.items j index) (key : KeyStatistics)
       → j < count → key ≡ slice_index_or keys (j + 1) key
       → AreKeyCounts index.tree index.width pages
       (map alt_bytes (alt_entries opened.schema (j + 1) file.rows)) (own_at stands.parts.owns (j + 2))
@@ -74,21 +77,26 @@ pub record HasFileStanding (opened : OpenFile) (list : List (List ℕ)) : Type 0
   pub shown : AreShown pages list
   pub few : (i : ℕ) → length (own_at stands.parts.owns i) < 2 ^ 64
   pub prime_counted : opened.prime.tree.count < 2 ^ 64
-  pub counted : (j : ℕ) (index : AltIndex) → j < length opened.alternates.items → index ≡ slice_index_or opened.alternates.items j index → index.tree.count < 2 ^ 64
+  pub counted : (j : ℕ) (index : AltIndex) → j < length opened.alternates.items
+      → index ≡ slice_index_or opened.alternates.items j index → index.tree.count < 2 ^ 64
 
--- so many keys are told of, and what is told is what is counted of the file, wherever it stands in the pages of the list
-pub record KeysCounted (opened : OpenFile) (list : List (List ℕ)) (count : ℕ) (keys : List KeyStatistics) : Type 0 where
+-- so many keys are told of, and what is told is what is counted of the file, wherever it stands in
+-- the pages of the list
+pub record KeysCounted (opened : OpenFile) (list : List (List ℕ)) (count : ℕ)
+    (keys : List KeyStatistics) : Type 0 where
   pub many : length keys ≡ count + 1
-  pub are : (pages : PageMap) (file : File) (stands : Stands opened pages file) → AreShown pages list → AreKeys opened pages file stands count keys
+  pub are : (pages : PageMap) (file : File) (stands : Stands opened pages file) → AreShown pages list
+      → AreKeys opened pages file stands count keys
 
 -- the values of key k that these rows have
 abbrev pub values_in : Schema → ℕ → List Row → List (List ℕ)
 values_in schema k rows = map (λ (row : Row). value_of schema k row.bytes) rows
 
--- What is counted of a file that stands, by its header: its pages, as many as the header tells, each of which is the header, of the heap, of a tree, or free; the slots
--- of the heap's pages; its records, each of which has a slot; its trees; and how many rows have
--- one value of a key at most.
-pub record AreStatistics (header : Header) (opened : OpenFile) (pages : PageMap) (file : File) (stands : Stands opened pages file) (counts : FileStatistics) : Type 0 where
+-- What is counted of a file that stands, by its header: its pages, as many as the header tells,
+-- each of which is the header, of the heap, of a tree, or free; the slots of the heap's pages; its
+-- records, each of which has a slot; its trees; and how many rows have one value of a key at most.
+pub record AreStatistics (header : Header) (opened : OpenFile) (pages : PageMap) (file : File)
+    (stands : Stands opened pages file) (counts : FileStatistics) : Type 0 where
   pub pages_are : counts.pages ≡ header.pages
   pub free_are : counts.free ≡ header.free
   pub heap_are : counts.heap ≡ length (own_at stands.parts.owns 0)
@@ -103,7 +111,8 @@ pub record AreStatistics (header : Header) (opened : OpenFile) (pages : PageMap)
       → IsGreatestCount (values_in opened.schema k file.rows) key.longest
 
 -- the pages by the header stand for the file, and these are its counts
-pub record HasStatistics (page : ℕ → List ℕ) (header : Header) (file : File) (counts : FileStatistics) : Type 0 where
+pub record HasStatistics (page : ℕ → List ℕ) (header : Header) (file : File)
+    (counts : FileStatistics) : Type 0 where
   pub opened : OpenFile
   pub standing : StandBy page header opened file
   pub counted : AreStatistics header opened (live_by page header) file standing.stands counts

@@ -39,7 +39,8 @@ fn count_key(
 ) -> Result<KeyStatistics, AllocError>
     requires stands { HasTreeStanding tree.now pages.now }
     requires narrow { width ≤ tree.now.shape.width }
-    ensures { (map : PageMap) (entries : List (List ℕ)) (own : List ℕ) (stands : TreeStands tree.now map entries own) → AreShown map pages.now
+    ensures { (map : PageMap) (entries : List (List ℕ)) (own : List ℕ)
+        (stands : TreeStands tree.now map entries own) → AreShown map pages.now
         → IfOk result (AreKeyCounts tree.now width map entries own stands) }
 {
     level_laws();
@@ -73,7 +74,8 @@ fn count_keys(
     file: &OpenFile,
 ) -> Result<Vec<KeyStatistics>, AllocError>
     requires { HasFileStanding file.now pages.now }
-    ensures { IfOk result (λ keys. KeysCounted file.now pages.now (length file.now.alternates.items) keys.items) }
+    ensures { IfOk result (λ keys. KeysCounted file.now pages.now
+        (length file.now.alternates.items) keys.items) }
 {
     let mut keys = Vec::new(alloc);
     push_key(
@@ -109,7 +111,8 @@ pub fn count_file(
 ) -> Result<FileStatistics, AllocError>
     requires header { IsHeader header.now }
     requires stands { HasFile header.now pages.now }
-    ensures counted { (page : ℕ → List ℕ) (opened : OpenFile) (file : File) → StandBy page header.now opened file → AreShown (live_by page header.now) pages.now
+    ensures counted { (page : ℕ → List ℕ) (opened : OpenFile) (file : File)
+        → StandBy page header.now opened file → AreShown (live_by page header.now) pages.now
         → IfOk result (HasStatistics page header.now file) }
 {
     let file = OpenFile::from_header(header);

@@ -51,7 +51,8 @@ fn lines_of(alloc: Global, bytes: &[u8]) -> Result<Vec<u8>, AllocError>
 fn write_lines<W: Write>(alloc: Global, bytes: &[u8], out: &mut W) -> Result<(), StatisticsFault>
     requires { AreSound bytes.now }
     ensures written { IfOk result (λ _. WritesText bytes.now (W.contents out.old) (W.contents out.new)) }
-    ensures fault { IfErr result (λ fault. fault ≢ StatisticsFault.Output → W.contents out.new ≡ W.contents out.old) }
+    ensures fault { IfErr result (λ fault. fault ≢ StatisticsFault.Output
+        → W.contents out.new ≡ W.contents out.old) }
 {
     let Ok(lines) = lines_of(alloc, bytes) else {
         return Err(StatisticsFault::Memory);
@@ -62,16 +63,19 @@ fn write_lines<W: Write>(alloc: Global, bytes: &[u8], out: &mut W) -> Result<(),
     }
 }
 
-/// Writes what is counted of the file that has these bytes, once a check has found them sound: its pages by their kinds, its slots, and the levels of its trees.
+/// Writes what is counted of the file that has these bytes, once a check has found them sound: its
+/// pages by their kinds, its slots, and the levels of its trees.
 ///
-/// `Output`: the writer refused the lines; a part of them may have been written. `Memory`: nothing was written. `Input` never comes of bytes that are there.
+/// `Output`: the writer refused the lines; a part of them may have been written. `Memory`: nothing
+/// was written. `Input` never comes of bytes that are there.
 pub fn list_statistics<W: Write>(
     alloc: Global,
     bytes: &[u8],
     out: &mut W,
 ) -> Result<FileStatisticsEnd, StatisticsFault>
     ensures ends { IfOk result (EndsWith bytes.now (W.contents out.old) (W.contents out.new)) }
-    ensures fault { IfErr result (λ fault. fault ≢ StatisticsFault.Output → W.contents out.new ≡ W.contents out.old) }
+    ensures fault { IfErr result (λ fault. fault ≢ StatisticsFault.Output
+        → W.contents out.new ≡ W.contents out.old) }
 {
     let mut reader = bytes;
     match examine_file(alloc, &mut reader) {

@@ -12,8 +12,9 @@ pub struct KeyStatistics {
     pub levels: Vec<Level>,
 }
 
-/// What is counted of a file: its pages, all of them, those of the heap, those of the trees and those that are free; the slots of the heap; its records, each of which
-/// has a slot; and its keys, the prime key first.
+/// What is counted of a file: its pages, all of them, those of the heap, those of the trees and
+/// those that are free; the slots of the heap; its records, each of which has a slot; and its keys,
+/// the prime key first.
 #[derive(Drop)]
 pub struct FileStatistics {
     pub pages: u64,

@@ -65,4 +65,5 @@ is_failed (looked found) = not (is_some found)
 -- how many calls failed, as far as 64 bits can count
 abbrev pub failed_calls : List Event → ℕ
 failed_calls [] = 0
-failed_calls (call ∷ earlier) = if is_failed call then min (failed_calls earlier + 1) (2 ^ 64 - 1) else failed_calls earlier
+failed_calls (call ∷ earlier) = if is_failed call then min (failed_calls earlier + 1)
+    (2 ^ 64 - 1) else failed_calls earlier

@@ -47,8 +47,9 @@ is_there there f = if there then is_some f.seen else not (is_some f.seen)
 abbrev pub left_of : ℕ → List ℕ → List ℕ → List ℕ
 left_of n bytes torn = if n == length bytes then bytes else take (length bytes) torn
 
--- a call after these earlier ones: what it leaves of its file, and whether its answer, if it has one, was that of the file.
--- Whether a file is held is up to the folder; one that is not may not be written.
+-- a call after these earlier ones: what it leaves of its file, and whether its answer, if it has
+-- one, was that of the file. Whether a file is held is up to the folder; one that is not may not be
+-- written.
 abbrev pub after : Unseen → List Event → Event → Folder → Folder
 after disk earlier (in_folder path) m = m
 after disk earlier (named name) m = record m { current = name; is_held = false }
@@ -63,7 +64,10 @@ after disk earlier (measured None) m = m
 after disk earlier (measured (Some size)) m = record m {
   is_honest = m.is_honest && (is_some (now m).seen && (size == length (content (now m))));
 }
-after disk earlier (read ok at bytes) m = record m { is_honest = m.is_honest && (not ok || gives (now m) at bytes) }
+after disk earlier (read ok at bytes) m = record m {
+  is_honest = m.is_honest
+      && (not ok || gives (now m) at bytes);
+}
 after disk earlier (held ok) m = record m { is_held = ok }
 after disk earlier (written at n bytes) m = record m {
   file = put m.file m.current (record {
@@ -74,7 +78,10 @@ after disk earlier (written at n bytes) m = record m {
 }
 after disk earlier (flushed ok) m = record m {
   file = if ok
-      then put m.file m.current (record { seen = Some (content (now m)); log = (now m).log ++ synced (content (now m)) ∷ [] })
+      then put m.file m.current (record {
+        seen = Some (content (now m));
+        log = (now m).log ++ synced (content (now m)) ∷ [];
+      })
       else m.file;
   is_honest = m.is_honest && is_some (now m).seen;
 }
@@ -92,4 +99,8 @@ folder_after disk events = replay (disk (folder_path events)) events
 
 -- what a shelf over a folder shows, on a disk that has this in the folder of each path
 abbrev pub folder_state : (List ℕ → Unseen) → List (List ℕ) → List Event → ShelfState
-folder_state disk names events = record { names = names; file = (folder_after disk events).file; is_honest = (folder_after disk events).is_honest }
+folder_state disk names events = record {
+  names = names;
+  file = (folder_after disk events).file;
+  is_honest = (folder_after disk events).is_honest;
+}

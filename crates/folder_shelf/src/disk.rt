@@ -4,8 +4,8 @@ ghost use Rattle.page_store.specs.DeviceFile.{absent};
 ghost use Rattle.page_store.specs.Images.{Leaves};
 ghost use Rattle.folder_shelf.specs.Replay.{Unseen};
 
-/// What the files of the folder of each path held at first, and what a call that failed left. What is proved for any `Disk` is
-/// proved for every disk.
+/// What the files of the folder of each path held at first, and what a call that failed left. What
+/// is proved for any `Disk` is proved for every disk.
 pub trait Disk {
     ghost unseen: { List ℕ → Unseen };
 

@@ -11,7 +11,8 @@ use std::os::unix::fs::FileExt;
 use std::rt::Files;
 use system_files::{KeptFile, KeptFolder, LockFile};
 
-/// The files of a folder, each kept open for the calls that follow, and locked: others may read it too until it is held.
+/// The files of a folder, each kept open for the calls that follow, and locked: others may read it
+/// too until it is held.
 #[derive(Drop)]
 pub(crate) struct Folder<R: Files + Drop> {
     rt: R,
@@ -55,7 +56,8 @@ where
     }
 
     fn path_of(&self, name: &FileName) -> Result<String, Fault>
-        ensures path { IfOk result (λ path. string_bytes path ≡ file_path self.now.calls.events name.now.bytes) }
+        ensures path { IfOk result (λ path. string_bytes path
+            ≡ file_path self.now.calls.events name.now.bytes) }
         ensures only_memory { IsOkUnless result Memory }
     {
         [self.folder.path(), name.as_str()]
@@ -156,7 +158,8 @@ where
         Ok(done)
     }
 
-    /// Holds the file for changes, so that no other run reads or changes it. Whether it is held, and still what this run has read.
+    /// Holds the file for changes, so that no other run reads or changes it. Whether it is held,
+    /// and still what this run has read.
     pub(crate) fn hold(&mut self, unit: usize, name: &FileName) -> Result<bool, Fault>
         ensures noted { IfOk result (λ done.
             self.new.calls.events ≡ asked (held done) name.now.bytes self.old.calls.events) }

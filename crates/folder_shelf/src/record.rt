@@ -106,7 +106,8 @@ impl Record {
         self.call(name, HELD, 0, done as u64, &[]);
     }
 
-    /// Bytes were to be written into the file that the last call was on. Where, how many of them the system took, and the bytes.
+    /// Bytes were to be written into the file that the last call was on. Where, how many of them
+    /// the system took, and the bytes.
     pub(crate) fn written(&mut self, at: u64, taken: usize, bytes: &[u8])
         ensures { self.new.events ≡ written at taken bytes.now ∷ self.old.events }
     {

@@ -11,7 +11,8 @@ use std::marker::Model;
 /// The most bytes that are held.
 const HELD_LIMIT: usize = 65_536;
 
-/// A text that a writer has not been offered yet: 65,536 bytes at most, whose memory is set aside when it is made.
+/// A text that a writer has not been offered yet: 65,536 bytes at most, whose memory is set aside
+/// when it is made.
 #[derive(Drop)]
 pub struct HeldText {
     text: Vec<u8>,
@@ -55,10 +56,12 @@ impl HeldText {
         Ok(())
     }
 
-    /// Holds one more piece of text. Where it has no room, all that is held is handed to the writer first. A refusal is as for `hand_over`.
+    /// Holds one more piece of text. Where it has no room, all that is held is handed to the writer
+    /// first. A refusal is as for `hand_over`.
     pub fn add<W: Write>(&mut self, text: &[u8], out: &mut W) -> Result<(), Refused>
         requires { length text.now ≤ 65536 }
-        ensures added { OnOk result (Adds (W.contents out.old) (W.contents out.new) self.old self.new text.now) }
+        ensures added { OnOk result (Adds (W.contents out.old)
+            (W.contents out.new) self.old self.new text.now) }
         ensures refused { OnErr result (AppendsFront (W.contents out.old) (W.contents out.new) self.old) }
     {
         if HELD_LIMIT - self.text.len() < text.len() {
@@ -68,11 +71,13 @@ impl HeldText {
         Ok(())
     }
 
-    /// Holds one more piece of text, of any length. One that is longer than all that can be held is written at once, after what was held. A refusal leaves a proper
-    /// front of both in the writer.
+    /// Holds one more piece of text, of any length. One that is longer than all that can be held is
+    /// written at once, after what was held. A refusal leaves a proper front of both in the writer.
     pub fn hold<W: Write>(&mut self, text: &[u8], out: &mut W) -> Result<(), Refused>
-        ensures held { OnOk result (Holds (W.contents out.old) (W.contents out.new) self.old self.new text.now) }
-        ensures refused { OnErr result (AppendsFront (W.contents out.old) (W.contents out.new) (self.old ++ text.now)) }
+        ensures held { OnOk result (Holds (W.contents out.old)
+            (W.contents out.new) self.old self.new text.now) }
+        ensures refused { OnErr result (AppendsFront (W.contents out.old) (W.contents out.new)
+            (self.old ++ text.now)) }
     {
         if text.len() <= HELD_LIMIT {
             return self.add(text, out);

@@ -10,7 +10,8 @@ use Rattle.indexed_file.specs.declared.answer.Added.TheVariants.{Done as DoneAdd
 use Rattle.indexed_file.specs.declared.answer.Replaced.{Replaced}
 use Rattle.indexed_file.specs.declared.answer.Replaced.TheVariants.{Done as DoneReplacing, Clash as ClashReplacing, Gone}
 
--- what it answers and leaves, whether an answer tells that it was made, whether it clashes, whether it lacks room, and whether it may take pages at all
+-- what it answers and leaves, whether an answer tells that it was made, whether it clashes, whether
+-- it lacks room, and whether it may take pages at all
 pub record FileChange (X : Type 0) : Type 0 where
   pub answer : File → X
   pub leaves : File → File
@@ -50,14 +51,17 @@ file_after_add schema bytes file = if clashes schema bytes file.rows then file e
 -- where there is no row of the record's prime value, or a clash with another, nothing is changed
 abbrev pub file_with : Schema → List ℕ → File → Option Row → File
 file_with schema bytes file None = file
-file_with schema bytes file (Some row) = if clashes_with_others schema bytes file then file else replaced schema bytes row file
+file_with schema bytes file (Some row) = if clashes_with_others schema bytes file then file else replaced
+    schema bytes row file
 
 abbrev pub file_after_replace : Schema → List ℕ → File → File
-file_after_replace schema bytes file = file_with schema bytes file (row_of schema (prime_of schema bytes) file)
+file_after_replace schema bytes file = file_with schema bytes file
+    (row_of schema (prime_of schema bytes) file)
 
 -- where there is no such record nothing is changed
 abbrev pub file_after_remove : Schema → List ℕ → File → File
-file_after_remove schema prime file = if is_some (row_of schema prime file) then removed schema prime file else file
+file_after_remove schema prime file = if is_some
+    (row_of schema prime file) then removed schema prime file else file
 
 -- ---- the three changes
 

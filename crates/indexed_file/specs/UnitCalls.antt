@@ -30,7 +30,8 @@ pub record RestartsCount {S : Type 0} (shown : Shown S) (u : ℕ) (old new : S) 
   pub images : AllStay shown.Throughout old new
 
 -- a call that opens unit u, or looks whether it can be opened: a fault leaves it shut
-pub record OpensUnit {S X : Type 0} (shown : Shown S) (u : ℕ) (trace : Trace) (old new : S) (result : Result X Fault) : Type 0 where
+pub record OpensUnit {S X : Type 0} (shown : Shown S) (u : ℕ) (trace : Trace) (old new : S)
+    (result : Result X Fault) : Type 0 where
   pub err : OnErr result (holding_at (shown.world new) u ≡ Shut)
   pub unbroken : OnOk result (IsFalse (is_broken (holding_at (shown.world new) u)))
   pub only : OnlyAt u (shown.world old) (shown.world new)
@@ -38,8 +39,10 @@ pub record OpensUnit {S X : Type 0} (shown : Shown S) (u : ℕ) (trace : Trace) 
   pub images : CallGoes shown u trace old new
   pub keeps : Keeps shown old new
 
--- a call that only reads the open unit u, and asks for so many of its pages at most: the count of them does not fall
-pub record ReadsUnit {S X : Type 0} (shown : Shown S) (u most : ℕ) (old new : S) (result : Result X Fault) : Type 0 where
+-- a call that only reads the open unit u, and asks for so many of its pages at most: the count of
+-- them does not fall
+pub record ReadsUnit {S X : Type 0} (shown : Shown S) (u most : ℕ) (old new : S)
+    (result : Result X Fault) : Type 0 where
   pub asked : Believed shown u old new (AsksAtMost shown u most old new result)
   pub counted : shown.pages_asked old u ≤ shown.pages_asked new u
   pub world : OnlyReads u (shown.is_honest new) (shown.world old) (shown.world new)
@@ -50,7 +53,8 @@ pub record ReadsUnit {S X : Type 0} (shown : Shown S) (u most : ℕ) (old new : 
   pub keeps : Keeps shown old new
 
 -- a call that looks in the open unit u for this row by key k, and reads its record into the front of the area
-pub record FindsRow {S : Type 0} (shown : Shown S) (u k : ℕ) (row : Option Row) (before after : List ℕ) (old new : S)
+pub record FindsRow {S : Type 0} (shown : Shown S) (u k : ℕ) (row : Option Row) (before after : List ℕ)
+    (old new : S)
     (result : Result (Option Found) Fault) : Type 0 where
   pub found : Believed shown u old new (IfOk result (λ found. found ≡ found_at (shown.world old) u k row))
   pub area : Believed shown u old new (OnOk result (after ≡ area_after before row))
@@ -63,19 +67,25 @@ abbrev pub GivesUp : {S : Type 0} → Shown S → ℕ → S → S → Type 0 →
 GivesUp shown u old new reason =
     OnlyReads u (shown.is_honest new) (shown.world old) (shown.world new) × Believed shown u old new reason
 
--- a call that makes this change of the open unit u, which stays open: it answers Full exactly where the change does not clash and
--- lacks room, and any other fault leaves the unit broken. The count of its pages does not fall
-pub record ChangesUnit {S X : Type 0} (shown : Shown S) (u : ℕ) (change : FileChange X) (old new : S) (result : Result X Fault) : Type 0 where
-  pub answer : Believed shown u old new (IfOk result (λ answer. answer ≡ change.answer (file_at (shown.world old) u)))
-  pub done : Believed shown u old new (OnOk result (shown.world new ≡ world_changed change (shown.world old) u))
-  pub room : Believed shown u old new (OnOk result (IsTrue (has_room_for (shown.room old u) change (file_at (shown.world old) u))))
+-- a call that makes this change of the open unit u, which stays open: it answers Full exactly where
+-- the change does not clash and lacks room, and any other fault leaves the unit broken. The count
+-- of its pages does not fall
+pub record ChangesUnit {S X : Type 0} (shown : Shown S) (u : ℕ) (change : FileChange X) (old new : S)
+    (result : Result X Fault) : Type 0 where
+  pub answer : Believed shown u old new (IfOk result
+      (λ answer. answer ≡ change.answer (file_at (shown.world old) u)))
+  pub done : Believed shown u old new (OnOk result
+      (shown.world new ≡ world_changed change (shown.world old) u))
+  pub room : Believed shown u old new (OnOk result
+      (IsTrue (has_room_for (shown.room old u) change (file_at (shown.world old) u))))
   pub full : result ≡ Err Full → IsTrue change.takes_pages
       × GivesUp shown u old new (LacksRoomFor (shown.room old u) change (file_at (shown.world old) u))
   pub asked : Believed shown u old new (AsksAtMost shown u (most_to_change (shown.room old u)) old new result)
   pub counted : shown.pages_asked old u ≤ shown.pages_asked new u
   pub broken : IsTrue (is_broken (holding_at (shown.world old) u)) → result ≡ Err BrokenUnit
   pub fault : IfErr result (λ fault. fault ≢ Full
-      → LeavesBroken u (shown.is_honest new) (shown.world old) (shown.world new) × MayAnswer shown u old new fault)
+      → LeavesBroken u (shown.is_honest new) (shown.world old) (shown.world new)
+      × MayAnswer shown u old new fault)
   pub unbroken : OnOk result (IsFalse (is_broken (holding_at (shown.world new) u)))
   pub only : OnlyAt u (shown.world old) (shown.world new)
   pub opened : IsTrue (is_open (holding_at (shown.world new) u))
@@ -85,15 +95,17 @@ pub record ChangesUnit {S X : Type 0} (shown : Shown S) (u : ℕ) (change : File
   pub keeps : Keeps shown old new
 
 -- a call that shuts the open unit u, whatever it answers
-pub record ShutsUnit {S X : Type 0} (shown : Shown S) (u : ℕ) (old new : S) (result : Result X Fault) : Type 0 where
+pub record ShutsUnit {S X : Type 0} (shown : Shown S) (u : ℕ) (old new : S)
+    (result : Result X Fault) : Type 0 where
   pub shut : holding_at (shown.world new) u ≡ Shut
   pub only : OnlyAt u (shown.world old) (shown.world new)
   pub fault : IfErr result (MayAnswer shown u old new)
-  pub images : CallGoes shown u (trace_of_shut (named_at (shown.world old) u) (holding_at (shown.world old) u) result) old new
+  pub images : CallGoes shown u (trace_of_shut (named_at (shown.world old) u)
+      (holding_at (shown.world old) u) result) old new
   pub keeps : Keeps shown old new
 
--- the file of unit u is new: it is open without rows and shown truly, its name is unsound until it is closed, and it has the room of a
--- new file
+-- the file of unit u is new: it is open without rows and shown truly, its name is unsound until it
+-- is closed, and it has the room of a new file
 pub record IsNew {S : Type 0} (shown : Shown S) (u : ℕ) (schema : Schema) (old new : S) : Type 0 where
   pub named : named_at (shown.world new) u ≡ Unsound
   pub holding : holding_at (shown.world new) u ≡ Opened schema empty_file

@@ -10,8 +10,8 @@ use Rattle.list_library.specs.Units.{named_among}
 abbrev pub world_of : ListLibrary → World
 world_of library = record { units = library.units.items; elsewhere = named_among library.others.items }
 
--- it is always honest, and what it shows of a name is true where the name stands for a file; no device fails, its files have no limits and
--- no pages, and a crash leaves nothing of them
+-- it is always honest, and what it shows of a name is true where the name stands for a file; no
+-- device fails, its files have no limits and no pages, and a crash leaves nothing of them
 abbrev pub shown_in_memory : Shown ListLibrary
 shown_in_memory = record {
   world = world_of;

@@ -35,7 +35,11 @@ is_looked_state IsBroken = false
 
 -- a unit
 abbrev pub unit_by : List ℕ → Option Stored → Bool → UnitState → FileUnit
-unit_by name file changed state = record { name = name; named = named_by changed file; holding = held_by state file }
+unit_by name file changed state = record {
+  name = name;
+  named = named_by changed file;
+  holding = held_by state file;
+}
 
 -- what a name stands for among these units
 abbrev pub named_among : List FileUnit → List ℕ → Named
@@ -44,7 +48,8 @@ named_among (unit ∷ units) name = if bytes_eq unit.name name then unit.named e
 
 -- every name but this one stands among the units for what it stood for
 abbrev pub KeepsNamesBut : List ℕ → List FileUnit → List FileUnit → Type 0
-KeepsNamesBut own old new = (name : List ℕ) → IsFalse (bytes_eq own name) → named_among new name ≡ named_among old name
+KeepsNamesBut own old new = (name : List ℕ) → IsFalse (bytes_eq own name)
+    → named_among new name ≡ named_among old name
 
 -- a unit whose name stands for nothing
 abbrev pub absent_unit : List ℕ → FileUnit
@@ -74,23 +79,29 @@ with_rows unit file = record unit { named = Unsound; holding = Opened (schema_in
 -- the unit after a change of its file: where nothing was made it stays
 abbrev pub unit_changed : {X : Type 0} → FileChange X → FileUnit → FileUnit
 unit_changed change unit =
-    if change.is_made (change.answer (rows_in unit.holding)) then with_rows unit (change.leaves (rows_in unit.holding)) else unit
+    if change.is_made (change.answer (rows_in unit.holding)) then with_rows unit
+    (change.leaves (rows_in unit.holding)) else unit
 
 -- the unit after it was closed
 abbrev pub unit_after_shut : FileUnit → FileUnit
-unit_after_shut unit = record unit { named = Closed (schema_in unit.holding) (rows_in unit.holding); holding = Shut }
+unit_after_shut unit = record unit {
+  named = Closed (schema_in unit.holding) (rows_in unit.holding);
+  holding = Shut;
+}
 
--- a change that failed: Full under this condition, and then nothing is changed; Memory, and then the unit is broken; Broken on a
--- broken unit
+-- a change that failed: Full under this condition, and then nothing is changed; Memory, and then
+-- the unit is broken; Broken on a broken unit
 abbrev pub FailsChange : FileUnit → FileUnit → Type 0 → Fault → Type 0
 FailsChange old new is_full Full = is_full × (new ≡ old)
-FailsChange old new is_full Memory = IsFalse (is_broken old.holding) × (new ≡ record old { holding = Broken (schema_in old.holding) })
+FailsChange old new is_full Memory = IsFalse (is_broken old.holding)
+    × (new ≡ record old { holding = Broken (schema_in old.holding) })
 FailsChange old new is_full BrokenUnit = IsTrue (is_broken old.holding) × (new ≡ old)
 FailsChange old new is_full Device = ⊥
 FailsChange old new is_full Damage = ⊥
 
 -- this change was made of the file that the unit holds, or failed
-pub record ChangesHeld {X : Type 0} (change : FileChange X) (old new : FileUnit) (result : Result X Fault) : Type 0 where
+pub record ChangesHeld {X : Type 0} (change : FileChange X) (old new : FileUnit)
+    (result : Result X Fault) : Type 0 where
   pub answer : IfOk result (λ answer. answer ≡ change.answer (rows_in old.holding))
   pub unit : OnOk result (new ≡ unit_changed change old)
   pub room : OnOk result (IsTrue (has_room_for Endless change (rows_in old.holding)))

@@ -13,7 +13,8 @@ use record_layout::Schema;
 use std::alloc::Global;
 use std::mem;
 
-/// A library that keeps its files in lists of rows, which every call scans. It takes memory only where a list grows.
+/// A library that keeps its files in lists of rows, which every call scans. It takes memory only
+/// where a list grows.
 #[derive(Drop)]
 pub struct ListLibrary {
     alloc: Global,
@@ -84,7 +85,8 @@ fn exchange(units: &mut [ListUnit], others: &mut [ListUnit])
     requires absent { units.old ≡ map (λ unit. absent_unit unit.name) units.old }
     requires distinct { IsDistinct bytes_eq (map (λ unit. unit.name) units.old) }
     ensures units { units.new ≡ map (λ unit. in_place_among others.old unit.name) units.old }
-    ensures named { (name : List ℕ) → name_in units.new (named_among others.new) name ≡ named_among others.old name }
+    ensures named { (name : List ℕ) → name_in units.new
+        (named_among others.new) name ≡ named_among others.old name }
     ensures sound { IsTrue (list_all is_sound_unit others.old) → IsTrue (list_all is_sound_unit others.new) }
 {
     for unit in units.iter_mut() {

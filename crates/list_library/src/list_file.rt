@@ -88,12 +88,14 @@ impl ListFile {
         &self.rows[place]
     }
 
-    /// The row of least rank by key k among those wanted: what is told of it, and its record in the front of the area.
+    /// The row of least rank by key k among those wanted: what is told of it, and its record in the
+    /// front of the area.
     pub fn find(&self, k: u8, wanted: &Wanted, area: &mut [u8]) -> Option<Found>
         requires key { k < length self.now.schema.keys }
         requires length { length area.old ≡ self.now.schema.greatest }
         ensures found { result ≡ found_wanted self.now.schema k wanted.now self.now.file }
-        ensures area { area.new ≡ area_after area.old (first_wanted self.now.schema k wanted.now self.now.file) }
+        ensures area { area.new ≡ area_after area.old
+            (first_wanted self.now.schema k wanted.now self.now.file) }
     {
         let place = lowest(&self.schema, k, wanted, self.rows.as_slice())?;
         let row = self.row(place);
@@ -120,8 +122,8 @@ impl ListFile {
         Some(self.schema.extract(row.bytes(), 0))
     }
 
-    /// Adds a record, unless its value of a key that has to be unique is there. `Full` where the stamps have run out; at `Full`
-    /// and at `Memory` nothing is changed.
+    /// Adds a record, unless its value of a key that has to be unique is there. `Full` where the
+    /// stamps have run out; at `Full` and at `Memory` nothing is changed.
     pub fn add(&mut self, alloc: Global, bytes: &[u8]) -> Result<Added, Fault>
         requires least { self.old.schema.least ≤ length bytes.now }
         requires greatest { length bytes.now ≤ self.old.schema.greatest }
@@ -140,8 +142,8 @@ impl ListFile {
         Ok(Added::Done { repeated })
     }
 
-    /// Puts a record in the place of that of its prime value. `Full` where a stamp is needed and they have run out; at `Full` and
-    /// at `Memory` nothing is changed.
+    /// Puts a record in the place of that of its prime value. `Full` where a stamp is needed and
+    /// they have run out; at `Full` and at `Memory` nothing is changed.
     pub fn replace(&mut self, alloc: Global, bytes: &[u8]) -> Result<Replaced, Fault>
         requires least { self.old.schema.least ≤ length bytes.now }
         requires greatest { length bytes.now ≤ self.old.schema.greatest }

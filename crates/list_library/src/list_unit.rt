@@ -125,7 +125,8 @@ impl ListUnit {
         self.state = UnitState::IsOpened;
     }
 
-    /// The row of least rank by key k among those wanted: what is told of it, and its record in the front of the area.
+    /// The row of least rank by key k among those wanted: what is told of it, and its record in the
+    /// front of the area.
     pub fn find(&self, k: u8, wanted: &Wanted, area: &mut [u8]) -> Result<Option<Found>, Fault>
         requires open { IsTrue (is_open self.now.holding) }
         requires key { k < length (schema_in self.now.holding).keys }
@@ -166,7 +167,8 @@ impl ListUnit {
     /// The greatest prime value.
     pub fn highest(&self) -> Result<Option<Key>, Fault>
         requires { IsTrue (is_open self.now.holding) }
-        ensures found { IfOk result (λ found. option_map (λ key. key.items) found ≡ highest_in self.now.holding) }
+        ensures found { IfOk result (λ found. option_map
+            (λ key. key.items) found ≡ highest_in self.now.holding) }
         ensures fault { AnswersBroken self.now.holding result }
     {
         if self.state == UnitState::IsBroken {
@@ -178,8 +180,8 @@ impl ListUnit {
         }
     }
 
-    /// Adds a record, unless its value of a key that has to be unique is there. At `Full` nothing is changed, and after `Memory` the
-    /// unit is broken.
+    /// Adds a record, unless its value of a key that has to be unique is there. At `Full` nothing
+    /// is changed, and after `Memory` the unit is broken.
     pub fn add(&mut self, alloc: Global, bytes: &[u8]) -> Result<Added, Fault>
         requires open { IsTrue (is_open self.old.holding) }
         requires least { (schema_in self.old.holding).least ≤ length bytes.now }
@@ -206,7 +208,8 @@ impl ListUnit {
         }
     }
 
-    /// Puts a record in the place of that of its prime value. At `Full` nothing is changed, and after `Memory` the unit is broken.
+    /// Puts a record in the place of that of its prime value. At `Full` nothing is changed, and
+    /// after `Memory` the unit is broken.
     pub fn replace(&mut self, alloc: Global, bytes: &[u8]) -> Result<Replaced, Fault>
         requires open { IsTrue (is_open self.old.holding) }
         requires least { (schema_in self.old.holding).least ≤ length bytes.now }
@@ -252,7 +255,8 @@ impl ListUnit {
         Ok(true)
     }
 
-    /// Closes the unit; a file that was changed is then what its name stands for. A broken unit answers so, and its name stays.
+    /// Closes the unit; a file that was changed is then what its name stands for. A broken unit
+    /// answers so, and its name stays.
     pub fn shut(&mut self) -> Result<(), Fault>
         requires { IsTrue (is_open self.old.holding) }
         ensures ok { OnOk result (self.new ≡ unit_after_shut self.old) }

@@ -12,7 +12,8 @@ use record_layout::Schema;
 fn is_lower(schema: &Schema, k: u8, row: &ListRow, rows: &[ListRow], best: Option<usize>) -> bool
     requires { IfSome best (λ i. i < length rows.now) }
     ensures yes { result ≡ true → lower_of schema.now k row.now (row_at rows.now best) ≡ row.now }
-    ensures no { result ≡ false → Some (lower_of schema.now k row.now (row_at rows.now best)) ≡ row_at rows.now best }
+    ensures no { result ≡ false → Some (lower_of schema.now k row.now (row_at rows.now best))
+        ≡ row_at rows.now best }
 {
     match best {
         None => true,

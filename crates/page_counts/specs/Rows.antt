@@ -1,4 +1,5 @@
--- The levels of a tree over the pages of a file, as the pages of each level lead to those of the next. A row has the pages of one level, from left to right.
+-- The levels of a tree over the pages of a file, as the pages of each level lead to those of the
+-- next. A row has the pages of one level, from left to right.
 use Rattle.std.specs.Prelude.{ℕ, zero, suc, ◌<◌, List, [], ◌∷◌, length, flat_map, slice_index_or}
 use Rattle.page_bytes.specs.Each.{Each}
 use Rattle.tree_node.specs.declared.shape.Shape.{Shape}
@@ -34,7 +35,8 @@ entries_in shape list row = flat_map (λ n. leaf_entries shape (page_at list n))
 -- a row with h levels below it leads to nodes, down to leaves
 abbrev pub AreNodes : Shape → List (List ℕ) → ℕ → List ℕ → Type 0
 AreNodes shape list zero row = Each (IsLeafIn shape list) row
-AreNodes shape list (suc h) row = Each (IsInnerIn shape list) row × AreNodes shape list h (children_in shape list row)
+AreNodes shape list (suc h) row = Each (IsInnerIn shape list) row
+    × AreNodes shape list h (children_in shape list row)
 
 -- the leaves that it leads to
 abbrev pub leaves_in : Shape → List (List ℕ) → ℕ → List ℕ → List ℕ
@@ -43,13 +45,22 @@ leaves_in shape list (suc h) row = leaves_in shape list h (children_in shape lis
 
 -- what a row of leaves has
 abbrev pub leaf_level : Shape → List (List ℕ) → List ℕ → Level
-leaf_level shape list row = record { pages = length row; entries = length (entries_in shape list row); room = leaf_room shape }
+leaf_level shape list row = record {
+  pages = length row;
+  entries = length (entries_in shape list row);
+  room = leaf_room shape;
+}
 
 -- what a row of inner nodes has
 abbrev pub inner_level : Shape → List (List ℕ) → List ℕ → Level
-inner_level shape list row = record { pages = length row; entries = length (separators_in shape list row); room = inner_room shape }
+inner_level shape list row = record {
+  pages = length row;
+  entries = length (separators_in shape list row);
+  room = inner_room shape;
+}
 
 -- what each row has that it leads to, from itself on
 abbrev pub levels_in : Shape → List (List ℕ) → ℕ → List ℕ → List Level
 levels_in shape list zero row = leaf_level shape list row ∷ []
-levels_in shape list (suc h) row = inner_level shape list row ∷ levels_in shape list h (children_in shape list row)
+levels_in shape list (suc h) row = inner_level shape list row ∷ levels_in shape list h
+    (children_in shape list row)

@@ -21,7 +21,8 @@ pub record IsGreatestCount (values : List (List ℕ)) (count : ℕ) : Type 0 whe
 -- between two equal values stand none but their equals
 abbrev pub AreTogether : List (List ℕ) → Type 0
 AreTogether values = (i j k : ℕ) → i ≤ j → j ≤ k → k < length values
-    → slice_index_or values i [] ≡ slice_index_or values k [] → slice_index_or values j [] ≡ slice_index_or values k []
+    → slice_index_or values i [] ≡ slice_index_or values k []
+    → slice_index_or values j [] ≡ slice_index_or values k []
 
 -- what is known of the values so far
 pub record RunOf (values : List (List ℕ)) (run : Run) : Type 0 where

@@ -1,6 +1,7 @@
 //! What is counted of a tree.
 
-/// A level of a tree: its pages, the entries of its leaves or the separators of its inner nodes, and how many of them one of its pages has room for.
+/// A level of a tree: its pages, the entries of its leaves or the separators of its inner nodes,
+/// and how many of them one of its pages has room for.
 #[derive(Clone, Copy, Debug, PartialEq, Eq)]
 pub struct Level {
     pub pages: u64,
@@ -19,7 +20,8 @@ impl Level {
     ghost use Rattle.std.specs.Prelude.{◌≡◌, ◌≤◌};
     ghost use Rattle.page_counts.specs.Fill.{fill_of};
 
-    /// How full its pages are: its entries or separators in percent of those for which there is room, rounded down.
+    /// How full its pages are: its entries or separators in percent of those for which there is
+    /// room, rounded down.
     pub fn fill(self) -> u64
         ensures value { result ≡ fill_of self }
         ensures percent { result ≤ 100 }

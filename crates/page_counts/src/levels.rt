@@ -109,7 +109,8 @@ fn add_rows(
 ) -> Result<Vec<u32>, AllocError>
     requires nodes { AreNodes shape pages.now height row.items }
     requires few { length (entries_in shape pages.now (leaves_in shape pages.now height row.items)) < 2 ^ 64 }
-    ensures levels { OnOk result (levels.new.items ≡ levels.old.items ++ levels_in shape pages.now height row.items) }
+    ensures levels { OnOk result (levels.new.items ≡ levels.old.items
+        ++ levels_in shape pages.now height row.items) }
     ensures leaves { IfOk result (λ leaves. leaves.items ≡ leaves_in shape pages.now height row.items) }
 {
     if height == 0 {
@@ -131,8 +132,10 @@ fn add_tree(
     levels: &mut Vec<Level>,
 ) -> Result<Vec<u32>, AllocError>
     requires nodes { AreNodes shape pages.now height (root ∷ []) }
-    requires few { length (entries_in shape pages.now (leaves_in shape pages.now height (root ∷ []))) < 2 ^ 64 }
-    ensures levels { OnOk result (levels.new.items ≡ levels.old.items ++ levels_in shape pages.now height (root ∷ [])) }
+    requires few { length (entries_in shape pages.now (leaves_in shape pages.now height (root ∷ [])))
+        < 2 ^ 64 }
+    ensures levels { OnOk result (levels.new.items ≡ levels.old.items
+        ++ levels_in shape pages.now height (root ∷ [])) }
     ensures leaves { IfOk result (λ leaves. leaves.items ≡ leaves_in shape pages.now height (root ∷ [])) }
 {
     let mut row = Vec::new(alloc);
@@ -140,9 +143,11 @@ fn add_tree(
     add_rows(alloc, pages, shape, height, row, levels)
 }
 
-/// Counts the levels of a tree that stands below the page `root`, with so many levels above its leaves, over the pages of a file as they were read.
+/// Counts the levels of a tree that stands below the page `root`, with so many levels above its
+/// leaves, over the pages of a file as they were read.
 ///
-/// Each page of the tree is looked at once. `AllocError` where memory is wanting: four bytes for each page of two levels.
+/// Each page of the tree is looked at once. `AllocError` where memory is wanting: four bytes for
+/// each page of two levels.
 pub fn count_tree(
     alloc: Global,
     pages: &[[u8; PAGE_SIZE]],

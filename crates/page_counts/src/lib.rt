@@ -1,6 +1,8 @@
-//! Counts over the pages of a file that were read: how many pages and entries each level of a tree has, and how many of its entries have one value at most.
+//! Counts over the pages of a file that were read: how many pages and entries each level of a tree
+//! has, and how many of its entries have one value at most.
 //!
-//! The tree is known to stand: a check has found it. What is counted is said of the tree as a value, and no page is looked at that is none of its own.
+//! The tree is known to stand: a check has found it. What is counted is said of the tree as a
+//! value, and no page is looked at that is none of its own.
 //!
 //! Read `specs/Levels.antt`, then `levels`; `specs/Runs.antt`, then `runs`.
 #![tactic(auto)]

@@ -10,7 +10,8 @@ ghost use Rattle.page_counts.specs.Runs.{values_of, AreTogether, IsGreatestCount
 use page_bytes::PAGE_SIZE;
 use tree_node::{LeafView, Shape};
 
-/// The values so far: the last one, how many of them are equal to it, and how many are equal to one another at most.
+/// The values so far: the last one, how many of them are equal to it, and how many are equal to one
+/// another at most.
 #[derive(Clone, Copy)]
 struct Run<'a> {
     last: Option<&'a [u8]>,
@@ -63,7 +64,8 @@ fn with_leaf<'a>(run: Run<'a>, page: &'a [u8; PAGE_SIZE], shape: Shape, width: u
     run
 }
 
-/// How many entries of these leaves have one value at most. A value has so many bytes, with which an entry begins.
+/// How many entries of these leaves have one value at most. A value has so many bytes, with which
+/// an entry begins.
 pub fn longest_run(pages: &[[u8; PAGE_SIZE]], shape: Shape, width: u16, leaves: &[u32]) -> u64
     requires leaves { Each (IsLeafIn shape pages.now) leaves.now }
     requires narrow { width ≤ shape.entry }

@@ -2,8 +2,9 @@
 
 use std::fmt;
 
-/// Where in a file a fault was met. Pages are numbered from 0, and so are the entries of a leaf, the separators of an inner node and the slots of a heap page,
-/// each of which is an entry of its page here.
+/// Where in a file a fault was met. Pages are numbered from 0, and so are the entries of a leaf,
+/// the separators of an inner node and the slots of a heap page, each of which is an entry of its
+/// page here.
 #[derive(Clone, Copy, Debug, PartialEq, Eq)]
 pub enum FaultPlace {
     /// The file as a whole.

@@ -2,7 +2,8 @@
 
 ghost use Rattle.page_marks.specs.PartLaw.{MarksPartThePages};
 
-/// Where each walk reached pages that none before it had, and no page is left, the parts that were walked have the pages in use between them.
+/// Where each walk reached pages that none before it had, and no page is left, the parts that were
+/// walked have the pages in use between them.
 pub fn marks_part_the_pages()
     ensures { MarksPartThePages }
 {}

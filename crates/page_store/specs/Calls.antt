@@ -12,16 +12,21 @@ pub record Created (old new : DeviceFile) : Type 0 where
 
 -- a file that could not be made may be there after a crash, and may be seen or not
 abbrev pub CreateFails : DeviceFile → DeviceFile → Type 0
-CreateFails old new = (new ≡ old) ⊎ (Created old new ⊎ (new ≡ record { seen = old.seen; log = old.log ++ created ∷ [] }))
+CreateFails old new = (new ≡ old) ⊎ (Created old new
+    ⊎ (new ≡ record { seen = old.seen; log = old.log ++ created ∷ [] }))
 
 -- these bytes now stand at `at`
 pub record Written (at : ℕ) (bytes : List ℕ) (old new : DeviceFile) : Type 0 where
-  pub is : new ≡ record { seen = Some (overlay (content old) at bytes); log = old.log ++ wrote at (length bytes) ∷ [] }
+  pub is : new ≡ record {
+    seen = Some (overlay (content old) at bytes);
+    log = old.log ++ wrote at (length bytes) ∷ [];
+  }
 
 -- a write that failed may have changed its range, and then counts as one; no other byte has changed
 abbrev pub WriteFails : ℕ → ℕ → DeviceFile → DeviceFile → Type 0
 WriteFails at n old new =
-    (new ≡ old) ⊎ ((now : List ℕ) × Torn at n (content old) now × (new ≡ record { seen = Some now; log = old.log ++ wrote at n ∷ [] }))
+    (new ≡ old) ⊎ ((now : List ℕ) × Torn at n (content old) now
+    × (new ≡ record { seen = Some now; log = old.log ++ wrote at n ∷ [] }))
 
 -- what reads give is on the disk
 pub record Synced (old new : DeviceFile) : Type 0 where

@@ -1,7 +1,8 @@
 -- A file on a shelf: what reads give, and what has been asked of it since the shelf first met it.
 use Rattle.std.specs.Prelude.{◌≡◌, ℕ, ◌+◌, ◌<◌, ◌≤◌, max, List, [], ◌++◌, length, take, drop, slice_index, Option, Some, None, IsTrue, is_some}
 
--- what matters to a crash: the file was made, n bytes were written (or tried) at `at`, or it was synced, and these were its bytes
+-- what matters to a crash: the file was made, n bytes were written (or tried) at `at`, or it was
+-- synced, and these were its bytes
 pub data FileStep : Type 0 where
   created : FileStep
   wrote : ℕ → ℕ → FileStep

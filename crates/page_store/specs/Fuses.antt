@@ -38,7 +38,8 @@ fires fuse call = is_counted fuse.kind call && (calls_of fuse fuse.kind + 1 == f
 
 -- that call fails, and once the fuse is blown each call does
 abbrev pub turn_of : Fuse → Call → Turn
-turn_of fuse call = if fuse.blown then Fail else if fires fuse call then if fuse.after then PerformAndFail else Fail else Perform
+turn_of fuse call = if fuse.blown then Fail else if fires fuse call then if fuse.after then PerformAndFail
+    else Fail else Perform
 
 abbrev pub counted : Fuse → Call → Fuse
 counted fuse Create = record fuse { creates = capped fuse.creates 1 }
@@ -55,10 +56,17 @@ after_call fuse call = record (counted fuse call) { blown = fuse.blown || (fires
 abbrev pub one_refused : Fuse → Fuse
 one_refused fuse = record fuse { refused = capped fuse.refused 1 }
 
--- a call on a shelf behind a fuse. One that fails before its effect leaves the shelf as it was. One that fails behind its effect
--- was performed, unless the shelf failed. No other fails unless the shelf does. What the fuse refuses is counted, and nothing else.
-pub record Fused {S T : Type 0} (call : Call) (faults : S → ℕ) (Effect : Type 0) (old new : Fuse) (before after : S) (result : Result T Fault) : Type 0 where
-  pub refused : turn_of old call ≡ Fail → IsErrOf result Device × (after ≡ before) × (new ≡ one_refused (after_call old call))
-  pub performed : turn_of old call ≡ PerformAndFail → IsErr result × (Effect ⊎ FaultHasCause (faults before) (faults after) result)
-  pub counted : turn_of old call ≡ PerformAndFail → (IsErrOf result Device × (new ≡ one_refused (after_call old call))) ⊎ (IsErrOf result Memory × (new ≡ after_call old call))
-  pub passed : turn_of old call ≡ Perform → FaultHasCause (faults before) (faults after) result × (new ≡ after_call old call)
+-- a call on a shelf behind a fuse. One that fails before its effect leaves the shelf as it was. One
+-- that fails behind its effect was performed, unless the shelf failed. No other fails unless the
+-- shelf does. What the fuse refuses is counted, and nothing else.
+pub record Fused {S T : Type 0} (call : Call) (faults : S → ℕ) (Effect : Type 0) (old new : Fuse)
+    (before after : S) (result : Result T Fault) : Type 0 where
+  pub refused : turn_of old call ≡ Fail → IsErrOf result Device × (after ≡ before)
+      × (new ≡ one_refused (after_call old call))
+  pub performed : turn_of old call ≡ PerformAndFail → IsErr result
+      × (Effect ⊎ FaultHasCause (faults before) (faults after) result)
+  pub counted : turn_of old call ≡ PerformAndFail
+      → (IsErrOf result Device × (new ≡ one_refused (after_call old call)))
+      ⊎ (IsErrOf result Memory × (new ≡ after_call old call))
+  pub passed : turn_of old call ≡ Perform → FaultHasCause (faults before) (faults after) result
+      × (new ≡ after_call old call)

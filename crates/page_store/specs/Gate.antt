@@ -57,7 +57,8 @@ pub record GateWritten (gate : ℕ) (old new : DeviceFile) : Type 0 where
 
 -- the first byte is written and synced, but the write or the sync failed
 abbrev pub GateFails : ℕ → DeviceFile → DeviceFile → Type 0
-GateFails gate old new = WriteFails 0 1 old new ⊎ ((unsynced : DeviceFile) × Written 0 (gate ∷ []) old unsynced × SyncFails unsynced new)
+GateFails gate old new = WriteFails 0 1 old new ⊎ ((unsynced : DeviceFile)
+    × Written 0 (gate ∷ []) old unsynced × SyncFails unsynced new)
 
 -- a file made anew: without bytes it gets the open gate as its only one, and a closed gate is opened
 abbrev pub opened : List ℕ → List ℕ

@@ -2,7 +2,8 @@
 use Rattle.std.specs.Prelude.{◌≡◌, ℕ, ◌+◌, ◌<◌, leb, ltb, Bool, true, false, ◌&&◌, ◌||◌, IsTrue, List, [], ◌∷◌, length, slice_index, Option, Some, None, is_some}
 use Rattle.page_store.specs.DeviceFile.{FileStep, created, wrote, synced, DeviceFile, bytes_or_none, content}
 
--- what a crash cannot touch: the bytes at the last sync, if there was one; whether the file was made since; the ranges written since
+-- what a crash cannot touch: the bytes at the last sync, if there was one; whether the file was
+-- made since; the ranges written since
 pub record Durable : Type 0 where
   pub base : Option (List ℕ)
   pub made : Bool
@@ -30,10 +31,12 @@ abbrev pub covered : List (ℕ × ℕ) → ℕ → Bool
 covered [] i = false
 covered (r ∷ rs) i = (leb r.0 i && ltb i (r.0 + r.1)) || covered rs i
 
--- outside the ranges the image has the bytes of the last sync and no others; inside them it may have any, or end
+-- outside the ranges the image has the bytes of the last sync and no others; inside them it may
+-- have any, or end
 pub record IsImage (base : List ℕ) (ranges : List (ℕ × ℕ)) (c : List ℕ) : Type 0 where
   pub kept : (i : ℕ) → i < length base → covered ranges i ≡ false → i < length c
-  pub each : (i : ℕ) → i < length c → covered ranges i ≡ false → (i < length base) × (slice_index c i ≡ slice_index base i)
+  pub each : (i : ℕ) → i < length c → covered ranges i ≡ false → (i < length base)
+      × (slice_index c i ≡ slice_index base i)
 
 -- a crash may leave this, or nothing at all where the file was never synced
 abbrev pub MayLeave : Durable → Option (List ℕ) → Type 0

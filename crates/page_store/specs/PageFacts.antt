@@ -15,7 +15,8 @@ WrittenIsRead = (f g : DeviceFile) (n : ℕ) (page : List ℕ) → HasPages n f 
 
 -- and every other page reads as before
 abbrev pub OthersRead : Type 0
-OthersRead = (f g : DeviceFile) (pages n m : ℕ) (page : List ℕ) → HasPages pages f → n ≤ pages → m < pages → ¬ (m ≡ n) → length page ≡ 4096
+OthersRead = (f g : DeviceFile) (pages n m : ℕ) (page : List ℕ) → HasPages pages f → n ≤ pages → m < pages
+    → ¬ (m ≡ n) → length page ≡ 4096
     → PageWritten n page f g → page_of (content g) m ≡ page_of (content f) m
 
 -- also where the write failed

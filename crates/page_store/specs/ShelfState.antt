@@ -54,7 +54,8 @@ pub record KeepsOthers (unit : ℕ) (old new : ShelfState) : Type 0 where
 abbrev pub IsQuiet : ℕ → ShelfState → ShelfState → Type 0
 IsQuiet unit old new = Quiet (unit_file old unit) (unit_file new unit)
 
--- Device comes only where the count of faults rose, or stands at its greatest value; Memory is the only other fault
+-- Device comes only where the count of faults rose, or stands at its greatest value; Memory is the
+-- only other fault
 pub record FaultHasCause {T : Type 0} (old new : ℕ) (result : Result T Fault) : Type 0 where
   pub no_fewer : old ≤ new
   pub device : IsErrOf result Device → min (old + 1) (2 ^ 64 - 1) ≤ new

@@ -30,7 +30,8 @@ impl MemFile {
 
     /// The bytes that a crash leaves, if it leaves the file.
     pub(crate) fn left_by(&self, alloc: Global, image: Image) -> Result<Option<Vec<u8>>, Fault>
-        ensures left { IfOk result (λ left. option_map (λ bytes. bytes.items) left ≡ image_of image (file_of self.now)) }
+        ensures left { IfOk result (λ left. option_map (λ bytes. bytes.items) left ≡ image_of image
+            (file_of self.now)) }
         ensures only_memory { IsOkUnless result Memory }
     {
         match image {
@@ -45,7 +46,8 @@ impl MemFile {
 
     // The bytes, with another one wherever a write was asked for since the last sync.
     fn filled(&self, alloc: Global, byte: u8) -> Result<Vec<u8>, Fault>
-        ensures filled { IfOk result (λ bytes. bytes.items ≡ filled byte (durable (steps self.now.log.items)).ranges 0 self.now.bytes.items) }
+        ensures filled { IfOk result (λ bytes. bytes.items ≡ filled byte
+            (durable (steps self.now.log.items)).ranges 0 self.now.bytes.items) }
         ensures only_memory { IsOkUnless result Memory }
     {
         let mut bytes = Vec::new(alloc);

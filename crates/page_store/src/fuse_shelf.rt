@@ -18,9 +18,10 @@ pub struct FuseShelf<S: Shelf + Drop> {
 }
 
 impl<S: Shelf + Drop> FuseShelf<S> {
-    /// The `at`-th call of this kind, counted from 1, answers `Fault::Device`; 0 is none. With `after` it is performed
-    /// first, and answers `Fault::Memory` where it wanted memory. With `for_good` every later call but `attach` and
-    /// `faults` answers `Fault::Device` too, and performs nothing.
+    /// The `at`-th call of this kind, counted from 1, answers `Fault::Device`; 0 is none. With
+    /// `after` it is performed first, and answers `Fault::Memory` where it wanted memory. With
+    /// `for_good` every later call but `attach` and `faults` answers `Fault::Device` too, and
+    /// performs nothing.
     pub fn new(shelf: S, kind: Kind, at: u64, after: bool, for_good: bool) -> FuseShelf<S>
         ensures shelf { result.inner ≡ shelf }
         ensures fuse { result.fuse ≡ record {
@@ -99,12 +100,15 @@ impl<S: Shelf + Drop> Shelf for FuseShelf<S> {
     fn create(&mut self, unit: usize) -> Result<(), Fault>
         requires unit { HasUnit (S.Shelf.state self.old.inner) unit }
         requires absent { WhereHonest (S.Shelf.state self.old.inner) unit (λ file. file.seen ≡ None) }
-        ensures made { OnOk result (FileGoes unit (S.Shelf.state self.old.inner) (S.Shelf.state self.new.inner) Created) }
-        ensures failed { OnErr result (FileGoes unit (S.Shelf.state self.old.inner) (S.Shelf.state self.new.inner) CreateFails) }
+        ensures made { OnOk result (FileGoes unit (S.Shelf.state self.old.inner)
+            (S.Shelf.state self.new.inner) Created) }
+        ensures failed { OnErr result (FileGoes unit (S.Shelf.state self.old.inner)
+            (S.Shelf.state self.new.inner) CreateFails) }
         ensures only { ChangesOnly unit (S.Shelf.state self.old.inner) (S.Shelf.state self.new.inner) }
         ensures cause { FaultHasCause (capped (S.Shelf.fault_count self.old.inner) self.old.fuse.refused)
             (capped (S.Shelf.fault_count self.new.inner) self.new.fuse.refused) result }
-        ensures fuse { Fused Create S.Shelf.fault_count (FileGoes unit (S.Shelf.state self.old.inner) (S.Shelf.state self.new.inner) Created)
+        ensures fuse { Fused Create S.Shelf.fault_count
+            (FileGoes unit (S.Shelf.state self.old.inner) (S.Shelf.state self.new.inner) Created)
             self.old.fuse self.new.fuse self.old.inner self.new.inner result }
     {
         match self.fuse.turn(Call::Create) {
@@ -159,12 +163,16 @@ impl<S: Shelf + Drop> Shelf for FuseShelf<S> {
     fn write_at(&mut self, unit: usize, at: u64, bytes: &[u8]) -> Result<(), Fault>
         requires unit { HasUnit (S.Shelf.state self.old.inner) unit }
         requires within { WhereHonest (S.Shelf.state self.old.inner) unit (IsWithin at) }
-        ensures written { OnOk result (FileGoes unit (S.Shelf.state self.old.inner) (S.Shelf.state self.new.inner) (Written at bytes.now)) }
-        ensures failed { OnErr result (FileGoes unit (S.Shelf.state self.old.inner) (S.Shelf.state self.new.inner) (WriteFails at (length bytes.now))) }
+        ensures written { OnOk result (FileGoes unit (S.Shelf.state self.old.inner)
+            (S.Shelf.state self.new.inner) (Written at bytes.now)) }
+        ensures failed { OnErr result (FileGoes unit (S.Shelf.state self.old.inner)
+            (S.Shelf.state self.new.inner) (WriteFails at (length bytes.now))) }
         ensures only { ChangesOnly unit (S.Shelf.state self.old.inner) (S.Shelf.state self.new.inner) }
         ensures cause { FaultHasCause (capped (S.Shelf.fault_count self.old.inner) self.old.fuse.refused)
             (capped (S.Shelf.fault_count self.new.inner) self.new.fuse.refused) result }
-        ensures fuse { Fused Write S.Shelf.fault_count (FileGoes unit (S.Shelf.state self.old.inner) (S.Shelf.state self.new.inner) (Written at bytes.now))
+        ensures fuse { Fused Write S.Shelf.fault_count
+            (FileGoes unit (S.Shelf.state self.old.inner) (S.Shelf.state self.new.inner)
+            (Written at bytes.now))
             self.old.fuse self.new.fuse self.old.inner self.new.inner result }
     {
         match self.fuse.turn(Call::Write) {
@@ -180,12 +188,15 @@ impl<S: Shelf + Drop> Shelf for FuseShelf<S> {
     fn sync(&mut self, unit: usize) -> Result<(), Fault>
         requires unit { HasUnit (S.Shelf.state self.old.inner) unit }
         requires there { WhereHonest (S.Shelf.state self.old.inner) unit IsThere }
-        ensures synced { OnOk result (FileGoes unit (S.Shelf.state self.old.inner) (S.Shelf.state self.new.inner) Synced) }
-        ensures failed { OnErr result (FileGoes unit (S.Shelf.state self.old.inner) (S.Shelf.state self.new.inner) SyncFails) }
+        ensures synced { OnOk result (FileGoes unit (S.Shelf.state self.old.inner)
+            (S.Shelf.state self.new.inner) Synced) }
+        ensures failed { OnErr result (FileGoes unit (S.Shelf.state self.old.inner)
+            (S.Shelf.state self.new.inner) SyncFails) }
         ensures only { ChangesOnly unit (S.Shelf.state self.old.inner) (S.Shelf.state self.new.inner) }
         ensures cause { FaultHasCause (capped (S.Shelf.fault_count self.old.inner) self.old.fuse.refused)
             (capped (S.Shelf.fault_count self.new.inner) self.new.fuse.refused) result }
-        ensures fuse { Fused Sync S.Shelf.fault_count (FileGoes unit (S.Shelf.state self.old.inner) (S.Shelf.state self.new.inner) Synced)
+        ensures fuse { Fused Sync S.Shelf.fault_count
+            (FileGoes unit (S.Shelf.state self.old.inner) (S.Shelf.state self.new.inner) Synced)
             self.old.fuse self.new.fuse self.old.inner self.new.inner result }
     {
         match self.fuse.turn(Call::Sync) {

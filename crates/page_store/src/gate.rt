@@ -21,8 +21,10 @@ pub(crate) const OPEN: u8 = b'D';
 pub(crate) fn write<S: Shelf>(shelf: &mut S, unit: usize, gate: u8) -> Result<(), Fault>
     requires unit { HasUnit (S.state shelf.old) unit }
     requires there { IsTrue (S.state shelf.old).is_honest → IsThere (unit_file (S.state shelf.old) unit) }
-    ensures written { OnOk result (GateWritten gate (unit_file (S.state shelf.old) unit) (unit_file (S.state shelf.new) unit)) }
-    ensures failed { OnErr result (GateFails gate (unit_file (S.state shelf.old) unit) (unit_file (S.state shelf.new) unit)) }
+    ensures written { OnOk result (GateWritten gate (unit_file (S.state shelf.old) unit)
+        (unit_file (S.state shelf.new) unit)) }
+    ensures failed { OnErr result (GateFails gate (unit_file (S.state shelf.old) unit)
+        (unit_file (S.state shelf.new) unit)) }
     ensures only { ChangesOnly unit (S.state shelf.old) (S.state shelf.new) }
     ensures cause { FaultHasCause (S.fault_count shelf.old) (S.fault_count shelf.new) result }
 {
@@ -34,11 +36,15 @@ pub(crate) fn write<S: Shelf>(shelf: &mut S, unit: usize, gate: u8) -> Result<()
 /// Makes a file with an open gate as its only byte.
 pub(crate) fn start<S: Shelf>(shelf: &mut S, unit: usize) -> Result<(), Fault>
     requires unit { HasUnit (S.state shelf.old) unit }
-    requires absent { IsTrue (S.state shelf.old).is_honest → (unit_file (S.state shelf.old) unit).seen ≡ None }
+    requires absent { IsTrue (S.state shelf.old).is_honest
+        → (unit_file (S.state shelf.old) unit).seen ≡ None }
     ensures images { IsTrue (S.state shelf.new).is_honest →
-        Throughout (WasOrRefused (unit_file (S.state shelf.old) unit)) (unit_file (S.state shelf.old) unit) (unit_file (S.state shelf.new) unit) }
-    ensures opens { OnOk result (IsTrue (S.state shelf.new).is_honest → Opens (unit_file (S.state shelf.old) unit) (unit_file (S.state shelf.new) unit)) }
-    ensures failed { OnErr result (IsTrue (S.state shelf.new).is_honest → SameOrRefused (unit_file (S.state shelf.old) unit) (unit_file (S.state shelf.new) unit)) }
+        Throughout (WasOrRefused (unit_file (S.state shelf.old) unit)) (unit_file (S.state shelf.old) unit)
+        (unit_file (S.state shelf.new) unit) }
+    ensures opens { OnOk result (IsTrue (S.state shelf.new).is_honest
+        → Opens (unit_file (S.state shelf.old) unit) (unit_file (S.state shelf.new) unit)) }
+    ensures failed { OnErr result (IsTrue (S.state shelf.new).is_honest
+        → SameOrRefused (unit_file (S.state shelf.old) unit) (unit_file (S.state shelf.new) unit)) }
     ensures only { ChangesOnly unit (S.state shelf.old) (S.state shelf.new) }
     ensures cause { FaultHasCause (S.fault_count shelf.old) (S.fault_count shelf.new) result }
 {
@@ -47,16 +53,20 @@ pub(crate) fn start<S: Shelf>(shelf: &mut S, unit: usize) -> Result<(), Fault>
     Ok(())
 }
 
-/// Gives an empty file an open gate as its only byte. It is synced before, since what was asked of it until now may have
-/// left any bytes behind that one.
+/// Gives an empty file an open gate as its only byte. It is synced before, since what was asked of
+/// it until now may have left any bytes behind that one.
 pub(crate) fn begin<S: Shelf>(shelf: &mut S, unit: usize) -> Result<(), Fault>
     requires unit { HasUnit (S.state shelf.old) unit }
-    requires empty { IsTrue (S.state shelf.old).is_honest → content (unit_file (S.state shelf.old) unit) ≡ [] }
+    requires empty { IsTrue (S.state shelf.old).is_honest
+        → content (unit_file (S.state shelf.old) unit) ≡ [] }
     requires there { IsTrue (S.state shelf.old).is_honest → IsThere (unit_file (S.state shelf.old) unit) }
     ensures images { IsTrue (S.state shelf.new).is_honest →
-        Throughout (WasOrRefused (unit_file (S.state shelf.old) unit)) (unit_file (S.state shelf.old) unit) (unit_file (S.state shelf.new) unit) }
-    ensures opens { OnOk result (IsTrue (S.state shelf.new).is_honest → Opens (unit_file (S.state shelf.old) unit) (unit_file (S.state shelf.new) unit)) }
-    ensures failed { OnErr result (IsTrue (S.state shelf.new).is_honest → SameOrRefused (unit_file (S.state shelf.old) unit) (unit_file (S.state shelf.new) unit)) }
+        Throughout (WasOrRefused (unit_file (S.state shelf.old) unit)) (unit_file (S.state shelf.old) unit)
+        (unit_file (S.state shelf.new) unit) }
+    ensures opens { OnOk result (IsTrue (S.state shelf.new).is_honest
+        → Opens (unit_file (S.state shelf.old) unit) (unit_file (S.state shelf.new) unit)) }
+    ensures failed { OnErr result (IsTrue (S.state shelf.new).is_honest
+        → SameOrRefused (unit_file (S.state shelf.old) unit) (unit_file (S.state shelf.new) unit)) }
     ensures only { ChangesOnly unit (S.state shelf.old) (S.state shelf.new) }
     ensures cause { FaultHasCause (S.fault_count shelf.old) (S.fault_count shelf.new) result }
 {
@@ -70,10 +80,14 @@ pub(crate) fn reopen<S: Shelf>(shelf: &mut S, unit: usize) -> Result<(), Fault>
     requires unit { HasUnit (S.state shelf.old) unit }
     requires within { IsTrue (S.state shelf.old).is_honest → IsWithin 1 (unit_file (S.state shelf.old) unit) }
     ensures images { IsTrue (S.state shelf.new).is_honest →
-        Throughout (WasOrRefused (unit_file (S.state shelf.old) unit)) (unit_file (S.state shelf.old) unit) (unit_file (S.state shelf.new) unit) }
-    ensures opens { OnOk result (IsTrue (S.state shelf.new).is_honest → Opens (unit_file (S.state shelf.old) unit) (unit_file (S.state shelf.new) unit)) }
-    ensures failed { OnErr result (IsTrue (S.state shelf.new).is_honest → SameOrRefused (unit_file (S.state shelf.old) unit) (unit_file (S.state shelf.new) unit)) }
-    ensures gate { IsTrue (S.state shelf.new).is_honest → OnlyGate (unit_file (S.state shelf.old) unit) (unit_file (S.state shelf.new) unit) }
+        Throughout (WasOrRefused (unit_file (S.state shelf.old) unit)) (unit_file (S.state shelf.old) unit)
+        (unit_file (S.state shelf.new) unit) }
+    ensures opens { OnOk result (IsTrue (S.state shelf.new).is_honest
+        → Opens (unit_file (S.state shelf.old) unit) (unit_file (S.state shelf.new) unit)) }
+    ensures failed { OnErr result (IsTrue (S.state shelf.new).is_honest
+        → SameOrRefused (unit_file (S.state shelf.old) unit) (unit_file (S.state shelf.new) unit)) }
+    ensures gate { IsTrue (S.state shelf.new).is_honest
+        → OnlyGate (unit_file (S.state shelf.old) unit) (unit_file (S.state shelf.new) unit) }
     ensures only { KeepsOthers unit (S.state shelf.old) (S.state shelf.new) }
     ensures cause { FaultHasCause (S.fault_count shelf.old) (S.fault_count shelf.new) result }
 {

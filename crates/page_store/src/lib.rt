@@ -1,12 +1,14 @@
-//! Files of bytes on a device that may fail and that a crash may stop, their pages of 4,096 bytes, and the gate.
+//! Files of bytes on a device that may fail and that a crash may stop, their pages of 4,096 bytes,
+//! and the gate.
 //!
-//! A `Shelf` has a file for each name: what reads give, and the log of what was asked of it. What a crash may leave of a
-//! file, now and at each moment of a call, follows from its log. `MemShelf` keeps files in memory, with every crash image;
-//! `FuseShelf` fails calls on purpose. `Store` reads and writes pages: a page read is the page last written, and only the
-//! gate protocol writes byte 0, so that a crash leaves the old file, the new one, or one that is refused.
+//! A `Shelf` has a file for each name: what reads give, and the log of what was asked of it. What a
+//! crash may leave of a file, now and at each moment of a call, follows from its log. `MemShelf`
+//! keeps files in memory, with every crash image; `FuseShelf` fails calls on purpose. `Store` reads
+//! and writes pages: a page read is the page last written, and only the gate protocol writes byte
+//! 0, so that a crash leaves the old file, the new one, or one that is refused.
 //!
-//! What lies in the pages is the business of the layers above. Read `specs/DeviceFile.antt` and `specs/Images.antt` first, then
-//! `Shelf`, then `Store`.
+//! What lies in the pages is the business of the layers above. Read `specs/DeviceFile.antt` and
+//! `specs/Images.antt` first, then `Shelf`, then `Store`.
 #![tactic(auto)]
 
 mod crash;

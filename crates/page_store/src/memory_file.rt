@@ -43,7 +43,10 @@ impl MemFile {
     /// A file that has just been synced.
     pub(crate) fn restored(alloc: Global, name: FileName, bytes: Vec<u8>) -> Result<MemFile, Fault>
         ensures name { IfOk result (λ file. file.name ≡ name) }
-        ensures synced { IfOk result (λ file. file_of file ≡ record { seen = Some bytes.items; log = synced bytes.items ∷ [] }) }
+        ensures synced { IfOk result (λ file. file_of file ≡ record {
+          seen = Some bytes.items;
+          log = synced bytes.items ∷ [];
+        }) }
         ensures only_memory { IsOkUnless result Memory }
     {
         let kept = bytes.to_vec(alloc).map_err(|_| Fault::Memory)?;
@@ -57,7 +60,8 @@ impl MemFile {
         requires { at ≤ length self.old.bytes.items }
         ensures name { self.new.name ≡ self.old.name }
         ensures written { OnOk result (Written at bytes.now (file_of self.old) (file_of self.new)) }
-        ensures failed { OnErr result (WriteFails at (length bytes.now) (file_of self.old) (file_of self.new)) }
+        ensures failed { OnErr result (WriteFails at (length bytes.now) (file_of self.old)
+            (file_of self.new)) }
         ensures only_memory { IsOkUnless result Memory }
     {
         self.log

@@ -64,7 +64,8 @@ impl MemShelf {
     fn place(&self, unit: usize) -> Option<usize>
         requires { HasUnit (state_of self.now) unit }
         ensures found { let name = unit_name (state_of self.now) unit in
-            MatchOption result ((file_in self.now.files.items name).seen ≡ None) (λ at. Found self.now.files.items name at) }
+            MatchOption result ((file_in self.now.files.items name).seen ≡ None)
+            (λ at. Found self.now.files.items name at) }
         ensures within { IfSome result (λ at. at < length self.now.files.items) }
     {
         find(&self.files, &self.units[unit])
@@ -119,7 +120,8 @@ impl Shelf for MemShelf {
 
     fn read_at(&mut self, unit: usize, at: u64, bytes: &mut [u8]) -> Result<(), Fault>
         requires unit { HasUnit (state_of self.old) unit }
-        requires within { IsTrue (state_of self.old).is_honest → IsWithin (at + length bytes.old) (unit_file (state_of self.old) unit) }
+        requires within { IsTrue (state_of self.old).is_honest
+            → IsWithin (at + length bytes.old) (unit_file (state_of self.old) unit) }
         ensures never { IsOk result }
         ensures answer { OnOk result (ReadsBytes (unit_file (state_of self.old) unit) at bytes.new) }
         ensures stays { self.new ≡ self.old }
@@ -166,9 +168,11 @@ fn keep_left(
     file: &MemFile,
     image: Image,
 ) -> Result<(), Fault>
-    ensures this { OnOk result ((name : List ℕ) → has_name file.now name ≡ true → file_in files.old.items name ≡ absent →
+    ensures this { OnOk result ((name : List ℕ) → has_name file.now name ≡ true
+        → file_in files.old.items name ≡ absent →
         Crashed image (file_of file.now) (file_in files.new.items name)) }
-    ensures others { OnOk result ((name : List ℕ) → has_name file.now name ≡ false → file_in files.new.items name ≡ file_in files.old.items name) }
+    ensures others { OnOk result ((name : List ℕ) → has_name file.now name ≡ false
+        → file_in files.new.items name ≡ file_in files.old.items name) }
     ensures only_memory { IsOkUnless result Memory }
 {
     match file.left_by(alloc, image)? {

@@ -10,8 +10,8 @@ use io_state::{Fault, FileName};
 
 /// Named files on a device that may fail, and that a crash may stop at any moment.
 ///
-/// A unit is a place in the list of names attached; a file is known by its name. A call that answers `Fault::Device` was
-/// counted by `faults`; `Fault::Memory` is the only other fault.
+/// A unit is a place in the list of names attached; a file is known by its name. A call that
+/// answers `Fault::Device` was counted by `faults`; `Fault::Memory` is the only other fault.
 pub trait Shelf {
     /// What the shelf shows.
     ghost state: { Self → ShelfState };
@@ -35,8 +35,10 @@ pub trait Shelf {
     fn create(&mut self, unit: usize) -> Result<(), Fault>
         requires unit { HasUnit (state self.old) unit }
         requires absent { IsTrue (state self.old).is_honest → (unit_file (state self.old) unit).seen ≡ None }
-        ensures made { OnOk result (Created (unit_file (state self.old) unit) (unit_file (state self.new) unit)) }
-        ensures failed { OnErr result (CreateFails (unit_file (state self.old) unit) (unit_file (state self.new) unit)) }
+        ensures made { OnOk result (Created (unit_file (state self.old) unit)
+            (unit_file (state self.new) unit)) }
+        ensures failed { OnErr result (CreateFails (unit_file (state self.old) unit)
+            (unit_file (state self.new) unit)) }
         ensures only { ChangesOnly unit (state self.old) (state self.new) }
         ensures cause { FaultHasCause (fault_count self.old) (fault_count self.new) result };
 
@@ -49,20 +51,26 @@ pub trait Shelf {
         ensures only { OnlyAnswers (state self.old) (state self.new) }
         ensures cause { FaultHasCause (fault_count self.old) (fault_count self.new) result };
 
-    /// Fills `bytes` with those of the file from byte `at` on. Where the file ends before, it answers `Fault::Device`.
+    /// Fills `bytes` with those of the file from byte `at` on. Where the file ends before, it
+    /// answers `Fault::Device`.
     fn read_at(&mut self, unit: usize, at: u64, bytes: &mut [u8]) -> Result<(), Fault>
         requires unit { HasUnit (state self.old) unit }
-        requires within { IsTrue (state self.old).is_honest → IsWithin (at + length bytes.old) (unit_file (state self.old) unit) }
-        ensures answer { OnOk result (IsTrue (state self.new).is_honest → ReadsBytes (unit_file (state self.old) unit) at bytes.new) }
+        requires within { IsTrue (state self.old).is_honest
+            → IsWithin (at + length bytes.old) (unit_file (state self.old) unit) }
+        ensures answer { OnOk result (IsTrue (state self.new).is_honest
+            → ReadsBytes (unit_file (state self.old) unit) at bytes.new) }
         ensures only { OnlyAnswers (state self.old) (state self.new) }
         ensures cause { FaultHasCause (fault_count self.old) (fault_count self.new) result };
 
-    /// Writes `bytes` from byte `at` on, and past the end. A write that fails may have changed any of these bytes.
+    /// Writes `bytes` from byte `at` on, and past the end. A write that fails may have changed any
+    /// of these bytes.
     fn write_at(&mut self, unit: usize, at: u64, bytes: &[u8]) -> Result<(), Fault>
         requires unit { HasUnit (state self.old) unit }
         requires within { IsTrue (state self.old).is_honest → IsWithin at (unit_file (state self.old) unit) }
-        ensures written { OnOk result (Written at bytes.now (unit_file (state self.old) unit) (unit_file (state self.new) unit)) }
-        ensures failed { OnErr result (WriteFails at (length bytes.now) (unit_file (state self.old) unit) (unit_file (state self.new) unit)) }
+        ensures written { OnOk result (Written at bytes.now (unit_file (state self.old) unit)
+            (unit_file (state self.new) unit)) }
+        ensures failed { OnErr result (WriteFails at (length bytes.now) (unit_file (state self.old) unit)
+            (unit_file (state self.new) unit)) }
         ensures only { ChangesOnly unit (state self.old) (state self.new) }
         ensures cause { FaultHasCause (fault_count self.old) (fault_count self.new) result };
 
@@ -70,14 +78,17 @@ pub trait Shelf {
     fn sync(&mut self, unit: usize) -> Result<(), Fault>
         requires unit { HasUnit (state self.old) unit }
         requires there { IsTrue (state self.old).is_honest → IsThere (unit_file (state self.old) unit) }
-        ensures synced { OnOk result (Synced (unit_file (state self.old) unit) (unit_file (state self.new) unit)) }
-        ensures failed { OnErr result (SyncFails (unit_file (state self.old) unit) (unit_file (state self.new) unit)) }
+        ensures synced { OnOk result (Synced (unit_file (state self.old) unit)
+            (unit_file (state self.new) unit)) }
+        ensures failed { OnErr result (SyncFails (unit_file (state self.old) unit)
+            (unit_file (state self.new) unit)) }
         ensures only { ChangesOnly unit (state self.old) (state self.new) }
         ensures cause { FaultHasCause (fault_count self.old) (fault_count self.new) result };
 
     /// Gives the units these names, in place of those that they had. A fault leaves the old ones.
     fn attach(&mut self, units: &[FileName]) -> Result<(), Fault>
-        ensures attached { OnOk result (state self.new ≡ record (state self.old) { names = map (λ name. name.bytes) units.now }) }
+        ensures attached { OnOk result (state self.new
+            ≡ record (state self.old) { names = map (λ name. name.bytes) units.now }) }
         ensures failed { OnErr result (state self.new ≡ state self.old) }
         ensures only_memory { IsOkUnless result Memory }
         ensures faults { fault_count self.new ≡ fault_count self.old };

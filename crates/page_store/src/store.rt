@@ -75,8 +75,8 @@ impl Store {
         })
     }
 
-    /// Opens the gate before the first change of a file, so that it may be changed. A gate that is open already is
-    /// synced, and not written. After a fault the call may be made again.
+    /// Opens the gate before the first change of a file, so that it may be changed. A gate that is
+    /// open already is synced, and not written. After a fault the call may be made again.
     pub fn begin_change<S: Shelf>(&self, shelf: &mut S) -> Result<(), Fault>
         requires unit { HasUnit (S.state shelf.old) self.now.unit }
         requires gate { WhereHonest (S.state shelf.old) self.now.unit (IsWithin 1) }

@@ -24,7 +24,8 @@ pub record IsFreePageAt (list : List (List ℕ)) (n next : ℕ) : Type 0 where
 -- these free pages lead from the first one to this
 abbrev pub IsFreePagePath : List (List ℕ) → ℕ → List ℕ → ℕ → Type 0
 IsFreePagePath list first [] at = first ≡ at
-IsFreePagePath list first (n ∷ ns) at = (first ≡ n) × ((next : ℕ) × IsFreePageAt list n next × IsFreePagePath list next ns at)
+IsFreePagePath list first (n ∷ ns) at = (first ≡ n)
+    × ((next : ℕ) × IsFreePageAt list n next × IsFreePagePath list next ns at)
 
 -- so many free pages were reached from the first one, and this one is next
 pub record FreeFront (list : List (List ℕ)) (first at count : ℕ) (before after : ℕ → Bool) : Type 0 where

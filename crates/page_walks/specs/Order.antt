@@ -14,7 +14,8 @@ abbrev pub key_ahead : ℕ → List (List ℕ) → Bound → Bound
 key_ahead width [] high = high
 key_ahead width (e ∷ es) high = Some (take width e)
 
--- the entries from number i on rise below the high bound, and `above` is the first key of them, or else that bound
+-- the entries from number i on rise below the high bound, and `above` is the first key of them, or
+-- else that bound
 pub record Risen (width : ℕ) (high : Bound) (es : List (List ℕ)) (i : ℕ) (above : Bound) : Type 0 where
   pub rises : Ascends width (drop i es)
   pub under : Each (λ e. Below high (take width e)) (drop i es)

@@ -18,8 +18,10 @@ use Rattle.page_walks.specs.declared.spot.Spot.{Spot}
 use Rattle.page_walks.specs.Order.{AreBetween}
 use Rattle.page_walks.specs.Spots.{entries_at}
 
--- The tree stands in the pages that were reached now, each of which was not reached before, and these are the places of its entries.
-pub record TreeWalked (tree : Tree) (list : List (List ℕ)) (before after : ℕ → Bool) (spots : List Spot) : Type 0 where
+-- The tree stands in the pages that were reached now, each of which was not reached before, and
+-- these are the places of its entries.
+pub record TreeWalked (tree : Tree) (list : List (List ℕ)) (before after : ℕ → Bool)
+    (spots : List Spot) : Type 0 where
   pub own : List ℕ
   pub stands : TreeStands tree (pages_in list) (entries_at tree.shape list spots) own
   pub marks : Marks before after own
@@ -29,7 +31,8 @@ pub record LeafFits (shape : Shape) (page : List ℕ) (floor : ℕ) (low high : 
   pub leaf : IsLeaf shape page
   pub large : floor ≤ length (leaf_entries shape page)
   pub rises : Ascends shape.width (leaf_entries shape page)
-  pub inside : Each (λ e. NotBelow low (take shape.width e) × Below high (take shape.width e)) (leaf_entries shape page)
+  pub inside : Each (λ e. NotBelow low (take shape.width e) × Below high (take shape.width e))
+      (leaf_entries shape page)
 
 -- the page is an inner node with so many separators at least, which rise between these bounds
 pub record InnerFits (shape : Shape) (page : List ℕ) (floor : ℕ) (low high : Bound) : Type 0 where
@@ -44,11 +47,16 @@ pub record Reach : Type 0 where
   pub entries : List (List ℕ)
 
 abbrev pub reach_of : Shape → List (List ℕ) → List Bool → List Spot → Reach
-reach_of shape list reached spots = record { marks = marked_in reached; entries = entries_at shape list spots }
+reach_of shape list reached spots = record {
+  marks = marked_in reached;
+  entries = entries_at shape list spots;
+}
 
--- A tree with h levels above its leaves stands below the page, within these bounds, its root with so many entries or separators at
--- least; its pages were reached now, and its entries come behind those that were known.
-pub record Walked (shape : Shape) (pages : PageMap) (h page floor : ℕ) (low high : Bound) (before after : Reach) : Type 0 where
+-- A tree with h levels above its leaves stands below the page, within these bounds, its root with
+-- so many entries or separators at least; its pages were reached now, and its entries come behind
+-- those that were known.
+pub record Walked (shape : Shape) (pages : PageMap) (h page floor : ℕ) (low high : Bound)
+    (before after : Reach) : Type 0 where
   pub tree : TreeOf h
   pub stands : IsTree shape pages h page low high tree
   pub filled : IsHalfFull shape h tree
@@ -63,13 +71,16 @@ bound_at low [] (suc i) = low
 bound_at low (s ∷ ss) (suc i) = bound_at (Some s) ss i
 
 -- the first members of a row, each with a separator to its right
-abbrev pub AreFirstMembers : {X : Type 0} → (Bound → Bound → X → Type 0) → Bound → List (List ℕ) → List X → Type 0
+abbrev pub AreFirstMembers : {X : Type 0} → (Bound → Bound → X → Type 0) → Bound → List (List ℕ) → List X
+    → Type 0
 AreFirstMembers Between low ss [] = ⊤
 AreFirstMembers Between low [] (x ∷ xs) = ⊥
-AreFirstMembers Between low (s ∷ ss) (x ∷ xs) = Between low (Some s) x × AreFirstMembers Between (Some s) ss xs
+AreFirstMembers Between low (s ∷ ss) (x ∷ xs) = Between low (Some s) x
+    × AreFirstMembers Between (Some s) ss xs
 
 -- so many children of a node with these separators were walked, from the first one on
-pub record WalkedFront (shape : Shape) (pages : PageMap) (k : ℕ) (low : Bound) (ss : List (List ℕ)) (below : List ℕ) (i : ℕ) (before after : Reach) : Type 0 where
+pub record WalkedFront (shape : Shape) (pages : PageMap) (k : ℕ) (low : Bound) (ss : List (List ℕ))
+    (below : List ℕ) (i : ℕ) (before after : Reach) : Type 0 where
   pub trees : List (TreeOf k)
   pub as_many : length trees ≡ i
   pub leads : map (page_of k) trees ≡ take i below

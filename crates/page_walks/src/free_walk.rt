@@ -35,10 +35,12 @@ fn behind(pages: &[[u8; PAGE_SIZE]], from: u32, n: u32) -> Result<u32, WalkFault
     Ok(BigEndian::read_u32(&page[NEXT..NEXT_END]))
 }
 
-/// Walks the chain of free pages, of which there are so many, over the pages of a file, as they were read, and marks them as reached.
+/// Walks the chain of free pages, of which there are so many, over the pages of a file, as they
+/// were read, and marks them as reached.
 ///
-/// Shared where one of them was reached before; Chain where the pages are no such chain: at a page that is not free, or at the page that leads nowhere or too
-/// far, which is page 0 for the first. At a fault some of its pages may be marked.
+/// Shared where one of them was reached before; Chain where the pages are no such chain: at a page
+/// that is not free, or at the page that leads nowhere or too far, which is page 0 for the first.
+/// At a fault some of its pages may be marked.
 pub fn walk_free(
     pages: &[[u8; PAGE_SIZE]],
     first: u32,

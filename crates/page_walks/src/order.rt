@@ -49,8 +49,9 @@ fn is_from(key: &[u8], low: Option<&[u8]>) -> bool
     }
 }
 
-/// Checks that the keys of a leaf rise, from the low bound on and below the high one. Else answers the last entry whose key is not below the key or the bound
-/// behind it, or entry 0 where its key is below the low bound.
+/// Checks that the keys of a leaf rise, from the low bound on and below the high one. Else answers
+/// the last entry whose key is not below the key or the bound behind it, or entry 0 where its key
+/// is below the low bound.
 pub fn check_keys(
     page: &[u8; PAGE_SIZE],
     shape: Shape,
@@ -82,8 +83,9 @@ pub fn check_keys(
     Ok(())
 }
 
-/// Checks that the separators of an inner node rise between the bounds. Else answers the last that is not below the separator or the bound behind it, or
-/// separator 0 where it is not above the low bound.
+/// Checks that the separators of an inner node rise between the bounds. Else answers the last that
+/// is not below the separator or the bound behind it, or separator 0 where it is not above the low
+/// bound.
 pub fn check_separators(
     page: &[u8; PAGE_SIZE],
     shape: Shape,
@@ -92,7 +94,8 @@ pub fn check_separators(
 ) -> Result<(), u32>
     requires inner { IsInner shape page.now }
     ensures rises { OnOk result (Ascends shape.width (separators shape page.now)) }
-    ensures between { OnOk result (AreBetween (option_copied low.entry) (separators shape page.now) (option_copied high.entry)) }
+    ensures between { OnOk result (AreBetween (option_copied low.entry) (separators shape page.now)
+        (option_copied high.entry)) }
 {
     let node = InnerView { page, shape };
     let mut above = high;

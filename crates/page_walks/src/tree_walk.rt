@@ -17,7 +17,8 @@ use page_marks::{PageFault, WalkFault, mark};
 use std::alloc::Global;
 use tree_node::{InnerView, LeafView, Shape, is_inner, is_leaf};
 
-/// What the place of a node requires: how many entries or separators it has at least, and between which keys its own lie; and the page that leads there.
+/// What the place of a node requires: how many entries or separators it has at least, and between
+/// which keys its own lie; and the page that leads there.
 #[derive(Clone, Copy)]
 struct Limits<'a> {
     parent: u32,
@@ -170,10 +171,12 @@ fn walk_below(
     )
 }
 
-/// Walks a tree over the pages of a file, as they were read. Answers its leaves, in order, and marks its pages as reached.
+/// Walks a tree over the pages of a file, as they were read. Answers its leaves, in order, and
+/// marks its pages as reached.
 ///
-/// Memory; Shared where a page of the tree was reached before; Node, Order or Count where the pages are no such tree. A root that is not there is told at page
-/// 0, a child at its parent, and the count at the root. At a fault some of its pages may be marked.
+/// Memory; Shared where a page of the tree was reached before; Node, Order or Count where the pages
+/// are no such tree. A root that is not there is told at page 0, a child at its parent, and the
+/// count at the root. At a fault some of its pages may be marked.
 pub fn walk_tree(
     alloc: Global,
     pages: &[[u8; PAGE_SIZE]],

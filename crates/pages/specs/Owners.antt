@@ -12,7 +12,8 @@ abbrev pub AreApart : List ℕ → Type 0
 AreApart [] = ⊤
 AreApart (n ∷ ns) = IsOutside ns n × AreApart ns
 
--- Something that had the old pages has the new ones now. A page in use outside it is as it was and stays outside, and no page is lost.
+-- Something that had the old pages has the new ones now. A page in use outside it is as it was and
+-- stays outside, and no page is lost.
 pub record ChangesPages (before after : PageMap) (old new : List ℕ) : Type 0 where
   pub others : (n : ℕ) → IsSome (before n) → IsOutside old n → (after n ≡ before n) × IsOutside new n
   pub no_stray : (n : ℕ) → IsSome (after n) → IsOutside new n → IsSome (before n) × IsOutside old n

@@ -11,7 +11,8 @@ pub record ShownPages (S : Type 0) : Type 1 where
   pub CanChange : S → Type 0
   -- what every call keeps that only reads, at a fault too
   pub Reads : S → S → Type 0
-  -- what every call keeps, at a fault too, but one that may open the gate: each crash image begins as some image before it did
+  -- what every call keeps, at a fault too, but one that may open the gate: each crash image begins
+  -- as some image before it did
   pub Writes : S → S → Type 0
   -- what every call keeps, at a fault too
   pub Begins : S → S → Type 0

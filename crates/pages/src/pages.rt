@@ -26,17 +26,21 @@ pub trait Pages {
             (λ after. Rests (shown.state self.entry.now) (shown.state after)
             × ((shown.state after).asked ≤ (shown.state self.entry.now).asked + 1)
             × shown.Reads self.entry.now after
-            × (IsTrue (shown.state after).is_honest → IfOk result (λ page. Shows (shown.state self.entry.now) n page.now))
-            × (IsTrue (shown.state after).is_honest → IsSome ((shown.state self.entry.now).live n) → IfErr result (λ e. e ≢ Fault.Damage))
+            × (IsTrue (shown.state after).is_honest → IfOk result
+            (λ page. Shows (shown.state self.entry.now) n page.now))
+            × (IsTrue (shown.state after).is_honest → IsSome ((shown.state self.entry.now).live n)
+            → IfErr result (λ e. e ≢ Fault.Damage))
             × IfErr result (IsCaused (shown.HasFailed self.entry.now after) ⊥))) };
 
-    /// A page is not soon asked for again: where pages are held in memory, it may be the first that is given up. Nothing is read or written.
+    /// A page is not soon asked for again: where pages are held in memory, it may be the first that
+    /// is given up. Nothing is read or written.
     fn demote(&mut self, n: u32)
         requires ready { shown.IsReady self.old }
         ensures asked { (shown.state self.new).asked ≡ (shown.state self.old).asked }
         ensures reads { shown.Reads self.old self.new };
 
-    /// Lends a page for writing. A page that is in use is shown as it is, and holds what is left in it; every other page stays.
+    /// Lends a page for writing. A page that is in use is shown as it is, and holds what is left in
+    /// it; every other page stays.
     fn page_mut(&mut self, n: u32) -> Result<&mut [u8; PAGE_SIZE], Fault>
         requires ready { shown.IsReady self.old }
         requires open { shown.CanChange self.old }
@@ -44,11 +48,13 @@ pub trait Pages {
             (λ after bytes. LeavesPage n bytes (shown.state self.entry.now) (shown.state after)
             × ((shown.state after).asked ≤ (shown.state self.entry.now).asked + 1)
             × shown.Writes self.entry.now after
-            × (IsTrue (shown.state after).is_honest → IfOk result (λ page. Shows (shown.state self.entry.now) n page.now)))
+            × (IsTrue (shown.state after).is_honest → IfOk result
+            (λ page. Shows (shown.state self.entry.now) n page.now)))
             (λ after. Rests (shown.state self.entry.now) (shown.state after)
             × ((shown.state after).asked ≤ (shown.state self.entry.now).asked + 1)
             × shown.Reads self.entry.now after
-            × (IsTrue (shown.state after).is_honest → IsSome ((shown.state self.entry.now).live n) → IfErr result (λ e. e ≢ Fault.Damage))
+            × (IsTrue (shown.state after).is_honest → IsSome ((shown.state self.entry.now).live n)
+            → IfErr result (λ e. e ≢ Fault.Damage))
             × IfErr result (IsCaused (shown.HasFailed self.entry.now after) ⊥))) };
 
     /// Takes a page that was free, or a new one. Its bytes have no meaning. Full where no page is available.
@@ -56,14 +62,19 @@ pub trait Pages {
         requires ready { shown.IsReady self.old }
         requires open { shown.CanChange self.old }
         ensures taken { IsTrue (shown.state self.new).is_honest → IsTrue (shown.state self.old).is_sound
-            → IfOk result (λ n. (1 ≤ n) × ((bytes : List ℕ) × Takes (shown.state self.old).live (shown.state self.new).live n bytes)) }
-        ensures kept { IsTrue (shown.state self.new).is_honest → OnErr result ((shown.state self.new).live ≡ (shown.state self.old).live) }
-        ensures sound { IsTrue (shown.state self.new).is_honest → IsTrue (shown.state self.old).is_sound → IsTrue (shown.state self.new).is_sound }
+            → IfOk result (λ n. (1 ≤ n) × ((bytes : List ℕ)
+            × Takes (shown.state self.old).live (shown.state self.new).live n bytes)) }
+        ensures kept { IsTrue (shown.state self.new).is_honest
+            → OnErr result ((shown.state self.new).live ≡ (shown.state self.old).live) }
+        ensures sound { IsTrue (shown.state self.new).is_honest → IsTrue (shown.state self.old).is_sound
+            → IsTrue (shown.state self.new).is_sound }
         ensures one { OnOk result ((shown.state self.new).available + 1 ≡ (shown.state self.old).available) }
         ensures none { OnErr result ((shown.state self.new).available ≡ (shown.state self.old).available) }
-        ensures damage { IsTrue (shown.state self.new).is_honest → IsTrue (shown.state self.old).is_sound → IfErr result (λ e. e ≢ Fault.Damage) }
+        ensures damage { IsTrue (shown.state self.new).is_honest → IsTrue (shown.state self.old).is_sound
+            → IfErr result (λ e. e ≢ Fault.Damage) }
         ensures honest { IsTrue (shown.state self.new).is_honest → IsTrue (shown.state self.old).is_honest }
-        ensures writes { WritesPages shown 1 ((shown.state self.old).available ≡ 0) self.old self.new result };
+        ensures writes { WritesPages shown 1 ((shown.state self.old).available ≡ 0) self.old self.new
+            result };
 
     /// Gives back a page that is in use: it is free, and is the next one taken.
     fn give(&mut self, n: u32) -> Result<(), Fault>
@@ -71,12 +82,14 @@ pub trait Pages {
         requires open { shown.CanChange self.old }
         ensures given { IsTrue (shown.state self.new).is_honest → IsSome ((shown.state self.old).live n)
             → OnOk result (Gives (shown.state self.old).live (shown.state self.new).live n) }
-        ensures kept { IsTrue (shown.state self.new).is_honest → OnErr result ((shown.state self.new).live ≡ (shown.state self.old).live) }
+        ensures kept { IsTrue (shown.state self.new).is_honest
+            → OnErr result ((shown.state self.new).live ≡ (shown.state self.old).live) }
         ensures sound { IsTrue (shown.state self.new).is_honest → IsSome ((shown.state self.old).live n)
             → (shown.state self.new).is_sound ≡ (shown.state self.old).is_sound }
         ensures one { OnOk result ((shown.state self.new).available ≡ (shown.state self.old).available + 1) }
         ensures none { OnErr result ((shown.state self.new).available ≡ (shown.state self.old).available) }
-        ensures damage { IsTrue (shown.state self.new).is_honest → IsSome ((shown.state self.old).live n) → IfErr result (λ e. e ≢ Fault.Damage) }
+        ensures damage { IsTrue (shown.state self.new).is_honest → IsSome ((shown.state self.old).live n)
+            → IfErr result (λ e. e ≢ Fault.Damage) }
         ensures honest { IsTrue (shown.state self.new).is_honest → IsTrue (shown.state self.old).is_honest }
         ensures writes { WritesPages shown 1 ⊥ self.old self.new result };
 

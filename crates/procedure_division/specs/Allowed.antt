@@ -1,5 +1,5 @@
--- What a run can rely on: the files, items and keys of a procedure's statements are those of the deck, and its access modes
--- allow the statements.
+-- What a run can rely on: the files, items and keys of a procedure's statements are those of the
+-- deck, and its access modes allow the statements.
 use Rattle.std.specs.Prelude.{◌≡◌, ℕ, ◌+◌, ◌<◌, ◌≤◌, Bool, true, false, List, length, slice_get, Some, IsTrue, IsFalse}
 use Rattle.std.specs.List.{list_all}
 use Rattle.std.specs.Char.{is_ascii_digit}
@@ -29,17 +29,20 @@ IsAllowedOn file (Close lock) = Unit {0}
 IsAllowedOn file ReadNext = IsFalse (is_random file.access)
 IsAllowedOn file (Read k) = IsFalse (is_sequential file.access) × (k < length file.schema.keys)
 IsAllowedOn file (Start k n relation) =
-    IsFalse (is_random file.access) × (k < length file.schema.keys) × (1 ≤ n) × (n ≤ (key_at file.schema k).length)
+    IsFalse (is_random file.access) × (k < length file.schema.keys) × (1 ≤ n)
+    × (n ≤ (key_at file.schema k).length)
 IsAllowedOn file Write = Unit {0}
 IsAllowedOn file Rewrite = Unit {0}
 IsAllowedOn file Delete = Unit {0}
 
--- the statement is for a file of the deck that allows it; or its item is one of the deck's, and takes the source
+-- the statement is for a file of the deck that allows it; or its item is one of the deck's, and
+-- takes the source
 abbrev pub IsAllowed : Names → Statement → Type 0
 IsAllowed names (Perform u statement) =
     (file : FileDesc) × (slice_get names.files u ≡ Some file) × IsAllowedOn file statement
 IsAllowed names (Move u field source) =
-    (file : FileDesc) × (slice_get names.files u ≡ Some file) × (field.offset + field.length ≤ length_of file.layout)
+    (file : FileDesc) × (slice_get names.files u ≡ Some file)
+    × (field.offset + field.length ≤ length_of file.layout)
     × IsTrue (is_taken_by field.numeric source)
 IsAllowed names (MoveLength i source) = (i < length names.items) × IsTrue (is_numeric source)
 IsAllowed names StopRun = Unit {0}

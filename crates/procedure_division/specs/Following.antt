@@ -5,12 +5,14 @@ use Rattle.deck_words.specs.Rule.{Rule, where_it_gives}
 use Rattle.deck_words.specs.Word.{Word}
 
 abbrev pub SpellsFollowed : {A B : Type 0} → Rule A → (A → Rule B) → B → List Word → List Word → Type 0
-SpellsFollowed p q y words rest = (x : _) × (middle : List Word) × p.Spells x words middle × (q x).Spells y middle rest
+SpellsFollowed p q y words rest = (x : _) × (middle : List Word) × p.Spells x words middle
+    × (q x).Spells y middle rest
 
 abbrev pub reads_followed : {A B : Type 0} → Rule A → (A → Rule B) → List Word → Option (B × List Word)
 reads_followed p q words = option_and_then (λ a. (q a.0).reads a.1) (p.reads words)
 
--- the first rule, and then the one that its value gives, whose value counts; that one looks ahead as the sample's does
+-- the first rule, and then the one that its value gives, whose value counts; that one looks ahead
+-- as the sample's does
 abbrev pub followed : {A B : Type 0} → A → Rule A → (A → Rule B) → Rule B
 followed sample p q = record {
   Spells = SpellsFollowed p q;

@@ -1,4 +1,5 @@
--- What the procedure knows of the deck's descriptions, and what its names stand for. Data names are unique in a deck.
+-- What the procedure knows of the deck's descriptions, and what its names stand for. Data names are
+-- unique in a deck.
 use Rattle.std.specs.Prelude.{ℕ, List, bytes_eq, position, slice_get, Option, is_some, option_map, option_and_then}
 use Rattle.std.specs.Option.{option_map_or}
 use Rattle.io_state.specs.declared.modes.Access.{Access}
@@ -37,7 +38,8 @@ holder_of names name = position (λ file. is_some (field_of file.layout name)) n
 -- the same, and the item
 abbrev pub item_of : Names → List ℕ → Option (ℕ × Field)
 item_of names name =
-    option_and_then (λ u. option_map {U = ℕ × Field} (λ field. (u, field)) (item_in names u name)) (holder_of names name)
+    option_and_then (λ u. option_map {U = ℕ × Field} (λ field. (u, field)) (item_in names u name))
+    (holder_of names name)
 
 -- the place of the 77-level item of this name
 abbrev pub length_item_of : Names → List ℕ → Option ℕ
@@ -59,4 +61,5 @@ key_of names u field = option_and_then (λ file. key_of_field file.schema field)
 -- the key of the file that begins with the item, and the item's length
 abbrev pub led_key_of : Names → ℕ → Field → Option (ℕ × ℕ)
 led_key_of names u field =
-    option_and_then (λ file. option_map {U = ℕ × ℕ} (λ k. (k, field.length)) (key_led_by file.schema field)) (slice_get names.files u)
+    option_and_then (λ file. option_map {U = ℕ × ℕ} (λ k. (k, field.length))
+    (key_led_by file.schema field)) (slice_get names.files u)

@@ -1,5 +1,6 @@
 -- The procedure division: paragraphs and sentences.
--- ANSI X3.23-1985, Nucleus module, procedure division structure. Names of paragraphs have no effect, which is ours.
+-- ANSI X3.23-1985, Nucleus module, procedure division structure. Names of paragraphs have no
+-- effect, which is ours.
 use Rattle.std.specs.Prelude.{List, [], codes}
 use Rattle.deck_words.specs.Rule.{Rule, onto}
 use Rattle.deck_words.specs.Notation.{the, name, period, ◌▸◌, ◌◂◌, ◌∣◌, ◌<$>◌}
@@ -10,7 +11,8 @@ use Rattle.procedure_division.specs.StatementRules.{joined, some_of, open_statem
 unfoldable pub statement : Names → Rule (List Statement)
 statement names =
     open_statement names ∣ close_statement names ∣ read_statement names ∣ start_statement names
-    ∣ write_statement names ∣ rewrite_statement names ∣ delete_statement names ∣ move_statement names ∣ stop_statement
+    ∣ write_statement names ∣ rewrite_statement names ∣ delete_statement names ∣ move_statement names ∣
+    stop_statement
 
 -- {statement}.. .
 unfoldable pub sentence : Names → Rule (List Statement)

@@ -1,6 +1,7 @@
--- The statements of the procedure division: how they are written, and what they say.
--- ANSI X3.23-1985, Indexed I-O module, general formats of the CLOSE, DELETE, OPEN, READ, REWRITE, START and WRITE statements;
--- Nucleus module, those of the MOVE and STOP statements. Which phrases there are is ours.
+-- The statements of the procedure division: how they are written, and what they say. ANSI
+-- X3.23-1985, Indexed I-O module, general formats of the CLOSE, DELETE, OPEN, READ, REWRITE, START
+-- and WRITE statements; Nucleus module, those of the MOVE and STOP statements. Which phrases there
+-- are is ours.
 use Rattle.std.specs.Prelude.{ℕ, Bool, true, false, not, ◌||◌, List, [], ◌∷◌, ◌++◌, if◌then◌else◌, codes, Option, Some, None, option_and_then, Result}
 use Rattle.std.specs.List.{list_all}
 use Rattle.std.specs.Char.{is_ascii_digit}
@@ -40,7 +41,8 @@ abbrev pub behind : List Statement → Rule (List Statement) → Rule (List Stat
 behind before rule = where_it_gives (joined before) rule
 
 -- the statements that are read are added to those before
-abbrev pub AddsStatements : Rule (List Statement) → List Statement → List Word → Result (List Statement) Refusal → List Word → Type 0
+abbrev pub AddsStatements : Rule (List Statement) → List Statement → List Word
+    → Result (List Statement) Refusal → List Word → Type 0
 AddsStatements rule before words result rest = Reads ((behind before rule).reads words) result rest
 
 -- the statements of a rule, once or more
@@ -66,7 +68,8 @@ record_name names = where_it_gives (record_of names) name
 -- the OPEN of the file of this name, where its access mode permits the open mode
 abbrev pub file_to_open : Names → OpenMode → List ℕ → Option (List Statement)
 file_to_open names mode name =
-    option_and_then (λ u. if may_open (access_at names u) mode then Some (perform u (Open mode)) else None) (file_of names name)
+    option_and_then (λ u. if may_open (access_at names u) mode then Some (perform u (Open mode)) else None)
+    (file_of names name)
 
 -- the name of a file that may be opened in this mode
 unfoldable pub opened : Names → OpenMode → Rule (List Statement)
@@ -101,7 +104,8 @@ close_statement names = the (codes "CLOSE") ▸ some_of (closed names)
 -- [NEXT], which random access has not: whether the READ is sequential, as it always is in sequential access
 unfoldable pub next : Access → Rule Bool
 next access =
-    (λ n. is_sequential access || is_there n) <$> optional (where_allowed (not (is_random access)) (the (codes "NEXT")))
+    (λ n. is_sequential access || is_there n) <$> optional
+    (where_allowed (not (is_random access)) (the (codes "NEXT")))
 
 -- the key that the file's item of this name is
 abbrev pub key_named : Names → ℕ → List ℕ → Option ℕ
@@ -111,7 +115,8 @@ key_named names u name = option_and_then (key_of names u) (item_in names u name)
 unfoldable pub key : Names → ℕ → Rule ℕ
 key names u = where_it_gives (key_named names u) name
 
--- ANSI X3.23-1985, Indexed I-O module, READ statement, general rules: by this key, or by the prime key where no KEY phrase stands
+-- ANSI X3.23-1985, Indexed I-O module, READ statement, general rules: by this key, or by the prime
+-- key where no KEY phrase stands
 abbrev pub read_by : Bool → Option ℕ → FileStatement
 read_by sequential (Some k) = Read k
 read_by true None = ReadNext
@@ -145,12 +150,14 @@ greater_of (Some _) = NotLess
 -- GREATER [THAN] [OR EQUAL [TO]]
 unfoldable pub greater : Rule Relation
 greater =
-    greater_of <$> the (codes "GREATER") ▸ may (codes "THAN") ▸ optional (the (codes "OR") ▸ the (codes "EQUAL") ▸ may (codes "TO"))
+    greater_of <$> the (codes "GREATER") ▸ may (codes "THAN") ▸ optional
+    (the (codes "OR") ▸ the (codes "EQUAL") ▸ may (codes "TO"))
 
 -- NOT (LESS [THAN] | <)
 unfoldable pub not_less : Rule Relation
 not_less =
-    the (codes "NOT") ▸ (((λ _. NotLess) <$> the (codes "LESS") ▸ may (codes "THAN")) ∣ ((λ _. NotLess) <$> sign (codes "<")))
+    the (codes "NOT") ▸ (((λ _. NotLess) <$> the (codes "LESS") ▸ may (codes "THAN")) ∣
+    ((λ _. NotLess) <$> sign (codes "<")))
 
 -- EQUAL [TO] | = | GREATER [THAN] [OR EQUAL [TO]] | > | NOT (LESS [THAN] | <) | >=
 unfoldable pub relation : Rule Relation
@@ -179,7 +186,8 @@ led_key_named names u name = option_and_then (led_key_of names u) (item_in names
 unfoldable pub led_key : Names → ℕ → Rule (ℕ × ℕ)
 led_key names u = where_it_gives (led_key_named names u) name
 
--- ANSI X3.23-1985, Indexed I-O module, START statement, general rules: EQUAL by the prime key where no KEY phrase stands
+-- ANSI X3.23-1985, Indexed I-O module, START statement, general rules: EQUAL by the prime key where
+-- no KEY phrase stands
 abbrev pub start_by : Names → ℕ → Option (Relation × (ℕ × ℕ)) → FileStatement
 start_by names u None = Start 0 (prime_length names u) Equal
 start_by names u (Some operand) = Start operand.1.0 operand.1.1 operand.0

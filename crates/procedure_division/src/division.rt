@@ -20,8 +20,8 @@ use std::alloc::Global;
 /// How many words a statement has, or more, in most procedures. A period is one.
 const WORDS_OF_STATEMENT: usize = 4;
 
-/// Paragraphs and sentences up to a word with which none begins. The list of the statements begins with the room that it takes in
-/// most procedures, so that it is not moved as it grows.
+/// Paragraphs and sentences up to a word with which none begins. The list of the statements begins
+/// with the room that it takes in most procedures, so that it is not moved as it grows.
 fn all_sentences(
     alloc: Global,
     parser: &mut Parser<'_>,
@@ -66,9 +66,10 @@ fn read_procedure(
     Ok(statements)
 }
 
-/// The statements that the words are, all of them, from PROCEDURE on, or the first fault: code 2 for a word with which no
-/// procedure goes on, and at the last line where words are missing; 3 for a file, a record or an item that is none; 5 for what is
-/// not allowed; 6 for a number of more than 18 digits; or code 8.
+/// The statements that the words are, all of them, from PROCEDURE on, or the first fault: code 2
+/// for a word with which no procedure goes on, and at the last line where words are missing; 3 for
+/// a file, a record or an item that is none; 5 for what is not allowed; 6 for a number of more than
+/// 18 digits; or code 8.
 pub fn procedure(
     alloc: Global,
     names: &Names<'_>,
@@ -91,5 +92,6 @@ pub fn one_procedure()
 /// The statements of a procedure are for files, items and keys of the deck, and the access modes allow them.
 pub fn only_allowed()
     ensures { (names : Names) (list : List Statement) (words : List Word) →
-        AreDescribed names.files names.items → (procedure names).Spells list words [] → All (IsAllowed names) list }
+        AreDescribed names.files names.items → (procedure names).Spells list words []
+        → All (IsAllowed names) list }
 {}

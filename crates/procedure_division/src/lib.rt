@@ -1,9 +1,11 @@
 //! The procedure division of a deck, read.
 //!
-//! `procedure` answers exactly the statements that the words of the procedure division spell, with the names of `Names`, or a
-//! fault. Each name is looked up, and each operand tested, at the word where it stands.
+//! `procedure` answers exactly the statements that the words of the procedure division spell, with
+//! the names of `Names`, or a fault. Each name is looked up, and each operand tested, at the word
+//! where it stands.
 //!
-//! Read statement for what a deck may say, specs/Names for what the names stand for, and specs/StatementRules for the grammar.
+//! Read statement for what a deck may say, specs/Names for what the names stand for, and
+//! specs/StatementRules for the grammar.
 #![tactic(auto)]
 
 mod closing;

@@ -130,7 +130,8 @@ fn all_receivers(
     source: &Source<&[u8]>,
     statements: StatementList,
 ) -> Result<StatementList, Refusal>
-    ensures { AddsStatements (some_of (receiver names.now (sent source.now))) statements parser.old result parser.new }
+    ensures { AddsStatements (some_of (receiver names.now (sent source.now))) statements parser.old result
+        parser.new }
 {
     let mut statements = receiver(alloc, parser, names, source, statements)?;
     'more: while parser.sees_name() {

@@ -16,8 +16,9 @@ use std::alloc::{AllocError, Global};
 use std::collections::BTreeMap;
 use std::marker::Model;
 
-/// The files of a deck in the order of their SELECT entries, and its 77-level items in the order of their entries. The names of the
-/// 77-level items are kept in their order too, so that one is found by a search.
+/// The files of a deck in the order of their SELECT entries, and its 77-level items in the order of
+/// their entries. The names of the 77-level items are kept in their order too, so that one is found
+/// by a search.
 #[derive(Drop)]
 pub struct Names<'a> {
     files: &'a [FileDesc],
@@ -73,7 +74,8 @@ fn add_place<'a>(
     place: usize,
 ) -> Result<(), AllocError>
     ensures { OnOk result ((other : List ℕ) →
-        place_at places.new other ≡ option_or (place_at places.old other) (if bytes_eq name.now other then Some place else None)) }
+        place_at places.new other ≡ option_or (place_at places.old other)
+        (if bytes_eq name.now other then Some place else None)) }
 {
     if places.contains_key(name) {
         return Ok(());

@@ -83,7 +83,8 @@ fn read_operand(
     sequential: bool,
     statements: StatementList,
 ) -> Result<StatementList, Refusal>
-    ensures { AddsStatements (read_operand names.now file sequential) statements parser.old result parser.new }
+    ensures { AddsStatements (read_operand names.now file sequential) statements parser.old result
+        parser.new }
 {
     parser.eat(b"RECORD");
     let key = key_phrase(parser, names, file, sequential)?;

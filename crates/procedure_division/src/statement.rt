@@ -3,8 +3,8 @@
 use io_state::FileStatement;
 use record_layout::{Bytes, Field, Source};
 
-/// A statement of the procedure division. A file is its place among the deck's SELECT entries, from 0; a length item is its
-/// place among the 77-level entries, from 0.
+/// A statement of the procedure division. A file is its place among the deck's SELECT entries, from
+/// 0; a length item is its place among the 77-level entries, from 0.
 #[derive(Drop)]
 pub enum Statement {
     /// An input-output statement on a file.

@@ -6,7 +6,8 @@ ghost use Rattle.std.specs.Io.KnownBytes.{ReadConsumes};
 use crate::progress::Progress;
 use std::io::{self, Read};
 
-/// A reader over another one, whose bytes it gives. After each read it tells how many bytes have come, of so many in all.
+/// A reader over another one, whose bytes it gives. After each read it tells how many bytes have
+/// come, of so many in all.
 #[derive(Drop)]
 pub struct ProgressReader<'p, R, P> {
     reader: R,
@@ -35,7 +36,8 @@ impl<'p, R: Read, P: Progress> Read for ProgressReader<'p, R, P> {
     /// Asks the reader below once, and tells how many bytes have come.
     fn read(&mut self, part: &mut [u8]) -> io::Result<usize>
         ensures bound { ReadsAtMost result part.new }
-        ensures bytes { ReadConsumes (R.remaining self.old.reader) (R.remaining self.new.reader) result part.new }
+        ensures bytes { ReadConsumes (R.remaining self.old.reader)
+            (R.remaining self.new.reader) result part.new }
     {
         let answer = self.reader.read(part);
         if let Ok(n) = &answer {

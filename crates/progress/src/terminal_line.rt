@@ -33,7 +33,8 @@ fn time_after<C: Clock>(clock: &C, duration: Duration) -> Option<Instant> {
 }
 
 impl<'c, C: Clock, W: Write> TerminalLine<'c, C, W> {
-    /// The line, before it is written. Where the writer is no terminal, or the clock does not tell the time, it never is.
+    /// The line, before it is written. Where the writer is no terminal, or the clock does not tell
+    /// the time, it never is.
     pub fn new(clock: &'c C, out: W, is_terminal: bool) -> TerminalLine<'c, C, W> {
         let next = if is_terminal {
             time_after(clock, Duration::from_secs(DELAY))

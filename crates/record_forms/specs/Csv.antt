@@ -1,12 +1,14 @@
 -- A line of CSV.
--- RFC 4180, Common Format and MIME Type for Comma-Separated Values (CSV) Files: fields with commas between, and CRLF.
+-- RFC 4180, Common Format and MIME Type for Comma-Separated Values (CSV) Files: fields with commas
+-- between, and CRLF.
 use Rattle.std.specs.Prelude.{ℕ, ◌==◌, List, [], ◌∷◌, ◌++◌, flat_map, if◌then◌else◌}
 
 -- a quote in a field stands twice
 abbrev pub doubled : ℕ → List ℕ
 doubled byte = if byte == 34 then 34 ∷ 34 ∷ [] else byte ∷ []
 
--- a field, in quotes (ours: each field has them, so that spaces are kept and a line with one empty field is no empty line)
+-- a field, in quotes (ours: each field has them, so that spaces are kept and a line with one empty
+-- field is no empty line)
 abbrev pub field : List ℕ → List ℕ
 field text = 34 ∷ (flat_map doubled text ++ 34 ∷ [])
 

@@ -1,4 +1,5 @@
--- The columns of a record that is cut at offsets, and those of a record that is described. All of this is ours.
+-- The columns of a record that is cut at offsets, and those of a record that is described. All of
+-- this is ours.
 use Rattle.std.specs.Prelude.{◌≡◌, ℕ, ◌+◌, ◌-◌, ◌==◌, ◌&&◌, Bool, true, false, nat_lt, List, [], ◌∷◌, ◌++◌, codes, decimal, Option, Some, None, if◌then◌else◌}
 use Rattle.record_layout.specs.Layout.{Entry, Placed, Structure, Nothing, Elementary, Group, width, placed, IsLayout}
 use Rattle.record_forms.specs.declared.column.Column.{Column}
@@ -23,7 +24,8 @@ do_rise from (at ∷ cuts) = nat_lt from at && do_rise at cuts
 abbrev pub cut_part : ℕ → ℕ → ℕ → Part
 cut_part n offset length = record { name = codes "column-" ++ decimal n; offset = offset; length = length }
 
--- from column n on, which begins at an offset: up to each cut, and what is behind the last one (no record has more than 4,000 bytes)
+-- from column n on, which begins at an offset: up to each cut, and what is behind the last one (no
+-- record has more than 4,000 bytes)
 abbrev pub cut_parts : ℕ → ℕ → List ℕ → List Part
 cut_parts n from [] = cut_part n from 4000 ∷ []
 cut_parts n from (at ∷ cuts) = cut_part n from (at - from) ∷ cut_parts (n + 1) at cuts
@@ -36,7 +38,11 @@ name_or offset (Some name) = name
 name_or offset None = codes "FILLER " ++ decimal offset
 
 abbrev pub item_part : Placed → Part
-item_part item = record { name = name_or item.field.offset item.name; offset = item.field.offset; length = item.field.length }
+item_part item = record {
+  name = name_or item.field.offset item.name;
+  offset = item.field.offset;
+  length = item.field.length;
+}
 
 -- whether an item is a group: the item behind it, its first one, begins where it does
 abbrev pub is_group : Placed → List Placed → Bool
@@ -48,15 +54,20 @@ abbrev pub item_parts : List Placed → List Part
 item_parts [] = []
 item_parts (item ∷ after) = (if is_group item after then [] else item_part item ∷ []) ++ item_parts after
 
--- the same by the structure of the record, from an offset on: an item with a picture is elementary, and the items of a group stand in its place
+-- the same by the structure of the record, from an offset on: an item with a picture is elementary,
+-- and the items of a group stand in its place
 abbrev pub elementary_parts : ℕ → Structure → List Part
 elementary_parts offset Nothing = []
-elementary_parts offset (Elementary name text picture after) = item_part (placed name offset picture.length picture.numeric) ∷ elementary_parts (offset + picture.length) after
-elementary_parts offset (Group name inner members after) = elementary_parts offset members ++ elementary_parts (offset + width members) after
+elementary_parts offset (Elementary name text picture after) =
+    item_part (placed name offset picture.length picture.numeric) ∷ elementary_parts
+    (offset + picture.length) after
+elementary_parts offset (Group name inner members after) =
+    elementary_parts offset members ++ elementary_parts (offset + width members) after
 
 -- the columns of a record are those of its elementary items
 abbrev pub AreElementary : Type 0
-AreElementary = (entries : List Entry) (layout : List Placed) (laid : IsLayout entries layout) → item_parts layout ≡ elementary_parts 0 laid.structure
+AreElementary = (entries : List Entry) (layout : List Placed) (laid : IsLayout entries layout)
+    → item_parts layout ≡ elementary_parts 0 laid.structure
 
 -- ---- no columns asked for
 

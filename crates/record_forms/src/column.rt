@@ -4,7 +4,8 @@ ghost use Rattle.record_forms.specs.Columns.{cell_of};
 
 use io_state::Name;
 
-/// A part of a record with a name: bytes from the record's first on. A record that ends before the part does has fewer of its bytes, or none.
+/// A part of a record with a name: bytes from the record's first on. A record that ends before the
+/// part does has fewer of its bytes, or none.
 #[derive(Clone, Copy, Debug)]
 pub struct Column {
     pub name: Name,

@@ -24,7 +24,8 @@ fn add_byte(text: &mut Vec<u8>, byte: u8) -> Result<(), AllocError>
 
 /// Adds bytes to a field.
 fn add_bytes(text: &mut Vec<u8>, bytes: &[u8]) -> Result<(), AllocError>
-    ensures { OnOk result (text.new.items ≡ text.old.items ++ flat_map (λ byte. flat_map doubled (shown_byte byte)) bytes.now) }
+    ensures { OnOk result (text.new.items ≡ text.old.items
+        ++ flat_map (λ byte. flat_map doubled (shown_byte byte)) bytes.now) }
 {
     for byte in bytes {
         add_byte(text, *byte)?;
@@ -51,7 +52,8 @@ fn add_value(text: &mut Vec<u8>, column: &Column, bytes: &[u8]) -> Result<(), Al
 
 /// Adds the values of columns, each behind a comma.
 fn add_more_values(text: &mut Vec<u8>, columns: &[Column], bytes: &[u8]) -> Result<(), AllocError>
-    ensures { OnOk result (text.new.items ≡ text.old.items ++ flat_map (λ column. 44 ∷ field (value_of bytes.now column)) columns.now) }
+    ensures { OnOk result (text.new.items ≡ text.old.items
+        ++ flat_map (λ column. 44 ∷ field (value_of bytes.now column)) columns.now) }
 {
     for column in columns {
         text.push(b',')?;
@@ -74,7 +76,8 @@ fn add_values(text: &mut Vec<u8>, columns: &[Column], bytes: &[u8]) -> Result<()
 
 /// Adds the line of a record.
 pub fn add_line(text: &mut Vec<u8>, columns: &[Column], bytes: &[u8]) -> Result<(), AllocError>
-    ensures { OnOk result (text.new.items ≡ text.old.items ++ csv_line (map (value_of bytes.now) columns.now)) }
+    ensures { OnOk result (text.new.items ≡ text.old.items
+        ++ csv_line (map (value_of bytes.now) columns.now)) }
 {
     add_values(text, columns, bytes)?;
     text.extend_from_slice(b"\r\n")
@@ -89,7 +92,8 @@ fn add_name(text: &mut Vec<u8>, column: &Column) -> Result<(), AllocError>
 
 /// Adds the names of columns, each behind a comma.
 fn add_more_names(text: &mut Vec<u8>, columns: &[Column]) -> Result<(), AllocError>
-    ensures { OnOk result (text.new.items ≡ text.old.items ++ flat_map (λ column. 44 ∷ field (name_of column)) columns.now) }
+    ensures { OnOk result (text.new.items ≡ text.old.items
+        ++ flat_map (λ column. 44 ∷ field (name_of column)) columns.now) }
 {
     for column in columns {
         text.push(b',')?;

@@ -23,7 +23,8 @@ pub enum CutFault {
 
 /// Adds column n.
 fn push_column(columns: &mut Vec<Column>, n: u32, offset: u16, length: u16) -> Result<(), CutFault>
-    ensures column { OnOk result (map part_of columns.new.items ≡ map part_of columns.old.items ++ cut_part n offset length ∷ []) }
+    ensures column { OnOk result (map part_of columns.new.items ≡ map part_of columns.old.items
+        ++ cut_part n offset length ∷ []) }
     ensures memory { result ≡ Err CutFault.Order → ⊥ }
 {
     let name = numbered("column-", n);
@@ -35,7 +36,8 @@ fn push_column(columns: &mut Vec<Column>, n: u32, offset: u16, length: u16) -> R
     columns.push(column).map_err(|_| CutFault::Memory)
 }
 
-/// The columns of a record that is cut at rising offsets: `column-1` up to the first cut, and so on. The last one is what is behind the last cut.
+/// The columns of a record that is cut at rising offsets: `column-1` up to the first cut, and so
+/// on. The last one is what is behind the last cut.
 ///
 /// `Order`: a cut is 0, or not behind the one before it. `Memory`.
 pub fn cut_columns(alloc: Global, cuts: &[u16]) -> Result<Vec<Column>, CutFault>

@@ -43,7 +43,8 @@ fn is_group(item: &Placed, after: &[Placed]) -> bool
 /// Adds the column of an item that is no group.
 fn push_item(columns: &mut Vec<Column>, item: &Placed, after: &[Placed]) -> Result<(), AllocError>
     ensures { OnOk result (map part_of columns.new.items ≡ map part_of columns.old.items
-        ++ (if is_group (item_of item.now) (map item_of after.now) then [] else item_part (item_of item.now) ∷ [])) }
+        ++ (if is_group (item_of item.now) (map item_of after.now) then [] else item_part
+        (item_of item.now) ∷ [])) }
 {
     if is_group(item, after) {
         return Ok(());
@@ -52,7 +53,8 @@ fn push_item(columns: &mut Vec<Column>, item: &Placed, after: &[Placed]) -> Resu
     Ok(())
 }
 
-/// A column for each elementary item of a record, in the order of the entries: with its name, or FILLER and its offset where it has none.
+/// A column for each elementary item of a record, in the order of the entries: with its name, or
+/// FILLER and its offset where it has none.
 pub fn item_columns(alloc: Global, layout: &Layout) -> Result<Vec<Column>, AllocError>
     ensures { IfOk result (λ columns. map part_of columns.items ≡ item_parts layout.now) }
 {

@@ -26,7 +26,8 @@ fn add_byte(text: &mut Vec<u8>, byte: u8) -> Result<(), AllocError>
 
 /// Adds bytes to a string.
 fn add_bytes(text: &mut Vec<u8>, bytes: &[u8]) -> Result<(), AllocError>
-    ensures { OnOk result (text.new.items ≡ text.old.items ++ flat_map (λ byte. flat_map escaped (shown_byte byte)) bytes.now) }
+    ensures { OnOk result (text.new.items ≡ text.old.items
+        ++ flat_map (λ byte. flat_map escaped (shown_byte byte)) bytes.now) }
 {
     for byte in bytes {
         add_byte(text, *byte)?;
@@ -55,7 +56,8 @@ fn add_member(text: &mut Vec<u8>, column: &Column, bytes: &[u8]) -> Result<(), A
 
 /// Adds the members of columns, each behind a comma.
 fn add_more_members(text: &mut Vec<u8>, columns: &[Column], bytes: &[u8]) -> Result<(), AllocError>
-    ensures { OnOk result (text.new.items ≡ text.old.items ++ flat_map (λ column. 44 ∷ member (member_of bytes.now column)) columns.now) }
+    ensures { OnOk result (text.new.items ≡ text.old.items
+        ++ flat_map (λ column. 44 ∷ member (member_of bytes.now column)) columns.now) }
 {
     for column in columns {
         text.push(b',')?;
@@ -66,7 +68,8 @@ fn add_more_members(text: &mut Vec<u8>, columns: &[Column], bytes: &[u8]) -> Res
 
 /// Adds the members of columns.
 fn add_members(text: &mut Vec<u8>, columns: &[Column], bytes: &[u8]) -> Result<(), AllocError>
-    ensures { OnOk result (text.new.items ≡ text.old.items ++ members (map (member_of bytes.now) columns.now)) }
+    ensures { OnOk result (text.new.items ≡ text.old.items
+        ++ members (map (member_of bytes.now) columns.now)) }
 {
     let Some((first, rest)) = columns.split_first() else {
         return Ok(());
@@ -78,7 +81,8 @@ fn add_members(text: &mut Vec<u8>, columns: &[Column], bytes: &[u8]) -> Result<(
 
 /// Adds the line of a record.
 pub fn add_line(text: &mut Vec<u8>, columns: &[Column], bytes: &[u8]) -> Result<(), AllocError>
-    ensures { OnOk result (text.new.items ≡ text.old.items ++ json_line (map (member_of bytes.now) columns.now)) }
+    ensures { OnOk result (text.new.items ≡ text.old.items
+        ++ json_line (map (member_of bytes.now) columns.now)) }
 {
     text.push(b'{')?;
     add_members(text, columns, bytes)?;

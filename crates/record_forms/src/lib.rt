@@ -1,11 +1,15 @@
 //! The forms in which records are written, a line each: text, CSV, and JSON.
 //!
-//! A record has columns, each with a name and a place. `append_line` adds the line of a record, and `append_header` what stands before the first line: the names of the
-//! columns in CSV, and nothing otherwise. Every line is printable ASCII. A byte that is not, and a backslash, stands as the transcript of a run shows it.
+//! A record has columns, each with a name and a place. `append_line` adds the line of a record, and
+//! `append_header` what stands before the first line: the names of the columns in CSV, and nothing
+//! otherwise. Every line is printable ASCII. A byte that is not, and a backslash, stands as the
+//! transcript of a run shows it.
 //!
-//! `cut_columns` and `item_columns` make the columns of a record: between cuts, or those of its elementary items.
+//! `cut_columns` and `item_columns` make the columns of a record: between cuts, or those of its
+//! elementary items.
 //!
-//! Read `specs/Columns.antt` for values, `specs/Csv.antt` and `specs/Json.antt` for the two formats, `specs/Lines.antt` for the lines, and then `line`.
+//! Read `specs/Columns.antt` for values, `specs/Csv.antt` and `specs/Json.antt` for the two
+//! formats, `specs/Lines.antt` for the lines, and then `line`.
 #![tactic(auto)]
 
 mod column;

@@ -1,5 +1,6 @@
 -- The record area: how it begins, and what MOVE does to it.
--- ANSI X3.23-1985, Nucleus module, MOVE statement, general rules: alphanumeric and numeric moves; figurative constants.
+-- ANSI X3.23-1985, Nucleus module, MOVE statement, general rules: alphanumeric and numeric moves;
+-- figurative constants.
 use Rattle.std.specs.Prelude.{ℕ, ◌+◌, Bool, true, not, List, ◌++◌, length, take, drop, replicate, fold, if◌then◌else◌}
 use Rattle.std.specs.Borrow.{Bor}
 use Rattle.record_layout.specs.declared.item.Field.{Field}
@@ -41,7 +42,8 @@ fitted numeric n (Fill figure) = replicate n (character_of figure)
 
 -- the area after a MOVE to an item: the item's bytes are new, and all others stay
 abbrev pub moved : Field → Source (List ℕ) → List ℕ → List ℕ
-moved field source area = take field.offset area ++ fitted field.numeric field.length source ++ drop (field.offset + field.length) area
+moved field source area = take field.offset area ++ fitted field.numeric field.length source
+    ++ drop (field.offset + field.length) area
 
 -- what is sent, behind a reference
 abbrev pub sent : Source (Bor (List ℕ)) → Source (List ℕ)
@@ -51,4 +53,5 @@ sent (Fill figure) = Fill figure
 
 -- ours: the area of n bytes at the start of a run has zeros in each numeric item, and spaces elsewhere
 abbrev pub blank_area : ℕ → List Placed → List ℕ
-blank_area n items = fold (λ area item. if item.field.numeric then moved item.field (Fill Zero) area else area) (replicate n 32) items
+blank_area n items = fold (λ area item. if item.field.numeric then moved item.field
+    (Fill Zero) area else area) (replicate n 32) items

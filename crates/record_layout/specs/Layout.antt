@@ -1,6 +1,6 @@
 -- The places of the items of a record.
--- ANSI X3.23-1985, Nucleus module, data description entry, level-number: an item without a picture is a group, of the items
--- of one greater level number that follow it.
+-- ANSI X3.23-1985, Nucleus module, data description entry, level-number: an item without a picture
+-- is a group, of the items of one greater level number that follow it.
 use Rattle.std.specs.Prelude.{◌≡◌, ℕ, ◌+◌, ◌<◌, ◌≤◌, Bool, true, false, List, [], ◌∷◌, ◌++◌, bytes_eq, Option, Some, None, option_map, IsTrue, IsFalse, All, if◌then◌else◌}
 use Rattle.std.specs.List.{list_any}
 use Rattle.record_layout.specs.declared.item.Item.{Item}
@@ -34,18 +34,21 @@ item_of item = record { name = option_map (λ name. name.bytes) item.name; field
 
 -- ---- the structure that the levels spell
 
--- items of one level, one after another: an elementary item is written with a picture, and a group has items of a greater
--- level number
+-- items of one level, one after another: an elementary item is written with a picture, and a group
+-- has items of a greater level number
 pub data Structure : Type 0 where
   Nothing : Structure
-  Elementary : (name : Option (List ℕ)) → (text : List ℕ) → (picture : Picture) → (after : Structure) → Structure
+  Elementary : (name : Option (List ℕ)) → (text : List ℕ) → (picture : Picture) → (after : Structure)
+      → Structure
   Group : (name : Option (List ℕ)) → (inner : ℕ) → (members : Structure) → (after : Structure) → Structure
 
 -- the items as they are written, at this level
 abbrev pub written : ℕ → Structure → List Entry
 written level Nothing = []
-written level (Elementary name text picture after) = record { level = level; name = name; picture = Some text } ∷ written level after
-written level (Group name inner members after) = record { level = level; name = name; picture = None } ∷ written inner members ++ written level after
+written level (Elementary name text picture after) =
+    record { level = level; name = name; picture = Some text } ∷ written level after
+written level (Group name inner members after) =
+    record { level = level; name = name; picture = None } ∷ written inner members ++ written level after
 
 -- how many characters they have together
 abbrev pub width : Structure → ℕ
@@ -54,13 +57,19 @@ width (Elementary name text picture after) = picture.length + width after
 width (Group name inner members after) = width members + width after
 
 abbrev pub placed : Option (List ℕ) → ℕ → ℕ → Bool → Placed
-placed name offset length numeric = record { name = name; field = record { offset = offset; length = length; numeric = numeric } }
+placed name offset length numeric = record {
+  name = name;
+  field = record { offset = offset; length = length; numeric = numeric };
+}
 
 -- where they stand, from an offset on: each behind the one before, and a group where its first member stands
 abbrev pub places : ℕ → Structure → List Placed
 places offset Nothing = []
-places offset (Elementary name text picture after) = placed name offset picture.length picture.numeric ∷ places (offset + picture.length) after
-places offset (Group name inner members after) = placed name offset (width members) false ∷ places offset members ++ places (offset + width members) after
+places offset (Elementary name text picture after) =
+    placed name offset picture.length picture.numeric ∷ places (offset + picture.length) after
+places offset (Group name inner members after) =
+    placed name offset (width members) false ∷ places offset members
+    ++ places (offset + width members) after
 
 abbrev pub is_nothing : Structure → Bool
 is_nothing Nothing = true
@@ -100,7 +109,8 @@ AreNamedApart (entry ∷ after) = IsFalse (is_name_of after entry.name) × AreNa
 
 -- ---- a layout
 
--- the entries are a record, an item of level 01 of at most 4,000 characters, and these are the places of its items
+-- the entries are a record, an item of level 01 of at most 4,000 characters, and these are the
+-- places of its items
 pub record IsLayout (entries : List Entry) (layout : List Placed) : Type 0 where
   pub structure : Structure
   pub one : IsTrue (is_one structure)
@@ -124,4 +134,5 @@ field_of (item ∷ after) name = if is_named name item.name then Some item.field
 pub record IsRecord (layout : List Placed) : Type 0 where
   pub some : 1 ≤ length_of layout
   pub short : length_of layout ≤ 4000
-  pub within : All (λ item. (1 ≤ item.field.length) × (item.field.offset + item.field.length ≤ length_of layout)) layout
+  pub within : All (λ item. (1 ≤ item.field.length)
+      × (item.field.offset + item.field.length ≤ length_of layout)) layout

@@ -8,4 +8,5 @@ use denote.Ref.{Bor}
 
 -- the set has the names that these entries have, and no other
 abbrev pub HasNamesOf : BTreeSet (Bor (List ℕ)) → List Entry → Type 0
-HasNamesOf set entries = (name : List ℕ) → contains_by (λ key. slice_cmp nat_cmp name key.now) set ≡ is_name_of entries (Some name)
+HasNamesOf set entries = (name : List ℕ) → contains_by
+    (λ key. slice_cmp nat_cmp name key.now) set ≡ is_name_of entries (Some name)

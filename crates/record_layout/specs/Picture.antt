@@ -19,12 +19,14 @@ abbrev pub IsGroup : Bool → List ℕ → ℕ → Type 0
 IsGroup numeric [] n = ⊥
 IsGroup numeric (symbol ∷ rest) n =
     (is_symbol numeric symbol ≡ true) ×
-    (((rest ≡ []) × (n ≡ 1)) ⊎ ((digits : List ℕ) × (rest ≡ 40 ∷ digits ++ 41 ∷ []) × (list_all is_ascii_digit digits ≡ true) × (0 < length digits) × (n ≡ number digits) × (0 < n)))
+    (((rest ≡ []) × (n ≡ 1)) ⊎ ((digits : List ℕ) × (rest ≡ 40 ∷ digits ++ 41 ∷ [])
+    × (list_all is_ascii_digit digits ≡ true) × (0 < length digits) × (n ≡ number digits) × (0 < n)))
 
 -- groups one after another, for so many characters each
 abbrev pub AreGroups : Bool → List ℕ → List ℕ → Type 0
 AreGroups numeric text [] = text ≡ []
-AreGroups numeric text (n ∷ ns) = (group : List ℕ) × (rest : List ℕ) × (text ≡ group ++ rest) × IsGroup numeric group n × AreGroups numeric rest ns
+AreGroups numeric text (n ∷ ns) = (group : List ℕ) × (rest : List ℕ) × (text ≡ group ++ rest)
+    × IsGroup numeric group n × AreGroups numeric rest ns
 
 -- the text is one group or more, for n characters in all
 abbrev pub Means : Bool → List ℕ → ℕ → Type 0

@@ -15,7 +15,8 @@ behind_close (b ∷ rest) = if b == 41 then Some rest else None
 abbrev pub size_at : List ℕ → Option (ℕ × List ℕ)
 size_at bytes =
     let end = prefix_len is_ascii_digit bytes in
-    if nat_lt 0 (number (take end bytes)) then option_map (λ rest. (number (take end bytes), rest)) (behind_close (drop end bytes)) else None
+    if nat_lt 0 (number (take end bytes)) then option_map (λ rest. (number (take end bytes), rest))
+    (behind_close (drop end bytes)) else None
 
 abbrev pub behind_symbol : List ℕ → Option (ℕ × List ℕ)
 behind_symbol [] = Some (1, [])

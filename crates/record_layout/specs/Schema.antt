@@ -6,8 +6,8 @@ use Rattle.std.specs.Cmp.Lexicographic.{pointwise}
 use Rattle.record_layout.specs.declared.item.Field.{Field}
 use Rattle.record_layout.specs.declared.schema.KeyPart.{KeyPart}
 
--- the least and the greatest length of a file's records, and its keys: key 0 is the prime key, and the alternates follow by
--- rising offset (ours: so the order of their clauses does not matter)
+-- the least and the greatest length of a file's records, and its keys: key 0 is the prime key, and
+-- the alternates follow by rising offset (ours: so the order of their clauses does not matter)
 pub record Schema : Type 0 where
   pub least : ℕ
   pub greatest : ℕ
@@ -42,7 +42,8 @@ pub record IsKey (least : ℕ) (part : KeyPart) : Type 0 where
 abbrev pub AreKeys : List KeyPart → Type 0
 AreKeys [] = ⊥
 AreKeys (prime ∷ alternates) =
-    (prime.duplicates ≡ false) × All (λ part. (part.offset ≡ prime.offset → ⊥)) alternates × AllPairs (λ a b. a.offset < b.offset) alternates
+    (prime.duplicates ≡ false) × All (λ part. (part.offset ≡ prime.offset → ⊥)) alternates
+    × AllPairs (λ a b. a.offset < b.offset) alternates
 
 -- what is true of every schema: records have 1 to 4,000 bytes, and there are 1 to 9 keys
 pub record IsSchema (schema : Schema) : Type 0 where
@@ -56,16 +57,20 @@ pub record IsSchema (schema : Schema) : Type 0 where
 -- a part is stored as the triple of its fields
 abbrev pub part_code : Coded KeyPart
 part_code =
-    code_by (ℕ × (ℕ × Bool)) (coded× coded_ℕ (coded× coded_ℕ coded_bool)) (λ p. (p.offset, (p.length, p.duplicates))) (λ q. record { offset = q.0; length = q.1.0; duplicates = q.1.1 }) (λ _. refl)
+    code_by (ℕ × (ℕ × Bool)) (coded× coded_ℕ (coded× coded_ℕ coded_bool))
+    (λ p. (p.offset, (p.length, p.duplicates))) (λ q.
+    record { offset = q.0; length = q.1.0; duplicates = q.1.1 }) (λ _. refl)
 
 -- a schema is stored as the triple of its fields
 abbrev pub schema_code : Coded Schema
 schema_code =
-    code_by (ℕ × (ℕ × List KeyPart)) (coded× coded_ℕ (coded× coded_ℕ (coded_list part_code))) (λ s. (s.least, (s.greatest, s.keys))) (λ p. schema_of_fields p.0 p.1.0 p.1.1) (λ _. refl)
+    code_by (ℕ × (ℕ × List KeyPart)) (coded× coded_ℕ (coded× coded_ℕ (coded_list part_code)))
+    (λ s. (s.least, (s.greatest, s.keys))) (λ p. schema_of_fields p.0 p.1.0 p.1.1) (λ _. refl)
 
 -- the parts are the same bytes of a record, and both may have duplicates or neither
 abbrev pub same_part : KeyPart → KeyPart → Bool
-same_part a b = (a.offset == b.offset) && (a.length == b.length) && (if a.duplicates then b.duplicates else not b.duplicates)
+same_part a b = (a.offset == b.offset) && (a.length == b.length)
+    && (if a.duplicates then b.duplicates else not b.duplicates)
 
 -- the lengths and all keys are the same
 abbrev pub same_schema : Schema → Schema → Bool
@@ -73,8 +78,10 @@ same_schema a b = (a.least == b.least) && (a.greatest == b.greatest) && pointwis
 
 -- the key that is the item's very bytes: an item with a key's offset and length counts as that key (ours)
 abbrev pub key_of_field : Schema → Field → Option ℕ
-key_of_field schema field = position (λ part. (part.offset == field.offset) && (part.length == field.length)) schema.keys
+key_of_field schema field = position (λ part. (part.offset == field.offset)
+    && (part.length == field.length)) schema.keys
 
 -- the key that begins with the item: the item's leftmost character is the key's, and it is not longer
 abbrev pub key_led_by : Schema → Field → Option ℕ
-key_led_by schema field = position (λ part. (part.offset == field.offset) && nat_le field.length part.length) schema.keys
+key_led_by schema field = position (λ part. (part.offset == field.offset)
+    && nat_le field.length part.length) schema.keys

@@ -1,7 +1,9 @@
--- Which keys a schema has, and which fault a list of keys has: the prime key is looked at first, and then the alternates in
--- the order in which they are given, each by the tests below in their order.
--- ANSI X3.23-1985, Indexed I-O module, FILE-CONTROL entry: the leftmost character of no key is that of another; RECORD clause:
--- each key is within the least record length. The limits of 250 characters and 8 alternate keys are ours.
+-- Which keys a schema has, and which fault a list of keys has: the prime key is looked at first,
+-- and then the alternates in the order in which they are given, each by the tests below in their
+-- order.
+-- ANSI X3.23-1985, Indexed I-O module, FILE-CONTROL entry: the leftmost character of no key is that
+-- of another; RECORD clause: each key is within the least record length. The limits of 250
+-- characters and 8 alternate keys are ours.
 use Rattle.std.specs.Prelude.{◌≡◌, ℕ, ◌+◌, ◌==◌, Bool, false, List, [], ◌∷◌, ◌++◌, length, nat_lt, Option, Some, None, Result, Ok, Err, IsPermutation, if◌then◌else◌}
 use Rattle.std.specs.List.{list_any}
 use Rattle.arrayvec.specs.ArrayString.{ArrayString as Text}
@@ -35,10 +37,12 @@ key_of_item least keys duplicates (Some field) =
     else Ok (record { offset = field.offset; length = field.length; duplicates = duplicates })
 
 abbrev pub key_of_clause : List Placed → ℕ → List KeyPart → KeyClause → Result KeyPart SchemaFault
-key_of_clause layout least keys clause = key_of_item least keys clause.duplicates (field_of layout clause.name)
+key_of_clause layout least keys clause = key_of_item least keys clause.duplicates
+    (field_of layout clause.name)
 
 -- what follows a key, or its fault
-abbrev pub where_a_key : Result KeyPart SchemaFault → (KeyPart → Result (List KeyPart) SchemaFault) → Result (List KeyPart) SchemaFault
+abbrev pub where_a_key : Result KeyPart SchemaFault → (KeyPart → Result (List KeyPart) SchemaFault)
+    → Result (List KeyPart) SchemaFault
 where_a_key (Err fault) follows = Err fault
 where_a_key (Ok key) follows = follows key
 
@@ -46,7 +50,8 @@ where_a_key (Ok key) follows = follows key
 abbrev pub keys_behind : List Placed → ℕ → List KeyPart → List KeyClause → Result (List KeyPart) SchemaFault
 keys_behind layout least keys [] = Ok keys
 keys_behind layout least keys (clause ∷ clauses) =
-    where_a_key (key_of_clause layout least keys clause) (λ key. keys_behind layout least (keys ++ key ∷ []) clauses)
+    where_a_key (key_of_clause layout least keys clause)
+    (λ key. keys_behind layout least (keys ++ key ∷ []) clauses)
 
 -- all keys in the order given, the prime key first, or the first fault
 abbrev pub keys_given : List Placed → ℕ → List ℕ → List KeyClause → Result (List KeyPart) SchemaFault
@@ -54,12 +59,15 @@ keys_given layout least prime alternates =
     if nat_lt 8 (length alternates) then Err TooManyKeys
     else keys_behind layout least [] (record { name = prime; duplicates = false } ∷ alternates)
 
--- a schema of these keys: the prime key first, and then the same alternates, by rising offset as each schema has them
+-- a schema of these keys: the prime key first, and then the same alternates, by rising offset as
+-- each schema has them
 abbrev pub HasKeys : Schema → List KeyPart → Type 0
 HasKeys schema [] = ⊥
-HasKeys schema (prime ∷ alternates) = (sorted : List KeyPart) × (schema.keys ≡ prime ∷ sorted) × IsPermutation alternates sorted
+HasKeys schema (prime ∷ alternates) = (sorted : List KeyPart) × (schema.keys ≡ prime ∷ sorted)
+    × IsPermutation alternates sorted
 
 -- what a layout and key clauses give
 abbrev pub GivesSchema : List Placed → ℕ → List ℕ → List KeyClause → Schema → Type 0
 GivesSchema layout least prime alternates schema =
-    (keys : List KeyPart) × (keys_given layout least prime alternates ≡ Ok keys) × HasKeys schema keys × (schema.least ≡ least) × (schema.greatest ≡ length_of layout)
+    (keys : List KeyPart) × (keys_given layout least prime alternates ≡ Ok keys) × HasKeys schema keys
+    × (schema.least ≡ least) × (schema.greatest ≡ length_of layout)

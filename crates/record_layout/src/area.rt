@@ -35,7 +35,8 @@ impl Source<Bytes> {
     }
 }
 
-/// Whether the item takes the source: a numeric item takes digits and ZERO alone, and any other item takes all.
+/// Whether the item takes the source: a numeric item takes digits and ZERO alone, and any other
+/// item takes all.
 pub fn takes(field: Field, source: &Source<&[u8]>) -> bool
     ensures { result ≡ is_taken_by field.numeric (sent source.now) }
 {

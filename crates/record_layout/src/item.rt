@@ -4,8 +4,8 @@ ghost use Rattle.record_layout.specs.Layout.{is_named};
 
 use io_state::Name;
 
-/// A data description entry: its level number, its name (none for FILLER), and its picture as it is written (none for a
-/// group).
+/// A data description entry: its level number, its name (none for FILLER), and its picture as it is
+/// written (none for a group).
 #[derive(Clone, Copy, Debug)]
 pub struct Item {
     pub level: u8,

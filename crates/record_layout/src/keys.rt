@@ -18,8 +18,10 @@ pub fn keys_in_order(
     prime: &str,
     alternates: &[(Name, bool)],
 ) -> Result<ArrayVec<KeyPart, 9>, SchemaFault>
-    ensures keys { IfOk result (λ keys. keys_given layout.now least prime.now (map clause_of alternates.now) ≡ Ok keys.items) }
-    ensures fault { IfErr result (λ fault. keys_given layout.now least prime.now (map clause_of alternates.now) ≡ Err fault) }
+    ensures keys { IfOk result (λ keys. keys_given layout.now least prime.now
+        (map clause_of alternates.now) ≡ Ok keys.items) }
+    ensures fault { IfErr result (λ fault. keys_given layout.now least prime.now
+        (map clause_of alternates.now) ≡ Err fault) }
 {
     if alternates.len() > 8 {
         return Err(SchemaFault::TooManyKeys);

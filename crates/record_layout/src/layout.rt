@@ -34,13 +34,15 @@ impl Layout {
     ghost use Rattle.record_layout.specs.LayoutFault.{IsFirstFault};
     ghost use Rattle.record_layout.specs.Area.{blank_area};
 
-    /// The layout of the record that data description entries describe. The fault is the first one of the first entry that
-    /// has one: it stands behind a group without items, its level does not fit, its name is taken, its picture is none, or
-    /// the record is past 4,000 characters. No entry, or a group at the end, is `Empty`. `Memory` comes where there is no room
-    /// for the places.
+    /// The layout of the record that data description entries describe. The fault is the first one
+    /// of the first entry that has one: it stands behind a group without items, its level does not
+    /// fit, its name is taken, its picture is none, or the record is past 4,000 characters. No
+    /// entry, or a group at the end, is `Empty`. `Memory` comes where there is no room for the
+    /// places.
     pub fn build(alloc: Global, items: &[Item]) -> Result<Layout, LayoutFault>
         ensures laid { IfOk result (IsLayout (map entry_of items.now)) }
-        ensures fault { IfErr result (λ fault. fault ≢ LayoutFault.Memory → IsFirstFault [] 0 (map entry_of items.now) fault) }
+        ensures fault { IfErr result (λ fault. fault ≢ LayoutFault.Memory
+            → IsFirstFault [] 0 (map entry_of items.now) fault) }
     {
         let mut items_placed = own_places(alloc, items)?;
         set_group_lengths(items, &mut items_placed);
@@ -98,5 +100,6 @@ impl Layout {
 
 /// Data description entries that have a layout have no fault.
 pub fn one_outcome()
-    ensures { (entries : List Entry) (layout : List PlacedItem) (fault : LayoutFault) → IsLayout entries layout → IsFirstFault [] 0 entries fault → ⊥ }
+    ensures { (entries : List Entry) (layout : List PlacedItem) (fault : LayoutFault)
+        → IsLayout entries layout → IsFirstFault [] 0 entries fault → ⊥ }
 {}

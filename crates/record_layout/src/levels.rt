@@ -15,8 +15,10 @@ pub fn check_place(
     item: &Item,
 ) -> Result<(), LayoutFault>
     requires { HasNamesOf names.now (reverse (map entry_of before.now)) }
-    ensures in_place { OnOk result (IsTrue (is_in_place (reverse (map entry_of before.now)) (entry_of item.now))) }
-    ensures fault { IfErr result (λ fault. (total : ℕ) → IsFaultOf (reverse (map entry_of before.now)) total (entry_of item.now) fault) }
+    ensures in_place { OnOk result (IsTrue (is_in_place (reverse (map entry_of before.now))
+        (entry_of item.now))) }
+    ensures fault { IfErr result (λ fault. (total : ℕ)
+        → IsFaultOf (reverse (map entry_of before.now)) total (entry_of item.now) fault) }
 {
     if follows_empty_group(before, item.level) {
         return Err(LayoutFault::Empty);

@@ -22,7 +22,8 @@ pub fn no_names<'a>(alloc: Global) -> NamesInOrder<'a>
 
 /// Adds the name of an item, if it has one.
 pub fn add_name<'a>(names: &mut NamesInOrder<'a>, item: &'a Item) -> Result<(), LayoutFault>
-    ensures added { OnOk result ((entries : List Entry) → HasNamesOf names.old entries → HasNamesOf names.new (entry_of item.now ∷ entries)) }
+    ensures added { OnOk result ((entries : List Entry) → HasNamesOf names.old entries
+        → HasNamesOf names.new (entry_of item.now ∷ entries)) }
     ensures fault { IfErr result (λ fault. fault ≡ LayoutFault.Memory) }
 {
     match &item.name {

@@ -4,8 +4,9 @@ ghost use Rattle.record_layout.specs.Schema.{IsKey, AreKeys};
 
 use crate::schema::KeyPart;
 
-/// Whether these are the keys of a schema: records have at least `least` bytes, and each key is whole in each record; the first key is the prime key, which has no
-/// duplicates, and the alternate keys stand by rising offset.
+/// Whether these are the keys of a schema: records have at least `least` bytes, and each key is
+/// whole in each record; the first key is the prime key, which has no duplicates, and the alternate
+/// keys stand by rising offset.
 pub fn are_keys(least: u16, keys: &[KeyPart]) -> bool
     ensures whole { IsTrue result → All (IsKey least) keys.now }
     ensures keys { IsTrue result → AreKeys keys.now }

@@ -19,14 +19,15 @@ pub struct Picture {
 const CAP: u64 = 4001;
 
 impl Picture {
-    /// The picture that a text is, with X and 9 for its symbols, each alone or with a number of characters in parentheses.
-    /// `TooLong` is one of X for more than 4,000 characters; any other text, and one of 9 for more than 18 digits, is
-    /// `BadPicture`.
+    /// The picture that a text is, with X and 9 for its symbols, each alone or with a number of
+    /// characters in parentheses. `TooLong` is one of X for more than 4,000 characters; any other
+    /// text, and one of 9 for more than 18 digits, is `BadPicture`.
     pub fn parse(text: &[u8]) -> Result<Picture, LayoutFault>
         ensures good { IfOk result (IsPicture text.now) }
         ensures too_long { IsErrOf result LayoutFault.TooLong → IsTooLong text.now }
         ensures bad { IsErrOf result LayoutFault.BadPicture → IsBad text.now }
-        ensures only { IfErr result (λ fault. (fault ≡ LayoutFault.TooLong) ⊎ (fault ≡ LayoutFault.BadPicture)) }
+        ensures only { IfErr result (λ fault. (fault ≡ LayoutFault.TooLong)
+            ⊎ (fault ≡ LayoutFault.BadPicture)) }
     {
         let numeric = begins_numeric(text);
         let Some(n) = total(numeric, text) else {

@@ -14,7 +14,8 @@ use std::alloc::Global;
 /// The place of each item by itself: a group has no characters yet.
 pub fn own_places(alloc: Global, items: &[Item]) -> Result<Vec<Placed>, LayoutFault>
     ensures places { IfOk result (λ places. HavePlaces (map entry_of items.now) (map item_of places.items)) }
-    ensures fault { IfErr result (λ fault. fault ≢ LayoutFault.Memory → IsFirstFault [] 0 (map entry_of items.now) fault) }
+    ensures fault { IfErr result (λ fault. fault ≢ LayoutFault.Memory
+        → IsFirstFault [] 0 (map entry_of items.now) fault) }
 {
     let mut places = Vec::new(alloc);
     let mut names = no_names(alloc);

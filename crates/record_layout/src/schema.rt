@@ -12,7 +12,8 @@ use arrayvec::ArrayVec;
 use io_state::{Key, Name};
 use std::marker::Model;
 
-/// A part of a record that is a key: bytes from the record's first on, and whether records may share its value.
+/// A part of a record that is a key: bytes from the record's first on, and whether records may
+/// share its value.
 #[derive(Clone, Copy, Debug, PartialEq, Eq, Default)]
 pub struct KeyPart {
     pub offset: u16,
@@ -20,8 +21,8 @@ pub struct KeyPart {
     pub duplicates: bool,
 }
 
-/// The least and the greatest length of a file's records, in bytes, and the keys: key 0 is the prime record key, and the
-/// alternate record keys follow by rising offset.
+/// The least and the greatest length of a file's records, in bytes, and the keys: key 0 is the
+/// prime record key, and the alternate record keys follow by rising offset.
 #[derive(Drop)]
 pub struct Schema {
     least: u16,
@@ -61,23 +62,25 @@ impl Schema {
     ghost use Rattle.record_layout.specs.SchemaFault.{clause_of, keys_given, GivesSchema};
     ghost use Rattle.record_layout.specs.Schema.{IsSchema, IsKey, schema_of_fields, key_at, value_of, same_schema, key_of_field, key_led_by};
 
-    /// The schema of records that are all as long as the layout, with these items for their keys. An alternate key is an item's
-    /// name, and whether its clause says WITH DUPLICATES.
+    /// The schema of records that are all as long as the layout, with these items for their keys.
+    /// An alternate key is an item's name, and whether its clause says WITH DUPLICATES.
     pub fn new(
         layout: &Layout,
         prime: &str,
         alternates: &[(Name, bool)],
     ) -> Result<Schema, SchemaFault>
-        ensures given { IfOk result (GivesSchema layout.now (length_of layout.now) prime.now (map clause_of alternates.now)) }
-        ensures fault { IfErr result (λ fault. keys_given layout.now (length_of layout.now) prime.now (map clause_of alternates.now) ≡ Err fault) }
+        ensures given { IfOk result (GivesSchema layout.now (length_of layout.now) prime.now
+            (map clause_of alternates.now)) }
+        ensures fault { IfErr result (λ fault. keys_given layout.now (length_of layout.now) prime.now
+            (map clause_of alternates.now) ≡ Err fault) }
     {
         Schema::varying(layout, layout.length(), prime, alternates)
     }
 
-    /// The schema of records of `least` bytes up to the layout's length, with these items for their keys, as `new` has them.
-    /// `TooManyKeys` is looked at first, for more than 8 alternates. Then the fault is that of the first key that has one, the
-    /// prime key first: no item has its name, the item is past 250 bytes, begins where an earlier key does, or ends past
-    /// `least`.
+    /// The schema of records of `least` bytes up to the layout's length, with these items for their
+    /// keys, as `new` has them. `TooManyKeys` is looked at first, for more than 8 alternates. Then
+    /// the fault is that of the first key that has one, the prime key first: no item has its name,
+    /// the item is past 250 bytes, begins where an earlier key does, or ends past `least`.
     pub fn varying(
         layout: &Layout,
         least: u16,
@@ -87,7 +90,8 @@ impl Schema {
         requires some { 1 ≤ least }
         requires within { least ≤ length_of layout.now }
         ensures given { IfOk result (GivesSchema layout.now least prime.now (map clause_of alternates.now)) }
-        ensures fault { IfErr result (λ fault. keys_given layout.now least prime.now (map clause_of alternates.now) ≡ Err fault) }
+        ensures fault { IfErr result (λ fault. keys_given layout.now least prime.now
+            (map clause_of alternates.now) ≡ Err fault) }
     {
         let greatest = layout.length();
         let mut keys = keys_in_order(layout, least, prime, alternates)?;
@@ -226,7 +230,8 @@ fn same_keys(keys: &[KeyPart], others: &[KeyPart]) -> bool
 
 /// Which key is the item's very bytes.
 fn equal_key(keys: &[KeyPart], field: Field) -> Option<usize>
-    ensures key { result ≡ position (λ part. (part.offset == field.offset) && (part.length == field.length)) keys.now }
+    ensures key { result ≡ position (λ part. (part.offset == field.offset)
+        && (part.length == field.length)) keys.now }
     ensures within { IfSome result (λ k. k < length keys.now) }
 {
     keys.iter().position(|part| part.offset == field.offset && part.length == field.length)
@@ -234,7 +239,8 @@ fn equal_key(keys: &[KeyPart], field: Field) -> Option<usize>
 
 /// Which key begins with the item's bytes.
 fn leading_key(keys: &[KeyPart], field: Field) -> Option<usize>
-    ensures key { result ≡ position (λ part. (part.offset == field.offset) && nat_le field.length part.length) keys.now }
+    ensures key { result ≡ position (λ part. (part.offset == field.offset)
+        && nat_le field.length part.length) keys.now }
     ensures within { IfSome result (λ k. k < length keys.now) }
 {
     keys.iter().position(|part| part.offset == field.offset && field.length <= part.length)

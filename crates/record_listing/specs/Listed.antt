@@ -16,7 +16,8 @@ is_past (Some to) value = is_gt (value_cmp (take (length to.items) value) to.ite
 
 -- a START with NOT LESS would take the row by the first bound, and its value is not past the last one
 abbrev pub is_within : Schema → Asked → Row → Bool
-is_within schema asked row = satisfies schema asked.key NotLess asked.from.items row && not (is_past asked.to (value_of schema asked.key row.bytes))
+is_within schema asked row = satisfies schema asked.key NotLess asked.from.items row
+    && not (is_past asked.to (value_of schema asked.key row.bytes))
 
 -- a row is one of these
 abbrev pub IsOf : List Row → Row → Type 0
@@ -42,4 +43,5 @@ pub record AreListed (schema : Schema) (file : File) (asked : Asked) (rows : Lis
   pub few : length rows ≤ asked.first
   -- each row of the file within the bounds is there, or as many as are asked for come before it
   pub whole : (row : Row) → IsOf file.rows row → IsTrue (is_within schema asked row)
-      → IsOf rows row ⊎ ((length rows ≡ asked.first) × Each (λ other. ComesBefore schema asked.key other row) rows)
+      → IsOf rows row ⊎ ((length rows ≡ asked.first)
+      × Each (λ other. ComesBefore schema asked.key other row) rows)

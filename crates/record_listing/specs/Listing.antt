@@ -35,14 +35,16 @@ end_of (Err (GaveUp fault)) shut = end_by fault
 end_of (Err NotTaken) shut = Err Output
 
 -- the list of the rows of a file that are asked for was written
-pub record WritesLines (form : Form) (schema : Schema) (file : File) (asked : Asked) (before behind : Option (List ℕ)) : Type 0 where
+pub record WritesLines (form : Form) (schema : Schema) (file : File) (asked : Asked)
+    (before behind : Option (List ℕ)) : Type 0 where
   pub key : asked.key < length schema.keys
   pub rows : List Row
   pub listed : AreListed schema file asked rows
   pub written : Appends before behind (list_of form rows)
 
 -- a front of it was written, which may be empty
-pub record WritesFront (form : Form) (schema : Schema) (file : File) (asked : Asked) (before behind : Option (List ℕ)) : Type 0 where
+pub record WritesFront (form : Form) (schema : Schema) (file : File) (asked : Asked)
+    (before behind : Option (List ℕ)) : Type 0 where
   pub rows : List Row
   pub listed : AreListed schema file asked rows
   pub front : List ℕ
@@ -50,25 +52,31 @@ pub record WritesFront (form : Form) (schema : Schema) (file : File) (asked : As
   pub text : list_of form rows ≡ front ++ rest
   pub written : Appends before behind front
 
--- a list of what a name stands for ends so: its list was written; or nothing was, since there is no file, it is refused, or it does not have the key
+-- a list of what a name stands for ends so: its list was written; or nothing was, since there is no
+-- file, it is refused, or it does not have the key
 abbrev pub EndsWith : Form → Asked → Named → (before behind : Option (List ℕ)) → ListEnd → Type 0
-EndsWith form asked (Closed schema file) before behind Listed = WritesLines form schema file asked before behind
-EndsWith form asked (Closed schema file) before behind NoKey = (length schema.keys ≤ asked.key) × (behind ≡ before)
+EndsWith form asked (Closed schema file) before behind Listed =
+    WritesLines form schema file asked before behind
+EndsWith form asked (Closed schema file) before behind NoKey =
+    (length schema.keys ≤ asked.key) × (behind ≡ before)
 EndsWith form asked NoFile before behind Absent = behind ≡ before
 EndsWith form asked Refused before behind Unsound = behind ≡ before
 EndsWith form asked named before behind end = ⊥
 
--- a list of what a name stands for ends before its end: nothing was written, or a front of the list of the file
+-- a list of what a name stands for ends before its end: nothing was written, or a front of the list
+-- of the file
 abbrev pub BreaksOff : Form → Asked → Named → (before behind : Option (List ℕ)) → Type 0
 BreaksOff form asked NoFile before behind = behind ≡ before
 BreaksOff form asked Refused before behind = behind ≡ before
-BreaksOff form asked (Closed schema file) before behind = (behind ≡ before) ⊎ WritesFront form schema file asked before behind
+BreaksOff form asked (Closed schema file) before behind =
+    (behind ≡ before) ⊎ WritesFront form schema file asked before behind
 
 abbrev pub Ends : Form → Asked → Named → (before behind : Option (List ℕ)) → Result ListEnd ListFault → Type 0
 Ends form asked named before behind (Ok end) = EndsWith form asked named before behind end
 Ends form asked named before behind (Err fault) = BreaksOff form asked named before behind
 
--- why a list ends so: the device failed where the file could not be read; and a page is not what its place requires only where the library lies
+-- why a list ends so: the device failed where the file could not be read; and a page is not what
+-- its place requires only where the library lies
 abbrev pub TellsWhy : {S : Type 0} → Shown S → List ℕ → (old new : S) → Result ListEnd ListFault → Type 0
 TellsWhy shown name old new (Err Input) = HasRisen (shown.fault_count old) (shown.fault_count new)
 TellsWhy shown name old new (Err Output) = Unit {0}
@@ -76,9 +84,11 @@ TellsWhy shown name old new (Err Memory) = Unit {0}
 TellsWhy shown name old new (Ok Damaged) = IsTrue (shown.is_honest new) → shown.IsShownTruly old name → ⊥
 TellsWhy shown name old new (Ok end) = Unit {0}
 
--- unit 0 is closed, and its name stands for what it stood for where the library is honest, what it showed was true, and a premise holds
+-- unit 0 is closed, and its name stands for what it stood for where the library is honest, what it
+-- showed was true, and a premise holds
 pub record Leaves {S : Type 0} (shown : Shown S) (Premise : Type 0) (old new : S) : Type 0 where
   pub only : OnlyAt 0 (shown.world old) (shown.world new)
-  pub named : IsTrue (shown.is_honest new) → shown.IsShownTruly old (name_at (shown.world old) 0) → Premise → named_at (shown.world new) 0 ≡ named_at (shown.world old) 0
+  pub named : IsTrue (shown.is_honest new) → shown.IsShownTruly old (name_at (shown.world old) 0) → Premise
+      → named_at (shown.world new) 0 ≡ named_at (shown.world old) 0
   pub closed : IsFalse (is_open (holding_at (shown.world new) 0))
   pub keeps : Keeps shown old new

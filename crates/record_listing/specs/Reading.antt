@@ -30,11 +30,13 @@ pub record Reads {S : Type 0} (shown : Shown S) (old new : S) : Type 0 where
 abbrev pub behind : Schema → ℕ → Row → Position
 behind schema k row = After (key_of_row schema k row) (stamp_of k row)
 
--- the rows from a position on, as READ NEXT gives them one after another: up to the bound, and so many at most
+-- the rows from a position on, as READ NEXT gives them one after another: up to the bound, and so
+-- many at most
 unfoldable pub rows_from : Schema → File → ℕ → Option (ArrayVec ℕ) → ℕ → Position → List Row
 rows_from schema file k to zero position = []
 rows_from schema file k to (suc n) position =
-    option_map_or (λ row. if is_past to (value_of schema k row.bytes) then [] else row ∷ rows_from schema file k to n (behind schema k row))
+    option_map_or (λ row. if is_past to (value_of schema k row.bytes) then [] else row ∷ rows_from schema
+    file k to n (behind schema k row))
     (least schema k (admits schema k position) file) []
 
 -- the rows that are asked for
@@ -42,18 +44,22 @@ abbrev pub rows_asked : Schema → File → Asked → List Row
 rows_asked schema file asked = rows_from schema file asked.key asked.to asked.first (From asked.from)
 
 -- a record that was found is in the first bytes of the area, and is the first of the rows from a position on
-pub record ComesNext (schema : Schema) (file : File) (k : ℕ) (to : Option (ArrayVec ℕ)) (position : Position) (area : List ℕ) (found : Found) : Type 0 where
+pub record ComesNext (schema : Schema) (file : File) (k : ℕ) (to : Option (ArrayVec ℕ))
+    (position : Position) (area : List ℕ) (found : Found) : Type 0 where
   pub row : Row
   pub bytes : take found.length area ≡ row.bytes
-  pub rows : (n : ℕ) → rows_from schema file k to (n + 1) position ≡ row ∷ rows_from schema file k to n (After found.key found.stamp)
+  pub rows : (n : ℕ) → rows_from schema file k to (n + 1) position ≡ row ∷ rows_from schema file k to n
+      (After found.key found.stamp)
 
 -- how the rows from a position on go on: there is none, or a first one
 abbrev pub GoesOn : Schema → File → ℕ → Option (ArrayVec ℕ) → Position → List ℕ → Option Found → Type 0
 GoesOn schema file k to position area None = (n : ℕ) → rows_from schema file k to n position ≡ []
 GoesOn schema file k to position area (Some found) = ComesNext schema file k to position area found
 
--- of the lines of these rows all are on their way but those of the rest: the writer took some bytes, and the others are held
-pub record IsOnItsWay (form : Form) (rows rest : List Row) (before now : Option (List ℕ)) (held : List ℕ) : Type 0 where
+-- of the lines of these rows all are on their way but those of the rest: the writer took some
+-- bytes, and the others are held
+pub record IsOnItsWay (form : Form) (rows rest : List Row) (before now : Option (List ℕ))
+    (held : List ℕ) : Type 0 where
   pub done : List Row
   pub taken : List ℕ
   pub rows_are : rows ≡ done ++ rest
@@ -68,9 +74,11 @@ pub record IsWrittenInPart (text : List ℕ) (before now : Option (List ℕ)) : 
   pub appends : Appends before now front
 
 -- the lines of these rows are on their way, or only the first of them; or the writer refused one
-abbrev pub ComesOut : Form → List Row → (before now : Option (List ℕ)) → (held : List ℕ) → Result Unit Stop → Type 0
+abbrev pub ComesOut : Form → List Row → (before now : Option (List ℕ)) → (held : List ℕ) → Result Unit Stop
+    → Type 0
 ComesOut form rows before now held (Ok _) = IsOnItsWay form rows [] before now held
-ComesOut form rows before now held (Err (GaveUp fault)) = (rest : List Row) × IsOnItsWay form rows rest before now held
+ComesOut form rows before now held (Err (GaveUp fault)) =
+    (rest : List Row) × IsOnItsWay form rows rest before now held
 ComesOut form rows before now held (Err NotTaken) = IsWrittenInPart (lines_of form rows) before now
 
 -- the text was written, or a front of it
@@ -78,13 +86,17 @@ abbrev pub IsWritten : List ℕ → (before now : Option (List ℕ)) → Result 
 IsWritten text before now (Ok _) = Appends before now text
 IsWritten text before now (Err stop) = IsWrittenInPart text before now
 
--- the line of a record is held; or there is no memory for it, and what was held and written is as it was; or the writer refused it or what was held
-abbrev pub HoldsLine : (before now : Option (List ℕ)) → (held held_after line : List ℕ) → Result Unit Stop → Type 0
+-- the line of a record is held; or there is no memory for it, and what was held and written is as
+-- it was; or the writer refused it or what was held
+abbrev pub HoldsLine : (before now : Option (List ℕ)) → (held held_after line : List ℕ) → Result Unit Stop
+    → Type 0
 HoldsLine before now held held_after line (Ok _) = Holds before now held held_after line
-HoldsLine before now held held_after line (Err (GaveUp fault)) = (fault ≡ Memory) × (now ≡ before) × (held_after ≡ held)
+HoldsLine before now held held_after line (Err (GaveUp fault)) =
+    (fault ≡ Memory) × (now ≡ before) × (held_after ≡ held)
 HoldsLine before now held held_after line (Err NotTaken) = AppendsFront before now (held ++ line)
 
--- why not all lines are written: a call of the library answered a fault that it may answer; or the writer refused one
+-- why not all lines are written: a call of the library answered a fault that it may answer; or the
+-- writer refused one
 abbrev pub MayStop : {S : Type 0} → Shown S → S → S → Stop → Type 0
 MayStop shown old new (GaveUp fault) = MayAnswerShut shown 0 old new fault
 MayStop shown old new NotTaken = Unit {0}

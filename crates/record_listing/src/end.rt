@@ -20,7 +20,8 @@ pub enum ListEnd {
     Damaged,
 }
 
-/// Why a list ended before its end. The first lines may have been written, the last of them in part where the writer failed.
+/// Why a list ended before its end. The first lines may have been written, the last of them in part
+/// where the writer failed.
 #[derive(Clone, Copy, Debug, PartialEq, Eq, Error)]
 pub enum ListFault {
     #[error("the file cannot be read")]
@@ -31,7 +32,8 @@ pub enum ListFault {
     Memory,
 }
 
-/// What a fault of the library makes of a list. No call that reads answers `Full`, and none `Broken` of a file that was just opened.
+/// What a fault of the library makes of a list. No call that reads answers `Full`, and none
+/// `Broken` of a file that was just opened.
 pub fn end_by(fault: Fault) -> Result<ListEnd, ListFault>
     ensures { result ≡ end_by fault }
 {

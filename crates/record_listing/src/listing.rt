@@ -46,9 +46,11 @@ fn list_open<L: Library, W: Write>(
     requires length { greatest ≡ (schema_at (L.shown.world lib.old) 0).greatest }
     requires short { greatest ≤ 4000 }
     ensures ends { Believed L.shown 0 lib.old lib.new (
-        Ends form.now asked (Closed (schema_at (L.shown.world lib.old) 0) (file_at (L.shown.world lib.old) 0)) (W.contents out.old) (W.contents out.new) result) }
+        Ends form.now asked (Closed (schema_at (L.shown.world lib.old) 0)
+        (file_at (L.shown.world lib.old) 0)) (W.contents out.old) (W.contents out.new) result) }
     ensures cause { TellsWhy L.shown (name_at (L.shown.world lib.old) 0) lib.old lib.new result }
-    ensures leaves { Leaves L.shown (NamesFile 0 (L.shown.world lib.old) (L.shown.world lib.old)) lib.old lib.new }
+    ensures leaves { Leaves L.shown (NamesFile 0 (L.shown.world lib.old) (L.shown.world lib.old)) lib.old
+        lib.new }
 {
     let written = write_rows(alloc, lib, asked, form, greatest, out);
     let shut = lib.shut(0);
@@ -67,10 +69,12 @@ fn list_sound<L: Library, W: Write>(
     requires attached { 0 < length (L.shown.world lib.old).units }
     requires looked { IsTrue (is_looked (holding_at (L.shown.world lib.old) 0)) }
     requires schema { schema_at (L.shown.world lib.old) 0 ≡ schema.now }
-    ensures ends { Believed L.shown 0 lib.old lib.new ((file : File) → named_at (L.shown.world lib.old) 0 ≡ Closed schema.now file
+    ensures ends { Believed L.shown 0 lib.old lib.new ((file : File)
+        → named_at (L.shown.world lib.old) 0 ≡ Closed schema.now file
         → Ends form.now asked (Closed schema.now file) (W.contents out.old) (W.contents out.new) result) }
     ensures cause { TellsWhy L.shown (name_at (L.shown.world lib.old) 0) lib.old lib.new result }
-    ensures leaves { Leaves L.shown ((file : File) × (named_at (L.shown.world lib.old) 0 ≡ Closed schema.now file)) lib.old lib.new }
+    ensures leaves { Leaves L.shown ((file : File)
+        × (named_at (L.shown.world lib.old) 0 ≡ Closed schema.now file)) lib.old lib.new }
 {
     if usize::from(asked.key) >= schema.key_count() {
         return Ok(ListEnd::NoKey);
@@ -91,7 +95,9 @@ fn list_attached<L: Library, W: Write>(
 ) -> Result<ListEnd, ListFault>
     requires attached { 0 < length (L.shown.world lib.old).units }
     requires closed { IsFalse (is_open (holding_at (L.shown.world lib.old) 0)) }
-    ensures ends { Believed L.shown 0 lib.old lib.new (Ends form.now asked (named_at (L.shown.world lib.old) 0) (W.contents out.old) (W.contents out.new) result) }
+    ensures ends { Believed L.shown 0 lib.old lib.new
+        (Ends form.now asked (named_at (L.shown.world lib.old) 0) (W.contents out.old)
+        (W.contents out.new) result) }
     ensures cause { TellsWhy L.shown (name_at (L.shown.world lib.old) 0) lib.old lib.new result }
     ensures leaves { Leaves L.shown (Unit {0}) lib.old lib.new }
 {
@@ -103,10 +109,11 @@ fn list_attached<L: Library, W: Write>(
     }
 }
 
-/// Writes the lines of the records of a file that are asked for in a form, in the order of the key, and closes the file. The library has this name attached then,
-/// and no other.
+/// Writes the lines of the records of a file that are asked for in a form, in the order of the key,
+/// and closes the file. The library has this name attached then, and no other.
 ///
-/// `Input`: the device failed. `Output`: the writer refused a line. `Memory`. A part of the lines may have been written then, from the first one on.
+/// `Input`: the device failed. `Output`: the writer refused a line. `Memory`. A part of the lines
+/// may have been written then, from the first one on.
 pub fn list_records<L: Library, W: Write>(
     alloc: Global,
     lib: &mut L,
@@ -116,7 +123,8 @@ pub fn list_records<L: Library, W: Write>(
     out: &mut W,
 ) -> Result<ListEnd, ListFault>
     ensures ends { IsTrue (L.shown.is_honest lib.new) → L.shown.IsShownTruly lib.old name.bytes
-        → Ends form.now asked (named_in (L.shown.world lib.old) name.bytes) (W.contents out.old) (W.contents out.new) result }
+        → Ends form.now asked (named_in (L.shown.world lib.old) name.bytes) (W.contents out.old)
+        (W.contents out.new) result }
     ensures named { IsTrue (L.shown.is_honest lib.new) → L.shown.IsShownTruly lib.old name.bytes
         → (other : List ℕ) → named_in (L.shown.world lib.new) other ≡ named_in (L.shown.world lib.old) other }
     ensures closed { OnOk result (IsFalse (is_open (holding_at (L.shown.world lib.new) 0))) }

@@ -9,7 +9,8 @@ use crate::asked::is_past;
 use indexed_file::{Found, Library};
 use io_state::{Fault, Key, Position};
 
-/// The next record that a position of unit 0 admits by key k, or none where it is past the bound or there is none. It is read into the front of the area.
+/// The next record that a position of unit 0 admits by key k, or none where it is past the bound or
+/// there is none. It is read into the front of the area.
 pub fn next_record<L: Library>(
     lib: &mut L,
     k: u8,
@@ -24,7 +25,8 @@ pub fn next_record<L: Library>(
     requires length { length area.old ≡ (schema_at (L.shown.world lib.old) 0).greatest }
     ensures reads { Reads L.shown lib.old lib.new }
     ensures goes { Believed L.shown 0 lib.old lib.new (IfOk result (λ found.
-        GoesOn (schema_at (L.shown.world lib.old) 0) (file_at (L.shown.world lib.old) 0) k to.now position.now area.new found)) }
+        GoesOn (schema_at (L.shown.world lib.old) 0) (file_at (L.shown.world lib.old) 0) k to.now
+        position.now area.new found)) }
     ensures fault { IfErr result (MayAnswerShut L.shown 0 lib.old lib.new) }
 {
     match lib.next(0, k, position, area) {

@@ -35,7 +35,8 @@ fn hold_record<W: Write>(
     size: u16,
     out: &mut W,
 ) -> Result<(), Stop>
-    ensures { HoldsLine (W.contents out.old) (W.contents out.new) lines.old lines.new (line_in form.now (take size area.now)) result }
+    ensures { HoldsLine (W.contents out.old) (W.contents out.new) lines.old lines.new
+        (line_in form.now (take size area.now)) result }
 {
     line.clear();
     if append_line(line, form, &area[..usize::from(size).min(area.len())]).is_err() {
@@ -47,7 +48,8 @@ fn hold_record<W: Write>(
     }
 }
 
-/// Holds the lines of the records that are asked for. Where a call of the library gives up, the first of them are held or written.
+/// Holds the lines of the records that are asked for. Where a call of the library gives up, the
+/// first of them are held or written.
 fn hold_rows<L: Library, W: Write>(
     alloc: Global,
     lib: &mut L,
@@ -110,7 +112,8 @@ fn hand_over<W: Write>(
     lines: &mut HeldText,
     out: &mut W,
 ) -> Result<(), Stop>
-    ensures written { (form : Form) (rows : List Row) (before : Option (List ℕ)) → ComesOut form rows before (W.contents out.old) lines.old held
+    ensures written { (form : Form) (rows : List Row) (before : Option (List ℕ))
+        → ComesOut form rows before (W.contents out.old) lines.old held
         → IsWritten (lines_of form rows) before (W.contents out.new) result }
     ensures cause { (result ≡ held) ⊎ (result ≡ Err Stop.Output) }
 {
@@ -147,7 +150,8 @@ fn write_header<W: Write>(alloc: Global, form: &Form, out: &mut W) -> Result<(),
     }
 }
 
-/// Writes the list of the records of the open file of unit 0 that are asked for. Where that fails, a front of it may have been written.
+/// Writes the list of the records of the open file of unit 0 that are asked for. Where that fails,
+/// a front of it may have been written.
 pub fn write_rows<L: Library, W: Write>(
     alloc: Global,
     lib: &mut L,
@@ -164,7 +168,8 @@ pub fn write_rows<L: Library, W: Write>(
     requires short { greatest ≤ 4000 }
     ensures reads { Reads L.shown lib.old lib.new }
     ensures rows { Believed L.shown 0 lib.old lib.new (IsWritten
-        (list_of form.now (rows_asked (schema_at (L.shown.world lib.old) 0) (file_at (L.shown.world lib.old) 0) asked))
+        (list_of form.now (rows_asked (schema_at (L.shown.world lib.old) 0)
+        (file_at (L.shown.world lib.old) 0) asked))
         (W.contents out.old) (W.contents out.new) result) }
     ensures cause { IfErr result (MayStop L.shown lib.old lib.new) }
 {

@@ -15,8 +15,9 @@ use Rattle.record_loading.specs.declared.end.LoadEnd.{LoadEnd}
 use Rattle.record_loading.specs.Loading.{Listing, LinesLeave, Loads}
 use Rattle.record_loading.specs.Real.{AllStayReal}
 
--- every part: the connector goes with its unit and keeps its schema, nothing else is changed, the library keeps what every call of it does, what the connector keeps
--- stays true, and no image becomes a false one
+-- every part: the connector goes with its unit and keeps its schema, nothing else is changed, the
+-- library keeps what every call of it does, what the connector keeps stays true, and no image
+-- becomes a false one
 pub record GoesOn {S : Type 0} (shown : Shown S) (before after : FileInMemory S) : Type 0 where
   pub fits : Fits after.held (shown.world after.library) 0
   pub schema : after.held.connector.schema ≡ before.held.connector.schema
@@ -26,12 +27,16 @@ pub record GoesOn {S : Type 0} (shown : Shown S) (before after : FileInMemory S)
   pub real : Trusted shown 0 before after (AllStayReal shown before.library after.library)
 
 -- the lines of a text leave the file so, where some bytes stand in the record area
-abbrev pub LeavesLines : {S : Type 0} → Shown S → Listing → LinesEnd → FileInMemory S → FileInMemory S → Type 0
+abbrev pub LeavesLines : {S : Type 0} → Shown S → Listing → LinesEnd → FileInMemory S → FileInMemory S
+    → Type 0
 LeavesLines shown list lines before after =
-    (area : List ℕ) × LinesLeave before.held.connector.schema list (state_in shown 0 before) lines (state_in shown 0 (in_memory after.held after.library area))
+    (area : List ℕ) × LinesLeave before.held.connector.schema list (state_in shown 0 before) lines
+    (state_in shown 0 (in_memory after.held after.library area))
 
 -- a load leaves the file of unit 0 so, which was closed
-pub record LoadsUnit {S : Type 0} (shown : Shown S) (schema : Schema) (mode : OpenMode) (list : Listing) (area : List ℕ) (old : S) (end : LoadEnd) (new : S) : Type 0 where
+pub record LoadsUnit {S : Type 0} (shown : Shown S) (schema : Schema) (mode : OpenMode) (list : Listing)
+    (area : List ℕ) (old : S) (end : LoadEnd) (new : S) : Type 0 where
   pub after : FileState
-  pub loads : Loads schema mode list (state_of (held_at_start Dynamic false schema) (shown.world old) 0 area) end after
+  pub loads : Loads schema mode list (state_of (held_at_start Dynamic false schema)
+      (shown.world old) 0 area) end after
   pub named : named_at (shown.world new) 0 ≡ after.named

@@ -23,7 +23,8 @@ use Rattle.record_loading.specs.declared.end.LinesEnd.TheVariants.{Loaded, Refus
 use Rattle.record_loading.specs.declared.end.LoadEnd.{LoadEnd}
 use Rattle.record_loading.specs.declared.end.LoadEnd.TheVariants.{NotOpened, Opened}
 
--- a text that is to be the list of records in a form: what stands before the first line, and then a line for each record
+-- a text that is to be the list of records in a form: what stands before the first line, and then a
+-- line for each record
 pub record Listing : Type 0 where
   pub form : Form
   pub text : List ℕ
@@ -54,17 +55,21 @@ write_of bytes s = perform Write (length bytes) (with_record bytes s)
 abbrev pub AreWritten : Schema → List (List ℕ) → FileState → FileState → Type 0
 AreWritten schema [] before after = after ≡ before
 AreWritten schema (bytes ∷ records) before after =
-    CanBeRecord schema bytes × IsTrue (is_successful (write_of bytes before).status) × AreWritten schema records (write_of bytes before).next after
+    CanBeRecord schema bytes × IsTrue (is_successful (write_of bytes before).status)
+    × AreWritten schema records (write_of bytes before).next after
 
--- the first lines of a text, so many, are those of records that were written, behind what stands before them; this rest of the text is left
-pub record IsWrittenUpTo (schema : Schema) (list : Listing) (count : ℕ) (rest : List ℕ) (before after : FileState) : Type 0 where
+-- the first lines of a text, so many, are those of records that were written, behind what stands
+-- before them; this rest of the text is left
+pub record IsWrittenUpTo (schema : Schema) (list : Listing) (count : ℕ) (rest : List ℕ)
+    (before after : FileState) : Type 0 where
   pub records : List (List ℕ)
   pub text_is : list.text ≡ header_in list.form ++ (flat_map (line_in list.form) records ++ rest)
   pub count_is : count ≡ length records
   pub written : AreWritten schema records before after
 
 -- so many lines come first; then comes the line of a record whose WRITE was answered so
-pub record IsRefusedAt (schema : Schema) (list : Listing) (count : ℕ) (status : Status) (before after : FileState) : Type 0 where
+pub record IsRefusedAt (schema : Schema) (list : Listing) (count : ℕ) (status : Status)
+    (before after : FileState) : Type 0 where
   pub bytes : List ℕ
   pub rest : List ℕ
   pub between : FileState
@@ -74,25 +79,32 @@ pub record IsRefusedAt (schema : Schema) (list : Listing) (count : ℕ) (status 
   pub no_success : is_successful status ≡ false
 
 -- so many lines come first; then comes what is the line of no record that the file can have
-pub record IsNoRecordAt (schema : Schema) (list : Listing) (count : ℕ) (before after : FileState) : Type 0 where
+pub record IsNoRecordAt (schema : Schema) (list : Listing) (count : ℕ)
+    (before after : FileState) : Type 0 where
   pub rest : List ℕ
   pub first : IsWrittenUpTo schema list count rest before after
   pub some : 0 < length rest
   pub none : BeginsWithNoRecord list.form rest schema.least schema.greatest
 
--- the text does not begin with what stands before its first line (for text that is nothing, and each text begins with that), and nothing was written
+-- the text does not begin with what stands before its first line (for text that is nothing, and
+-- each text begins with that), and nothing was written
 abbrev pub IsHeadless : Listing → (line : ℕ) → FileState → FileState → Type 0
 IsHeadless list line before after = (line ≡ 1) × LacksHeader list.form list.text × (after ≡ before)
 
--- what the lines of a text leave of an open file: line 1 is the first of the text, which in CSV is that of the names
+-- what the lines of a text leave of an open file: line 1 is the first of the text, which in CSV is
+-- that of the names
 abbrev pub LinesLeave : Schema → Listing → FileState → LinesEnd → FileState → Type 0
 LinesLeave schema list before (Loaded records) after = IsWrittenUpTo schema list records [] before after
-LinesLeave schema list before (Refused line status) after = (count : ℕ) × (line ≡ count + 1 + header_lines list.form) × IsRefusedAt schema list count status before after
+LinesLeave schema list before (Refused line status) after =
+    (count : ℕ) × (line ≡ count + 1 + header_lines list.form)
+    × IsRefusedAt schema list count status before after
 LinesLeave schema list before (NoRecord line) after =
-    IsHeadless list line before after ⊎ ((count : ℕ) × (line ≡ count + 1 + header_lines list.form) × IsNoRecordAt schema list count before after)
+    IsHeadless list line before after ⊎ ((count : ℕ) × (line ≡ count + 1 + header_lines list.form)
+    × IsNoRecordAt schema list count before after)
 
 -- OPEN should be a success, and it was; then came the lines, and CLOSE was answered so
-pub record IsLoaded (schema : Schema) (mode : OpenMode) (list : Listing) (before : FileState) (lines : LinesEnd) (closed : Status) (after : FileState) : Type 0 where
+pub record IsLoaded (schema : Schema) (mode : OpenMode) (list : Listing) (before : FileState)
+    (lines : LinesEnd) (closed : Status) (after : FileState) : Type 0 where
   pub opened : IsTrue (is_successful (perform (Open mode) 0 before).status)
   pub written : FileState
   pub lines_are : LinesLeave schema list (perform (Open mode) 0 before).next lines written
@@ -100,8 +112,10 @@ pub record IsLoaded (schema : Schema) (mode : OpenMode) (list : Listing) (before
 
 -- what a load leaves of a file
 abbrev pub Loads : Schema → OpenMode → Listing → FileState → LoadEnd → FileState → Type 0
-Loads schema mode list before (NotOpened status) after = (is_successful status ≡ false) × Step (Open mode) 0 before (answers status after)
-Loads schema mode list before (Opened lines closed) after = IsLoaded schema mode list before lines closed after
+Loads schema mode list before (NotOpened status) after =
+    (is_successful status ≡ false) × Step (Open mode) 0 before (answers status after)
+Loads schema mode list before (Opened lines closed) after =
+    IsLoaded schema mode list before lines closed after
 
 -- the file of a name before it: its connector is closed, in dynamic access, and its record area all spaces
 abbrev pub file_before : World → List ℕ → Schema → FileState
@@ -113,7 +127,8 @@ file_before world name schema = record {
 }
 
 -- a load leaves this of what the name stands for
-pub record LoadsNamed (name : List ℕ) (schema : Schema) (mode : OpenMode) (list : Listing) (old : World) (end : LoadEnd) (new : World) : Type 0 where
+pub record LoadsNamed (name : List ℕ) (schema : Schema) (mode : OpenMode) (list : Listing) (old : World)
+    (end : LoadEnd) (new : World) : Type 0 where
   pub after : FileState
   pub loads : Loads schema mode list (file_before old name schema) end after
   pub named : named_in new name ≡ after.named

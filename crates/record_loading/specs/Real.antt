@@ -7,7 +7,8 @@ use Rattle.indexed_file.specs.Shown.{Shown}
 abbrev pub any : Test
 any named = true
 
--- where each image of the name really was absent, closed or refused at first, each one is so at each moment from the one library to the other
+-- where each image of the name really was absent, closed or refused at first, each one is so at
+-- each moment from the one library to the other
 abbrev pub StaysReal : {S : Type 0} → Shown S → S → S → List ℕ → Type 0
 StaysReal shown old new name = shown.Throughout any old old name → shown.Throughout any old new name
 

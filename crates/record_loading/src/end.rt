@@ -21,7 +21,8 @@ pub enum LinesEnd {
     Loaded { records: u64 },
     /// The WRITE of the record of this line was no success. Those of the lines before it were written.
     Refused { line: u64, status: Status },
-    /// This line is the line of no record that the file can have. The records of the lines before it were written.
+    /// This line is the line of no record that the file can have. The records of the lines before
+    /// it were written.
     NoRecord { line: u64 },
 }
 
@@ -41,7 +42,8 @@ pub enum LoadFault {
     Memory,
 }
 
-/// The mode in which OPEN opens the file. In both of them WRITE takes records in any order, where access is not sequential.
+/// The mode in which OPEN opens the file. In both of them WRITE takes records in any order, where
+/// access is not sequential.
 pub fn mode_of(load: Load) -> OpenMode
     ensures { result ≡ mode_of load }
 {

@@ -54,7 +54,8 @@ fn load_attached<L: Library, P: Progress>(
     requires area { length area.old ≡ schema.now.greatest }
     requires whole { IsWhole form.now (length area.old) }
     requires header { header.now ≡ header_in form.now }
-    ensures loads { Believed L.shown 0 lib.old lib.new (LoadsUnit L.shown schema.now mode (listing form.now text.now) area.old lib.old result lib.new) }
+    ensures loads { Believed L.shown 0 lib.old lib.new
+        (LoadsUnit L.shown schema.now mode (listing form.now text.now) area.old lib.old result lib.new) }
     ensures real { Believed L.shown 0 lib.old lib.new (AllStayReal L.shown lib.old lib.new) }
     ensures only { OnlyAt 0 (L.shown.world lib.old) (L.shown.world lib.new) }
     ensures keeps { Keeps L.shown lib.old lib.new }
@@ -79,10 +80,12 @@ fn load_attached<L: Library, P: Progress>(
     LoadEnd::Opened { lines, closed }
 }
 
-/// Opens the file of a name, writes the record of each line of a text in a form, and closes the file. The library has this name attached then, and no other. The first line
-/// that is the line of no record of the file, or whose WRITE is no success, ends it, and what was written before stays. Line 1 is no record's where the form has a header
-/// and the text does not begin with it. Where a crash could leave no false file before the load, it can leave none at any moment of it.
-/// After each record it is told how many bytes of the text are written.
+/// Opens the file of a name, writes the record of each line of a text in a form, and closes the
+/// file. The library has this name attached then, and no other. The first line that is the line of
+/// no record of the file, or whose WRITE is no success, ends it, and what was written before stays.
+/// Line 1 is no record's where the form has a header and the text does not begin with it. Where a
+/// crash could leave no false file before the load, it can leave none at any moment of it. After
+/// each record it is told how many bytes of the text are written.
 ///
 /// `Memory`: nothing was done.
 pub fn load_records<L: Library, P: Progress>(
@@ -96,9 +99,12 @@ pub fn load_records<L: Library, P: Progress>(
     progress: &mut P,
 ) -> Result<LoadEnd, LoadFault>
     requires whole { IsWhole form.now schema.now.greatest }
-    ensures loads { IfOk result (λ end. IsTrue (L.shown.is_honest lib.new) → L.shown.IsShownTruly lib.old name.bytes
-        → LoadsNamed name.bytes schema.now (mode_of load) (listing form.now text.now) (L.shown.world lib.old) end (L.shown.world lib.new)) }
-    ensures real { IsTrue (L.shown.is_honest lib.new) → L.shown.IsShownTruly lib.old name.bytes → AllStayReal L.shown lib.old lib.new }
+    ensures loads { IfOk result (λ end. IsTrue (L.shown.is_honest lib.new)
+        → L.shown.IsShownTruly lib.old name.bytes
+        → LoadsNamed name.bytes schema.now (mode_of load) (listing form.now text.now)
+        (L.shown.world lib.old) end (L.shown.world lib.new)) }
+    ensures real { IsTrue (L.shown.is_honest lib.new) → L.shown.IsShownTruly lib.old name.bytes
+        → AllStayReal L.shown lib.old lib.new }
     ensures others { (other : List ℕ) → bytes_eq name.bytes other ≡ false
         → named_in (L.shown.world lib.new) other ≡ named_in (L.shown.world lib.old) other }
     ensures memory { OnErr result (IsUntouched L.shown lib.old lib.new) }

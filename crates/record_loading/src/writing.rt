@@ -20,8 +20,9 @@ fn tell_progress<P: Progress>(progress: &mut P, text: &[u8], rest: &[u8]) {
     progress.at(done as u64, text.len() as u64);
 }
 
-/// Writes the records of lines, which are all of the text behind its header, into the file of unit 0, one after another. The first line that is the line of no record of
-/// the file, or whose WRITE is no success, ends it. After each line it is told how many bytes of the text are written.
+/// Writes the records of lines, which are all of the text behind its header, into the file of unit
+/// 0, one after another. The first line that is the line of no record of the file, or whose WRITE
+/// is no success, ends it. After each line it is told how many bytes of the text are written.
 fn write_lines<L: Library, P: Progress>(
     connector: &mut Connector,
     lib: &mut L,
@@ -39,8 +40,10 @@ fn write_lines<L: Library, P: Progress>(
     requires short { length area.old ≤ 4000 }
     requires lines { text.now ≡ header_in form.now ++ lines.now }
     ensures goes { GoesOn L.shown (in_memory connector.old lib.old []) (in_memory connector.new lib.new []) }
-    ensures lines { Trusted L.shown 0 (in_memory connector.old lib.old []) (in_memory connector.new lib.new [])
-        (LeavesLines L.shown (listing form.now text.now) result (in_memory connector.old lib.old area.old) (in_memory connector.new lib.new [])) }
+    ensures lines { Trusted L.shown 0 (in_memory connector.old lib.old [])
+        (in_memory connector.new lib.new [])
+        (LeavesLines L.shown (listing form.now text.now) result (in_memory connector.old lib.old area.old)
+        (in_memory connector.new lib.new [])) }
 {
     let mut rest = lines;
     let mut records = 0;
@@ -65,8 +68,10 @@ fn write_lines<L: Library, P: Progress>(
     LinesEnd::Loaded { records }
 }
 
-/// Writes the records of a text into the file of unit 0, one after another. The first line that is the line of no record of the file, or whose WRITE is no success, ends
-/// it; and so does the first one, where the text does not begin with its header. After each line it is told how many bytes of the text are written.
+/// Writes the records of a text into the file of unit 0, one after another. The first line that is
+/// the line of no record of the file, or whose WRITE is no success, ends it; and so does the first
+/// one, where the text does not begin with its header. After each line it is told how many bytes of
+/// the text are written.
 pub fn write_listing<L: Library, P: Progress>(
     connector: &mut Connector,
     lib: &mut L,
@@ -84,8 +89,10 @@ pub fn write_listing<L: Library, P: Progress>(
     requires short { length area.old ≤ 4000 }
     requires header { header.now ≡ header_in form.now }
     ensures goes { GoesOn L.shown (in_memory connector.old lib.old []) (in_memory connector.new lib.new []) }
-    ensures lines { Trusted L.shown 0 (in_memory connector.old lib.old []) (in_memory connector.new lib.new [])
-        (LeavesLines L.shown (listing form.now text.now) result (in_memory connector.old lib.old area.old) (in_memory connector.new lib.new [])) }
+    ensures lines { Trusted L.shown 0 (in_memory connector.old lib.old [])
+        (in_memory connector.new lib.new [])
+        (LeavesLines L.shown (listing form.now text.now) result (in_memory connector.old lib.old area.old)
+        (in_memory connector.new lib.new [])) }
 {
     let Some(lines) = behind_header(text, header) else {
         return LinesEnd::NoRecord { line: 1 };

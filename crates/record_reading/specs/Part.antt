@@ -6,9 +6,10 @@ use Rattle.record_reading.specs.declared.quoted.Quoting.{Quoting}
 use Rattle.record_reading.specs.ReadLine.{AreBytes}
 use Rattle.record_reading.specs.Quoted.{inside, BeginsWithNoByte}
 
--- bytes were read into the area from one place up to another one, and no other bytes give the text; `text_of` is the text that bytes give, with what is behind it,
--- of which `MayFollow` is so
-pub record ReadsPart (text_of : List ℕ → List ℕ → List ℕ) (MayFollow : List ℕ → Type 0) (text area : List ℕ) (from to : ℕ) (area_after : List ℕ) (at : ℕ) (behind : List ℕ) : Type 0 where
+-- bytes were read into the area from one place up to another one, and no other bytes give the text;
+-- `text_of` is the text that bytes give, with what is behind it, of which `MayFollow` is so
+pub record ReadsPart (text_of : List ℕ → List ℕ → List ℕ) (MayFollow : List ℕ → Type 0)
+    (text area : List ℕ) (from to : ℕ) (area_after : List ℕ) (at : ℕ) (behind : List ℕ) : Type 0 where
   pub bytes : List ℕ
   pub are_bytes : AreBytes bytes
   pub front : take at area_after ≡ take from area ++ bytes
@@ -17,13 +18,16 @@ pub record ReadsPart (text_of : List ℕ → List ℕ → List ℕ) (MayFollow :
   pub same : length area_after ≡ length area
   pub rest : drop at area_after ≡ drop at area
   pub text_is : text ≡ text_of bytes behind
-  pub only : (others other_behind : List ℕ) → AreBytes others → from + length others ≤ to → MayFollow other_behind
+  pub only : (others other_behind : List ℕ) → AreBytes others → from + length others ≤ to
+      → MayFollow other_behind
       → text ≡ text_of others other_behind → (others ≡ bytes) × (other_behind ≡ behind)
 
 -- no bytes that have room give the text
-abbrev pub HasNoPart : (List ℕ → List ℕ → List ℕ) → (List ℕ → Type 0) → (text : List ℕ) → (from to : ℕ) → Type 0
+abbrev pub HasNoPart : (List ℕ → List ℕ → List ℕ) → (List ℕ → Type 0) → (text : List ℕ) → (from to : ℕ)
+    → Type 0
 HasNoPart text_of MayFollow text from to =
-    (bytes behind : List ℕ) → AreBytes bytes → from + length bytes ≤ to → MayFollow behind → text ≡ text_of bytes behind → ⊥
+    (bytes behind : List ℕ) → AreBytes bytes → from + length bytes ≤ to → MayFollow behind
+    → text ≡ text_of bytes behind → ⊥
 
 -- bytes in quotes, up to the quote
 abbrev pub inside_text : Quoting → List ℕ → List ℕ → List ℕ

@@ -18,7 +18,8 @@ inside quoting bytes = flat_map (quoted_byte quoting) bytes
 
 -- no byte stands here
 abbrev pub BeginsWithNoByte : Quoting → List ℕ → Type 0
-BeginsWithNoByte quoting text = (byte : ℕ) (rest : List ℕ) → byte < 256 → text ≡ quoted_byte quoting byte ++ rest → ⊥
+BeginsWithNoByte quoting text = (byte : ℕ) (rest : List ℕ) → byte < 256
+    → text ≡ quoted_byte quoting byte ++ rest → ⊥
 
 -- a comma, if this is not the first column, and what is behind it
 abbrev pub behind_comma : (is_first : Bool) → List ℕ → List ℕ
@@ -36,13 +37,15 @@ value_front quoting is_first name behind = behind_comma is_first (behind_label q
 
 -- the bytes of a column in quotes, with what stands before them and behind them
 abbrev pub value_text : Quoting → (is_first : Bool) → (name bytes behind : List ℕ) → List ℕ
-value_text quoting is_first name bytes behind = value_front quoting is_first name (inside quoting bytes ++ (34 ∷ behind))
+value_text quoting is_first name bytes behind = value_front quoting is_first name
+    (inside quoting bytes ++ (34 ∷ behind))
 
 -- the bytes of columns that stand one behind the other, and what is behind them
 abbrev pub values_text : Quoting → (is_first : Bool) → List Column → (bytes behind : List ℕ) → List ℕ
 values_text quoting is_first [] bytes behind = behind
 values_text quoting is_first (column ∷ columns) bytes behind =
-    value_text quoting is_first column.name.bytes (take column.length bytes) (values_text quoting false columns (drop column.length bytes) behind)
+    value_text quoting is_first column.name.bytes (take column.length bytes)
+    (values_text quoting false columns (drop column.length bytes) behind)
 
 -- the place up to which the bytes of a column may reach, where so many of the record were read
 abbrev pub end_of : Column → ℕ → ℕ

@@ -8,7 +8,8 @@ use Rattle.record_forms.specs.Lines.{line_in}
 abbrev pub AreBytes : List ℕ → Type 0
 AreBytes = Each (λ byte. byte < 256)
 
--- a text begins with the line of a record of n bytes, which is in the first bytes of the area; the others are as they were
+-- a text begins with the line of a record of n bytes, which is in the first bytes of the area; the
+-- others are as they were
 pub record ReadsLine (form : Form) (text area area_after : List ℕ) (n : ℕ) (behind : List ℕ) : Type 0 where
   pub within : n ≤ length area
   pub bytes : AreBytes (take n area_after)
@@ -21,11 +22,13 @@ BeginsWithNoLine form text most =
     (bytes behind : List ℕ) → AreBytes bytes → length bytes ≤ most → text ≡ line_in form bytes ++ behind → ⊥
 
 -- a record that has at least so many bytes was read so
-pub record ReadsRecord (form : Form) (text : List ℕ) (least : ℕ) (area area_after : List ℕ) (n : ℕ) (behind : List ℕ) : Type 0 where
+pub record ReadsRecord (form : Form) (text : List ℕ) (least : ℕ) (area area_after : List ℕ) (n : ℕ)
+    (behind : List ℕ) : Type 0 where
   pub long : least ≤ n
   pub line : ReadsLine form text area area_after n behind
 
 -- a text begins with the line of no record that has from so many to so many bytes
 abbrev pub BeginsWithNoRecord : Form → List ℕ → (least greatest : ℕ) → Type 0
 BeginsWithNoRecord form text least greatest =
-    (bytes behind : List ℕ) → AreBytes bytes → least ≤ length bytes → length bytes ≤ greatest → text ≡ line_in form bytes ++ behind → ⊥
+    (bytes behind : List ℕ) → AreBytes bytes → least ≤ length bytes → length bytes ≤ greatest
+    → text ≡ line_in form bytes ++ behind → ⊥

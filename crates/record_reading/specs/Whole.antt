@@ -18,4 +18,5 @@ IsWhole (Json columns) length = AreTiled 0 (map part_of columns.items) length
 
 -- the columns of the elementary items of a record are the whole of it
 abbrev pub AreItemsWhole : Type 0
-AreItemsWhole = (entries : List Entry) (layout : List Placed) → IsLayout entries layout → AreTiled 0 (item_parts layout) (length_of layout)
+AreItemsWhole = (entries : List Entry) (layout : List Placed) → IsLayout entries layout
+    → AreTiled 0 (item_parts layout) (length_of layout)

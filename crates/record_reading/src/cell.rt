@@ -12,7 +12,8 @@ pub struct Cell<'a> {
     pub behind: &'a [u8],
 }
 
-/// Reads bytes into the area from one place on, up to what is the front of no byte, and not past another place.
+/// Reads bytes into the area from one place on, up to what is the front of no byte, and not past
+/// another place.
 pub fn read_cell<'a>(
     quoting: Quoting,
     text: &'a [u8],
@@ -22,7 +23,8 @@ pub fn read_cell<'a>(
 ) -> Cell<'a>
     requires order { from ≤ to }
     requires room { to ≤ length area.old }
-    ensures { ReadsPart (inside_text quoting) (BeginsWithNoByte quoting) text.now area.old from to area.new result.at result.behind.now }
+    ensures { ReadsPart (inside_text quoting) (BeginsWithNoByte quoting) text.now area.old from to area.new
+        result.at result.behind.now }
 {
     let mut rest = text;
     let mut at = from;

@@ -16,7 +16,8 @@ pub fn header_lines(form: &Form) -> u64
 
 /// The text behind what stands before the first record. None where it does not begin with that.
 pub fn behind_header<'a>(text: &'a [u8], header: &[u8]) -> Option<&'a [u8]>
-    ensures { MatchOption result ((rest : List ℕ) → text.now ≡ header.now ++ rest → ⊥) (λ rest. text.now ≡ header.now ++ rest.now) }
+    ensures { MatchOption result ((rest : List ℕ) → text.now ≡ header.now ++ rest → ⊥)
+        (λ rest. text.now ≡ header.now ++ rest.now) }
 {
     text.strip_prefix(header)
 }

@@ -25,9 +25,11 @@ pub struct Line<'a> {
 /// Reads the record whose line of CSV a text begins with.
 fn read_csv<'a>(text: &'a [u8], columns: &[Column], area: &mut [u8]) -> Option<Line<'a>>
     requires whole { AreTiled 0 (map part_of columns.now) (length area.old) }
-    ensures read { IfSome result (λ line. ReadsPart (λ bytes behind. csv_line (map (value_of bytes) columns.now) ++ behind) Anything
+    ensures read { IfSome result (λ line. ReadsPart
+        (λ bytes behind. csv_line (map (value_of bytes) columns.now) ++ behind) Anything
         text.now area.old 0 (length area.old) area.new line.length line.behind.now) }
-    ensures none { result ≡ None → HasNoPart (λ bytes behind. csv_line (map (value_of bytes) columns.now) ++ behind) Anything text.now 0 (length area.old) }
+    ensures none { result ≡ None → HasNoPart (λ bytes behind.
+        csv_line (map (value_of bytes) columns.now) ++ behind) Anything text.now 0 (length area.old) }
 {
     let cell = read_values(Quoting::Doubled, columns, text, area)?;
     let ended = passed(cell.behind, b'\r')?;
@@ -41,9 +43,11 @@ fn read_csv<'a>(text: &'a [u8], columns: &[Column], area: &mut [u8]) -> Option<L
 /// Reads the record whose line of JSON a text begins with.
 fn read_json<'a>(text: &'a [u8], columns: &[Column], area: &mut [u8]) -> Option<Line<'a>>
     requires whole { AreTiled 0 (map part_of columns.now) (length area.old) }
-    ensures read { IfSome result (λ line. ReadsPart (λ bytes behind. json_line (map (member_of bytes) columns.now) ++ behind) Anything
+    ensures read { IfSome result (λ line. ReadsPart
+        (λ bytes behind. json_line (map (member_of bytes) columns.now) ++ behind) Anything
         text.now area.old 0 (length area.old) area.new line.length line.behind.now) }
-    ensures none { result ≡ None → HasNoPart (λ bytes behind. json_line (map (member_of bytes) columns.now) ++ behind) Anything text.now 0 (length area.old) }
+    ensures none { result ≡ None → HasNoPart (λ bytes behind.
+        json_line (map (member_of bytes) columns.now) ++ behind) Anything text.now 0 (length area.old) }
 {
     let opened = passed(text, b'{')?;
     let cell = read_values(Quoting::Escaped, columns, opened, area)?;
@@ -55,11 +59,12 @@ fn read_json<'a>(text: &'a [u8], columns: &[Column], area: &mut [u8]) -> Option<
     })
 }
 
-/// Reads the record whose line a text begins with into the first bytes of the area. None where the text begins with the line of no
-/// record that the area has room for.
+/// Reads the record whose line a text begins with into the first bytes of the area. None where the
+/// text begins with the line of no record that the area has room for.
 fn read_line<'a>(form: &Form, text: &'a [u8], area: &mut [u8]) -> Option<Line<'a>>
     requires whole { IsWhole form.now (length area.old) }
-    ensures read { IfSome result (λ line. ReadsPart (line_text form.now) Anything text.now area.old 0 (length area.old) area.new line.length line.behind.now) }
+    ensures read { IfSome result (λ line. ReadsPart (line_text form.now) Anything text.now area.old 0
+        (length area.old) area.new line.length line.behind.now) }
     ensures none { result ≡ None → HasNoPart (line_text form.now) Anything text.now 0 (length area.old) }
 {
     match form {
@@ -69,11 +74,12 @@ fn read_line<'a>(form: &Form, text: &'a [u8], area: &mut [u8]) -> Option<Line<'a
     }
 }
 
-/// Reads the record of at least so many bytes whose line a text begins with into the first bytes of the area. None where the text
-/// begins with the line of no such record that the area has room for.
+/// Reads the record of at least so many bytes whose line a text begins with into the first bytes of
+/// the area. None where the text begins with the line of no such record that the area has room for.
 pub fn read_record<'a>(form: &Form, text: &'a [u8], least: u16, area: &mut [u8]) -> Option<Line<'a>>
     requires whole { IsWhole form.now (length area.old) }
-    ensures read { IfSome result (λ line. ReadsRecord form.now text.now least area.old area.new line.length line.behind.now) }
+    ensures read { IfSome result (λ line. ReadsRecord form.now text.now least area.old area.new line.length
+        line.behind.now) }
     ensures none { result ≡ None → BeginsWithNoRecord form.now text.now least (length area.old) }
 {
     let line = read_line(form, text, area)?;

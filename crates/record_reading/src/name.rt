@@ -29,7 +29,8 @@ fn passed_bytes<'a>(text: &'a [u8], bytes: &[u8]) -> Option<&'a [u8]>
 /// What is behind the name of a column in quotes, and a colon.
 fn passed_name<'a>(text: &'a [u8], name: &Name) -> Option<&'a [u8]>
     ensures some { IfSome result (λ behind. text.now ≡ behind_label Escaped name.now.bytes behind.now) }
-    ensures none { result ≡ None → (behind : List ℕ) → text.now ≡ behind_label Escaped name.now.bytes behind → ⊥ }
+    ensures none { result ≡ None → (behind : List ℕ)
+        → text.now ≡ behind_label Escaped name.now.bytes behind → ⊥ }
 {
     let opened = passed(text, b'"')?;
     let named = passed_bytes(opened, name.as_str().as_bytes())?;
@@ -40,7 +41,8 @@ fn passed_name<'a>(text: &'a [u8], name: &Name) -> Option<&'a [u8]>
 /// What is behind the name of a column, which CSV does not have in a record's line.
 pub fn passed_label<'a>(quoting: Quoting, text: &'a [u8], name: &Name) -> Option<&'a [u8]>
     ensures some { IfSome result (λ behind. text.now ≡ behind_label quoting name.now.bytes behind.now) }
-    ensures none { result ≡ None → (behind : List ℕ) → text.now ≡ behind_label quoting name.now.bytes behind → ⊥ }
+    ensures none { result ≡ None → (behind : List ℕ)
+        → text.now ≡ behind_label quoting name.now.bytes behind → ⊥ }
 {
     match quoting {
         Quoting::Doubled => Some(text),

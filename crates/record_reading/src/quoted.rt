@@ -26,7 +26,8 @@ fn is_pair(text: &[u8], one: u8, two: u8) -> bool
 /// The byte that the front of a text is in CSV. None where it is the front of no byte.
 fn first_doubled(text: &[u8]) -> Option<ShownByte>
     ensures byte { IfSome result (λ first. first.byte < 256) }
-    ensures shown { IfSome result (λ first. (text.now ≡ quoted_byte Doubled first.byte ++ drop first.size text.now) × (first.size ≤ length text.now)) }
+    ensures shown { IfSome result (λ first. (text.now ≡ quoted_byte Doubled first.byte
+        ++ drop first.size text.now) × (first.size ≤ length text.now)) }
     ensures none { result ≡ None → BeginsWithNoByte Doubled text.now }
 {
     if is_pair(text, b'"', b'"') {
@@ -46,7 +47,8 @@ fn first_doubled(text: &[u8]) -> Option<ShownByte>
 fn first_itself(text: &[u8]) -> Option<ShownByte>
     requires { (behind : List ℕ) → text.now ≡ 92 ∷ behind → ⊥ }
     ensures byte { IfSome result (λ first. first.byte < 256) }
-    ensures shown { IfSome result (λ first. (text.now ≡ quoted_byte Escaped first.byte ++ drop first.size text.now) × (first.size ≤ length text.now)) }
+    ensures shown { IfSome result (λ first. (text.now ≡ quoted_byte Escaped first.byte
+        ++ drop first.size text.now) × (first.size ≤ length text.now)) }
     ensures none { result ≡ None → BeginsWithNoByte Escaped text.now }
 {
     let first = first_byte(text)?;
@@ -62,7 +64,8 @@ fn first_itself(text: &[u8]) -> Option<ShownByte>
 /// The byte that the front of a text is in JSON. None where it is the front of no byte.
 fn first_escaped(text: &[u8]) -> Option<ShownByte>
     ensures byte { IfSome result (λ first. first.byte < 256) }
-    ensures shown { IfSome result (λ first. (text.now ≡ quoted_byte Escaped first.byte ++ drop first.size text.now) × (first.size ≤ length text.now)) }
+    ensures shown { IfSome result (λ first. (text.now ≡ quoted_byte Escaped first.byte
+        ++ drop first.size text.now) × (first.size ≤ length text.now)) }
     ensures none { result ≡ None → BeginsWithNoByte Escaped text.now }
 {
     if is_pair(text, b'\\', b'"') {
@@ -87,7 +90,8 @@ fn first_escaped(text: &[u8]) -> Option<ShownByte>
 /// The byte that the front of a text is in quotes. None where it is the front of no byte.
 pub fn first_quoted(quoting: Quoting, text: &[u8]) -> Option<ShownByte>
     ensures byte { IfSome result (λ first. first.byte < 256) }
-    ensures shown { IfSome result (λ first. (text.now ≡ quoted_byte quoting first.byte ++ drop first.size text.now) × (first.size ≤ length text.now)) }
+    ensures shown { IfSome result (λ first. (text.now ≡ quoted_byte quoting first.byte
+        ++ drop first.size text.now) × (first.size ≤ length text.now)) }
     ensures none { result ≡ None → BeginsWithNoByte quoting text.now }
 {
     match quoting {

@@ -45,8 +45,10 @@ fn escaped(high: u8, low: u8) -> Option<u8>
 /// The byte that the front of a text shows. None where it is the front of what is shown of no byte.
 pub fn first_byte(text: &[u8]) -> Option<ShownByte>
     ensures byte { IfSome result (λ first. first.byte < 256) }
-    ensures shown { IfSome result (λ first. (text.now ≡ shown_byte first.byte ++ drop first.size text.now) × (first.size ≤ length text.now)) }
-    ensures none { result ≡ None → (byte : ℕ) (rest : List ℕ) → byte < 256 → text.now ≡ shown_byte byte ++ rest → ⊥ }
+    ensures shown { IfSome result (λ first. (text.now ≡ shown_byte first.byte ++ drop first.size text.now)
+        × (first.size ≤ length text.now)) }
+    ensures none { result ≡ None → (byte : ℕ) (rest : List ℕ) → byte < 256
+        → text.now ≡ shown_byte byte ++ rest → ⊥ }
 {
     let byte = *text.first()?;
     if is_plain(byte) {

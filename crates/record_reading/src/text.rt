@@ -14,10 +14,11 @@ fn is_end(text: &[u8]) -> bool
     text.len() >= 2 && text[0] == b']' && text[1] == b'\n'
 }
 
-/// Reads the record whose line a text begins with, in brackets, into the first bytes of the area. None where the text begins with the line of
-/// no record that the area has room for.
+/// Reads the record whose line a text begins with, in brackets, into the first bytes of the area.
+/// None where the text begins with the line of no record that the area has room for.
 pub fn read_text<'a>(text: &'a [u8], area: &mut [u8]) -> Option<Line<'a>>
-    ensures read { IfSome result (λ line. ReadsLine Text text.now area.old area.new line.length line.behind.now) }
+    ensures read { IfSome result (λ line. ReadsLine Text text.now area.old area.new line.length
+        line.behind.now) }
     ensures none { result ≡ None → BeginsWithNoLine Text text.now (length area.old) }
 {
     if text.is_empty() || text[0] != b'[' {

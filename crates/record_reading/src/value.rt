@@ -16,15 +16,18 @@ fn passed_front<'a>(
     name: &Name,
     text: &'a [u8],
 ) -> Option<&'a [u8]>
-    ensures some { IfSome result (λ behind. text.now ≡ value_front quoting is_first name.now.bytes behind.now) }
-    ensures none { result ≡ None → (behind : List ℕ) → text.now ≡ value_front quoting is_first name.now.bytes behind → ⊥ }
+    ensures some { IfSome result (λ behind. text.now ≡ value_front quoting is_first name.now.bytes
+        behind.now) }
+    ensures none { result ≡ None → (behind : List ℕ)
+        → text.now ≡ value_front quoting is_first name.now.bytes behind → ⊥ }
 {
     let column = passed_comma(is_first, text)?;
     let value = passed_label(quoting, column, name)?;
     passed(value, b'"')
 }
 
-/// Reads the value of a column in quotes into the area from one place on, and not past another one. None where no bytes that have room give the text.
+/// Reads the value of a column in quotes into the area from one place on, and not past another one.
+/// None where no bytes that have room give the text.
 pub fn read_value<'a>(
     quoting: Quoting,
     is_first: bool,
@@ -36,8 +39,10 @@ pub fn read_value<'a>(
 ) -> Option<Cell<'a>>
     requires order { from ≤ to }
     requires room { to ≤ length area.old }
-    ensures read { IfSome result (λ cell. ReadsPart (value_text quoting is_first name.now.bytes) (EndsValue quoting) text.now area.old from to area.new cell.at cell.behind.now) }
-    ensures none { result ≡ None → HasNoPart (value_text quoting is_first name.now.bytes) (EndsValue quoting) text.now from to }
+    ensures read { IfSome result (λ cell. ReadsPart (value_text quoting is_first name.now.bytes)
+        (EndsValue quoting) text.now area.old from to area.new cell.at cell.behind.now) }
+    ensures none { result ≡ None → HasNoPart (value_text quoting is_first name.now.bytes)
+        (EndsValue quoting) text.now from to }
 {
     let opened = passed_front(quoting, is_first, name, text)?;
     let cell = read_cell(quoting, opened, area, from, to);

@@ -10,7 +10,8 @@ use crate::quoted::Quoting;
 use crate::value::read_value;
 use record_forms::Column;
 
-/// The place up to which the bytes of a column may reach, where so many of the record were read: behind a column that was shorter than it could be there are none.
+/// The place up to which the bytes of a column may reach, where so many of the record were read:
+/// behind a column that was shorter than it could be there are none.
 fn end_of(column: &Column, at: usize) -> usize
     ensures { result ≡ end_of column.now at }
 {
@@ -21,7 +22,8 @@ fn end_of(column: &Column, at: usize) -> usize
     }
 }
 
-/// Reads the values of columns, which are the whole of a record, into the area. None where no bytes that have room give the text.
+/// Reads the values of columns, which are the whole of a record, into the area. None where no bytes
+/// that have room give the text.
 pub fn read_values<'a>(
     quoting: Quoting,
     columns: &[Column],
@@ -29,8 +31,10 @@ pub fn read_values<'a>(
     area: &mut [u8],
 ) -> Option<Cell<'a>>
     requires whole { AreTiled 0 (map part_of columns.now) (length area.old) }
-    ensures read { IfSome result (λ cell. ReadsPart (values_text quoting true columns.now) (EndsValue quoting) text.now area.old 0 (length area.old) area.new cell.at cell.behind.now) }
-    ensures none { result ≡ None → HasNoPart (values_text quoting true columns.now) (EndsValue quoting) text.now 0 (length area.old) }
+    ensures read { IfSome result (λ cell. ReadsPart (values_text quoting true columns.now)
+        (EndsValue quoting) text.now area.old 0 (length area.old) area.new cell.at cell.behind.now) }
+    ensures none { result ≡ None → HasNoPart (values_text quoting true columns.now)
+        (EndsValue quoting) text.now 0 (length area.old) }
 {
     let mut rest = text;
     let mut at = 0;

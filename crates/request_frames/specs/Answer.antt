@@ -19,8 +19,8 @@ code_of Open = 6
 code_of Memory = 7
 code_of Key = 8
 
--- what is told: that a request is refused, that a file was described or released, or what a verb answered, with the record that it delivered (no
--- bytes where it delivered none)
+-- what is told: that a request is refused, that a file was described or released, or what a verb
+-- answered, with the record that it delivered (no bytes where it delivered none)
 pub data Told : Type 0 where
   Refuses : (refusal : Refusal) → Told
   Does : Told

@@ -1,4 +1,5 @@
--- The request that the body of a frame is, row for row of its table. Numbers are big-endian. All of this is ours.
+-- The request that the body of a frame is, row for row of its table. Numbers are big-endian. All of
+-- this is ours.
 use Rattle.std.specs.Prelude.{ℕ, zero, suc, ◌+◌, ◌*◌, ◌==◌, Bool, true, false, not, ◌&&◌, ◌||◌, List, [], ◌∷◌, length, drop, nat_lt, slice_index, slice_range, Option, Some, None, option_map, option_and_then, if◌then◌else◌}
 use Rattle.byteorder.specs.Endian.{big_number}
 use Rattle.io_state.specs.declared.modes.Access.{Access}
@@ -22,7 +23,8 @@ abbrev pub flag_in : ℕ → Option Bool
 flag_in byte = if byte == 0 then Some false else if byte == 1 then Some true else None
 
 abbrev pub access_in : ℕ → Option Access
-access_in byte = if byte == 0 then Some Sequential else if byte == 1 then Some Random else if byte == 2 then Some Dynamic else None
+access_in byte = if byte == 0 then Some Sequential else if byte == 1 then Some Random else if byte == 2
+    then Some Dynamic else None
 
 abbrev pub mode_in : ℕ → Option OpenMode
 mode_in byte =
@@ -30,7 +32,8 @@ mode_in byte =
     else if byte == 3 then Some Extend else None
 
 abbrev pub relation_in : ℕ → Option Relation
-relation_in byte = if byte == 0 then Some Equal else if byte == 1 then Some Greater else if byte == 2 then Some NotLess else None
+relation_in byte = if byte == 0 then Some Equal else if byte == 1 then Some Greater else if byte == 2 then
+    Some NotLess else None
 
 -- ---- a verb
 
@@ -67,19 +70,29 @@ abbrev pub performed_by : List ℕ → Option FileStatement → Option Performed
 performed_by body None = None
 performed_by body (Some statement) =
     if not (number_in body 7 == 0) && not (has_length statement) then None
-    else Some (record { file = slice_index body 1; statement = statement; length = number_in body 7; bytes = drop 9 body })
+    else Some (record {
+      file = slice_index body 1;
+      statement = statement;
+      length = number_in body 7;
+      bytes = drop 9 body;
+    })
 
 abbrev pub performed_in : List ℕ → Option Performed
 performed_in body =
     if nat_lt (length body) 9 then None
-    else performed_by body (statement_in (slice_index body 2) (slice_index body 3) (slice_index body 4) (number_in body 5))
+    else performed_by body (statement_in (slice_index body 2) (slice_index body 3) (slice_index body 4)
+    (number_in body 5))
 
 -- ---- a description
 
 -- the key that a row of five bytes tells
 abbrev pub key_in : List ℕ → Option KeyPart
 key_in row =
-    option_map (λ duplicates. record { offset = number_in row 0; length = number_in row 2; duplicates = duplicates }) (flag_in (slice_index row 4))
+    option_map (λ duplicates. record {
+      offset = number_in row 0;
+      length = number_in row 2;
+      duplicates = duplicates;
+    }) (flag_in (slice_index row 4))
 
 -- these keys, and then those
 abbrev pub key_and : Option KeyPart → Option (List KeyPart) → Option (List KeyPart)
@@ -113,7 +126,8 @@ abbrev pub described_in : List ℕ → Option Described
 described_in body =
     if nat_lt (length body) 9 then None
     else if is_short body (slice_index body 8) then None
-    else described_by body (slice_index body 8) (access_in (slice_index body 2)) (flag_in (slice_index body 3)) (keys_in (slice_index body 8) (drop 9 body))
+    else described_by body (slice_index body 8) (access_in (slice_index body 2))
+    (flag_in (slice_index body 3)) (keys_in (slice_index body 8) (drop 9 body))
 
 -- ---- any request
 

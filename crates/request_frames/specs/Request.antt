@@ -18,7 +18,8 @@ pub record Described : Type 0 where
   pub keys : List KeyPart
   pub name : List ℕ
 
--- a verb on the file of this number: the length of the record that it stores, and the first bytes of the record area
+-- a verb on the file of this number: the length of the record that it stores, and the first bytes
+-- of the record area
 pub record Performed : Type 0 where
   pub file : ℕ
   pub statement : FileStatement

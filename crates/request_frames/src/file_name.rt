@@ -46,10 +46,11 @@ fn text_name(text: &[u8]) -> FileName
     name
 }
 
-/// The name of a file, as a text has it. None where it is the name of none: 1 to 64 letters, digits, full stops, hyphens and
-/// underscores, the first of them a letter or a digit.
+/// The name of a file, as a text has it. None where it is the name of none: 1 to 64 letters,
+/// digits, full stops, hyphens and underscores, the first of them a letter or a digit.
 pub fn file_name_of(text: &[u8]) -> Option<FileName>
-    ensures { option_map (λ name. name.bytes) result ≡ (if is_file_name text.now then Some text.now else None) }
+    ensures { option_map (λ name. name.bytes) result
+        ≡ (if is_file_name text.now then Some text.now else None) }
 {
     if is_file_name_text(text) {
         Some(text_name(text))

@@ -1,7 +1,8 @@
 //! The frames in which verbs on indexed files are asked for and answered.
 //!
-//! A frame is two bytes of length and a body. `read_request` gives the one meaning of a body, or none; `put_answer` makes the frame of
-//! an answer. All numbers are big-endian. Whether the files of a session allow what a request asks for is not known here.
+//! A frame is two bytes of length and a body. `read_request` gives the one meaning of a body, or
+//! none; `put_answer` makes the frame of an answer. All numbers are big-endian. Whether the files
+//! of a session allow what a request asks for is not known here.
 //!
 //! Read `specs/Request.antt`, `specs/Reading.antt` and `specs/Answer.antt`.
 #![tactic(auto)]

@@ -31,7 +31,8 @@ const LENGTH: usize = 7;
 
 const BYTES: usize = 9;
 
-/// A verb on the file of a number: the length of the record that it stores, and the first bytes of the record area.
+/// A verb on the file of a number: the length of the record that it stores, and the first bytes of
+/// the record area.
 #[derive(Drop)]
 pub struct Performance<'a> {
     pub file: u8,

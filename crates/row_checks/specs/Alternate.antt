@@ -24,10 +24,15 @@ pub record IsIndexFor (schema : Schema) (index : AltIndex) : Type 0 where
 -- no two rows have one rank by key k
 abbrev pub RanksDiffer : Schema → ℕ → List Row → Type 0
 RanksDiffer schema k [] = ⊤
-RanksDiffer schema k (row ∷ rows) = Each (λ other. IsTrue (is_lt (row_cmp schema k row other)) ⊎ IsTrue (is_lt (row_cmp schema k other row))) rows × RanksDiffer schema k rows
+RanksDiffer schema k (row ∷ rows) = Each (λ other. IsTrue (is_lt (row_cmp schema k row other))
+    ⊎ IsTrue (is_lt (row_cmp schema k other row))) rows × RanksDiffer schema k rows
 
--- the entries at these places are those that the index has of the rows, in the order of their ranks, no two of which are one
-pub record AlternateStands (opened : OpenFile) (list : List (List ℕ)) (primes : List Spot) (index : AltIndex) (spots : List Spot) : Type 0 where
-  pub entries_are : map alt_bytes (alt_entries opened.schema (alt_key index) (rows_in opened list primes)) ≡ entries_at index.tree.shape list spots
-  pub each : Each (IsAltEntry index.width index.prime) (alt_entries opened.schema (alt_key index) (rows_in opened list primes))
+-- the entries at these places are those that the index has of the rows, in the order of their
+-- ranks, no two of which are one
+pub record AlternateStands (opened : OpenFile) (list : List (List ℕ)) (primes : List Spot)
+    (index : AltIndex) (spots : List Spot) : Type 0 where
+  pub entries_are : map alt_bytes (alt_entries opened.schema (alt_key index) (rows_in opened list primes))
+      ≡ entries_at index.tree.shape list spots
+  pub each : Each (IsAltEntry index.width index.prime)
+      (alt_entries opened.schema (alt_key index) (rows_in opened list primes))
   pub differ : RanksDiffer opened.schema (alt_key index) (rows_in opened list primes)

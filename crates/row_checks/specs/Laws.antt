@@ -9,6 +9,11 @@ use Rattle.row_checks.specs.Alternate.{RanksDiffer}
 
 -- the rows that the prime index leads to are those of a file, where no two have one rank by an alternate key
 abbrev pub RowsMakeAFile : Type 0
-RowsMakeAFile = (opened : OpenFile) (list : List (List ℕ)) (own : List ℕ) (primes : List Spot) → IsShaped opened → 1 ≤ opened.next_stamp
-    → RowsStand opened list own primes → ((j : ℕ) → j < length opened.alternates.items → RanksDiffer opened.schema (j + 1) (rows_in opened list primes))
-    → IsTrue (is_file opened.schema (record { rows = rows_in opened list primes; next_stamp = opened.next_stamp }))
+RowsMakeAFile = (opened : OpenFile) (list : List (List ℕ)) (own : List ℕ) (primes : List Spot)
+    → IsShaped opened → 1 ≤ opened.next_stamp
+    → RowsStand opened list own primes → ((j : ℕ) → j < length opened.alternates.items
+    → RanksDiffer opened.schema (j + 1) (rows_in opened list primes))
+    → IsTrue (is_file opened.schema (record {
+      rows = rows_in opened list primes;
+      next_stamp = opened.next_stamp;
+    }))

@@ -28,7 +28,8 @@ pub record IsStoredRecord (opened : OpenFile) (stored : List ℕ) : Type 0 where
   pub bytes : Each (λ b. b < 256) stored
 
 -- the entry leads to a row that has its value, in one of the marked pages
-pub record LeadsToRow (opened : OpenFile) (list : List (List ℕ)) (marks : List Bool) (spot : Spot) : Type 0 where
+pub record LeadsToRow (opened : OpenFile) (list : List (List ℕ)) (marks : List Bool)
+    (spot : Spot) : Type 0 where
   pub long : length (prime_at opened list spot) ≡ opened.prime.width + 6
   pub bytes : Each (λ b. b < 256) (prime_at opened list spot)
   pub stored : List ℕ
@@ -37,16 +38,20 @@ pub record LeadsToRow (opened : OpenFile) (list : List (List ℕ)) (marks : List
   pub own : marked_in marks (place_at opened list spot).page ≡ true
   pub within : (place_at opened list spot).slot < room opened.heap.shape
   pub row : IsTrue (is_row opened.schema opened.next_stamp (row_off opened.schema (Some stored)))
-  pub value : take opened.prime.width (prime_at opened list spot) ≡ prime_of opened.schema (row_off opened.schema (Some stored)).bytes
+  pub value : take opened.prime.width (prime_at opened list spot) ≡ prime_of opened.schema
+      (row_off opened.schema (Some stored)).bytes
 
 -- where a slot is in use, an entry of the prime index leads to it
 abbrev pub HasEntry : OpenFile → List (List ℕ) → List Spot → Place → Type 0
-HasEntry opened list primes place = IsSome (slot_off opened.heap (pages_in list) place) → IsSome (find (is_same place) (places_in opened list primes))
+HasEntry opened list primes place = IsSome (slot_off opened.heap (pages_in list) place)
+    → IsSome (find (is_same place) (places_in opened list primes))
 
 -- the entry is the one that the index has of a row that the prime index leads to
-pub record HasRow (opened : OpenFile) (list : List (List ℕ)) (primes : List Spot) (index : AltIndex) (spot : Spot) : Type 0 where
+pub record HasRow (opened : OpenFile) (list : List (List ℕ)) (primes : List Spot) (index : AltIndex)
+    (spot : Spot) : Type 0 where
   pub long : length (entry_at index.tree.shape list spot) ≡ index.tree.shape.entry
   pub bytes : Each (λ b. b < 256) (entry_at index.tree.shape list spot)
   pub leader : Spot
   pub one : IsOneOf primes leader
-  pub is : alt_entry_in index.width (entry_at index.tree.shape list spot) ≡ entry_of opened.schema (alt_key index) (row_at opened list leader)
+  pub is : alt_entry_in index.width (entry_at index.tree.shape list spot) ≡ entry_of opened.schema
+      (alt_key index) (row_at opened list leader)

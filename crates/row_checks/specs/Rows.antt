@@ -28,7 +28,8 @@ place_at opened list spot = (prime_entry_in opened.prime.width (prime_at opened 
 
 -- the row that is there
 abbrev pub row_at : OpenFile → List (List ℕ) → Spot → Row
-row_at opened list spot = row_off opened.schema (slot_off opened.heap (pages_in list) (place_at opened list spot))
+row_at opened list spot = row_off opened.schema (slot_off opened.heap (pages_in list)
+    (place_at opened list spot))
 
 abbrev pub places_in : OpenFile → List (List ℕ) → List Spot → List Place
 places_in opened list spots = map (place_at opened list) spots
@@ -39,13 +40,19 @@ rows_in opened list spots = map (row_at opened list) spots
 -- the prime values rise
 abbrev pub PrimesRise : Schema → List Row → Type 0
 PrimesRise schema [] = ⊤
-PrimesRise schema (row ∷ rows) = Each (λ other. IsTrue (is_lt (value_cmp (prime_of schema row.bytes) (prime_of schema other.bytes)))) rows × PrimesRise schema rows
+PrimesRise schema (row ∷ rows) = Each (λ other. IsTrue
+    (is_lt (value_cmp (prime_of schema row.bytes) (prime_of schema other.bytes)))) rows
+    × PrimesRise schema rows
 
--- What the entries of the prime index at these places lead to are rows in the order of their prime values, and they are the entries of these rows; no other
--- slot of the heap's own pages is in use.
-pub record RowsStand (opened : OpenFile) (list : List (List ℕ)) (own : List ℕ) (spots : List Spot) : Type 0 where
+-- What the entries of the prime index at these places lead to are rows in the order of their prime
+-- values, and they are the entries of these rows; no other slot of the heap's own pages is in use.
+pub record RowsStand (opened : OpenFile) (list : List (List ℕ)) (own : List ℕ)
+    (spots : List Spot) : Type 0 where
   pub rows_are : Each (λ row. IsTrue (is_row opened.schema opened.next_stamp row)) (rows_in opened list spots)
-  pub placed : IsPlaced opened.schema (slots_of opened.heap.shape (pages_in list) own) (places_in opened list spots) (rows_in opened list spots)
-  pub entries_are : map prime_bytes (prime_entries opened.schema (places_in opened list spots) (rows_in opened list spots)) ≡ entries_at opened.prime.tree.shape list spots
-  pub each : Each (IsPrimeEntry opened.prime.width) (prime_entries opened.schema (places_in opened list spots) (rows_in opened list spots))
+  pub placed : IsPlaced opened.schema (slots_of opened.heap.shape (pages_in list) own)
+      (places_in opened list spots) (rows_in opened list spots)
+  pub entries_are : map prime_bytes (prime_entries opened.schema (places_in opened list spots)
+      (rows_in opened list spots)) ≡ entries_at opened.prime.tree.shape list spots
+  pub each : Each (IsPrimeEntry opened.prime.width)
+      (prime_entries opened.schema (places_in opened list spots) (rows_in opened list spots))
   pub rise : PrimesRise opened.schema (rows_in opened list spots)

@@ -36,7 +36,8 @@ fn is_of_row(
     requires shaped { IsShaped file.now }
     requires index { IsIndexFor file.now.schema index }
     requires long { length entry_bytes.now ≡ index.tree.shape.entry }
-    ensures { IsTrue result → alt_entry_in index.width entry_bytes.now ≡ entry_of file.now.schema (alt_key index) (row_at file.now pages.now leader) }
+    ensures { IsTrue result → alt_entry_in index.width entry_bytes.now ≡ entry_of file.now.schema
+        (alt_key index) (row_at file.now pages.now leader) }
 {
     let Some(prime) = entry(pages, file.prime.tree.shape, leader) else {
         return false;
@@ -82,7 +83,8 @@ fn check_leaf(
 ) -> Result<(), RowFault>
     requires shaped { IsShaped file.now }
     requires index { IsIndexFor file.now.schema index }
-    ensures { OnOk result (Each (HasRow file.now pages.now (spots_in primes.now) index) (spots_below leaf.page leaf.count)) }
+    ensures { OnOk result (Each (HasRow file.now pages.now (spots_in primes.now) index)
+        (spots_below leaf.page leaf.count)) }
 {
     for place in 0..leaf.count {
         let spot = Spot {
@@ -106,7 +108,8 @@ fn check_leaves(
 ) -> Result<(), RowFault>
     requires shaped { IsShaped file.now }
     requires index { IsIndexFor file.now.schema index }
-    ensures { OnOk result (All (λ leaf. Each (HasRow file.now pages.now (spots_in primes.now) index) (spots_below leaf.page leaf.count)) leaves.now) }
+    ensures { OnOk result (All (λ leaf. Each (HasRow file.now pages.now (spots_in primes.now) index)
+        (spots_below leaf.page leaf.count)) leaves.now) }
 {
     for &leaf in leaves {
         check_leaf(pages, file, primes, index, leaf)?;
@@ -114,8 +117,9 @@ fn check_leaves(
     Ok(())
 }
 
-/// Compares the index of an alternate key with the rows of a file. `primes` and `leaves` are the leaves of the prime index and of this one, each in
-/// their order, in the pages of the file as they were read.
+/// Compares the index of an alternate key with the rows of a file. `primes` and `leaves` are the
+/// leaves of the prime index and of this one, each in their order, in the pages of the file as they
+/// were read.
 ///
 /// Index at an entry that is that of no row.
 pub fn check_alternate(
@@ -128,8 +132,10 @@ pub fn check_alternate(
     requires shaped { IsShaped file.now }
     requires index { IsIndexFor file.now.schema index }
     requires many { length (spots_in leaves.now) ≡ length (spots_in primes.now) }
-    requires rises { Ascends index.tree.shape.width (entries_at index.tree.shape pages.now (spots_in leaves.now)) }
-    ensures { OnOk result (AlternateStands file.now pages.now (spots_in primes.now) index (spots_in leaves.now)) }
+    requires rises { Ascends index.tree.shape.width
+        (entries_at index.tree.shape pages.now (spots_in leaves.now)) }
+    ensures { OnOk result (AlternateStands file.now pages.now (spots_in primes.now) index
+        (spots_in leaves.now)) }
 {
     check_leaves(pages, file, primes, index, leaves)?;
     Ok(())

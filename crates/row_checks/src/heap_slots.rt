@@ -51,7 +51,8 @@ fn check_page(
     n: u32,
 ) -> Result<(), RowFault>
     requires { IsShaped file.now }
-    ensures { OnOk result ((p : Place) → p.page ≡ n → p.slot < room file.now.heap.shape → HasEntry file.now pages.now (spots_in primes.now) p) }
+    ensures { OnOk result ((p : Place) → p.page ≡ n → p.slot < room file.now.heap.shape
+        → HasEntry file.now pages.now (spots_in primes.now) p) }
 {
     for i in 0..file.heap.shape.room() {
         let place = Place {

@@ -2,7 +2,8 @@
 
 ghost use Rattle.row_checks.specs.Laws.{RowsMakeAFile};
 
-/// Where the prime index leads to rows, and no two of them have one rank by an alternate key, they are the rows of a file. It does nothing.
+/// Where the prime index leads to rows, and no two of them have one rank by an alternate key, they
+/// are the rows of a file. It does nothing.
 pub fn rows_make_a_file()
     ensures { RowsMakeAFile }
 {}

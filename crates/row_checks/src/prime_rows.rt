@@ -73,7 +73,8 @@ fn check_leaf(
     leaf: Leaf,
 ) -> Result<(), RowFault>
     requires { IsShaped file.now }
-    ensures { OnOk result (Each (LeadsToRow file.now pages.now marks.now) (spots_below leaf.page leaf.count)) }
+    ensures { OnOk result (Each (LeadsToRow file.now pages.now marks.now)
+        (spots_below leaf.page leaf.count)) }
 {
     for place in 0..leaf.count {
         let spot = Spot {
@@ -87,7 +88,8 @@ fn check_leaf(
     Ok(())
 }
 
-/// Each entry of these leaves of the prime index leads to a row that has its value, in one of the marked pages.
+/// Each entry of these leaves of the prime index leads to a row that has its value, in one of the
+/// marked pages.
 fn check_leaves(
     pages: &[[u8; PAGE_SIZE]],
     file: &OpenFile,
@@ -95,7 +97,8 @@ fn check_leaves(
     primes: &[Leaf],
 ) -> Result<(), RowFault>
     requires { IsShaped file.now }
-    ensures { OnOk result (All (λ leaf. Each (LeadsToRow file.now pages.now marks.now) (spots_below leaf.page leaf.count)) primes.now) }
+    ensures { OnOk result (All (λ leaf. Each (LeadsToRow file.now pages.now marks.now)
+        (spots_below leaf.page leaf.count)) primes.now) }
 {
     for &leaf in primes {
         check_leaf(pages, file, marks, leaf)?;
@@ -112,7 +115,8 @@ fn compare(
     marks: &mut [bool],
 ) -> Result<(), RowFault>
     requires shaped { IsShaped file.now }
-    requires rises { Ascends file.now.prime.width (entries_at file.now.prime.tree.shape pages.now (spots_in primes.now)) }
+    requires rises { Ascends file.now.prime.width (entries_at file.now.prime.tree.shape pages.now
+        (spots_in primes.now)) }
     requires none { (n : ℕ) → marked_in marks.old n ≡ false }
     ensures { OnOk result (RowsStand file.now pages.now own.now (spots_in primes.now)) }
 {
@@ -122,10 +126,11 @@ fn compare(
     Ok(())
 }
 
-/// Compares the prime index of a file with its records. `own` are the heap's own pages, and `primes` the leaves of the index, in their order, in the pages
-/// of the file as they were read.
+/// Compares the prime index of a file with its records. `own` are the heap's own pages, and
+/// `primes` the leaves of the index, in their order, in the pages of the file as they were read.
 ///
-/// Memory; Index at an entry that does not lead to a row that has its value, or at a slot in use that has no entry.
+/// Memory; Index at an entry that does not lead to a row that has its value, or at a slot in use
+/// that has no entry.
 pub fn check_rows(
     alloc: Global,
     pages: &[[u8; PAGE_SIZE]],
@@ -134,7 +139,8 @@ pub fn check_rows(
     primes: &[Leaf],
 ) -> Result<(), RowFault>
     requires shaped { IsShaped file.now }
-    requires rises { Ascends file.now.prime.width (entries_at file.now.prime.tree.shape pages.now (spots_in primes.now)) }
+    requires rises { Ascends file.now.prime.width (entries_at file.now.prime.tree.shape pages.now
+        (spots_in primes.now)) }
     ensures { OnOk result (RowsStand file.now pages.now own.now (spots_in primes.now)) }
 {
     let mut marks = no_marks(alloc, pages.len())?;

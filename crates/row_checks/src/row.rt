@@ -26,7 +26,8 @@ fn record_of<'a>(file: &OpenFile, stored: &'a [u8]) -> &'a [u8]
 pub fn is_row(file: &OpenFile, stored: &[u8]) -> bool
     requires shaped { IsShaped file.now }
     requires fits { IsStoredRecord file.now stored.now }
-    ensures { IsTrue result → IsTrue (is_row file.now.schema file.now.next_stamp (row_off file.now.schema (Some stored.now))) }
+    ensures { IsTrue result → IsTrue (is_row file.now.schema file.now.next_stamp
+        (row_off file.now.schema (Some stored.now))) }
 {
     are_stamps(&file.schema.keys()[1..], stored, file.next_stamp)
 }

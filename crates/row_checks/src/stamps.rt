@@ -15,7 +15,8 @@ const STAMP: usize = 8;
 /// Each stamp of a duplicates key is from 1 to below the next one.
 pub fn are_stamps(parts: &[KeyPart], bytes: &[u8], next: u64) -> bool
     requires { stamps_length parts.now ≤ length bytes.now }
-    ensures { IsTrue result → IsTrue (list_all (λ p. is_stamp next p.0 p.1) (zip parts.now (stamps_off parts.now bytes.now))) }
+    ensures { IsTrue result → IsTrue (list_all (λ p. is_stamp next p.0 p.1)
+        (zip parts.now (stamps_off parts.now bytes.now))) }
 {
     let mut rest = bytes;
     for part in parts {

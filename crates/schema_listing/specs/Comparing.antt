@@ -13,7 +13,9 @@ abbrev pub comparison_of : Schema → Schema → Comparison
 comparison_of file deck = if same_schema file deck then Same else Different
 
 -- what was written by what was read: the differences, or nothing
-abbrev pub TellsDifferences : Schema → (before after : Option (List ℕ)) → Result Header Refusal → Result Comparison Refusal → Type 0
-TellsDifferences deck before after (Ok header) (Ok told) = (told ≡ comparison_of header.schema deck) × Appends before after (differences header.schema deck)
+abbrev pub TellsDifferences : Schema → (before after : Option (List ℕ)) → Result Header Refusal
+    → Result Comparison Refusal → Type 0
+TellsDifferences deck before after (Ok header) (Ok told) =
+    (told ≡ comparison_of header.schema deck) × Appends before after (differences header.schema deck)
 TellsDifferences deck before after (Err why) (Err told) = (told ≡ why) × (after ≡ before)
 TellsDifferences deck before after read told = ⊥

@@ -12,7 +12,8 @@ against file deck = file ++ (codes ", deck " ++ (deck ++ codes "\n"))
 abbrev pub record_difference : Schema → Schema → List ℕ
 record_difference file deck =
     if (file.least == deck.least) && (file.greatest == deck.greatest) then []
-    else codes "record " ++ against (lengths_text file.least file.greatest) (lengths_text deck.least deck.greatest)
+    else codes "record " ++ against (lengths_text file.least file.greatest)
+    (lengths_text deck.least deck.greatest)
 
 -- a number of key k, where it is not the same
 abbrev pub number_difference : ℕ → List ℕ → ℕ → ℕ → List ℕ
@@ -39,7 +40,8 @@ key_difference k file deck =
 -- all of a key
 abbrev pub key_text : KeyPart → List ℕ
 key_text part =
-    codes "offset " ++ (decimal part.offset ++ (codes " length " ++ (decimal part.length ++ (codes " " ++ kind_of part.duplicates))))
+    codes "offset " ++ (decimal part.offset ++ (codes " length "
+    ++ (decimal part.length ++ (codes " " ++ kind_of part.duplicates))))
 
 -- key k, which one of them alone has
 abbrev pub key_of_file : ℕ → KeyPart → List ℕ
@@ -53,7 +55,8 @@ abbrev pub key_differences : ℕ → List KeyPart → List KeyPart → List ℕ
 key_differences k [] [] = []
 key_differences k (part ∷ file) [] = key_of_file k part ++ key_differences (k + 1) file []
 key_differences k [] (part ∷ deck) = key_of_deck k part ++ key_differences (k + 1) [] deck
-key_differences k (part ∷ file) (other ∷ deck) = key_difference k part other ++ key_differences (k + 1) file deck
+key_differences k (part ∷ file) (other ∷ deck) =
+    key_difference k part other ++ key_differences (k + 1) file deck
 
 -- all lines
 abbrev pub differences : Schema → Schema → List ℕ

@@ -7,18 +7,21 @@ use Rattle.file_header.specs.declared.header.TreeNumbers.{TreeNumbers}
 
 -- how long records are: one length, or the least and the greatest
 abbrev pub lengths_text : ℕ → ℕ → List ℕ
-lengths_text least greatest = if least == greatest then decimal greatest else decimal least ++ (codes " to " ++ decimal greatest)
+lengths_text least greatest = if least == greatest then decimal greatest else decimal least
+    ++ (codes " to " ++ decimal greatest)
 
 abbrev pub record_line : Schema → List ℕ
 record_line schema = codes "record " ++ (lengths_text schema.least schema.greatest ++ codes "\n")
 
 -- the kind of key k
 abbrev pub kind_text : ℕ → Bool → List ℕ
-kind_text k duplicates = if k == 0 then codes "prime" else if duplicates then codes "duplicates" else codes "unique"
+kind_text k duplicates = if k == 0 then codes "prime" else if duplicates then codes "duplicates" else
+    codes "unique"
 
 -- key k, and where it is in a record
 abbrev pub place_text : ℕ → KeyPart → List ℕ
-place_text k part = codes "key " ++ (decimal k ++ (codes " offset " ++ (decimal part.offset ++ (codes " length " ++ decimal part.length))))
+place_text k part = codes "key " ++ (decimal k ++ (codes " offset "
+    ++ (decimal part.offset ++ (codes " length " ++ decimal part.length))))
 
 -- its kind, and the levels of its tree
 abbrev pub tree_text : List ℕ → ℕ → List ℕ
@@ -51,4 +54,5 @@ count_lines header =
 
 -- all lines
 abbrev pub lines_of : Header → List ℕ
-lines_of header = record_line header.schema ++ (key_lines 0 header.schema.keys header.trees.items ++ count_lines header)
+lines_of header = record_line header.schema ++ (key_lines 0 header.schema.keys header.trees.items
+    ++ count_lines header)

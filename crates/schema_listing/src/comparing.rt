@@ -40,8 +40,10 @@ fn write_differences<W: Write>(
     deck: &Schema,
     out: &mut W,
 ) -> Result<(), ListingFault>
-    ensures written { OnOk result (Appends (W.contents out.old) (W.contents out.new) (differences file.now deck.now)) }
-    ensures memory { IfErr result (λ fault. fault ≢ ListingFault.Output → (fault ≡ ListingFault.Memory) × (out.new ≡ out.old)) }
+    ensures written { OnOk result (Appends (W.contents out.old) (W.contents out.new)
+        (differences file.now deck.now)) }
+    ensures memory { IfErr result (λ fault. fault ≢ ListingFault.Output → (fault ≡ ListingFault.Memory)
+        × (out.new ≡ out.old)) }
 {
     let Ok(lines) = difference_lines(alloc, file, deck) else {
         return Err(ListingFault::Memory);
@@ -52,17 +54,19 @@ fn write_differences<W: Write>(
     }
 }
 
-/// Writes a line for each difference of the schema of the file that a reader has from that of a deck, by the first page of the file alone; or writes nothing, and tells
-/// why the page is none.
+/// Writes a line for each difference of the schema of the file that a reader has from that of a
+/// deck, by the first page of the file alone; or writes nothing, and tells why the page is none.
 ///
-/// Input where the reader fails; Memory. Both leave the writer as it was. Output where the writer fails: it may have a part of the lines.
+/// Input where the reader fails; Memory. Both leave the writer as it was. Output where the writer
+/// fails: it may have a part of the lines.
 pub fn compare_schema<R: Read + Drop, W: Write>(
     alloc: Global,
     reader: R,
     deck: &Schema,
     out: &mut W,
 ) -> Result<Result<Comparison, Refusal>, ListingFault>
-    ensures told { IfSome (R.remaining reader) (λ bytes. IfOk result (TellsDifferences deck.now (W.contents out.old) (W.contents out.new) (read_in bytes))) }
+    ensures told { IfSome (R.remaining reader) (λ bytes.
+        IfOk result (TellsDifferences deck.now (W.contents out.old) (W.contents out.new) (read_in bytes))) }
     ensures refused { IfOk result (λ told. OnErr told (out.new ≡ out.old)) }
     ensures fault { IfErr result (λ fault. fault ≢ ListingFault.Output → out.new ≡ out.old) }
 {

@@ -150,7 +150,8 @@ fn add_key_differences(
     }
 }
 
-/// The lines that tell how the schema of a file differs from that of a deck: none exactly where they are the same.
+/// The lines that tell how the schema of a file differs from that of a deck: none exactly where
+/// they are the same.
 pub fn difference_lines(alloc: Global, file: &Schema, deck: &Schema) -> Result<Vec<u8>, AllocError>
     ensures lines { IfOk result (λ lines. lines.items ≡ differences file.now deck.now) }
     ensures none { IfOk result (λ lines. is_none lines.items ≡ same_schema file.now deck.now) }

@@ -68,7 +68,8 @@ pub fn header_in(bytes: &[u8]) -> Result<Header, Refusal>
 fn write_lines<W: Write>(alloc: Global, header: &Header, out: &mut W) -> Result<(), ListingFault>
     requires { IsHeader header.now }
     ensures written { OnOk result (Appends (W.contents out.old) (W.contents out.new) (lines_of header.now)) }
-    ensures memory { IfErr result (λ fault. fault ≢ ListingFault.Output → (fault ≡ ListingFault.Memory) × (out.new ≡ out.old)) }
+    ensures memory { IfErr result (λ fault. fault ≢ ListingFault.Output → (fault ≡ ListingFault.Memory)
+        × (out.new ≡ out.old)) }
 {
     let Ok(lines) = schema_lines(alloc, header) else {
         return Err(ListingFault::Memory);
@@ -79,15 +80,18 @@ fn write_lines<W: Write>(alloc: Global, header: &Header, out: &mut W) -> Result<
     }
 }
 
-/// Writes the lines that tell of the file that a reader has, by its first page alone; or writes nothing, and tells why the page is none.
+/// Writes the lines that tell of the file that a reader has, by its first page alone; or writes
+/// nothing, and tells why the page is none.
 ///
-/// Input where the reader fails; Memory. Both leave the writer as it was. Output where the writer fails: it may have a part of the lines.
+/// Input where the reader fails; Memory. Both leave the writer as it was. Output where the writer
+/// fails: it may have a part of the lines.
 pub fn list_schema<R: Read + Drop, W: Write>(
     alloc: Global,
     reader: R,
     out: &mut W,
 ) -> Result<Result<(), Refusal>, ListingFault>
-    ensures told { IfSome (R.remaining reader) (λ bytes. IfOk result (Tells (W.contents out.old) (W.contents out.new) (read_in bytes))) }
+    ensures told { IfSome (R.remaining reader) (λ bytes.
+        IfOk result (Tells (W.contents out.old) (W.contents out.new) (read_in bytes))) }
     ensures refused { IfOk result (λ told. OnErr told (out.new ≡ out.old)) }
     ensures fault { IfErr result (λ fault. fault ≢ ListingFault.Output → out.new ≡ out.old) }
 {

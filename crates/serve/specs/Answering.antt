@@ -21,11 +21,14 @@ pub record Outgoing : Type 0 where
   pub held_after : List ℕ
 
 abbrev pub outgoing : (written written_after : Option (List ℕ)) → (held held_after : List ℕ) → Outgoing
-outgoing written written_after held held_after = record { written = written; written_after = written_after; held = held; held_after = held_after }
+outgoing written written_after held held_after =
+    record { written = written; written_after = written_after; held = held; held_after = held_after }
 
 -- a request was answered, so that this is so of what was told
-abbrev pub AnswersAs : {S : Type 0} → Shown S → (IsNew : S → Type 0) → (body : List ℕ) → (Told → Type 0) → (old new : Files S) → Type 0
-AnswersAs shown IsNew body IsSo old new = (told : Told) × Answers shown IsNew (request_in body) old told new × IsSo told
+abbrev pub AnswersAs : {S : Type 0} → Shown S → (IsNew : S → Type 0) → (body : List ℕ) → (Told → Type 0)
+    → (old new : Files S) → Type 0
+AnswersAs shown IsNew body IsSo old new = (told : Told)
+    × Answers shown IsNew (request_in body) old told new × IsSo told
 
 -- the answer is held, if the request only reads; or the writer took it behind all that was held
 abbrev pub Goes : (body : List ℕ) → Outgoing → Told → Type 0
@@ -36,12 +39,15 @@ Goes body o told =
 -- the writer refused what was held, behind a request that only reads; or it refused the answer
 abbrev pub Stays : (body : List ℕ) → Outgoing → Told → Type 0
 Stays body o told =
-    (OnlyReads body × RefusesHeld o.written o.written_after o.held) ⊎ RefusesNext o.written o.written_after o.held (answer_frame told)
+    (OnlyReads body × RefusesHeld o.written o.written_after o.held)
+    ⊎ RefusesNext o.written o.written_after o.held (answer_frame told)
 
 -- the writer refused what was held, and the request was not performed; or it was, and then the writer refused
-abbrev pub FailsOne : {S : Type 0} → Shown S → (IsNew : S → Type 0) → (body : List ℕ) → Outgoing → (old new : Files S) → Type 0
+abbrev pub FailsOne : {S : Type 0} → Shown S → (IsNew : S → Type 0) → (body : List ℕ) → Outgoing
+    → (old new : Files S) → Type 0
 FailsOne shown IsNew body o old new =
-    (RefusesHeld o.written o.written_after o.held × (new ≡ old)) ⊎ AnswersAs shown IsNew body (Stays body o) old new
+    (RefusesHeld o.written o.written_after o.held × (new ≡ old))
+    ⊎ AnswersAs shown IsNew body (Stays body o) old new
 
 -- where the requests end, the writer took all that was held, or refused it
 abbrev pub Finishes : Result Unit ServeFault → Outgoing → Result Unit ServeFault → Type 0
@@ -50,8 +56,10 @@ Finishes end o result =
     ⊎ ((result ≡ Err Output) × RefusesHeld o.written o.written_after o.held)
 
 -- the writer took the refusal of a length past the limit behind all that was held, or refused one of the two
-abbrev pub RefusesLength : (written written_after : Option (List ℕ)) → (held : List ℕ) → Result Unit ServeFault → Type 0
+abbrev pub RefusesLength : (written written_after : Option (List ℕ)) → (held : List ℕ)
+    → Result Unit ServeFault → Type 0
 RefusesLength written written_after held (Ok _) = Appends written written_after (held ++ too_long)
 RefusesLength written written_after held (Err Input) = ⊥
-RefusesLength written written_after held (Err Output) = RefusesHeld written written_after held ⊎ RefusesNext written written_after held too_long
+RefusesLength written written_after held (Err Output) =
+    RefusesHeld written written_after held ⊎ RefusesNext written written_after held too_long
 RefusesLength written written_after held (Err Memory) = ⊥

@@ -8,18 +8,24 @@ use Rattle.request_frames.specs.declared.refusal.Refusal.TheVariants as refusal
 use Rattle.file_session.specs.Files.{Files, file_at}
 use Rattle.file_session.specs.Steps.{Describes, RefusesDescription, Performs, refusal_of_verb, record_by, Releases, refusal_of_release}
 
--- a file is described over a library that is new; or that is refused, and nothing is changed. Want of memory may refuse any description
-abbrev pub AnswersDescription : {S : Type 0} → Shown S → (IsNew : S → Type 0) → Described → Files S → Told → Files S → Type 0
-AnswersDescription {S} shown IsNew d old Does new = (given : S) × IsNew given × Describes shown d given old new
-AnswersDescription shown IsNew d old (Refuses why) new = ((why ≡ refusal.Memory) ⊎ RefusesDescription old d why) × (new ≡ old)
+-- a file is described over a library that is new; or that is refused, and nothing is changed. Want
+-- of memory may refuse any description
+abbrev pub AnswersDescription : {S : Type 0} → Shown S → (IsNew : S → Type 0) → Described → Files S → Told
+    → Files S → Type 0
+AnswersDescription {S} shown IsNew d old Does new =
+    (given : S) × IsNew given × Describes shown d given old new
+AnswersDescription shown IsNew d old (Refuses why) new =
+    ((why ≡ refusal.Memory) ⊎ RefusesDescription old d why) × (new ≡ old)
 AnswersDescription shown IsNew d old (Tells status bytes) new = ⊥
 
--- a verb is performed, and its status told, with the record that it delivered; or it is refused, and nothing is changed
+-- a verb is performed, and its status told, with the record that it delivered; or it is refused,
+-- and nothing is changed
 abbrev pub AnswersVerb : {S : Type 0} → Shown S → Performed → Files S → Told → Files S → Type 0
 AnswersVerb shown p old Does new = ⊥
 AnswersVerb shown p old (Refuses why) new = (refusal_of_verb old p ≡ Some why) × (new ≡ old)
 AnswersVerb shown p old (Tells status bytes) new =
-    (answer : Answer) × Performs shown p old answer new × (status ≡ answer.status) × (bytes ≡ record_by (file_at new p.file) answer.length)
+    (answer : Answer) × Performs shown p old answer new × (status ≡ answer.status)
+    × (bytes ≡ record_by (file_at new p.file) answer.length)
 
 -- the number is free again; or that is refused, and nothing is changed
 abbrev pub AnswersRelease : {S : Type 0} → ℕ → Files S → Told → Files S → Type 0
@@ -28,7 +34,8 @@ AnswersRelease number old (Refuses why) new = (refusal_of_release old number ≡
 AnswersRelease number old (Tells status bytes) new = ⊥
 
 -- a request is answered; what is none is refused, and changes nothing
-abbrev pub Answers : {S : Type 0} → Shown S → (IsNew : S → Type 0) → Option Asked → Files S → Told → Files S → Type 0
+abbrev pub Answers : {S : Type 0} → Shown S → (IsNew : S → Type 0) → Option Asked → Files S → Told
+    → Files S → Type 0
 Answers shown IsNew None old told new = (told ≡ Refuses refusal.NoRequest) × (new ≡ old)
 Answers shown IsNew (Some (Describing d)) old told new = AnswersDescription shown IsNew d old told new
 Answers shown IsNew (Some (Performing p)) old told new = AnswersVerb shown p old told new

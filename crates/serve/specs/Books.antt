@@ -6,8 +6,8 @@ use Rattle.indexed_file.specs.Moments.{Test, Moments}
 use Rattle.deck_runner.specs.NoFalseFile.{Ledger, first_ledger, during, behind, StandsBy}
 use Rattle.file_session.specs.Files.{NumberedFile, Files, file_at, no_files}
 
--- what is written down of a described file: the library that was given for it, and what the images of each name may be, as it is of the run of
--- a deck
+-- what is written down of a described file: the library that was given for it, and what the images
+-- of each name may be, as it is of the run of a deck
 pub record Book (S : Type 0) : Type 0 where
   pub given : S
   pub ledger : List ℕ → Ledger
@@ -23,8 +23,8 @@ book_during trace book = record book { ledger = λ name. during (trace name) (bo
 abbrev pub book_behind : {S : Type 0} → (List ℕ → Trace) → Book S → Book S
 book_behind trace book = record book { ledger = λ name. behind (trace name) (book.ledger name) }
 
--- at each moment from the one library of the file to the other each name stands by its ledger: where that library has not lied by then, and what
--- the given one showed of the file was true
+-- at each moment from the one library of the file to the other each name stands by its ledger:
+-- where that library has not lied by then, and what the given one showed of the file was true
 abbrev pub AllStand : {S : Type 0} → Shown S → (file : List ℕ) → Book S → (old new : S) → Type 0
 AllStand shown file book old new =
     IsTrue (shown.is_honest new) → shown.IsShownTruly book.given file
@@ -38,13 +38,16 @@ any named = true
 abbrev pub IsReal : {S : Type 0} → Moments S → (old new : S) → List ℕ → Type 0
 IsReal Throughout old new name = Throughout any old new name
 
--- under the same premises: where this is so of a name in the given library, it is so at each moment from then until now
+-- under the same premises: where this is so of a name in the given library, it is so at each moment
+-- from then until now
 abbrev pub AllReal : {S : Type 0} → Shown S → (file : List ℕ) → Book S → (now : S) → Type 0
 AllReal shown file book now =
     IsTrue (shown.is_honest now) → shown.IsShownTruly book.given file
-    → (name : List ℕ) → IsReal shown.Throughout book.given book.given name → IsReal shown.Throughout book.given now name
+    → (name : List ℕ) → IsReal shown.Throughout book.given book.given name
+    → IsReal shown.Throughout book.given now name
 
--- a file and its book: each name stands by its ledger now, and has had no false image since the file was described
+-- a file and its book: each name stands by its ledger now, and has had no false image since the
+-- file was described
 pub record Stands {S : Type 0} (shown : Shown S) (file : NumberedFile S) (book : Book S) : Type 0 where
   pub now : AllStand shown file.name book file.memory.library file.memory.library
   pub since : AllReal shown file.name book file.memory.library

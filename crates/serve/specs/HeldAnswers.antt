@@ -10,14 +10,20 @@ HandsAllOver written written_after held held_after = Appends written written_aft
 -- the writer refused what was held: it has a front of that, or all and did not hand it on
 abbrev pub RefusesHeld : (written written_after : Option (List ℕ)) → (held : List ℕ) → Type 0
 RefusesHeld written written_after held =
-    (0 < length held) × ((front : List ℕ) × (rest : List ℕ) × (held ≡ front ++ rest) × Appends written written_after front)
+    (0 < length held) × ((front : List ℕ) × (rest : List ℕ) × (held ≡ front ++ rest)
+    × Appends written written_after front)
 
--- before the input is asked on, the writer took all that was held; or the next frame had come whole, and nothing was done
-abbrev pub MakesWay : (ahead : List ℕ) → (written written_after : Option (List ℕ)) → (held held_after : List ℕ) → Type 0
+-- before the input is asked on, the writer took all that was held; or the next frame had come
+-- whole, and nothing was done
+abbrev pub MakesWay : (ahead : List ℕ) → (written written_after : Option (List ℕ))
+    → (held held_after : List ℕ) → Type 0
 MakesWay ahead written written_after held held_after =
-    (BeginsWithFrame ahead × Appends written written_after [] × (held_after ≡ held)) ⊎ HandsAllOver written written_after held held_after
+    (BeginsWithFrame ahead × Appends written written_after [] × (held_after ≡ held))
+    ⊎ HandsAllOver written written_after held held_after
 
--- the writer took what was held, and refused the frame behind it: it has a front of that, or all and did not hand it on
+-- the writer took what was held, and refused the frame behind it: it has a front of that, or all
+-- and did not hand it on
 abbrev pub RefusesNext : (written written_after : Option (List ℕ)) → (held frame : List ℕ) → Type 0
 RefusesNext written written_after held frame =
-    (front : List ℕ) × (rest : List ℕ) × (frame ≡ front ++ rest) × Appends written written_after (held ++ front)
+    (front : List ℕ) × (rest : List ℕ) × (frame ≡ front ++ rest)
+    × Appends written written_after (held ++ front)

@@ -20,7 +20,8 @@ BeginsWithFrame bytes = (body : List ℕ) × (behind : List ℕ) × (bytes ≡ f
 -- less than a frame: not two bytes, or a length and fewer bytes than it says
 pub data IsCut : List ℕ → Type 0 where
   NoLength : (bytes : List ℕ) → length bytes < 2 → IsCut bytes
-  NoBody : (size : ℕ) → (bytes : List ℕ) → size ≤ 8192 → length bytes < size → IsCut (big_bytes 2 size ++ bytes)
+  NoBody : (size : ℕ) → (bytes : List ℕ) → size ≤ 8192 → length bytes < size
+      → IsCut (big_bytes 2 size ++ bytes)
 
 -- what was read is less than a frame
 abbrev pub BreaksOff : (before after : Source) → Type 0

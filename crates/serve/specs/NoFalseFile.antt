@@ -1,7 +1,8 @@
--- No false file after a crash of a session: what is so of the run of a deck, with requests in the place of statements. Each described file has a
--- library of its own. From its description on, at each moment, each image of a name stands for what the last CLOSE of a change that answered 00
--- left, or for that of a CLOSE in progress or one that failed since, or is refused; before the first such CLOSE it may also be as in an image at
--- the description. All of this is ours.
+-- No false file after a crash of a session: what is so of the run of a deck, with requests in the
+-- place of statements. Each described file has a library of its own. From its description on, at
+-- each moment, each image of a name stands for what the last CLOSE of a change that answered 00
+-- left, or for that of a CLOSE in progress or one that failed since, or is refused; before the
+-- first such CLOSE it may also be as in an image at the description. All of this is ours.
 use Rattle.std.specs.Prelude.{◌≡◌, ℕ, List, [], ◌∷◌, bytes_eq, Option, Some, None, if◌then◌else◌, Result}
 use Rattle.io_state.specs.declared.status.Status.{Status}
 use Rattle.indexed_file.specs.Shown.{Shown}
@@ -20,8 +21,10 @@ use Rattle.serve.specs.declared.fault.ServeFault.{ServeFault}
 
 -- ---- a request
 
--- a file was described, over a library that is new: its book begins, and each name stands as it stood in that library
-pub record Begins {S : Type 0} (shown : Shown S) (IsNew : S → Type 0) (d : Described) (old new : Judged S) : Type 0 where
+-- a file was described, over a library that is new: its book begins, and each name stands as it
+-- stood in that library
+pub record Begins {S : Type 0} (shown : Shown S) (IsNew : S → Type 0) (d : Described)
+    (old new : Judged S) : Type 0 where
   pub given : S
   pub is_new : IsNew given
   pub library : S
@@ -33,21 +36,28 @@ pub record Begins {S : Type 0} (shown : Shown S) (IsNew : S → Type 0) (d : Des
 -- what a statement with this status may leave of any name, by the file before it
 abbrev pub trace_for : {S : Type 0} → Shown S → Performed → NumberedFile S → Status → List ℕ → Trace
 trace_for shown p file status name =
-    if bytes_eq file.name name then trace_of p.statement (state_in shown 0 (with_bytes p.bytes file.memory)) status else untouched
+    if bytes_eq file.name name then trace_of p.statement
+    (state_in shown 0 (with_bytes p.bytes file.memory)) status else untouched
 
--- a file has performed a statement with this status: each name stands by its ledger meanwhile, and the book goes on as the statement says
-pub record GoesOn {S : Type 0} (shown : Shown S) (p : Performed) (status : Status) (old new : Judged S) : Type 0 where
+-- a file has performed a statement with this status: each name stands by its ledger meanwhile, and
+-- the book goes on as the statement says
+pub record GoesOn {S : Type 0} (shown : Shown S) (p : Performed) (status : Status)
+    (old new : Judged S) : Type 0 where
   pub before : NumberedFile S
   pub after : NumberedFile S
   pub book : Book S
   pub was : file_at old.files p.file ≡ Some before
   pub is : file_at new.files p.file ≡ Some after
   pub had : old.books p.file ≡ Some book
-  pub stands : AllStand shown before.name (book_during (trace_for shown p before status) book) before.memory.library after.memory.library
-  pub books : new.books ≡ with_book old.books p.file (Some (book_behind (trace_for shown p before status) book))
+  pub stands : AllStand shown before.name (book_during (trace_for shown p before status) book)
+      before.memory.library after.memory.library
+  pub books : new.books ≡ with_book old.books p.file
+      (Some (book_behind (trace_for shown p before status) book))
 
--- how the books go in a request that is told this. All but that of the number asked for stay, and where the request is refused, all do
-abbrev pub BooksGo : {S : Type 0} → Shown S → (IsNew : S → Type 0) → Option Asked → Told → (old new : Judged S) → Type 0
+-- how the books go in a request that is told this. All but that of the number asked for stay, and
+-- where the request is refused, all do
+abbrev pub BooksGo : {S : Type 0} → Shown S → (IsNew : S → Type 0) → Option Asked → Told
+    → (old new : Judged S) → Type 0
 BooksGo shown IsNew None told old new = new.books ≡ old.books
 BooksGo shown IsNew (Some (Describing d)) Does old new = Begins shown IsNew d old new
 BooksGo shown IsNew (Some (Describing d)) (Refuses why) old new = new.books ≡ old.books
@@ -60,13 +70,15 @@ BooksGo shown IsNew (Some (Releasing number)) (Refuses why) old new = new.books 
 BooksGo shown IsNew (Some (Releasing number)) (Tells status bytes) old new = ⊥
 
 -- a request was answered, the books went on, and behind it each name stands by its ledger
-pub record AnswersSafely {S : Type 0} (shown : Shown S) (IsNew : S → Type 0) (e : Exchange) (old new : Judged S) : Type 0 where
+pub record AnswersSafely {S : Type 0} (shown : Shown S) (IsNew : S → Type 0) (e : Exchange)
+    (old new : Judged S) : Type 0 where
   pub answers : Answers shown IsNew (request_in e.body) old.files e.told new.files
   pub books : BooksGo shown IsNew (request_in e.body) e.told old new
   pub now : StandNow shown new
 
 -- requests were answered so, one after another
-abbrev pub ServesSafely : {S : Type 0} → Shown S → (IsNew : S → Type 0) → Judged S → List Exchange → Judged S → Type 0
+abbrev pub ServesSafely : {S : Type 0} → Shown S → (IsNew : S → Type 0) → Judged S → List Exchange
+    → Judged S → Type 0
 ServesSafely shown IsNew old [] new = new ≡ old
 ServesSafely {S} shown IsNew old (e ∷ rest) new =
     (between : Judged S) × AnswersSafely shown IsNew e old between × ServesSafely shown IsNew between rest new
@@ -74,7 +86,8 @@ ServesSafely {S} shown IsNew old (e ∷ rest) new =
 -- ---- the end
 
 -- the open file that was opened first was closed, and its book went on
-pub record ClosesOneSafely {S : Type 0} (shown : Shown S) (old : Judged S) (status : Status) (new : Judged S) : Type 0 where
+pub record ClosesOneSafely {S : Type 0} (shown : Shown S) (old : Judged S) (status : Status)
+    (new : Judged S) : Type 0 where
   pub closes : ClosesFirst shown old.files status new.files
   pub goes : GoesOn shown (close_of closes.first) status old new
   pub now : StandNow shown new
@@ -82,19 +95,22 @@ pub record ClosesOneSafely {S : Type 0} (shown : Shown S) (old : Judged S) (stat
 -- the open files were closed so, until none was open
 abbrev pub ClosesSafely : {S : Type 0} → Shown S → Judged S → List Status → Judged S → Type 0
 ClosesSafely shown old [] new = (old.files.opened ≡ []) × (new ≡ old)
-ClosesSafely {S} shown old (status ∷ rest) new = (between : Judged S) × ClosesOneSafely shown old status between × ClosesSafely shown between rest new
+ClosesSafely {S} shown old (status ∷ rest) new =
+    (between : Judged S) × ClosesOneSafely shown old status between × ClosesSafely shown between rest new
 
 -- ---- the law
 
--- such requests were answered from the first one on, when there was no book, and then the open files were closed so
-pub record ServesToEndSafely {S : Type 0} (shown : Shown S) (IsNew : S → Type 0) (exchanges : List Exchange) (last : Judged S) (closes : List Status) (end : Judged S) : Type 0 where
+-- such requests were answered from the first one on, when there was no book, and then the open
+-- files were closed so
+pub record ServesToEndSafely {S : Type 0} (shown : Shown S) (IsNew : S → Type 0)
+    (exchanges : List Exchange) (last : Judged S) (closes : List Status) (end : Judged S) : Type 0 where
   pub serving : ServesSafely shown IsNew none_judged exchanges last
   pub now : StandNow shown last
   pub closed : ClosesSafely shown last closes end
   pub at_end : StandNow shown end
 
--- in every session, however it ended, each name stands by its ledger: during each request, at each point between two, during each close, and
--- at the end
+-- in every session, however it ended, each name stands by its ledger: during each request, at each
+-- point between two, during each close, and at the end
 abbrev pub NoFalseFile : {S : Type 0} → Shown S → (IsNew : S → Type 0) → Type 0
 NoFalseFile {S} shown IsNew =
     (s : Streams) → (result : Result Unit ServeFault) → (session : Served shown IsNew s result)

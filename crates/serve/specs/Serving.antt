@@ -29,15 +29,18 @@ abbrev pub answers : List Exchange → List ℕ
 answers exchanges = flat_map (λ e. answer_frame e.told) exchanges
 
 -- requests were answered one after another, each in what those before it left
-abbrev pub Serving : {S : Type 0} → Shown S → (IsNew : S → Type 0) → Files S → List Exchange → Files S → Type 0
+abbrev pub Serving : {S : Type 0} → Shown S → (IsNew : S → Type 0) → Files S → List Exchange → Files S
+    → Type 0
 Serving shown IsNew old [] new = new ≡ old
 Serving {S} shown IsNew old (e ∷ rest) new =
-    (between : Files S) × Answers shown IsNew (request_in e.body) old e.told between × Serving shown IsNew between rest new
+    (between : Files S) × Answers shown IsNew (request_in e.body) old e.told between
+    × Serving shown IsNew between rest new
 
 -- the open files were closed, the one that was opened first at first, until none was open
 abbrev pub Closes : {S : Type 0} → Shown S → Files S → List Status → Files S → Type 0
 Closes shown old [] new = (old.opened ≡ []) × (new ≡ old)
-Closes {S} shown old (status ∷ rest) new = (between : Files S) × ClosesFirst shown old status between × Closes shown between rest new
+Closes {S} shown old (status ∷ rest) new = (between : Files S) × ClosesFirst shown old status between
+    × Closes shown between rest new
 
 -- the input ended, in a frame or before one
 pub record EndsInput (input_after : Source) (exchanges : List Exchange) (read written : List ℕ) : Type 0 where
@@ -59,7 +62,8 @@ pub record EndsTooLong (exchanges : List Exchange) (read written : List ℕ) : T
   pub written_is : written ≡ answers exchanges ++ too_long
 
 -- a read failed, in a frame or before one; or as many requests were answered as a session has at most
-pub record FailsToRead (input_after : Source) (exchanges : List Exchange) (read written : List ℕ) : Type 0 where
+pub record FailsToRead (input_after : Source) (exchanges : List Exchange)
+    (read written : List ℕ) : Type 0 where
   pub cut : List ℕ
   pub is_cut : IsCut cut
   pub read_is : read ≡ requests exchanges ++ cut
@@ -77,13 +81,15 @@ pub record FailsToAnswer (exchanges : List Exchange) (read written : List ℕ) :
   pub read_is : read ≡ requests exchanges
   pub written_is : written ≡ answers before ++ front
 
--- behind the requests that were performed: less than a frame, a length past the limit, or a frame whose request was not performed
+-- behind the requests that were performed: less than a frame, a length past the limit, or a frame
+-- whose request was not performed
 pub data IsUnanswered : List ℕ → Type 0 where
   Less : (bytes : List ℕ) → IsCut bytes → IsUnanswered bytes
   PastLimit : (size : ℕ) → 8192 < size → IsUnanswered (big_bytes 2 size)
   NotPerformed : (body : List ℕ) → IsUnanswered (framed body)
 
--- the writer refused one of the answers that were held, of which it has a front, or all where it did not hand it on: its request and those behind it only read
+-- the writer refused one of the answers that were held, of which it has a front, or all where it
+-- did not hand it on: its request and those behind it only read
 pub record FailsToHandOver (exchanges : List Exchange) (read written : List ℕ) : Type 0 where
   pub before : List Exchange
   pub failed : Exchange
@@ -110,10 +116,12 @@ pub record FailsToRefuse (exchanges : List Exchange) (read written : List ℕ) :
 
 -- how the requests ended
 abbrev pub Ends : Source → List Exchange → (read written : List ℕ) → Result Unit ServeFault → Type 0
-Ends input_after exchanges read written (Ok _) = EndsInput input_after exchanges read written ⊎ EndsTooLong exchanges read written
+Ends input_after exchanges read written (Ok _) =
+    EndsInput input_after exchanges read written ⊎ EndsTooLong exchanges read written
 Ends input_after exchanges read written (Err Input) = FailsToRead input_after exchanges read written
 Ends input_after exchanges read written (Err Output) =
-    FailsToAnswer exchanges read written ⊎ FailsToHandOver exchanges read written ⊎ FailsToRefuse exchanges read written
+    FailsToAnswer exchanges read written ⊎ FailsToHandOver exchanges read written
+    ⊎ FailsToRefuse exchanges read written
 Ends input_after exchanges read written (Err Memory) = ⊥
 
 -- what an input has left and gave, and what an output has, before and after
@@ -124,10 +132,16 @@ pub record Streams : Type 0 where
   pub output_after : Option (List ℕ)
 
 abbrev pub streams : (input input_after : Source) → (output output_after : Option (List ℕ)) → Streams
-streams input input_after output output_after = record { input = input; input_after = input_after; output = output; output_after = output_after }
+streams input input_after output output_after = record {
+  input = input;
+  input_after = input_after;
+  output = output;
+  output_after = output_after;
+}
 
 -- the requests of the input were answered to its end, or to a fault
-pub record Serves {S : Type 0} (shown : Shown S) (IsNew : S → Type 0) (s : Streams) (old new : Files S) (result : Result Unit ServeFault) : Type 0 where
+pub record Serves {S : Type 0} (shown : Shown S) (IsNew : S → Type 0) (s : Streams) (old new : Files S)
+    (result : Result Unit ServeFault) : Type 0 where
   pub exchanges : List Exchange
   pub serving : Serving shown IsNew old exchanges new
   pub read : List ℕ
@@ -136,8 +150,10 @@ pub record Serves {S : Type 0} (shown : Shown S) (IsNew : S → Type 0) (s : Str
   pub appends : Appends s.output s.output_after written
   pub ends : Ends s.input_after exchanges read written result
 
--- a whole session: its requests were answered, from the first one, when no file was described; and then the files that were still open were closed
-pub record Served {S : Type 0} (shown : Shown S) (IsNew : S → Type 0) (s : Streams) (result : Result Unit ServeFault) : Type 0 where
+-- a whole session: its requests were answered, from the first one, when no file was described; and
+-- then the files that were still open were closed
+pub record Served {S : Type 0} (shown : Shown S) (IsNew : S → Type 0) (s : Streams)
+    (result : Result Unit ServeFault) : Type 0 where
   pub last : Files S
   pub served : Serves shown IsNew s no_files last result
   pub closes : List Status

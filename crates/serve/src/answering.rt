@@ -44,7 +44,8 @@ fn perform<L: Library + Drop>(
     performance: &Performance<'_>,
     frame: &mut AnswerFrame,
 )
-    ensures { IsFrameOf frame.new.items (λ told. AnswersVerb L.shown (performed_of performance.now) session.old told session.new) }
+    ensures { IsFrameOf frame.new.items (λ told. AnswersVerb L.shown
+        (performed_of performance.now) session.old told session.new) }
 {
     match session.perform(performance) {
         Ok(answer) => {

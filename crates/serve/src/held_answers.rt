@@ -19,9 +19,11 @@ pub fn send_held<W: Write>(held: &mut HeldText, out: &mut W) -> Result<(), Refus
     hand_on(out)
 }
 
-/// Hands all answers that are held to the writer, unless the next request is whole among the bytes that have come.
+/// Hands all answers that are held to the writer, unless the next request is whole among the bytes
+/// that have come.
 pub fn make_way<W: Write>(held: &mut HeldText, ahead: &[u8], out: &mut W) -> Result<(), Refused>
-    ensures ready { OnOk result (MakesWay ahead.now (W.contents out.old) (W.contents out.new) held.old held.new) }
+    ensures ready { OnOk result (MakesWay ahead.now (W.contents out.old)
+        (W.contents out.new) held.old held.new) }
     ensures refused { OnErr result (RefusesHeld (W.contents out.old) (W.contents out.new) held.old) }
 {
     if has_frame(ahead) {

@@ -31,9 +31,12 @@ pub enum Next {
 fn read_part<R: Read>(reader: &mut StandardInput<R>, part: &mut [u8]) -> Result<usize, InputFailed>
     ensures within { IfOk result (λ n. n ≤ length part.new) }
     ensures length { length part.new ≡ length part.old }
-    ensures bytes { IfOk result (λ n. Gives (source_of R.remaining reader.old) (source_of R.remaining reader.new) (take n part.new)) }
-    ensures end { IfOk result (λ n. n ≡ 0 → 0 < length part.old → HasEnded (source_of R.remaining reader.new)) }
-    ensures kept { OnErr result (Gives (source_of R.remaining reader.old) (source_of R.remaining reader.new) []) }
+    ensures bytes { IfOk result (λ n. Gives (source_of R.remaining reader.old)
+        (source_of R.remaining reader.new) (take n part.new)) }
+    ensures end { IfOk result (λ n. n ≡ 0 → 0 < length part.old
+        → HasEnded (source_of R.remaining reader.new)) }
+    ensures kept { OnErr result (Gives (source_of R.remaining reader.old)
+        (source_of R.remaining reader.new) []) }
     ensures failed { OnErr result (HasFailed (source_of R.remaining reader.new)) }
 {
     for _ in 0..MOST_INTERRUPTED {
@@ -57,7 +60,8 @@ fn read_whole<R: Read>(reader: &mut StandardInput<R>, room: &mut [u8]) -> Result
     ensures short { IfOk result (λ whole. whole ≡ false
         → GivesLess (length room.old) (source_of R.remaining reader.old) (source_of R.remaining reader.new)) }
     ensures end { IfOk result (λ whole. whole ≡ false → HasEnded (source_of R.remaining reader.new)) }
-    ensures cut { OnErr result (GivesLess (length room.old) (source_of R.remaining reader.old) (source_of R.remaining reader.new)) }
+    ensures cut { OnErr result (GivesLess (length room.old) (source_of R.remaining reader.old)
+        (source_of R.remaining reader.new)) }
     ensures failed { OnErr result (HasFailed (source_of R.remaining reader.new)) }
 {
     let mut at = 0;
@@ -71,7 +75,8 @@ fn read_whole<R: Read>(reader: &mut StandardInput<R>, room: &mut [u8]) -> Result
     Ok(true)
 }
 
-/// Reads the next frame, and no byte behind it. It may wait, so no answer is held then, unless the frame has come whole.
+/// Reads the next frame, and no byte behind it. It may wait, so no answer is held then, unless the
+/// frame has come whole.
 pub fn read_frame<R: Read + ReadsAhead>(
     reader: &mut StandardInput<R>,
     buffer: &mut [u8; LENGTH_LIMIT],

@@ -1,13 +1,14 @@
 //! Requests for verbs, read from an input and answered on an output.
 //!
-//! A request is answered when its verb was performed. The answers to READ and START are held while the next request has come already; all others are written
-//! before the next one is read. At the end of the input the files that are still open are closed, in the order of opening. What is written is the frames of the
-//! answers, each what the definitions say of its request.
+//! A request is answered when its verb was performed. The answers to READ and START are held while
+//! the next request has come already; all others are written before the next one is read. At the
+//! end of the input the files that are still open are closed, in the order of opening. What is
+//! written is the frames of the answers, each what the definitions say of its request.
 //!
 //! At each moment a crash leaves no false file, as in the run of a deck.
 //!
-//! Read `specs/Answers.antt`, `specs/Serving.antt`, then `held_answers`, and then `serving`; `specs/Books.antt` and `specs/NoFalseFile.antt` for what a crash may
-//! leave.
+//! Read `specs/Answers.antt`, `specs/Serving.antt`, then `held_answers`, and then `serving`;
+//! `specs/Books.antt` and `specs/NoFalseFile.antt` for what a crash may leave.
 #![tactic(auto)]
 
 mod answering;

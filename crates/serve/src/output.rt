@@ -15,7 +15,8 @@ pub fn hand_on<W: Write>(out: &mut W) -> Result<(), Refused>
     }
 }
 
-/// Writes frames, and has the writer hand them on. A writer refuses them as `write_text` says, or where it does not hand them on.
+/// Writes frames, and has the writer hand them on. A writer refuses them as `write_text` says, or
+/// where it does not hand them on.
 pub fn send_frames<W: Write>(out: &mut W, frames: &[u8]) -> Result<(), Refused>
     ensures { Sends (W.contents out.old) (W.contents out.new) frames.now result }
 {

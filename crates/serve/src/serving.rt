@@ -32,7 +32,8 @@ fn answer_read<M: Libraries, W: Write>(
     out: &mut W,
 ) -> Result<(), Refused>
     ensures answered { OnOk result (AnswersAs M.Library.shown (M.is_new libraries.now) body.now
-        (λ told. Adds (W.contents out.old) (W.contents out.new) held.old held.new (answer_frame told)) session.old session.new) }
+        (λ told. Adds (W.contents out.old) (W.contents out.new) held.old held.new (answer_frame told))
+        session.old session.new) }
     ensures refused { OnErr result (AnswersAs M.Library.shown (M.is_new libraries.now) body.now
         (λ told. RefusesHeld (W.contents out.old) (W.contents out.new) held.old) session.old session.new) }
 {
@@ -41,7 +42,8 @@ fn answer_read<M: Libraries, W: Write>(
     held.add(answer.as_slice(), out)
 }
 
-/// Answers another request. All that is held is handed to the writer before it is performed, and its own answer at once.
+/// Answers another request. All that is held is handed to the writer before it is performed, and
+/// its own answer at once.
 fn answer_other<M: Libraries, W: Write>(
     libraries: &M,
     session: &mut Session<M::Library>,
@@ -50,10 +52,13 @@ fn answer_other<M: Libraries, W: Write>(
     out: &mut W,
 ) -> Result<(), Refused>
     ensures answered { OnOk result (AnswersAs M.Library.shown (M.is_new libraries.now) body.now
-        (λ told. HandsAllOver (W.contents out.old) (W.contents out.new) (held.old ++ answer_frame told) held.new) session.old session.new) }
-    ensures refused { OnErr result ((RefusesHeld (W.contents out.old) (W.contents out.new) held.old × (session.new ≡ session.old))
+        (λ told. HandsAllOver (W.contents out.old) (W.contents out.new)
+        (held.old ++ answer_frame told) held.new) session.old session.new) }
+    ensures refused { OnErr result ((RefusesHeld (W.contents out.old) (W.contents out.new) held.old
+        × (session.new ≡ session.old))
         ⊎ AnswersAs M.Library.shown (M.is_new libraries.now) body.now
-        (λ told. RefusesNext (W.contents out.old) (W.contents out.new) held.old (answer_frame told)) session.old session.new) }
+        (λ told. RefusesNext (W.contents out.old) (W.contents out.new) held.old (answer_frame told))
+        session.old session.new) }
 {
     send_held(held, out)?;
     let mut frame = AnswerFrame::new();
@@ -70,7 +75,8 @@ fn answer<M: Libraries, W: Write>(
     out: &mut W,
 ) -> Result<(), Refused>
     ensures answered { OnOk result (AnswersAs M.Library.shown (M.is_new libraries.now) body.now
-        (Goes body.now (outgoing (W.contents out.old) (W.contents out.new) held.old held.new)) session.old session.new) }
+        (Goes body.now (outgoing (W.contents out.old) (W.contents out.new) held.old held.new)) session.old
+        session.new) }
     ensures refused { OnErr result (FailsOne M.Library.shown (M.is_new libraries.now) body.now
         (outgoing (W.contents out.old) (W.contents out.new) held.old held.new) session.old session.new) }
 {
@@ -120,7 +126,8 @@ fn answer_all<M: Libraries, R: Read + ReadsAhead, W: Write>(
 ) -> Result<(), ServeFault>
     requires none_held { held.old ≡ [] }
     ensures { Serves M.Library.shown (M.is_new libraries.now)
-        (streams (source_of R.remaining input.old) (source_of R.remaining input.new) (W.contents out.old) (W.contents out.new)) session.old session.new result }
+        (streams (source_of R.remaining input.old) (source_of R.remaining input.new) (W.contents out.old)
+        (W.contents out.new)) session.old session.new result }
 {
     let mut buffer = [0; LENGTH_LIMIT];
     for _ in 0..u64::MAX {
@@ -149,11 +156,13 @@ fn close_all<L: Library + Drop>(session: &mut Session<L>)
     }
 }
 
-/// Answers the requests of an input, and closes the files that are open then, in the order of opening. The answers to requests that only read are held while the
-/// next request has come, and all of them are written before a request is performed that may change a file.
+/// Answers the requests of an input, and closes the files that are open then, in the order of
+/// opening. The answers to requests that only read are held while the next request has come, and
+/// all of them are written before a request is performed that may change a file.
 ///
-/// The input ends, or a length past the limit is refused, and nothing behind it is read. `Input`: a read failed, or 2^64 - 1 requests were answered. `Output`:
-/// the writer refused an answer. `Memory`: memory was wanted before the first request, and nothing was read or written.
+/// The input ends, or a length past the limit is refused, and nothing behind it is read. `Input`: a
+/// read failed, or 2^64 - 1 requests were answered. `Output`: the writer refused an answer.
+/// `Memory`: memory was wanted before the first request, and nothing was read or written.
 pub fn serve<M: Libraries, R: Read + ReadsAhead, W: Write>(
     alloc: Global,
     libraries: &M,
@@ -161,7 +170,8 @@ pub fn serve<M: Libraries, R: Read + ReadsAhead, W: Write>(
     out: &mut W,
 ) -> Result<(), ServeFault>
     ensures served { result ≢ Err ServeFault.Memory → Served M.Library.shown (M.is_new libraries.now)
-        (streams (source_of R.remaining input.old) (source_of R.remaining input.new) (W.contents out.old) (W.contents out.new)) result }
+        (streams (source_of R.remaining input.old) (source_of R.remaining input.new) (W.contents out.old)
+        (W.contents out.new)) result }
     ensures memory { result ≡ Err ServeFault.Memory → (input.new ≡ input.old) × (out.new ≡ out.old) }
 {
     let Ok(session) = Session::new(alloc) else {

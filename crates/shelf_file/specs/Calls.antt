@@ -40,13 +40,16 @@ shown_on_shelf = record {
   asked = λ at. at.held.pages.cache.asked;
   IsReady = λ at. IsReady at.held at.shelf;
   CanChange = λ at. at.held.pages.changed ≡ true;
-  Reads = λ before after. OnlyReadsFile before.held after.held before.shelf after.shelf before.faults after.faults;
-  Begins = λ before after. Moves before.held.pages after.held.pages before.shelf after.shelf before.faults after.faults;
+  Reads = λ before after. OnlyReadsFile before.held after.held before.shelf after.shelf before.faults
+      after.faults;
+  Begins = λ before after. Moves before.held.pages after.held.pages before.shelf after.shelf before.faults
+      after.faults;
   HasFailed = λ before after. HasFailed before.faults after.faults;
 }
 
 -- a call that only reads: why it gave up, how many pages it asked for at most, and what it left
-pub record ReadsOnShelf {X : Type 0} (most : ℕ) (before after : FileOnShelf) (result : Result X Fault) : Type 0 where
+pub record ReadsOnShelf {X : Type 0} (most : ℕ) (before after : FileOnShelf)
+    (result : Result X Fault) : Type 0 where
   pub broken : IsTrue before.held.file.broken → result ≡ Err Broken
   pub cause : IfErr result (IsCausedIn before.held.file.broken (HasFailed before.faults after.faults) ⊥)
   pub asked : after.held.pages.cache.asked ≤ before.held.pages.cache.asked + most

@@ -14,14 +14,16 @@ use Rattle.shelf_file.specs.ReadOff.{file_by}
 use Rattle.shelf_file.specs.declared.look.Look.{Look}
 use Rattle.shelf_file.specs.declared.look.Look.TheVariants.{NoFile, Refused, Accepted}
 
--- what a look finds, by what a read gives: a file whose first page is accepted, and that has the pages which that page counts
+-- what a look finds, by what a read gives: a file whose first page is accepted, and that has the
+-- pages which that page counts
 abbrev pub look_by : List ℕ → Option Header → Look
 look_by bytes None = Refused
 look_by bytes (Some header) = if nat_lt (length bytes) (4096 * header.pages) then Refused else Accepted header
 
 abbrev pub look_of : Option (List ℕ) → Look
 look_of None = NoFile
-look_of (Some bytes) = if nat_lt (length bytes) 4096 then Refused else look_by bytes (header_in (page_of bytes 0))
+look_of (Some bytes) = if nat_lt (length bytes) 4096 then Refused else look_by bytes
+    (header_in (page_of bytes 0))
 
 -- the free pages and the pages in use of a closed file
 abbrev pub free_in : Header → List ℕ → Option (List ℕ)

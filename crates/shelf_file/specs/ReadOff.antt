@@ -12,7 +12,8 @@ use Rattle.open_file.specs.ReadOff.{rows_off}
 use Rattle.open_file.specs.Headers.{tree_at}
 use Rattle.file_header.proofs.LengthLemmas.{at_least, at_most, is_key_length, entry_longer, entry_short, tree_low, in_order, has_room}
 
--- Lengths, and numbers of levels, kept within what a header may have. (Where it is accepted they are so already.)
+-- Lengths, and numbers of levels, kept within what a header may have. (Where it is accepted they
+-- are so already.)
 abbrev pub key_length : ℕ → ℕ
 key_length n = max 1 (min n 250)
 
@@ -59,4 +60,8 @@ heap_by header = record {
 
 -- the rows that the prime index leads to, and the next stamp
 abbrev pub file_by : Header → PageMap → File
-file_by header pages = record { rows = rows_off header.schema (heap_by header) pages (prime_off (prime_by header) pages); next_stamp = header.next_stamp }
+file_by header pages = record {
+  rows = rows_off header.schema (heap_by header) pages
+      (prime_off (prime_by header) pages);
+  next_stamp = header.next_stamp;
+}

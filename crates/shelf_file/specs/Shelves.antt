@@ -34,10 +34,13 @@ pub record IsOpened (held : ShelfFile) (unit : ℕ) (header : Header) : Type 0 w
   pub unbroken : IsFalse held.file.broken
   pub unchanged : held.pages.changed ≡ false
   pub asked : held.pages.cache.asked ≡ 0
-  pub ready : (shelf : ShelfState) → HasUnit shelf unit → (IsTrue shelf.is_honest → HasAccepted shelf unit header) → IsReady held shelf
+  pub ready : (shelf : ShelfState) → HasUnit shelf unit
+      → (IsTrue shelf.is_honest → HasAccepted shelf unit header) → IsReady held shelf
   -- it reads as its file does, and stands for what its file stands for
-  pub reads : (shelf : ShelfState) → HasAccepted shelf unit header → file_in held shelf ≡ file_by header (live_in header (content (unit_file shelf unit)))
-  pub stands : (shelf : ShelfState) (file : File) → HasAccepted shelf unit header → StandsIn header (content (unit_file shelf unit)) file → StandsFor held shelf file
+  pub reads : (shelf : ShelfState) → HasAccepted shelf unit header
+      → file_in held shelf ≡ file_by header (live_in header (content (unit_file shelf unit)))
+  pub stands : (shelf : ShelfState) (file : File) → HasAccepted shelf unit header
+      → StandsIn header (content (unit_file shelf unit)) file → StandsFor held shelf file
 
 -- the file of a unit that was made, behind an open gate
 pub record IsMade (held : ShelfFile) (unit limit : ℕ) (schema : Schema) (shelf : ShelfState) : Type 0 where
@@ -58,10 +61,13 @@ pub record AreClosed (schema : Schema) (file : File) (bytes : List ℕ) : Type 0
 
 -- a crash leaves a file that is refused, or one that stands for this file
 abbrev pub ClosedFileOrRefused : Schema → File → Option (List ℕ) → Type 0
-ClosedFileOrRefused schema file c = IsRefused c ⊎ ((bytes : List ℕ) × (c ≡ Some bytes) × AreClosed schema file bytes)
+ClosedFileOrRefused schema file c = IsRefused c ⊎ ((bytes : List ℕ) × (c ≡ Some bytes)
+    × AreClosed schema file bytes)
 
--- closing a changed file that stood for this one: at each moment a crash leaves it closed or refused, and at the end it is closed
-pub record Closes {E : Type 0} (schema : Schema) (file : File) (old new : DeviceFile) (result : Result (Unit {0}) E) : Type 0 where
+-- closing a changed file that stood for this one: at each moment a crash leaves it closed or
+-- refused, and at the end it is closed
+pub record Closes {E : Type 0} (schema : Schema) (file : File) (old new : DeviceFile)
+    (result : Result (Unit {0}) E) : Type 0 where
   pub images : Throughout (ClosedFileOrRefused schema file) old new
   pub settled : OnOk result (IsSettled new)
   pub closed : OnOk result (AreClosed schema file (content new))

@@ -13,16 +13,18 @@ use page_alloc::FilePages;
 use page_store::Shelf;
 
 impl ShelfFile {
-    /// Adds a record, unless its value of a key that has to be unique is there. At Full nothing is changed; after any other fault the file is
-    /// broken.
+    /// Adds a record, unless its value of a key that has to be unique is there. At Full nothing is
+    /// changed; after any other fault the file is broken.
     pub fn add<S: Shelf>(&mut self, shelf: &mut S, bytes: &[u8]) -> Result<Added, Fault>
         requires ready { IsReady self.old (S.state shelf.old) }
         requires least { self.old.file.schema.least ≤ length bytes.now }
         requires greatest { length bytes.now ≤ self.old.file.schema.greatest }
         ensures adds { Changes shown_on_shelf (addition self.old.file.schema bytes.now)
-            (on_shelf self.old (S.state shelf.old) (S.fault_count shelf.old)) (on_shelf self.new (S.state shelf.new) (S.fault_count shelf.new)) result }
+            (on_shelf self.old (S.state shelf.old) (S.fault_count shelf.old))
+            (on_shelf self.new (S.state shelf.new) (S.fault_count shelf.new)) result }
         ensures breaks { MayBreak shown_on_shelf true
-            (on_shelf self.old (S.state shelf.old) (S.fault_count shelf.old)) (on_shelf self.new (S.state shelf.new) (S.fault_count shelf.new)) result }
+            (on_shelf self.old (S.state shelf.old) (S.fault_count shelf.old))
+            (on_shelf self.new (S.state shelf.new) (S.fault_count shelf.new)) result }
     {
         let mut pages = FilePages {
             file: &mut self.pages,
@@ -31,16 +33,19 @@ impl ShelfFile {
         file_changes::add(&mut self.file, &mut pages, bytes)
     }
 
-    /// Puts a record in the place of that of its prime value, unless a unique alternate value is that of another record. At Full nothing is
-    /// changed; after any other fault the file is broken.
+    /// Puts a record in the place of that of its prime value, unless a unique alternate value is
+    /// that of another record. At Full nothing is changed; after any other fault the file is
+    /// broken.
     pub fn replace<S: Shelf>(&mut self, shelf: &mut S, bytes: &[u8]) -> Result<Replaced, Fault>
         requires ready { IsReady self.old (S.state shelf.old) }
         requires least { self.old.file.schema.least ≤ length bytes.now }
         requires greatest { length bytes.now ≤ self.old.file.schema.greatest }
         ensures replaces { Changes shown_on_shelf (replacement self.old.file.schema bytes.now)
-            (on_shelf self.old (S.state shelf.old) (S.fault_count shelf.old)) (on_shelf self.new (S.state shelf.new) (S.fault_count shelf.new)) result }
+            (on_shelf self.old (S.state shelf.old) (S.fault_count shelf.old))
+            (on_shelf self.new (S.state shelf.new) (S.fault_count shelf.new)) result }
         ensures breaks { MayBreak shown_on_shelf true
-            (on_shelf self.old (S.state shelf.old) (S.fault_count shelf.old)) (on_shelf self.new (S.state shelf.new) (S.fault_count shelf.new)) result }
+            (on_shelf self.old (S.state shelf.old) (S.fault_count shelf.old))
+            (on_shelf self.new (S.state shelf.new) (S.fault_count shelf.new)) result }
     {
         let mut pages = FilePages {
             file: &mut self.pages,
@@ -49,13 +54,16 @@ impl ShelfFile {
         file_changes::replace(&mut self.file, &mut pages, bytes)
     }
 
-    /// Takes out the record of a prime value, and tells whether there was one. After a fault the file is broken.
+    /// Takes out the record of a prime value, and tells whether there was one. After a fault the
+    /// file is broken.
     pub fn remove<S: Shelf>(&mut self, shelf: &mut S, key: &Key) -> Result<bool, Fault>
         requires ready { IsReady self.old (S.state shelf.old) }
         ensures removes { Changes shown_on_shelf (removal self.old.file.schema key.now.items)
-            (on_shelf self.old (S.state shelf.old) (S.fault_count shelf.old)) (on_shelf self.new (S.state shelf.new) (S.fault_count shelf.new)) result }
+            (on_shelf self.old (S.state shelf.old) (S.fault_count shelf.old))
+            (on_shelf self.new (S.state shelf.new) (S.fault_count shelf.new)) result }
         ensures breaks { MayBreak shown_on_shelf false
-            (on_shelf self.old (S.state shelf.old) (S.fault_count shelf.old)) (on_shelf self.new (S.state shelf.new) (S.fault_count shelf.new)) result }
+            (on_shelf self.old (S.state shelf.old) (S.fault_count shelf.old))
+            (on_shelf self.new (S.state shelf.new) (S.fault_count shelf.new)) result }
     {
         let mut pages = FilePages {
             file: &mut self.pages,

@@ -11,7 +11,8 @@ use io_state::Fault;
 use page_bytes::PAGE_SIZE;
 use page_store::{PAGE, Shelf};
 
-/// What a look at a file finds: no file; one whose first page is refused, or that is shorter than it counts; or one that can be opened.
+/// What a look at a file finds: no file; one whose first page is refused, or that is shorter than
+/// it counts; or one that can be opened.
 #[derive(Drop)]
 pub enum Look {
     NoFile,
@@ -24,7 +25,8 @@ pub enum Look {
 /// Device, Memory.
 pub fn look_at<S: Shelf>(shelf: &mut S, unit: usize) -> Result<Look, Fault>
     requires unit { HasUnit (S.state shelf.old) unit }
-    ensures found { IsTrue (S.state shelf.new).is_honest → IfOk result (λ look. look ≡ look_of (unit_file (S.state shelf.old) unit).seen) }
+    ensures found { IsTrue (S.state shelf.new).is_honest
+        → IfOk result (λ look. look ≡ look_of (unit_file (S.state shelf.old) unit).seen) }
     ensures header { IfOk result HasHeader }
     ensures only { OnlyAnswers (S.state shelf.old) (S.state shelf.new) }
     ensures cause { FaultHasCause (S.fault_count shelf.old) (S.fault_count shelf.new) result }

@@ -28,9 +28,11 @@ impl ShelfFile {
         requires ready { IsReady self.old (S.state shelf.old) }
         requires key { k < length self.old.file.schema.keys }
         requires area { length area.old ≡ self.old.file.schema.greatest }
-        ensures finds { FindsFirst (S.state shelf.new).is_honest self.old.file (live_of self.old (S.state shelf.old)) k
+        ensures finds { FindsFirst (S.state shelf.new).is_honest self.old.file
+            (live_of self.old (S.state shelf.old)) k
             (has_value self.old.file.schema k key.now.items) area.old area.new result }
-        ensures reads { ReadsOnShelf (most_to_read (room_in self.old) k) (on_shelf self.old (S.state shelf.old) (S.fault_count shelf.old))
+        ensures reads { ReadsOnShelf (most_to_read (room_in self.old) k)
+            (on_shelf self.old (S.state shelf.old) (S.fault_count shelf.old))
             (on_shelf self.new (S.state shelf.new) (S.fault_count shelf.new)) result }
     {
         let mut pages = FilePages {
@@ -51,9 +53,11 @@ impl ShelfFile {
         requires ready { IsReady self.old (S.state shelf.old) }
         requires key { k < length self.old.file.schema.keys }
         requires area { length area.old ≡ self.old.file.schema.greatest }
-        ensures finds { FindsFirst (S.state shelf.new).is_honest self.old.file (live_of self.old (S.state shelf.old)) k
+        ensures finds { FindsFirst (S.state shelf.new).is_honest self.old.file
+            (live_of self.old (S.state shelf.old)) k
             (admits self.old.file.schema k position.now) area.old area.new result }
-        ensures reads { ReadsOnShelf (most_to_read (room_in self.old) k) (on_shelf self.old (S.state shelf.old) (S.fault_count shelf.old))
+        ensures reads { ReadsOnShelf (most_to_read (room_in self.old) k)
+            (on_shelf self.old (S.state shelf.old) (S.fault_count shelf.old))
             (on_shelf self.new (S.state shelf.new) (S.fault_count shelf.new)) result }
     {
         let mut pages = FilePages {
@@ -75,7 +79,8 @@ impl ShelfFile {
         requires key { k < length self.old.file.schema.keys }
         ensures found { IsTrue (S.state shelf.new).is_honest
             → Seeks self.old.file (live_of self.old (S.state shelf.old)) k relation operand.now result }
-        ensures reads { ReadsOnShelf (most_to_seek (room_in self.old) k) (on_shelf self.old (S.state shelf.old) (S.fault_count shelf.old))
+        ensures reads { ReadsOnShelf (most_to_seek (room_in self.old) k)
+            (on_shelf self.old (S.state shelf.old) (S.fault_count shelf.old))
             (on_shelf self.new (S.state shelf.new) (S.fault_count shelf.new)) result }
     {
         let mut pages = FilePages {
@@ -88,9 +93,12 @@ impl ShelfFile {
     /// The greatest prime value.
     pub fn highest<S: Shelf>(&mut self, shelf: &mut S) -> Result<Option<Key>, Fault>
         requires ready { IsReady self.old (S.state shelf.old) }
-        ensures found { IsTrue (S.state shelf.new).is_honest → (file : File) → Stands self.old.file (live_of self.old (S.state shelf.old)) file
-            → IsAnswer result (λ key. option_map (λ key. key.items) key ≡ highest_of self.old.file.schema file.rows) }
-        ensures reads { ReadsOnShelf (most_to_seek (room_in self.old) 0) (on_shelf self.old (S.state shelf.old) (S.fault_count shelf.old))
+        ensures found { IsTrue (S.state shelf.new).is_honest → (file : File)
+            → Stands self.old.file (live_of self.old (S.state shelf.old)) file
+            → IsAnswer result (λ key. option_map (λ key.
+            key.items) key ≡ highest_of self.old.file.schema file.rows) }
+        ensures reads { ReadsOnShelf (most_to_seek (room_in self.old) 0)
+            (on_shelf self.old (S.state shelf.old) (S.fault_count shelf.old))
             (on_shelf self.new (S.state shelf.new) (S.fault_count shelf.new)) result }
     {
         let mut pages = FilePages {

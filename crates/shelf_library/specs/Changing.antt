@@ -29,6 +29,9 @@ pub record MovesAt (u : ℕ) (file after : ShelfFile) (old new : LibraryState) :
   pub image_after : IsTrue new.shelf.is_honest → Leaves (unit_file new.shelf u) (unit_file new.shelf u).seen
 
 -- what each of the calls that change records leaves of the file
-pub record ChangesFile {X : Type 0} (change : Schema → FileChange X) (file after : ShelfFile) (old new : LibraryState) (result : Result X Fault) : Type 0 where
-  pub changes : Changes shown_on_shelf (change file.file.schema) (on_shelf file old.shelf old.faults) (on_shelf after new.shelf new.faults) result
-  pub breaks : MayBreak shown_on_shelf (change file.file.schema).takes_pages (on_shelf file old.shelf old.faults) (on_shelf after new.shelf new.faults) result
+pub record ChangesFile {X : Type 0} (change : Schema → FileChange X) (file after : ShelfFile)
+    (old new : LibraryState) (result : Result X Fault) : Type 0 where
+  pub changes : Changes shown_on_shelf (change file.file.schema) (on_shelf file old.shelf old.faults)
+      (on_shelf after new.shelf new.faults) result
+  pub breaks : MayBreak shown_on_shelf (change file.file.schema).takes_pages
+      (on_shelf file old.shelf old.faults) (on_shelf after new.shelf new.faults) result

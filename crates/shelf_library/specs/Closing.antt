@@ -15,7 +15,8 @@ use Rattle.shelf_library.specs.OneUnit.{AreUnits}
 use Rattle.shelf_library.specs.declared.held.Held.TheVariants.{Nothing, Opened}
 
 -- unit u had this file open, the file was closed, and the unit holds nothing
-pub record ClosesUnitAt (u : ℕ) (file : ShelfFile) (result : Result (Unit {0}) Fault) (old new : LibraryState) : Type 0 where
+pub record ClosesUnitAt (u : ℕ) (file : ShelfFile) (result : Result (Unit {0}) Fault)
+    (old new : LibraryState) : Type 0 where
   pub units : AreUnits old.shelf old.held
   pub attached : u < length old.held
   pub opened : held_at old.held u ≡ Opened file
@@ -26,8 +27,10 @@ pub record ClosesUnitAt (u : ℕ) (file : ShelfFile) (result : Result (Unit {0})
   pub broken : IsTrue file.file.broken → result ≡ Err BrokenFile
   pub nothing : IsTrue file.file.broken → new.shelf.file ≡ old.shelf.file
   pub unchanged : file.pages.changed ≡ false → new.shelf.file ≡ old.shelf.file
-  pub closes : IsTrue new.shelf.is_honest → IsFalse file.file.broken → file.pages.changed ≡ true → (rows : File) → StandsFor file old.shelf rows
-      → Closes file.file.schema rows (unit_file old.shelf file.pages.cache.store.unit) (unit_file new.shelf file.pages.cache.store.unit) result
+  pub closes : IsTrue new.shelf.is_honest → IsFalse file.file.broken → file.pages.changed ≡ true
+      → (rows : File) → StandsFor file old.shelf rows
+      → Closes file.file.schema rows (unit_file old.shelf file.pages.cache.store.unit)
+      (unit_file new.shelf file.pages.cache.store.unit) result
   pub others : KeepsOthers file.pages.cache.store.unit old.shelf new.shelf
   pub count : old.faults ≤ new.faults
   pub cause : IfErr result (IsCausedIn file.file.broken (HasFailed old.faults new.faults) ⊥)

@@ -16,7 +16,8 @@ shown_by state = record {
   page_limit = λ library. Some (state library).limit;
   frames = λ library. Some (state library).frames;
   room = λ library u. room_of_held (held_at (state library).held u);
-  page_counts = λ library u. counts_of_held (unit_file (state library).shelf u).seen (held_at (state library).held u);
+  page_counts = λ library u. counts_of_held (unit_file (state library).shelf u).seen
+      (held_at (state library).held u);
   unit_frames = λ library u. frames_of_held (held_at (state library).held u);
   pages_asked = λ library u. asked_of (held_at (state library).held u);
   Throughout = λ test old new name. AllPass test (state old).shelf (state new).shelf name;

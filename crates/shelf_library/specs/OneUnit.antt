@@ -1,4 +1,5 @@
--- What is so of every library over a shelf, and what a call on one unit leaves of the shelf and of what the units hold.
+-- What is so of every library over a shelf, and what a call on one unit leaves of the shelf and of
+-- what the units hold.
 use Rattle.std.specs.Prelude.{◌≡◌, ℕ, ◌<◌, List, length, slice_set, bytes_eq, IsFalse}
 use Rattle.std.specs.List.{IsDistinct}
 use Rattle.page_store.specs.ShelfState.{ShelfState, KeepsOthers, unit_file}
@@ -31,5 +32,7 @@ pub record FitsItsFile (u : ℕ) (one : Held) (shelf : ShelfState) : Type 0 wher
 
 -- what is shown of the unit's name now is what its file is
 pub record IsTrulyHeld (u : ℕ) (one : Held) (shelf : ShelfState) : Type 0 where
-  pub closed : (header : Header) → look_of (unit_file shelf u).seen ≡ Accepted header → IsTrulyClosed (unit_file shelf u) header
-  pub opened : (file : ShelfFile) → one ≡ Opened file → IsFalse file.file.broken → IsTrulyOpen shelf file (unit_file shelf u)
+  pub closed : (header : Header) → look_of (unit_file shelf u).seen ≡ Accepted header
+      → IsTrulyClosed (unit_file shelf u) header
+  pub opened : (file : ShelfFile) → one ≡ Opened file → IsFalse file.file.broken
+      → IsTrulyOpen shelf file (unit_file shelf u)

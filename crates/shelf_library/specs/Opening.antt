@@ -20,7 +20,8 @@ use Rattle.shelf_library.specs.OneUnit.{AreUnits}
 use Rattle.shelf_library.specs.declared.held.Held.TheVariants.{Looked}
 
 -- unit u held the header of its file, and the file was opened by it
-pub record OpensAt (u : ℕ) (header : Header) (r : Result ShelfFile Fault) (old new : LibraryState) : Type 0 where
+pub record OpensAt (u : ℕ) (header : Header) (r : Result ShelfFile Fault)
+    (old new : LibraryState) : Type 0 where
   pub units : AreUnits old.shelf old.held
   pub attached : u < length old.held
   pub looked : held_at old.held u ≡ Looked header
@@ -31,12 +32,14 @@ pub record OpensAt (u : ℕ) (header : Header) (r : Result ShelfFile Fault) (old
   pub limit : new.limit ≡ old.limit
   pub frames : new.frames ≡ old.frames
   pub opened : IfOk r (λ held. IsOpened held u header)
-  pub counts : IfOk r (λ held. (held.pages.pager.count ≡ header.pages) × (held.pages.pager.free ≡ header.free))
+  pub counts : IfOk r (λ held. (held.pages.pager.count ≡ header.pages)
+      × (held.pages.pager.free ≡ header.free))
   pub limits : IfOk r (HasLimits new.limit new.frames)
   pub memory : OnErr r (r ≡ Err Memory)
 
 -- unit u was not open, and a file was made in the place of whatever its name stood for
-pub record MakesAt (u : ℕ) (schema : Schema) (r : Result ShelfFile Fault) (old new : LibraryState) : Type 0 where
+pub record MakesAt (u : ℕ) (schema : Schema) (r : Result ShelfFile Fault)
+    (old new : LibraryState) : Type 0 where
   pub units : AreUnits old.shelf old.held
   pub attached : u < length old.held
   pub holds : new.held ≡ slice_set old.held u (held_open r)
@@ -44,7 +47,8 @@ pub record MakesAt (u : ℕ) (schema : Schema) (r : Result ShelfFile Fault) (old
   pub frames : new.frames ≡ old.frames
   pub made : IfOk r (λ held. IsMade held u new.limit schema new.shelf)
   pub limits : IfOk r (HasLimits new.limit new.frames)
-  pub images : IsTrue new.shelf.is_honest → Throughout (WasOrRefused (unit_file old.shelf u)) (unit_file old.shelf u) (unit_file new.shelf u)
+  pub images : IsTrue new.shelf.is_honest → Throughout (WasOrRefused (unit_file old.shelf u))
+      (unit_file old.shelf u) (unit_file new.shelf u)
   pub failed : OnErr r (IsTrue new.shelf.is_honest → FileGoes u old.shelf new.shelf StandsOrRefused)
   pub others : KeepsOthers u old.shelf new.shelf
   pub count : old.faults ≤ new.faults

@@ -41,4 +41,5 @@ AreReady shelf held = (u : ℕ) (file : ShelfFile) → held_at held u ≡ Opened
 
 -- each open file has the limits of the library
 abbrev pub AreLimited : (limit frames : ℕ) → List Held → Type 0
-AreLimited limit frames held = (u : ℕ) (file : ShelfFile) → held_at held u ≡ Opened file → HasLimits limit frames file
+AreLimited limit frames held = (u : ℕ) (file : ShelfFile) → held_at held u ≡ Opened file
+    → HasLimits limit frames file

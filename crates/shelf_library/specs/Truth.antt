@@ -26,6 +26,8 @@ pub record IsTrulyOpen (shelf : ShelfState) (file : ShelfFile) (bytes : DeviceFi
 
 -- what is shown of a name is what its file is, closed or open
 pub record IsShownTruly (shelf : ShelfState) (held : List Held) (name : List ℕ) : Type 0 where
-  pub closed : (header : Header) → look_of (shelf.file name).seen ≡ Accepted header → IsTrulyClosed (shelf.file name) header
-  pub opened : (u : ℕ) (file : ShelfFile) → u < length shelf.names → unit_name shelf u ≡ name → held_at held u ≡ Opened file → IsFalse file.file.broken
+  pub closed : (header : Header) → look_of (shelf.file name).seen ≡ Accepted header
+      → IsTrulyClosed (shelf.file name) header
+  pub opened : (u : ℕ) (file : ShelfFile) → u < length shelf.names → unit_name shelf u ≡ name
+      → held_at held u ≡ Opened file → IsFalse file.file.broken
       → IsTrulyOpen shelf file (shelf.file name)

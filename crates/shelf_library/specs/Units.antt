@@ -1,4 +1,5 @@
--- What the names of a library stand for, and what its units hold: all of it is read off the files, and off the pages of the open ones.
+-- What the names of a library stand for, and what its units hold: all of it is read off the files,
+-- and off the pages of the open ones.
 use Rattle.std.specs.Prelude.{ℕ, List, [], ◌∷◌, Option, None, Some, bytes_eq, if◌then◌else◌}
 use Rattle.std.specs.List.{list_any}
 use Rattle.indexed_file.specs.Room.{Room, PageCounts, Endless}
@@ -15,10 +16,15 @@ use Rattle.shelf_library.specs.declared.held.Held.TheVariants.{Nothing, Looked, 
 abbrev pub holding_of : ShelfState → Held → Holding
 holding_of shelf Nothing = Shut
 holding_of shelf (Looked header) = HasLooked header.schema
-holding_of shelf (Opened file) = if file.file.broken then Broken file.file.schema else HasOpened file.file.schema (file_in file shelf)
+holding_of shelf (Opened file) = if file.file.broken then Broken file.file.schema else HasOpened
+    file.file.schema (file_in file shelf)
 
 abbrev pub unit_of : ShelfState → List ℕ → Held → FileUnit
-unit_of shelf name one = record { name = name; named = named_of (shelf.file name).seen; holding = holding_of shelf one }
+unit_of shelf name one = record {
+  name = name;
+  named = named_of (shelf.file name).seen;
+  holding = holding_of shelf one;
+}
 
 abbrev pub units_of : ShelfState → List (List ℕ) → List Held → List FileUnit
 units_of shelf [] held = []
@@ -27,7 +33,8 @@ units_of shelf (name ∷ names) (one ∷ held) = unit_of shelf name one ∷ unit
 
 -- what the other names stand for. A name that a unit has is none of them
 abbrev pub elsewhere_of : ShelfState → List ℕ → Named
-elsewhere_of shelf name = if list_any (λ other. bytes_eq other name) shelf.names then Absent else named_of (shelf.file name).seen
+elsewhere_of shelf name = if list_any (λ other. bytes_eq other name) shelf.names then Absent else named_of
+    (shelf.file name).seen
 
 abbrev pub world_of : ShelfState → List Held → World
 world_of shelf held = record { units = units_of shelf shelf.names held; elsewhere = elsewhere_of shelf }
@@ -43,7 +50,8 @@ asked_of Nothing = 0
 asked_of (Looked header) = 0
 asked_of (Opened file) = file.pages.cache.asked
 
--- the pages of an open file are those that its pager counts; of another one, those that its header counts, where a look accepts it
+-- the pages of an open file are those that its pager counts; of another one, those that its header
+-- counts, where a look accepts it
 abbrev pub counts_of_pager : Pager → PageCounts
 counts_of_pager pager = record { count = pager.count; free = pager.free }
 

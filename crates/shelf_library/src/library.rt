@@ -23,7 +23,8 @@ use std::alloc::Global;
 use std::mem;
 use std::num::NonZeroUsize;
 
-/// A library that keeps its files in pages on a shelf: at most `limit` pages a file, of which at most `frames` are held in memory while it is open.
+/// A library that keeps its files in pages on a shelf: at most `limit` pages a file, of which at
+/// most `frames` are held in memory while it is open.
 #[derive(Drop)]
 pub struct ShelfLibrary<S: Shelf> {
     alloc: Global,
@@ -94,8 +95,8 @@ fn tree_height(file: &OpenFile, k: usize) -> u8
 }
 
 impl<S: Shelf> ShelfLibrary<S> {
-    /// A library over a shelf to which no name is attached. A file has at most `limit` pages of 4,096 bytes, of which at most `frames` are held in
-    /// memory while it is open.
+    /// A library over a shelf to which no name is attached. A file has at most `limit` pages of
+    /// 4,096 bytes, of which at most `frames` are held in memory while it is open.
     pub fn new(alloc: Global, shelf: S, limit: u32, frames: NonZeroUsize) -> Self
         requires names { (S.state shelf).names ≡ [] }
         requires limit { 16 ≤ limit }
@@ -113,7 +114,8 @@ impl<S: Shelf> ShelfLibrary<S> {
         }
     }
 
-    /// The height of the tree of key k, where the unit has a file open; 0 where it has none, or its file no such key.
+    /// The height of the tree of key k, where the unit has a file open; 0 where it has none, or its
+    /// file no such key.
     pub fn height(&self, u: usize, k: u8) -> u8
         ensures { result ≡ height_at (room_of_held (held_at self.now.units.items u)) k }
     {

@@ -19,7 +19,8 @@ number_text records = codes "loaded " ++ (decimal records ++ codes "\n")
 abbrev pub line_start : ℕ → List ℕ
 line_start line = codes "line " ++ (decimal line ++ codes ": ")
 
--- how the lines of a text ended, whose file was closed with this status: records are told as loaded only where CLOSE was a success
+-- how the lines of a text ended, whose file was closed with this status: records are told as loaded
+-- only where CLOSE was a success
 abbrev pub told_lines : LinesEnd → Status → List ℕ
 told_lines (Loaded records) closed = if is_successful closed then number_text records else []
 told_lines (Refused line status) closed = line_start line ++ status_text status

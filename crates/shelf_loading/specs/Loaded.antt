@@ -32,7 +32,8 @@ fault_by Full = Input
 fault_by Damage = Input
 fault_by Broken = Input
 
--- a file before a load whose name stands for this: its connector is closed, in dynamic access, and its record area all spaces
+-- a file before a load whose name stands for this: its connector is closed, in dynamic access, and
+-- its record area all spaces
 abbrev pub file_at_first : Named → Schema → FileState
 file_at_first named schema = record {
   connector = closed_connector Dynamic false schema;
@@ -41,24 +42,30 @@ file_at_first named schema = record {
   area = replicate schema.greatest 32;
 }
 
--- OPEN, the WRITEs and CLOSE of a load of the lines of a text, where the name stood for this, leave what a read then gives
-pub record LeavesFile (schema : Schema) (load : Load) (list : Listing) (named : Named) (end : LoadEnd) (seen : Option (List ℕ)) : Type 0 where
+-- OPEN, the WRITEs and CLOSE of a load of the lines of a text, where the name stood for this, leave
+-- what a read then gives
+pub record LeavesFile (schema : Schema) (load : Load) (list : Listing) (named : Named) (end : LoadEnd)
+    (seen : Option (List ℕ)) : Type 0 where
   pub after : FileState
   pub loads : Loads schema (mode_of load) list (file_at_first named schema) end after
   pub represents : Represents seen after.named
 
 -- so it leaves the file of a name, whatever that represented, over a shelf that has not lied by then
-abbrev pub Leaves : (name : List ℕ) → Schema → Load → (list : Listing) → (old : ShelfState) → LoadEnd → (new : ShelfState) → Type 0
+abbrev pub Leaves : (name : List ℕ) → Schema → Load → (list : Listing) → (old : ShelfState) → LoadEnd
+    → (new : ShelfState) → Type 0
 Leaves name schema load list old end new =
-    IsTrue new.is_honest → (named : Named) → Represents (reads_of old name) named → LeavesFile schema load list named end (reads_of new name)
+    IsTrue new.is_honest → (named : Named) → Represents (reads_of old name) named
+    → LeavesFile schema load list named end (reads_of new name)
 
 -- a load that looked for no file before
-abbrev pub EndsAnyhow : (name : List ℕ) → Schema → Load → (list : Listing) → (old : ShelfState) → ShelfEnd → (new : ShelfState) → Type 0
+abbrev pub EndsAnyhow : (name : List ℕ) → Schema → Load → (list : Listing) → (old : ShelfState) → ShelfEnd
+    → (new : ShelfState) → Type 0
 EndsAnyhow name schema load list old IsThere new = ⊥
 EndsAnyhow name schema load list old (Loaded end) new = Leaves name schema load list old end new
 
 -- a load into a new file: the name had none
-pub record LoadsAnew (name : List ℕ) (schema : Schema) (list : Listing) (old : ShelfState) (end : LoadEnd) (new : ShelfState) : Type 0 where
+pub record LoadsAnew (name : List ℕ) (schema : Schema) (list : Listing) (old : ShelfState) (end : LoadEnd)
+    (new : ShelfState) : Type 0 where
   pub absent : reads_of old name ≡ None
   pub leaves : LeavesFile schema New list Absent end (reads_of new name)
 
@@ -68,17 +75,19 @@ pub record IsLeftThere (name : List ℕ) (old new : ShelfState) : Type 0 where
   pub same : new.file ≡ old.file
 
 -- how a load ends
-abbrev pub Ends : (name : List ℕ) → Schema → Load → (list : Listing) → (old : ShelfState) → ShelfEnd → (new : ShelfState) → Type 0
+abbrev pub Ends : (name : List ℕ) → Schema → Load → (list : Listing) → (old : ShelfState) → ShelfEnd
+    → (new : ShelfState) → Type 0
 Ends name schema New list old IsThere new = IsLeftThere name old new
 Ends name schema New list old (Loaded end) new = IsTrue new.is_honest → LoadsAnew name schema list old end new
 Ends name schema Into list old end new = EndsAnyhow name schema Into list old end new
 
 -- every other name stands for what it stood for
 abbrev pub KeepsOthers : (name : List ℕ) → (old new : ShelfState) → Type 0
-KeepsOthers name old new = (other : List ℕ) → bytes_eq name other ≡ false → named_in (files_of new) other ≡ named_in (files_of old) other
+KeepsOthers name old new = (other : List ℕ) → bytes_eq name other ≡ false
+    → named_in (files_of new) other ≡ named_in (files_of old) other
 
--- honesty may only fall; what is sound stays so; and where whatever a crash might leave of the file was sound at first, what it may leave of any file is so at each moment, if it was so
--- at first
+-- honesty may only fall; what is sound stays so; and where whatever a crash might leave of the file
+-- was sound at first, what it may leave of any file is so at each moment, if it was so at first
 pub record IsSafe (name : List ℕ) (old new : ShelfState) : Type 0 where
   pub honest : IsTrue new.is_honest → IsTrue old.is_honest
   pub sound : StaysSound old new

@@ -34,7 +34,8 @@ pub fn end_of(end: Result<LoadEnd, LoadFault>) -> Result<ShelfEnd, ShelfFault>
     }
 }
 
-/// What a fault of the shelf makes of a load. Where a shelf is asked whether a file is there, it answers no other than the first two.
+/// What a fault of the shelf makes of a load. Where a shelf is asked whether a file is there, it
+/// answers no other than the first two.
 pub fn fault_by(fault: Fault) -> ShelfFault
     ensures { result ≡ fault_by fault }
 {

@@ -18,7 +18,8 @@ use std::num::NonZeroUsize;
 
 /// Whether a name has a file. No name is attached afterwards.
 fn is_there<S: Shelf>(shelf: &mut S, name: FileName) -> Result<bool, Fault>
-    ensures answer { IfOk result (λ there. IsTrue (S.state shelf.new).is_honest → there ≡ is_some ((S.state shelf.old).file name.bytes).seen) }
+    ensures answer { IfOk result (λ there. IsTrue (S.state shelf.new).is_honest
+        → there ≡ is_some ((S.state shelf.old).file name.bytes).seen) }
     ensures names { OnOk result ((S.state shelf.new).names ≡ []) }
     ensures file { (S.state shelf.new).file ≡ (S.state shelf.old).file }
     ensures honest { IsTrue (S.state shelf.new).is_honest → IsTrue (S.state shelf.old).is_honest }
@@ -45,7 +46,8 @@ fn load_over<S: Shelf, P: Progress>(
     requires names { (S.state shelf).names ≡ [] }
     requires limit { 16 ≤ limit }
     requires whole { IsWhole form.now schema.now.greatest }
-    ensures ends { IfOk result.1 (λ end. EndsAnyhow name.bytes schema.now load (listing form.now text.now) (S.state shelf) end (S.state result.0)) }
+    ensures ends { IfOk result.1 (λ end. EndsAnyhow name.bytes schema.now load (listing form.now text.now)
+        (S.state shelf) end (S.state result.0)) }
     ensures nothing { OnErr result.1 (LeavesFiles (S.state shelf) (S.state result.0)) }
     ensures others { KeepsOthers name.bytes (S.state shelf) (S.state result.0) }
     ensures safe { IsSafe name.bytes (S.state shelf) (S.state result.0) }
@@ -78,7 +80,8 @@ fn load_new<S: Shelf, P: Progress>(
 ) -> (S, Result<ShelfEnd, ShelfFault>)
     requires limit { 16 ≤ limit }
     requires whole { IsWhole form.now schema.now.greatest }
-    ensures ends { IfOk result.1 (λ end. Ends name.bytes schema.now Load.New (listing form.now text.now) (S.state shelf) end (S.state result.0)) }
+    ensures ends { IfOk result.1 (λ end. Ends name.bytes schema.now Load.New (listing form.now text.now)
+        (S.state shelf) end (S.state result.0)) }
     ensures nothing { OnErr result.1 (LeavesFiles (S.state shelf) (S.state result.0)) }
     ensures others { KeepsOthers name.bytes (S.state shelf) (S.state result.0) }
     ensures safe { IsSafe name.bytes (S.state shelf) (S.state result.0) }
@@ -102,12 +105,15 @@ fn load_new<S: Shelf, P: Progress>(
     }
 }
 
-/// Loads the record of each line of a text in a form into the file of a name on a shelf to which no name is attached, and gives the shelf back. A file has at most `limit` pages
-/// of 4,096 bytes, of which at most `frames` are held in memory while it is open.
+/// Loads the record of each line of a text in a form into the file of a name on a shelf to which no
+/// name is attached, and gives the shelf back. A file has at most `limit` pages of 4,096 bytes, of
+/// which at most `frames` are held in memory while it is open.
 ///
-/// A new file is made only where the name has none: otherwise that is told, and each file is as it was. Where the shelf is honest, the file represents what OPEN, the
-/// WRITEs and CLOSE leave of what it represented. The first line that is the line of no record of the file, or whose WRITE is no success, ends a load, and what was
-/// written before stays. No crash leaves a false file, where none could be left before. After each record it is told how many bytes of the text are written.
+/// A new file is made only where the name has none: otherwise that is told, and each file is as it
+/// was. Where the shelf is honest, the file represents what OPEN, the WRITEs and CLOSE leave of
+/// what it represented. The first line that is the line of no record of the file, or whose WRITE is
+/// no success, ends a load, and what was written before stays. No crash leaves a false file, where
+/// none could be left before. After each record it is told how many bytes of the text are written.
 ///
 /// `Input`: the device failed when it was asked for the file. `Memory`. Nothing was changed then.
 pub fn load_on_shelf<S: Shelf, P: Progress>(
@@ -125,7 +131,8 @@ pub fn load_on_shelf<S: Shelf, P: Progress>(
     requires names { (S.state shelf).names ≡ [] }
     requires limit { 16 ≤ limit }
     requires whole { IsWhole form.now schema.now.greatest }
-    ensures ends { IfOk result.1 (λ end. Ends name.bytes schema.now load (listing form.now text.now) (S.state shelf) end (S.state result.0)) }
+    ensures ends { IfOk result.1 (λ end. Ends name.bytes schema.now load (listing form.now text.now)
+        (S.state shelf) end (S.state result.0)) }
     ensures nothing { OnErr result.1 (LeavesFiles (S.state shelf) (S.state result.0)) }
     ensures others { KeepsOthers name.bytes (S.state shelf) (S.state result.0) }
     ensures safe { IsSafe name.bytes (S.state shelf) (S.state result.0) }

@@ -11,7 +11,8 @@ use Rattle.deck_runner.specs.declared.run_end.RunEnd.{RunEnd}
 use Rattle.shelf_run.specs.Files.{reads_of, Represents, AllSound, AreImagesSound}
 use Rattle.shelf_run.specs.ShelfRun.{OnShelf, Runs, BreaksOff, LeavesFiles}
 
--- a run of some bytes, with its limits: the shelf before it and after it, how often that had failed, and what its writer had
+-- a run of some bytes, with its limits: the shelf before it and after it, how often that had
+-- failed, and what its writer had
 pub record AnyNight : Type 0 where
   pub bytes : List ℕ
   pub limit : ℕ
@@ -25,11 +26,13 @@ pub record AnyNight : Type 0 where
 
 -- it came to its end; or its writer refused a line; or nothing came of it
 abbrev pub HasEnded : AnyNight → Type 0
-HasEnded night = (end : RunEnd) × OnShelf night.bytes night.old night.new (λ deck. Told night.written night.written_after end
+HasEnded night = (end : RunEnd) × OnShelf night.bytes night.old night.new
+    (λ deck. Told night.written night.written_after end
     (Runs night.limit night.frames night.old night.new night.faults night.faults_after deck))
 
 abbrev pub WasBrokenOff : AnyNight → Type 0
-WasBrokenOff night = OnShelf night.bytes night.old night.new (λ deck. ToldInPart night.written night.written_after
+WasBrokenOff night = OnShelf night.bytes night.old night.new
+    (λ deck. ToldInPart night.written night.written_after
     (BreaksOff night.limit night.frames night.old night.new night.faults night.faults_after deck))
 
 abbrev pub CameToNothing : AnyNight → Type 0
@@ -40,28 +43,36 @@ pub record IsNight (night : AnyNight) : Type 0 where
   pub honest : IsTrue night.new.is_honest
   pub ends : HasEnded night ⊎ (WasBrokenOff night ⊎ CameToNothing night)
 
--- a crash at some moment from the one state of a file to the other may leave this: the log had n steps more by then
+-- a crash at some moment from the one state of a file to the other may leave this: the log had n
+-- steps more by then
 abbrev pub MayBeFound : DeviceFile → DeviceFile → Option (List ℕ) → Type 0
 MayBeFound old new c = (n : ℕ) × MayLeave (durable (take (length old.log + n) new.log)) c
 
--- at a start a read gives, of each name, what a crash now may leave; and that is what a crash may have left of it at some moment of the time
--- before, the last one among them
+-- at a start a read gives, of each name, what a crash now may leave; and that is what a crash may
+-- have left of it at some moment of the time before, the last one among them
 pub record StartsAfter (old new start : ShelfState) : Type 0 where
   pub reads : (name : List ℕ) → Leaves (start.file name) (reads_of start name)
-  pub found : (name : List ℕ) (c : Option (List ℕ)) → Leaves (start.file name) c → MayBeFound (old.file name) (new.file name) c
+  pub found : (name : List ℕ) (c : Option (List ℕ)) → Leaves (start.file name) c
+      → MayBeFound (old.file name) (new.file name) c
 
--- the nights follow one another, the first one after this stretch of time: each has come to its end, or a crash has cut it at some moment
+-- the nights follow one another, the first one after this stretch of time: each has come to its
+-- end, or a crash has cut it at some moment
 abbrev pub FollowAnyhow : (old new : ShelfState) → List AnyNight → Type 0
 FollowAnyhow old new [] = Unit {0}
-FollowAnyhow old new (night ∷ nights) = StartsAfter old new night.old × IsNight night × FollowAnyhow night.old night.new nights
+FollowAnyhow old new (night ∷ nights) = StartsAfter old new night.old × IsNight night
+    × FollowAnyhow night.old night.new nights
 
--- at the start of the night, each file of which this shelf had nothing but what is sound represents something: it is absent, refused, or closed with its rows
+-- at the start of the night, each file of which this shelf had nothing but what is sound represents
+-- something: it is absent, refused, or closed with its rows
 abbrev pub StartsSound : ShelfState → AnyNight → Type 0
-StartsSound first night = (name : List ℕ) → AllSound (first.file name) → (named : Named) × Represents (reads_of night.old name) named
+StartsSound first night = (name : List ℕ) → AllSound (first.file name) → (named : Named)
+    × Represents (reads_of night.old name) named
 
--- the law: in nights that end in any way, or are cut by a crash at any moment, each file represents something at each start, where whatever a
--- crash may leave of the files of all their decks was sound at first
+-- the law: in nights that end in any way, or are cut by a crash at any moment, each file represents
+-- something at each start, where whatever a crash may leave of the files of all their decks was
+-- sound at first
 abbrev pub AnyNights : Type 0
 AnyNights =
     (first : ShelfState) (nights : List AnyNight) → FollowAnyhow first first nights
-    → All (λ night. (deck : Deck) → IsDeck night.bytes deck → AreImagesSound first deck) nights → All (StartsSound first) nights
+    → All (λ night. (deck : Deck) → IsDeck night.bytes deck → AreImagesSound first deck) nights
+    → All (StartsSound first) nights

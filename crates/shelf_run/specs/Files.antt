@@ -20,8 +20,9 @@ Reads = List ℕ → Option (List ℕ)
 abbrev pub reads_of : ShelfState → Reads
 reads_of shelf name = (shelf.file name).seen
 
--- what a read gives of a file represents this: there is no file; its gate is closed, and its pages stand for exactly these rows of this schema; or
--- its first page is refused, as that of a file whose gate is open
+-- what a read gives of a file represents this: there is no file; its gate is closed, and its pages
+-- stand for exactly these rows of this schema; or its first page is refused, as that of a file
+-- whose gate is open
 abbrev pub Represents : Option (List ℕ) → Named → Type 0
 Represents c Absent = c ≡ None
 Represents c (Closed schema file) = (bytes : List ℕ) × (c ≡ Some bytes) × AreClosed schema file bytes
@@ -35,7 +36,8 @@ AreIn world reads deck = All (λ name. Represents (reads name) (named_in world n
 abbrev pub files_of : ShelfState → World
 files_of shelf = record { units = []; elsewhere = λ name. named_of (shelf.file name).seen }
 
--- there is no file, or its first page is refused, as that of a file whose gate is open; or its gate is closed, and it stands for rows
+-- there is no file, or its first page is refused, as that of a file whose gate is open; or its gate
+-- is closed, and it stands for rows
 abbrev pub IsSoundImage : Option (List ℕ) → Type 0
 IsSoundImage c =
     (header : Header) → look_of c ≡ Accepted header → (rows : File) × StandsIn header (bytes_or_none c) rows
@@ -48,6 +50,8 @@ AllSound file = (c : Option (List ℕ)) → Leaves file c → IsSoundImage c
 abbrev pub AreImagesSound : ShelfState → Deck → Type 0
 AreImagesSound shelf deck = All (λ name. AllSound (shelf.file name)) (file_names deck.files)
 
--- whatever a crash may leave of a file at each moment from the one shelf to the other is sound, if it was so at first
+-- whatever a crash may leave of a file at each moment from the one shelf to the other is sound, if
+-- it was so at first
 abbrev pub AreSoundThroughout : ShelfState → ShelfState → Type 0
-AreSoundThroughout old new = (name : List ℕ) → AllSound (old.file name) → Throughout IsSoundImage (old.file name) (new.file name)
+AreSoundThroughout old new = (name : List ℕ) → AllSound (old.file name)
+    → Throughout IsSoundImage (old.file name) (new.file name)

@@ -17,28 +17,37 @@ use Rattle.shelf_run.specs.Files.{reads_of, IsSoundImage}
 use Rattle.shelf_run.specs.ShelfRun.{OnShelf, RunsBy, Runs, shown_in}
 
 -- steps lead to a point, with these lines, and on from there, with those
-abbrev pub GoThrough : {X : Type 0} → (Statement → X → List Line → X → Type 0) → List Statement → X → List Line → X → List Line → X → Type 0
+abbrev pub GoThrough : {X : Type 0} → (Statement → X → List Line → X → Type 0) → List Statement → X
+    → List Line → X → List Line → X → Type 0
 GoThrough IsOne statements run seen point later next =
-    (done : List Statement) × (rest : List Statement) × (statements ≡ done ++ rest) × AreStepsOf IsOne done run seen point × AreStepsOf IsOne rest point later next
+    (done : List Statement) × (rest : List Statement) × (statements ≡ done ++ rest)
+    × AreStepsOf IsOne done run seen point × AreStepsOf IsOne rest point later next
 
 -- so does a whole run: the point stands before STOP RUN, or among the closes
-abbrev pub RunGoesThrough : {X : Type 0} → (Statement → X → List Line → X → Type 0) → (X → List Statement) → List Statement → X → List Line → X → List Line → X → Type 0
+abbrev pub RunGoesThrough : {X : Type 0} → (Statement → X → List Line → X → Type 0) → (X → List Statement)
+    → List Statement → X → List Line → X → List Line → X → Type 0
 RunGoesThrough {X} IsOne closes statements run seen point later next =
     ((stopped : X) × (first : List Line) × (others : List Line)
-    × GoThrough IsOne (until_stop statements) run seen point first stopped × AreStepsOf IsOne (closes stopped) stopped others next × (later ≡ first ++ others))
+    × GoThrough IsOne (until_stop statements) run seen point first stopped
+    × AreStepsOf IsOne (closes stopped) stopped others next × (later ≡ first ++ others))
     ⊎ ((stopped : X) × (first : List Line) × (others : List Line)
-    × AreStepsOf IsOne (until_stop statements) run first stopped × GoThrough IsOne (closes stopped) stopped others point later next × (seen ≡ first ++ others))
+    × AreStepsOf IsOne (until_stop statements) run first stopped
+    × GoThrough IsOne (closes stopped) stopped others point later next × (seen ≡ first ++ others))
 
 -- a whole run of the deck, as the promise of a run has it, that has had these lines where the shelf was so
 abbrev pub RunsThrough : List Line → ShelfState → LibraryState → LibraryState → Deck → List Line → Type 0
 RunsThrough seen shelf old new deck = DeckRuns shown_in old new deck (λ before lines after.
-    (point : Judged LibraryState) × (later : List Line) × (point.point.library.shelf ≡ shelf) × (lines ≡ seen ++ later)
-    × RunGoesThrough (IsSafeStretch shown_in old) (λ judged. closes_from 0 judged.point.run.files) deck.statements before seen point later after)
+    (point : Judged LibraryState) × (later : List Line) × (point.point.library.shelf ≡ shelf)
+    × (lines ≡ seen ++ later)
+    × RunGoesThrough (IsSafeStretch shown_in old) (λ judged.
+    closes_from 0 judged.point.run.files) deck.statements before seen point later after)
 
 -- the run of a night came to its end, or would have come there, and went through this point
 abbrev pub HasEndedThrough : AnyNight → List Line → ShelfState → Type 0
-HasEndedThrough night seen shelf = (end : RunEnd) × OnShelf night.bytes night.old night.new (λ deck. Told night.written night.written_after end
-    (RunsBy (RunsThrough seen shelf) night.limit night.frames night.old night.new night.faults night.faults_after deck))
+HasEndedThrough night seen shelf = (end : RunEnd)
+    × OnShelf night.bytes night.old night.new (λ deck. Told night.written night.written_after end
+    (RunsBy (RunsThrough seen shelf) night.limit night.frames night.old night.new night.faults
+    night.faults_after deck))
 
 -- ---- the law
 
@@ -48,9 +57,12 @@ HasEndedWith night lines = (end : RunEnd) × OnShelf night.bytes night.old night
     Appends night.written night.written_after (flat_map text_of lines) × (end ≡ end_of lines)
     × Runs night.limit night.frames night.old night.new night.faults night.faults_after deck lines)
 
--- the law: a run that came to its end has gone through a point behind each front of its lines, where what reads gave of its files was sound
+-- the law: a run that came to its end has gone through a point behind each front of its lines,
+-- where what reads gave of its files was sound
 abbrev pub NightsGoThrough : Type 0
 NightsGoThrough =
-    (night : AnyNight) (seen later : List Line) → HasEndedWith night (seen ++ later) → IsTrue night.new.is_honest → night.old.names ≡ []
-    → ((deck : Deck) → IsDeck night.bytes deck → All (λ name. IsSoundImage (reads_of night.old name)) (file_names deck.files))
+    (night : AnyNight) (seen later : List Line) → HasEndedWith night (seen ++ later)
+    → IsTrue night.new.is_honest → night.old.names ≡ []
+    → ((deck : Deck) → IsDeck night.bytes deck → All (λ name. IsSoundImage (reads_of night.old name))
+    (file_names deck.files))
     → (shelf : ShelfState) × HasEndedThrough night seen shelf

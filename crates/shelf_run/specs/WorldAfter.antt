@@ -10,13 +10,19 @@ use Rattle.deck_runner.specs.Run.{RunFile, Run, after_run}
 abbrev pub run_from : World → Deck → Run
 run_from world deck = after_run deck.statements (run_before world deck)
 
--- what a name stands for, where files with these names were left so: what the file of that name was left as, or else what it stood for before
+-- what a name stands for, where files with these names were left so: what the file of that name was
+-- left as, or else what it stood for before
 abbrev pub left_of : List (List ℕ) → List RunFile → (List ℕ → Named) → List ℕ → Named
 left_of [] files before name = before name
 left_of (first ∷ names) [] before name = before name
 left_of (first ∷ names) (file ∷ files) before name =
     if bytes_eq first name then file.state.named else left_of names files before name
 
--- the world after the run of a deck: each of its file names stands for what the run leaves, and each other name for what it stood for
+-- the world after the run of a deck: each of its file names stands for what the run leaves, and
+-- each other name for what it stood for
 abbrev pub world_after : World → Deck → World
-world_after world deck = record { units = []; elsewhere = left_of (file_names deck.files) (run_from world deck).files (named_in world) }
+world_after world deck = record {
+  units = [];
+  elsewhere = left_of (file_names deck.files)
+      (run_from world deck).files (named_in world);
+}

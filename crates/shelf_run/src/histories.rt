@@ -6,7 +6,8 @@ ghost use Rattle.shelf_run.specs.NightRows.{NightsByRows};
 
 use deck_reader::one_deck;
 
-/// The laws of decks that are run one after another, each over the files that the run before it left, or that a crash left of them. It does nothing.
+/// The laws of decks that are run one after another, each over the files that the run before it
+/// left, or that a crash left of them. It does nothing.
 pub fn history_laws()
     ensures clean { CleanNights }
     ensures from_nothing { NightsFromNothing }

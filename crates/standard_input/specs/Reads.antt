@@ -8,7 +8,10 @@ pub record Asked : Type 0 where
 
 -- as the code notes it: the room, and a second number where it gave these bytes
 abbrev pub asked_of : List ℕ → List ℕ → Asked
-asked_of numbers bytes = record { room = slice_index numbers 0; given = option_map (λ _. bytes) (slice_get numbers 1) }
+asked_of numbers bytes = record {
+  room = slice_index numbers 0;
+  given = option_map (λ _. bytes) (slice_get numbers 1);
+}
 
 -- a read that was answered so, and left this in the room
 abbrev pub answered : {E : Type 0} → Result ℕ E → List ℕ → Asked

@@ -8,8 +8,9 @@ use crate::reads_ahead::ReadsAhead;
 use crate::record::Record;
 use std::io::{self, Read};
 
-/// A reader over standard input, or another reader, that notes each read. It stands above the reader with a buffer, where there is one: so what is noted is what
-/// was taken of the input, and not what was read ahead.
+/// A reader over standard input, or another reader, that notes each read. It stands above the
+/// reader with a buffer, where there is one: so what is noted is what was taken of the input, and
+/// not what was read ahead.
 #[derive(Drop)]
 pub struct StandardInput<R> {
     reader: R,
@@ -44,7 +45,8 @@ impl<R: Read> Read for StandardInput<R> {
     /// Asks the reader below once, and notes what it gave.
     fn read(&mut self, part: &mut [u8]) -> io::Result<usize>
         ensures bound { ReadsAtMost result part.new }
-        ensures bytes { ReadConsumes (R.remaining self.old.reader) (R.remaining self.new.reader) result part.new }
+        ensures bytes { ReadConsumes (R.remaining self.old.reader)
+            (R.remaining self.new.reader) result part.new }
         ensures noted { self.new.calls.reads ≡ answered result part.new ∷ self.old.calls.reads }
     {
         let answer = self.reader.read(part);

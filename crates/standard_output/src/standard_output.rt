@@ -44,7 +44,8 @@ impl<W: Write> Write for StandardOutput<W> {
     /// Asks the writer below once, and notes what it answered.
     fn write(&mut self, bytes: &[u8]) -> io::Result<usize>
         ensures bound { WritesAtMost result bytes.now }
-        ensures bytes { WriteAppends (Some (taken_by self.old.calls.writes)) (Some (taken_by self.new.calls.writes)) result bytes.now }
+        ensures bytes { WriteAppends (Some (taken_by self.old.calls.writes))
+            (Some (taken_by self.new.calls.writes)) result bytes.now }
         ensures noted { self.new.calls.writes ≡ answered result bytes.now ∷ self.old.calls.writes }
         ensures made { WriteAppends (W.contents self.old.out) (W.contents self.new.out) result bytes.now }
     {
@@ -57,7 +58,8 @@ impl<W: Write> Write for StandardOutput<W> {
     }
 
     fn flush(&mut self) -> io::Result<()>
-        ensures bytes { Keeps (Some (taken_by self.old.calls.writes)) (Some (taken_by self.new.calls.writes)) }
+        ensures bytes { Keeps (Some (taken_by self.old.calls.writes))
+            (Some (taken_by self.new.calls.writes)) }
         ensures made { Keeps (W.contents self.old.out) (W.contents self.new.out) }
     {
         self.out.flush()

@@ -5,7 +5,8 @@ use page_bytes::PAGE_SIZE;
 use std::fs::{Metadata, OpenFile};
 use std::os::unix::fs::{FileExt, MetadataExt};
 
-/// The length of a file, the times of its last changes, and the bytes of its first page, zeros where it has none.
+/// The length of a file, the times of its last changes, and the bytes of its first page, zeros
+/// where it has none.
 #[derive(PartialEq, Eq, Drop)]
 pub(crate) struct Appearance {
     length: u64,

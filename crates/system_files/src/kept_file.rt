@@ -40,7 +40,8 @@ impl<F: OpenFile + FileExt + LockFile + Drop> KeptFile<F> {
         Some(KeptFile::locked(file, is_writable, lock))
     }
 
-    /// A file that was just made, with the exclusive lock, if it was had. Another run may have had it first, and gone: then it is not the one that was made.
+    /// A file that was just made, with the exclusive lock, if it was had. Another run may have had
+    /// it first, and gone: then it is not the one that was made.
     pub fn made(file: F) -> Option<KeptFile<F>> {
         if claim(&file) && measure(&file) == Some(0) {
             Some(KeptFile::locked(file, true, Lock::Exclusive))
@@ -59,8 +60,9 @@ impl<F: OpenFile + FileExt + LockFile + Drop> KeptFile<F> {
         }
     }
 
-    /// Makes the lock exclusive, before the file is changed. Whether it is, and the file still the one that this run has read. Where the system gave
-    /// the lock to another run no lock is left; the next look at the file takes the shared one anew.
+    /// Makes the lock exclusive, before the file is changed. Whether it is, and the file still the
+    /// one that this run has read. Where the system gave the lock to another run no lock is left;
+    /// the next look at the file takes the shared one anew.
     pub fn hold(&mut self) -> bool {
         let is_had = match &self.lock {
             Lock::Exclusive => return true,
@@ -102,7 +104,8 @@ impl<F: OpenFile + FileExt + LockFile + Drop> KeptFile<F> {
         self.is_locked() && read(&self.file, at, bytes)
     }
 
-    /// Writes the bytes from `at` on into a file that is held. How many of them the system took; none where it is not held.
+    /// Writes the bytes from `at` on into a file that is held. How many of them the system took;
+    /// none where it is not held.
     pub fn write(&self, at: u64, bytes: &[u8]) -> usize
         ensures { result ≤ length bytes.now }
     {
@@ -112,7 +115,8 @@ impl<F: OpenFile + FileExt + LockFile + Drop> KeptFile<F> {
         }
     }
 
-    /// Brings the file to the disk, and its name where that is not known to be there. Whether it was done; never again once a sync failed.
+    /// Brings the file to the disk, and its name where that is not known to be there. Whether it
+    /// was done; never again once a sync failed.
     pub fn sync<R: Files>(&mut self, rt: &R, folder: &mut KeptFolder) -> bool
         ensures { folder.new.path ≡ folder.old.path }
     {

@@ -1,8 +1,10 @@
-//! The calls of the system on files and on the folder that holds them, each made again where a signal interrupts it, and the locks of open files.
+//! The calls of the system on files and on the folder that holds them, each made again where a
+//! signal interrupts it, and the locks of open files.
 //!
-//! Reads and writes go on until all bytes came or were taken; the thousandth interrupted call in a row is told as one that failed. A file is read under a
-//! shared lock and written under an exclusive one. Nothing is promised of the system's answers, and that each function makes the calls that its name says is
-//! trusted.
+//! Reads and writes go on until all bytes came or were taken; the thousandth interrupted call in a
+//! row is told as one that failed. A file is read under a shared lock and written under an
+//! exclusive one. Nothing is promised of the system's answers, and that each function makes the
+//! calls that its name says is trusted.
 //!
 //! Read `calls` and `locks`, then `kept_file`.
 #![tactic(auto)]

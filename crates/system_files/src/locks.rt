@@ -1,4 +1,5 @@
-//! Locks of the system on open files. A lock belongs to the file as it was opened: it goes when that is closed, and so with the process.
+//! Locks of the system on open files. A lock belongs to the file as it was opened: it goes when
+//! that is closed, and so with the process.
 
 use crate::calls::{MOST_INTERRUPTED, again};
 use std::fs::{File, TryLockError};
@@ -27,12 +28,14 @@ impl LockFile for File {
     }
 }
 
-/// Takes the lock that those who read have side by side. Whether it was had; where the system has no locks, it is as if.
+/// Takes the lock that those who read have side by side. Whether it was had; where the system has
+/// no locks, it is as if.
 pub fn share<F: LockFile>(file: &F) -> bool {
     was_had(|| file.try_lock_shared())
 }
 
-/// Takes the lock that one alone has. Whether it was had, as `share` tells it; where it was not, a lock that was had before is gone.
+/// Takes the lock that one alone has. Whether it was had, as `share` tells it; where it was not, a
+/// lock that was had before is gone.
 pub(crate) fn claim<F: LockFile>(file: &F) -> bool {
     was_had(|| file.try_lock())
 }

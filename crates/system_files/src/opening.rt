@@ -8,7 +8,8 @@ use std::io;
 use std::os::unix::fs::{FileExt, MetadataExt};
 use std::rt::Files;
 
-/// Makes a file that is not there, and has it alone. Where another run had it first, it is not made, and may be there.
+/// Makes a file that is not there, and has it alone. Where another run had it first, it is not
+/// made, and may be there.
 pub fn make<R: Files>(rt: &R, path: &str) -> Option<KeptFile<R::File>>
 where
     R::File: FileExt + LockFile,
@@ -17,7 +18,8 @@ where
     KeptFile::made(file)
 }
 
-/// Opens what is a file by its own name, and no link, for as long as no other run changes it. Where the system refuses writing it is opened for reading.
+/// Opens what is a file by its own name, and no link, for as long as no other run changes it. Where
+/// the system refuses writing it is opened for reading.
 pub fn open<R: Files>(rt: &R, path: &str) -> Option<KeptFile<R::File>>
 where
     R::File: FileExt + LockFile,

@@ -38,11 +38,13 @@ state_in shown u file = state_of file.held (shown.world file.library) u file.are
 -- a fact is to be believed, where what the connector kept was true
 abbrev pub Trusted : {S : Type 0} → Shown S → ℕ → FileInMemory S → FileInMemory S → Type 0 → Type 0
 Trusted shown u before after fact =
-    Believed shown u before.library after.library (IsStanding before.held (shown.world before.library) u → fact)
+    Believed shown u before.library after.library (IsStanding before.held (shown.world before.library) u
+    → fact)
 
 -- what the connector keeps stays true
 abbrev pub StaysStanding : {S : Type 0} → Shown S → ℕ → FileInMemory S → FileInMemory S → Type 0
-StaysStanding shown u before after = Trusted shown u before after (IsStanding after.held (shown.world after.library) u)
+StaysStanding shown u before after = Trusted shown u before after
+    (IsStanding after.held (shown.world after.library) u)
 
 -- WRITE and REWRITE store a record
 abbrev pub stores : FileStatement → Bool
@@ -55,29 +57,33 @@ stores Write = true
 stores Rewrite = true
 stores Delete = false
 
--- why a status is answered: 30 only where the count of the device's faults rose, or by CLOSE of a connector that has failed; 92 only by a
--- connector that has failed; 24 only where a record is to be stored
-pub record StatusHasCause (statement : FileStatement) (session : Option Session) (status : Status) (old new : ℕ) : Type 0 where
+-- why a status is answered: 30 only where the count of the device's faults rose, or by CLOSE of a
+-- connector that has failed; 92 only by a connector that has failed; 24 only where a record is to
+-- be stored
+pub record StatusHasCause (statement : FileStatement) (session : Option Session) (status : Status)
+    (old new : ℕ) : Type 0 where
   pub device : status ≡ PermanentError → HasRisen old new ⊎ IsTrue (closes_failed statement session)
   pub failed : status ≡ ConnectorFailed → IsTrue (has_failed session)
   pub full : status ≡ BoundaryViolation → IsTrue (stores statement)
 
--- a WRITE of n bytes in sequential access passes its checks, and the connector knows that its prime value is not above the greatest of the
--- file
+-- a WRITE of n bytes in sequential access passes its checks, and the connector knows that its prime
+-- value is not above the greatest of the file
 abbrev pub is_known_late : FileStatement → ℕ → Held → FileState → Bool
 is_known_late (Open mode) n held s = false
 is_known_late (Close lock) n held s = false
 is_known_late ReadNext n held s = false
 is_known_late (Read key) n held s = false
 is_known_late (Start key length relation) n held s = false
-is_known_late Write n held s = reaches Write n s && is_late s.connector (option_flatten held.highest) (take n s.area)
+is_known_late Write n held s = reaches Write n s
+    && is_late s.connector (option_flatten held.highest) (take n s.area)
 is_known_late Rewrite n held s = false
 is_known_late Delete n held s = false
 
--- a statement, of a record of n bytes, was carried out on unit u: where it asks for nothing the library is left so, and the count of the
--- unit's pages is at most this
+-- a statement, of a record of n bytes, was carried out on unit u: where it asks for nothing the
+-- library is left so, and the count of the unit's pages is at most this
 pub record IsCarriedOut
-    {S : Type 0} (shown : Shown S) (u : ℕ) (Leaves : S → S → Type 0) (most : ℕ) (statement : FileStatement) (n : ℕ)
+    {S : Type 0} (shown : Shown S) (u : ℕ) (Leaves : S → S → Type 0) (most : ℕ) (statement : FileStatement)
+    (n : ℕ)
     (before : FileInMemory S) (answer : Answer) (after : FileInMemory S) : Type 0 where
   -- the connector goes with its unit, and keeps its schema
   pub fits : Fits after.held (shown.world after.library) u
@@ -85,17 +91,23 @@ pub record IsCarriedOut
   -- nothing is changed but the unit and its name; honesty may only fall, and what is shown stays true
   pub only : OnlyAt u (shown.world before.library) (shown.world after.library)
   pub keeps : Keeps shown before.library after.library
-  -- what the checks decide is exact, and asks the library for nothing; nor does a key that is known to be out of sequence
+  -- what the checks decide is exact, and asks the library for nothing; nor does a key that is known
+  -- to be out of sequence
   pub early : asks statement n (state_in shown u before) ≡ false
-      → Leaves before.library after.library × Decides statement n (state_in shown u before) answer (state_in shown u after)
-  pub refusal : IsTrue (is_refusal statement answer.status) → asks statement n (state_in shown u before) ≡ false
+      → Leaves before.library after.library × Decides statement n (state_in shown u before) answer
+      (state_in shown u after)
+  pub refusal : IsTrue (is_refusal statement answer.status)
+      → asks statement n (state_in shown u before) ≡ false
   pub known : is_known_late statement n before.held (state_in shown u before) ≡ true
       → Leaves before.library after.library × (answer ≡ silent OutOfSequence)
-  -- CLOSE of a connector that has failed answers 30, whatever the library says; and 30, 92 and 24 have their causes
-  pub failed_close : closes_failed statement before.held.connector.session ≡ true → answer ≡ silent PermanentError
+  -- CLOSE of a connector that has failed answers 30, whatever the library says; and 30, 92 and 24
+  -- have their causes
+  pub failed_close : closes_failed statement before.held.connector.session ≡ true
+      → answer ≡ silent PermanentError
   pub cause : StatusHasCause statement before.held.connector.session answer.status
       (shown.fault_count before.library) (shown.fault_count after.library)
-  -- the answer and what is left are the definitions', or those of a marred step; and what the connector keeps is true
+  -- the answer and what is left are the definitions', or those of a marred step; and what the
+  -- connector keeps is true
   pub step : Trusted shown u before after
       (Performs statement n (state_in shown u before) answer (state_in shown u after))
   pub standing : StaysStanding shown u before after
@@ -105,7 +117,8 @@ pub record IsCarriedOut
       (lacks_room statement n (shown.room before.library u) (state_in shown u before)) answer.status)
   -- so many pages are asked for at most, on an open unit
   pub asked : Trusted shown u before after
-      (IsTrue (begins_count shown u statement before.library) → AnswersWithin shown u most after.library answer.status)
+      (IsTrue (begins_count shown u statement before.library)
+      → AnswersWithin shown u most after.library answer.status)
   -- what a crash may leave
   pub images : Trusted shown u before after
       (ImagesGo shown.Throughout (name_at (shown.world before.library) u)
@@ -113,17 +126,23 @@ pub record IsCarriedOut
 
 -- the most pages that the statement may ask for
 abbrev pub most_by : {S : Type 0} → Shown S → ℕ → FileStatement → FileInMemory S → ℕ
-most_by shown u statement before = most_asked statement (key_of before.held.connector.session) (shown.room before.library u)
+most_by shown u statement before = most_asked statement (key_of before.held.connector.session)
+    (shown.room before.library u)
 
--- it was performed: it has begun the count of the unit's pages, where the unit is open, whatever its checks say
-abbrev pub IsPerformed : {S : Type 0} → Shown S → ℕ → FileStatement → ℕ → FileInMemory S → Answer → FileInMemory S → Type 0
+-- it was performed: it has begun the count of the unit's pages, where the unit is open, whatever
+-- its checks say
+abbrev pub IsPerformed : {S : Type 0} → Shown S → ℕ → FileStatement → ℕ → FileInMemory S → Answer
+    → FileInMemory S → Type 0
 IsPerformed shown u statement n before answer after =
-    IsCarriedOut shown u (BeginsCount shown u statement) (most_by shown u statement before) statement n before answer after
+    IsCarriedOut shown u (BeginsCount shown u statement)
+    (most_by shown u statement before) statement n before answer after
 
 -- it was performed behind the beginning of the count
-abbrev pub IsPerformedCounted : {S : Type 0} → Shown S → ℕ → FileStatement → ℕ → FileInMemory S → Answer → FileInMemory S → Type 0
+abbrev pub IsPerformedCounted : {S : Type 0} → Shown S → ℕ → FileStatement → ℕ → FileInMemory S → Answer
+    → FileInMemory S → Type 0
 IsPerformedCounted shown u statement n before answer after =
-    IsCarriedOut shown u (λ old new. new ≡ old) (shown.pages_asked before.library u + most_by shown u statement before) statement n
+    IsCarriedOut shown u (λ old new. new ≡ old) (shown.pages_asked before.library u
+    + most_by shown u statement before) statement n
     before answer after
 
 -- a statement without a record was performed: whatever stands in the area stays there
@@ -131,4 +150,5 @@ abbrev pub IsPerformedWithoutRecord
     : {S : Type 0} → Shown S → ℕ → FileStatement → FileInMemory S → Status → FileInMemory S → Type 0
 IsPerformedWithoutRecord shown u statement before status after =
     (n : ℕ) → (area : List ℕ)
-    → IsPerformed shown u statement n (record before { area = area }) (silent status) (record after { area = area })
+    → IsPerformed shown u statement n (record before { area = area }) (silent status)
+    (record after { area = area })

@@ -22,7 +22,8 @@ trace_of_change_by status = trace_if (is_successful status || is_fault status)
 
 -- CLOSE of a file that was changed: with 00 the file stands closed
 abbrev pub trace_of_end : Named → Schema → File → Status → Trace
-trace_of_end Unsound schema file status = if is_successful status then finished (Closed schema file) else finishing (Closed schema file)
+trace_of_end Unsound schema file status = if is_successful status then finished
+    (Closed schema file) else finishing (Closed schema file)
 trace_of_end Absent schema file status = untouched
 trace_of_end (Closed named was) schema file status = untouched
 
@@ -30,7 +31,8 @@ trace_of_end (Closed named was) schema file status = untouched
 abbrev pub trace_of_close : FileState → Option Session → Status → Trace
 trace_of_close s None status = untouched
 trace_of_close s (Some session) status =
-    if session.failed || session.missing then untouched else trace_of_end s.named s.connector.schema (file_of s) status
+    if session.failed || session.missing then untouched else trace_of_end s.named s.connector.schema
+    (file_of s) status
 
 abbrev pub trace_of : FileStatement → FileState → Status → Trace
 trace_of (Open mode) s status = trace_of_open (creates mode s.connector.optional s.named) status

@@ -72,7 +72,8 @@ impl Connector {
             (IsChangeMade L.shown u (rewriting bytes.now)
             (in_memory self.old lib.old []) result (in_memory self.new lib.new [])) }
         ensures late { is_refusal Rewrite result ≡ false }
-        ensures standing { StaysStanding L.shown u (in_memory self.old lib.old []) (in_memory self.new lib.new []) }
+        ensures standing { StaysStanding L.shown u (in_memory self.old lib.old [])
+            (in_memory self.new lib.new []) }
         ensures asked { Believed L.shown u lib.old lib.new
             (AnswersWithin L.shown u
             (L.shown.pages_asked lib.old u + most_to_change (L.shown.room lib.old u)) lib.new result) }
@@ -89,7 +90,8 @@ impl Connector {
         }
     }
 
-    /// DELETE: in sequential access of the record read last, else of the record of the prime value that stands in the area.
+    /// DELETE: in sequential access of the record read last, else of the record of the prime value
+    /// that stands in the area.
     pub(super) fn answer_delete<L: Library>(&mut self, lib: &mut L, u: usize, area: &[u8]) -> Status
         requires fits { Fits self.old (L.shown.world lib.old) u }
         ensures { (n : ℕ) → IsPerformedCounted L.shown u Delete n (in_memory self.old lib.old area.now)
@@ -139,7 +141,8 @@ impl Connector {
             (IsChangeMade L.shown u (deleting prime.now.items)
             (in_memory self.old lib.old []) result (in_memory self.new lib.new [])) }
         ensures not_full { is_boundary_violation result ≡ false }
-        ensures standing { StaysStanding L.shown u (in_memory self.old lib.old []) (in_memory self.new lib.new []) }
+        ensures standing { StaysStanding L.shown u (in_memory self.old lib.old [])
+            (in_memory self.new lib.new []) }
         ensures asked { Believed L.shown u lib.old lib.new
             (AnswersWithin L.shown u
             (L.shown.pages_asked lib.old u + most_to_change (L.shown.room lib.old u)) lib.new result) }

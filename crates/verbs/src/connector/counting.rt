@@ -17,7 +17,8 @@ impl Connector {
     /// Begins the count of pages, where the file is open.
     fn begin_count<L: Library>(&self, lib: &mut L, u: usize)
         requires { Fits self.now (L.shown.world lib.old) u }
-        ensures count { (statement : FileStatement) → counts_pages statement ≡ true → BeginsCount L.shown u statement lib.old lib.new }
+        ensures count { (statement : FileStatement) → counts_pages statement ≡ true
+            → BeginsCount L.shown u statement lib.old lib.new }
         ensures fits { Fits self.now (L.shown.world lib.new) u }
     {
         if self.mode.is_some() && !self.missing {
@@ -60,7 +61,8 @@ impl Connector {
     ) -> Status
         requires fits { Fits self.old (L.shown.world lib.old) u }
         requires key { k < count_of self.old.connector.schema.keys }
-        ensures { (n : ℕ) → IsPerformed L.shown u (Start k length relation) n (in_memory self.old lib.old area.now)
+        ensures { (n : ℕ) → IsPerformed L.shown u (Start k length relation) n
+            (in_memory self.old lib.old area.now)
             (silent result) (in_memory self.new lib.new area.now) }
     {
         self.begin_count(lib, u);
@@ -89,7 +91,8 @@ impl Connector {
         self.answer_rewrite(lib, u, area, length)
     }
 
-    /// DELETE: in sequential access of the record read last, else of the record of the prime value that stands in the area.
+    /// DELETE: in sequential access of the record read last, else of the record of the prime value
+    /// that stands in the area.
     pub fn delete<L: Library>(&mut self, lib: &mut L, u: usize, area: &[u8]) -> Status
         requires fits { Fits self.old (L.shown.world lib.old) u }
         ensures { (n : ℕ) → IsPerformed L.shown u Delete n (in_memory self.old lib.old area.now)

@@ -52,7 +52,8 @@ impl Connector {
         requires fits { Fits self.old (L.shown.world lib.old) u }
         requires closed { self.old.connector.session ≡ None }
         requires mode { is_output mode ≡ false }
-        ensures part { IsPart L.shown u (trace_of_open (creates mode self.old.connector.optional Absent) result)
+        ensures part { IsPart L.shown u (trace_of_open
+            (creates mode self.old.connector.optional Absent) result)
             (in_memory self.old lib.old []) result (in_memory self.new lib.new []) }
         ensures step { Believed L.shown u lib.old lib.new (named_at (L.shown.world lib.old) u ≡ Absent
             → ChangesTo L.shown u (Open mode) (open_absent mode)
@@ -72,7 +73,8 @@ impl Connector {
         self.create(lib, u, mode, Status::OptionalAbsent)
     }
 
-    /// OPEN of a file whose first page was found sound, with this schema. Its greatest prime value is not asked for yet.
+    /// OPEN of a file whose first page was found sound, with this schema. Its greatest prime value
+    /// is not asked for yet.
     fn open_sound<L: Library>(
         &mut self,
         lib: &mut L,
@@ -91,7 +93,8 @@ impl Connector {
             → ChangesTo L.shown u (Open mode) (open_named mode (named_at (L.shown.world lib.old) u))
             (in_memory self.old lib.old []) result (in_memory self.new lib.new [])) }
         ensures not_full { is_boundary_violation result ≡ false }
-        ensures standing { IsTrue (L.shown.is_honest lib.new) → HasSoundFile (L.shown.world lib.old) u schema.now
+        ensures standing { IsTrue (L.shown.is_honest lib.new)
+            → HasSoundFile (L.shown.world lib.old) u schema.now
             → IsStanding self.new (L.shown.world lib.new) u }
         ensures unasked { (self.new ≡ self.old) ⊎ (self.new.highest ≡ None) }
     {
@@ -125,7 +128,8 @@ impl Connector {
             → ChangesTo L.shown u (Open mode) (λ s. answers status (created mode s))
             (in_memory self.old lib.old []) result (in_memory self.new lib.new [])) }
         ensures not_full { is_boundary_violation result ≡ false }
-        ensures standing { IsTrue (L.shown.is_honest lib.new) → MakesFile mode self.old (L.shown.world lib.old) u
+        ensures standing { IsTrue (L.shown.is_honest lib.new)
+            → MakesFile mode self.old (L.shown.world lib.old) u
             → IsStanding self.new (L.shown.world lib.new) u }
     {
         match lib.create(u, &self.schema) {

@@ -9,13 +9,14 @@ use indexed_file::Library;
 use io_state::FileStatement;
 
 impl Connector {
-    /// Performs a statement; `length` is that of the record that a WRITE or REWRITE stores. On an open file each statement but OPEN
-    /// and CLOSE begins the count of pages. What its checks decide is exact, and leaves all else of the library as it was; but CLOSE
-    /// of a connector that has failed asks it, and answers 30 whatever it says.
+    /// Performs a statement; `length` is that of the record that a WRITE or REWRITE stores. On an
+    /// open file each statement but OPEN and CLOSE begins the count of pages. What its checks
+    /// decide is exact, and leaves all else of the library as it was; but CLOSE of a connector that
+    /// has failed asks it, and answers 30 whatever it says.
     ///
-    /// 30: the device failed in this statement, or it is CLOSE of a connector that has failed. 90: memory was wanted. 24: the file
-    /// has no room for the record. 92: the connector has failed. 91: OPEN of a file whose first page is refused, or the library is
-    /// not to be believed.
+    /// 30: the device failed in this statement, or it is CLOSE of a connector that has failed. 90:
+    /// memory was wanted. 24: the file has no room for the record. 92: the connector has failed.
+    /// 91: OPEN of a file whose first page is refused, or the library is not to be believed.
     pub fn perform<L: Library>(
         &mut self,
         lib: &mut L,

@@ -98,7 +98,8 @@ impl Connector {
     ) -> Status
         requires fits { Fits self.old (L.shown.world lib.old) u }
         requires key { k < count_of self.old.connector.schema.keys }
-        ensures { (n : ℕ) → IsPerformedCounted L.shown u (Start k length relation) n (in_memory self.old lib.old area.now)
+        ensures { (n : ℕ) → IsPerformedCounted L.shown u (Start k length relation) n
+            (in_memory self.old lib.old area.now)
             (silent result) (in_memory self.new lib.new area.now) }
     {
         let Some(mode) = self.mode else {

@@ -63,8 +63,10 @@ impl Connector {
         ensures change { Trusted L.shown u (in_memory self.old lib.old []) (in_memory self.new lib.new [])
             (IsChangeMade L.shown u (writing bytes.now)
             (in_memory self.old lib.old []) result (in_memory self.new lib.new [])) }
-        ensures standing { StaysStanding L.shown u (in_memory self.old lib.old []) (in_memory self.new lib.new []) }
-        ensures known { knows_late self.old bytes.now ≡ true → (lib.new ≡ lib.old) × (result ≡ OutOfSequence) }
+        ensures standing { StaysStanding L.shown u (in_memory self.old lib.old [])
+            (in_memory self.new lib.new []) }
+        ensures known { knows_late self.old bytes.now ≡ true → (lib.new ≡ lib.old)
+            × (result ≡ OutOfSequence) }
         ensures asked { Believed L.shown u lib.old lib.new (AnswersWithin L.shown u
             (L.shown.pages_asked lib.old u + most_to_write (L.shown.room lib.old u)) lib.new result) }
     {
@@ -105,7 +107,8 @@ impl Connector {
         }
     }
 
-    /// In sequential access the record's prime value is not above the greatest of the file, where that is known.
+    /// In sequential access the record's prime value is not above the greatest of the file, where
+    /// that is known.
     fn is_late(&self, bytes: &[u8]) -> bool
         requires { 0 < count_of self.now.connector.schema.keys }
         ensures { result ≡ knows_late self.now bytes.now }
