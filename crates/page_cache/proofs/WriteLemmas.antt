@@ -10,13 +10,14 @@ use Rattle.page_store.specs.DeviceFile.{DeviceFile, content}
 use Rattle.page_store.specs.Pages.{page_of, HasPages, PageWritten, PageFails}
 use Rattle.page_store.specs.PageFacts.{page_over}
 use Rattle.page_store.proofs.PageLemmas.{written_is_read, others_read, others_kept}
-use Rattle.page_store.specs.ShelfState.{ShelfState, HasUnit, unit_file, WhereHonest, ChangesOnly}
+use Rattle.page_store.specs.ShelfState.{ShelfState, HasUnit, unit_file, WhereHonest, ChangesOnly, FaultHasCause}
 use Rattle.page_store.specs.declared.store.Store.{Store}
 use Rattle.page_cache.specs.declared.frame.Frame.{Frame}
 use Rattle.page_cache.specs.declared.cache.Cache.{Cache}
 use Rattle.page_cache.specs.Cached.{frame_of, is_counted, pages_of, IsOver}
 use Rattle.page_cache.specs.Turning.{HasRoom, IsLastWritten}
-use Rattle.page_cache.specs.Calls.{OnlyLooks}
+use Rattle.page_cache.specs.Calls.{OnlyLooks, LooksUp}
+use Rattle.page_cache.specs.Quietly.{GoesQuietly}
 use Rattle.page_cache.specs.Rewrites.{Rewrites}
 
 pub fewer : (n pages : ℕ) (f : DeviceFile) → n ≤ pages → HasPages pages f → HasPages n f
@@ -137,6 +138,22 @@ last_written c t k frame last same = record {
 -- the page was written, so the shelf is honest after where it was before
 pub nothing_clean : (c : Cache) (s t : ShelfState) (k : ℕ) (frame : Frame) → frame_of c k ≡ Some frame → frame.changed ≡ true → OnlyLooks c c s t
 nothing_clean c s t k frame is changed = record { clean = λ h. h; file = λ h. absurd (both_ways frame.changed (h.clean k frame is) changed) }
+
+-- a page in memory was written back, or that failed: all pages stay
+pub looks_rewritten : {H X : Type 0} (state : H → ShelfState) (count : H → ℕ) (c : Cache) (before after : H) (n : ℕ) (frame : Frame) (result : Result X Fault) → IsOver c (state before) → frame_of c n ≡ Some frame
+    → frame.changed ≡ true → Rewrites c.store n (state before) (state after) → GoesQuietly c.store.unit (state before) (state after) → FaultHasCause (count before) (count after) result → LooksUp state count c.asked c c before after result
+looks_rewritten state count c before after n frame result over is changed w goes cause = record {
+  kept = record {
+    over = over_rewritten c (state before) (state after) n frame over is w goes.others.honest changed;
+    pages = pages_rewritten c (state before) (state after) n frame over is w goes.others.honest;
+    keeps = record { store = refl; cap = refl };
+    goes = goes;
+  };
+  asked = refl;
+  grows = omega arith;
+  looks = nothing_clean c (state before) (state after) n frame is changed;
+  cause = cause;
+}
 
 pub by_result : {P Q G : Type 0} (r : Result (Unit {0}) Fault) → OnOk r P → OnErr r Q → (P → G) → (Q → G) → G
 by_result (Ok x) p q f g = f p

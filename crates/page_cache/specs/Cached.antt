@@ -1,7 +1,9 @@
 -- The pages of a file, some of them in memory.
-use Rattle.std.specs.Prelude.{◌≡◌, ℕ, ltb, ◌&&◌, if◌then◌else◌, Bool, false, IsTrue, nat_eq, List, [], Option, Some}
+use Rattle.std.specs.Prelude.{◌≡◌, ℕ, ◌<◌, ltb, ◌&&◌, if◌then◌else◌, Bool, false, IsTrue, nat_eq, List, [], Option, Some, None}
 use Rattle.std.specs.Option.{option_map_or}
 use Rattle.std.specs.Map.{lookup}
+use Rattle.lru.specs.LruCache.{lru_cache}
+use Rattle.page_store.specs.declared.store.Store.{Store}
 use Rattle.page_store.specs.DeviceFile.{DeviceFile, content}
 use Rattle.page_store.specs.Pages.{page_of, HasPages}
 use Rattle.page_store.specs.ShelfState.{ShelfState, HasUnit, unit_file, WhereHonest}
@@ -32,6 +34,30 @@ pub record IsOver (cache : Cache) (shelf : ShelfState) : Type 0 where
   pub pages : WhereHonest shelf cache.store.unit (HasPages cache.store.pages)
   -- a page that was not changed is that of the file
   pub clean : IsTrue shelf.is_honest → (n : ℕ) (frame : Frame) → frame_of cache n ≡ Some frame → frame.changed ≡ false → frame.page.value ≡ page_of (content (unit_file shelf cache.store.unit)) n
+
+-- so, and n is a page of the store
+pub record IsOverPage (n : ℕ) (cache : Cache) (shelf : ShelfState) : Type 0 where
+  pub over : IsOver cache shelf
+  pub page : IsTrue (is_counted cache n)
+
+-- so, and it is not in memory
+pub record IsOverMissing (n : ℕ) (cache : Cache) (shelf : ShelfState) : Type 0 where
+  pub over : IsOver cache shelf
+  pub page : IsTrue (is_counted cache n)
+  pub absent : frame_of cache n ≡ None
+
+-- it is over a file that has a header
+pub record IsOverHeader (cache : Cache) (shelf : ShelfState) : Type 0 where
+  pub over : IsOver cache shelf
+  pub header : 0 < cache.store.pages
+
+-- no page is in memory, at most so many may be, and none was asked for; it shows the pages of the file, over each shelf that has them
+pub record IsEmptyCache (store : Store) (most : ℕ) (cache : Cache) : Type 0 where
+  pub store_is : cache.store ≡ store
+  pub frames : cache.frames ≡ lru_cache [] most
+  pub asked : cache.asked ≡ 0
+  pub over : (shelf : ShelfState) → HasUnit shelf store.unit → WhereHonest shelf store.unit (HasPages store.pages) → IsOver cache shelf
+  pub pages : (shelf : ShelfState) (n : ℕ) → pages_of cache shelf n ≡ (if is_counted cache n then page_of (content (unit_file shelf store.unit)) n else [])
 
 -- no page in memory was changed since it was written
 pub record IsClean (cache : Cache) : Type 0 where

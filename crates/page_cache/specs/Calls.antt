@@ -1,6 +1,7 @@
 -- What the calls of a cache keep of its pages.
-use Rattle.std.specs.Prelude.{◌≡◌, ◌≢◌, ℕ, ◌+◌, max, IsTrue}
-use Rattle.page_store.specs.ShelfState.{ShelfState}
+use Rattle.std.specs.Prelude.{◌≡◌, ◌≢◌, ℕ, ◌+◌, ◌-◌, ◌^◌, ◌≤◌, min, max, IsTrue, Result, OnOk, OnErr}
+use Rattle.io_state.specs.declared.fault.Fault.{Fault}
+use Rattle.page_store.specs.ShelfState.{ShelfState, FaultHasCause}
 use Rattle.page_cache.specs.declared.cache.Cache.{Cache}
 use Rattle.page_cache.specs.Cached.{pages_of, IsOver, IsClean}
 use Rattle.page_cache.specs.Quietly.{GoesQuietly}
@@ -10,6 +11,17 @@ use Rattle.page_cache.specs.Rewrites.{IsZeros}
 pub record KeepsStore (old new : Cache) : Type 0 where
   pub store : new.store ≡ old.store
   pub cap : new.frames.cap ≡ old.frames.cap
+
+-- the same frames, store and count
+pub record KeepsFrames (old new : Cache) : Type 0 where
+  pub frames : new.frames ≡ old.frames
+  pub store : new.store ≡ old.store
+  pub asked : new.asked ≡ old.asked
+
+-- only the frames may be others
+pub record ChangesFrames (old new : Cache) : Type 0 where
+  pub store : new.store ≡ old.store
+  pub asked : new.asked ≡ old.asked
 
 -- it shows the pages that it showed, and may go on over its shelf
 pub record ShowsSame (old new : Cache) (before after : ShelfState) : Type 0 where
@@ -39,3 +51,32 @@ pub record MayGoOn (old new : Cache) (before after : ShelfState) : Type 0 where
 pub record OnlyLooks (old new : Cache) (before after : ShelfState) : Type 0 where
   pub clean : IsClean old → IsClean new
   pub file : IsClean old → after.file ≡ before.file
+
+-- how often a page was asked for, with one time more
+abbrev pub asked_once : Cache → ℕ
+asked_once cache = min (cache.asked + 1) (2 ^ 64 - 1)
+
+-- of shelves that show this state and count their faults so
+module _ {H X : Type 0} (state : H → ShelfState) (count : H → ℕ) where
+  -- a call that leaves all pages as they were, and pages asked for so many times
+  pub record PagesStay (times : ℕ) (old new : Cache) (before after : H) (result : Result X Fault) : Type 0 where
+    pub kept : KeepsPages old new (state before) (state after)
+    pub asked : new.asked ≡ times
+    pub cause : FaultHasCause (count before) (count after) result
+
+  -- so, and it writes nothing where no page was changed
+  pub record LooksUp (times : ℕ) (old new : Cache) (before after : H) (result : Result X Fault) : Type 0 where
+    pub kept : KeepsPages old new (state before) (state after)
+    pub asked : new.asked ≡ times
+    pub grows : old.asked ≤ new.asked
+    pub looks : OnlyLooks old new (state before) (state after)
+    pub cause : FaultHasCause (count before) (count after) result
+
+  -- a call that makes page n one of zeros; a fault leaves all pages as they were
+  pub record PutsZeros (n times : ℕ) (old new : Cache) (before after : H) (result : Result X Fault) : Type 0 where
+    pub zeroed : OnOk result (Zeroed n old new (state before) (state after))
+    pub kept : OnErr result (KeepsPages old new (state before) (state after))
+    pub goes_on : MayGoOn old new (state before) (state after)
+    pub asked : new.asked ≡ times
+    pub grows : old.asked ≤ new.asked
+    pub cause : FaultHasCause (count before) (count after) result

@@ -1,5 +1,5 @@
 -- What a loan of a held page leaves.
-use Rattle.std.specs.Prelude.{◌≡◌, ◌≢◌, ℕ, List, Result, Some, true, option_map, ⊤}
+use Rattle.std.specs.Prelude.{◌≡◌, ◌≢◌, ℕ, Bool, List, Result, Some, true, is_some, IsTrue, option_map, slice_get, ⊤}
 use Rattle.std.specs.Borrow.{LendsSoOk, follows_so, MutBor, Fml, u8, Array}
 use mathlib.Core.Option.{none}
 use Rattle.io_state.specs.declared.fault.Fault.{Fault}
@@ -13,6 +13,12 @@ pub record SameFrames (old new : Cache) : Type 0 where
   pub cap : new.frames.cap ≡ old.frames.cap
   pub store : new.store ≡ old.store
   pub asked : new.asked ≡ old.asked
+
+-- page n is put in front where it has a frame, and the answer tells whether it has one
+pub record PutsFirst (n : ℕ) (old new : Cache) (result : Bool) : Type 0 where
+  pub held : result ≡ is_some (frame_of old n)
+  pub first : IsTrue result → option_map (λ e. e.0) (slice_get new.frames.entries 0) ≡ Some n
+  pub same : SameFrames old new
 
 -- the frame of page n holds these bytes, and counts as changed; every other frame is as it was
 pub record FrameSet (n : ℕ) (bytes : List ℕ) (old new : Cache) : Type 0 where

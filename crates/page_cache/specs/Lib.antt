@@ -1,7 +1,9 @@
 pub mod Quietly
 pub mod Rewrites
+pub mod HeaderCalls
 pub mod Places
 pub mod FirstLends
+pub mod Pushing
 pub mod Cached
 pub mod Calls
 pub mod Lending

@@ -1,13 +1,13 @@
 //! The cache, and what it reads and writes.
-ghost use Rattle.std.specs.Prelude.{◌≡◌, ◌≢◌, ℕ, ◌+◌, ◌-◌, ◌^◌, ◌<◌, ◌≤◌, max, [], length, min, nat_eq, slice_get, option_map, None, Some, IsSome, is_some, IsTrue, IfOk, OnOk, OnErr, if◌then◌else◌};
+ghost use Rattle.std.specs.Prelude.{◌≡◌, ◌≢◌, ◌-◌, ◌^◌, ◌<◌, ◌≤◌, length, slice_get, option_map, None, Some, IsSome, IsTrue, IfOk, OnOk, OnErr};
 ghost use Rattle.std.specs.NonZero.{non_zero_usize_get};
-ghost use Rattle.lru.specs.LruCache.{lru_cache, put_entries};
-ghost use Rattle.page_store.specs.DeviceFile.{content};
-ghost use Rattle.page_store.specs.Pages.{page_of, HasPages};
-ghost use Rattle.page_store.specs.ShelfState.{ShelfState, HasUnit, unit_file, WhereHonest, OnlyAnswers, FaultHasCause};
-ghost use Rattle.page_cache.specs.Cached.{frame_of, is_counted, pages_of, IsOver, IsClean};
-ghost use Rattle.page_cache.specs.Calls.{KeepsPages, Zeroed, MayGoOn, OnlyLooks};
-ghost use Rattle.page_cache.specs.Lending.{SameFrames};
+ghost use Rattle.lru.specs.LruCache.{lru_cache};
+ghost use Rattle.page_store.specs.ShelfState.{OnlyAnswers, FaultHasCause};
+ghost use Rattle.page_cache.specs.Cached.{frame_of, IsOver, IsOverPage, IsOverMissing, IsClean, IsEmptyCache};
+ghost use Rattle.page_cache.specs.Calls.{asked_once, KeepsFrames, ChangesFrames, PagesStay, LooksUp, PutsZeros};
+ghost use Rattle.page_cache.specs.HeaderCalls.{WasPage};
+ghost use Rattle.page_cache.specs.Lending.{SameFrames, PutsFirst};
+ghost use Rattle.page_cache.specs.Pushing.{Pushes};
 ghost use Rattle.page_cache.specs.Turning.{HasRoom, IsLastWritten, settled, Turned};
 
 use crate::frame::{self, Frame};
@@ -32,15 +32,8 @@ impl Cache {
     /// A cache that holds no page yet, and at most `frames` pages later. Memory is its only fault, and no file is
     /// changed.
     pub fn new(alloc: Global, store: Store, frames: NonZeroUsize) -> Result<Cache, Fault>
-        ensures store { IfOk result (λ cache. cache.store ≡ store) }
-        ensures frames { IfOk result (λ cache. cache.frames ≡ lru_cache [] (non_zero_usize_get frames)) }
-        ensures asked { IfOk result (λ cache. cache.asked ≡ 0) }
+        ensures empty { IfOk result (IsEmptyCache store (non_zero_usize_get frames)) }
         ensures memory { OnErr result (result ≡ Err Fault.Memory) }
-        ensures over { IfOk result (λ cache. (shelf : ShelfState) →
-            HasUnit shelf store.unit → WhereHonest shelf store.unit (HasPages store.pages) → IsOver cache shelf) }
-        // It shows the pages of the file.
-        ensures pages { IfOk result (λ cache. (shelf : ShelfState) (n : ℕ) →
-            pages_of cache shelf n ≡ (if is_counted cache n then page_of (content (unit_file shelf store.unit)) n else [])) }
     {
         Ok(Cache {
             store,
@@ -78,14 +71,9 @@ impl Cache {
     /// of pages as it was.
     #[inline(always)]
     pub fn load<S: Shelf>(&mut self, shelf: &mut S, n: u32) -> Result<(), Fault>
-        requires over { IsOver self.old (S.state shelf.old) }
-        requires page { IsTrue (is_counted self.old n) }
+        requires { IsOverPage n self.old (S.state shelf.old) }
         ensures held { OnOk result (IsSome (frame_of self.new n)) }
-        ensures kept { KeepsPages self.old self.new (S.state shelf.old) (S.state shelf.new) }
-        ensures asked { self.new.asked ≡ min (self.old.asked + 1) (2 ^ 64 - 1) }
-        ensures grows { self.old.asked ≤ self.new.asked }
-        ensures looks { OnlyLooks self.old self.new (S.state shelf.old) (S.state shelf.new) }
-        ensures cause { FaultHasCause (S.fault_count shelf.old) (S.fault_count shelf.new) result }
+        ensures looks { LooksUp S.state S.fault_count (asked_once self.old) self.old self.new shelf.old shelf.new result }
     {
         self.asked = self.asked.saturating_add(1);
         if self.promote(n) {
@@ -97,9 +85,7 @@ impl Cache {
     // Puts page n in front, where it is held.
     #[inline(always)]
     pub(crate) fn promote(&mut self, n: u32) -> bool
-        ensures held { result ≡ is_some (frame_of self.old n) }
-        ensures first { IsTrue result → option_map (λ e. e.0) (slice_get self.new.frames.entries 0) ≡ Some n }
-        ensures same { SameFrames self.old self.new }
+        ensures { PutsFirst n self.old self.new result }
     {
         if self.is_first(n) {
             return true;
@@ -134,12 +120,7 @@ impl Cache {
     pub fn zero<S: Shelf>(&mut self, shelf: &mut S, n: u32) -> Result<(), Fault>
         requires over { IsOver self.old (S.state shelf.old) }
         requires page { (0 < n) × (n ≤ self.old.store.pages) × (n < 2 ^ 32 - 1) }
-        ensures zeroed { OnOk result (Zeroed n self.old self.new (S.state shelf.old) (S.state shelf.new)) }
-        ensures kept { OnErr result (KeepsPages self.old self.new (S.state shelf.old) (S.state shelf.new)) }
-        ensures goes_on { MayGoOn self.old self.new (S.state shelf.old) (S.state shelf.new) }
-        ensures asked { self.new.asked ≡ min (self.old.asked + 1) (2 ^ 64 - 1) }
-        ensures grows { self.old.asked ≤ self.new.asked }
-        ensures cause { FaultHasCause (S.fault_count shelf.old) (S.fault_count shelf.new) result }
+        ensures { PutsZeros S.state S.fault_count n (asked_once self.old) self.old self.new shelf.old shelf.new result }
     {
         if n < self.store.pages {
             return self.clear(shelf, n);
@@ -149,14 +130,8 @@ impl Cache {
 
     // Makes a page of the store one of zeros; one that is not held is not read.
     fn clear<S: Shelf>(&mut self, shelf: &mut S, n: u32) -> Result<(), Fault>
-        requires over { IsOver self.old (S.state shelf.old) }
-        requires page { IsTrue (is_counted self.old n) }
-        ensures zeroed { OnOk result (Zeroed n self.old self.new (S.state shelf.old) (S.state shelf.new)) }
-        ensures kept { OnErr result (KeepsPages self.old self.new (S.state shelf.old) (S.state shelf.new)) }
-        ensures goes_on { MayGoOn self.old self.new (S.state shelf.old) (S.state shelf.new) }
-        ensures asked { self.new.asked ≡ min (self.old.asked + 1) (2 ^ 64 - 1) }
-        ensures grows { self.old.asked ≤ self.new.asked }
-        ensures cause { FaultHasCause (S.fault_count shelf.old) (S.fault_count shelf.new) result }
+        requires { IsOverPage n self.old (S.state shelf.old) }
+        ensures { PutsZeros S.state S.fault_count n (asked_once self.old) self.old self.new shelf.old shelf.new result }
     {
         self.asked = self.asked.saturating_add(1);
         let _held = self.promote(n);
@@ -171,14 +146,8 @@ impl Cache {
 
     // Holds a page of zeros for one that is not held.
     fn hold_zeros<S: Shelf>(&mut self, shelf: &mut S, n: u32) -> Result<(), Fault>
-        requires over { IsOver self.old (S.state shelf.old) }
-        requires page { IsTrue (is_counted self.old n) }
-        requires absent { frame_of self.old n ≡ None }
-        ensures zeroed { OnOk result (Zeroed n self.old self.new (S.state shelf.old) (S.state shelf.new)) }
-        ensures kept { OnErr result (KeepsPages self.old self.new (S.state shelf.old) (S.state shelf.new)) }
-        ensures goes_on { MayGoOn self.old self.new (S.state shelf.old) (S.state shelf.new) }
-        ensures asked { self.new.asked ≡ self.old.asked }
-        ensures cause { FaultHasCause (S.fault_count shelf.old) (S.fault_count shelf.new) result }
+        requires { IsOverMissing n self.old (S.state shelf.old) }
+        ensures { PutsZeros S.state S.fault_count n self.old.asked self.old self.new shelf.old shelf.new result }
     {
         self.make_room(shelf)?;
         let mut page = self.box_for_page()?;
@@ -196,12 +165,7 @@ impl Cache {
     fn add<S: Shelf>(&mut self, shelf: &mut S, n: u32) -> Result<(), Fault>
         requires over { IsOver self.old (S.state shelf.old) }
         requires page { (0 < n) × (n ≡ self.old.store.pages) × (n < 2 ^ 32 - 1) }
-        ensures zeroed { OnOk result (Zeroed n self.old self.new (S.state shelf.old) (S.state shelf.new)) }
-        ensures kept { OnErr result (KeepsPages self.old self.new (S.state shelf.old) (S.state shelf.new)) }
-        ensures goes_on { MayGoOn self.old self.new (S.state shelf.old) (S.state shelf.new) }
-        ensures asked { self.new.asked ≡ min (self.old.asked + 1) (2 ^ 64 - 1) }
-        ensures grows { self.old.asked ≤ self.new.asked }
-        ensures cause { FaultHasCause (S.fault_count shelf.old) (S.fault_count shelf.new) result }
+        ensures { PutsZeros S.state S.fault_count n (asked_once self.old) self.old self.new shelf.old shelf.new result }
     {
         self.asked = self.asked.saturating_add(1);
         self.make_room(shelf)?;
@@ -230,9 +194,7 @@ impl Cache {
     pub fn flush<S: Shelf>(&mut self, shelf: &mut S) -> Result<(), Fault>
         requires over { IsOver self.old (S.state shelf.old) }
         ensures clean { OnOk result (IsClean self.new) }
-        ensures kept { KeepsPages self.old self.new (S.state shelf.old) (S.state shelf.new) }
-        ensures asked { self.new.asked ≡ self.old.asked }
-        ensures cause { FaultHasCause (S.fault_count shelf.old) (S.fault_count shelf.new) result }
+        ensures stay { PagesStay S.state S.fault_count self.old.asked self.old self.new shelf.old shelf.new result }
     {
         for turn in 0..self.frames.len() {
             self.settle_last(shelf)?;
@@ -245,9 +207,7 @@ impl Cache {
     fn settle_last<S: Shelf>(&mut self, shelf: &mut S) -> Result<(), Fault>
         requires over { IsOver self.old (S.state shelf.old) }
         ensures turned { OnOk result (Turned self.old self.new) }
-        ensures kept { KeepsPages self.old self.new (S.state shelf.old) (S.state shelf.new) }
-        ensures asked { self.new.asked ≡ self.old.asked }
-        ensures cause { FaultHasCause (S.fault_count shelf.old) (S.fault_count shelf.new) result }
+        ensures stay { PagesStay S.state S.fault_count self.old.asked self.old self.new shelf.old shelf.new result }
     {
         self.write_last(shelf)?;
         let _held = self.frames.len();
@@ -264,8 +224,7 @@ impl Cache {
     // Puts a page in front, as one that was not changed.
     fn settle(&mut self, n: u32)
         ensures frames { self.new.frames ≡ lru_cache (settled n self.old.frames.entries) self.old.frames.cap }
-        ensures store { self.new.store ≡ self.old.store }
-        ensures asked { self.new.asked ≡ self.old.asked }
+        ensures same { ChangesFrames self.old self.new }
     {
         if !self.frames.promote(n) {
             return;
@@ -279,14 +238,9 @@ impl Cache {
     // Reads a page that is not held.
     #[inline(never)]
     fn bring<S: Shelf>(&mut self, shelf: &mut S, n: u32) -> Result<(), Fault>
-        requires over { IsOver self.old (S.state shelf.old) }
-        requires page { IsTrue (is_counted self.old n) }
-        requires absent { frame_of self.old n ≡ None }
+        requires { IsOverMissing n self.old (S.state shelf.old) }
         ensures held { OnOk result (IsSome (frame_of self.new n)) }
-        ensures kept { KeepsPages self.old self.new (S.state shelf.old) (S.state shelf.new) }
-        ensures asked { self.new.asked ≡ self.old.asked }
-        ensures looks { OnlyLooks self.old self.new (S.state shelf.old) (S.state shelf.new) }
-        ensures cause { FaultHasCause (S.fault_count shelf.old) (S.fault_count shelf.new) result }
+        ensures looks { LooksUp S.state S.fault_count self.old.asked self.old self.new shelf.old shelf.new result }
     {
         self.make_room(shelf)?;
         let page = self.read(shelf, n)?;
@@ -303,10 +257,8 @@ impl Cache {
     fn make_room<S: Shelf>(&mut self, shelf: &mut S) -> Result<(), Fault>
         requires over { IsOver self.old (S.state shelf.old) }
         ensures room { OnOk result (HasRoom self.new (S.state shelf.new)) }
-        ensures kept { KeepsPages self.old self.new (S.state shelf.old) (S.state shelf.new) }
         ensures same { self.new ≡ self.old }
-        ensures looks { OnlyLooks self.old self.new (S.state shelf.old) (S.state shelf.new) }
-        ensures cause { FaultHasCause (S.fault_count shelf.old) (S.fault_count shelf.new) result }
+        ensures looks { LooksUp S.state S.fault_count self.old.asked self.old self.new shelf.old shelf.new result }
     {
         if self.frames.len() < self.frames.cap().get() {
             return Ok(());
@@ -318,10 +270,8 @@ impl Cache {
     fn write_last<S: Shelf>(&mut self, shelf: &mut S) -> Result<(), Fault>
         requires over { IsOver self.old (S.state shelf.old) }
         ensures last { OnOk result (IsLastWritten self.old (S.state shelf.new)) }
-        ensures kept { KeepsPages self.old self.new (S.state shelf.old) (S.state shelf.new) }
         ensures same { self.new ≡ self.old }
-        ensures looks { OnlyLooks self.old self.new (S.state shelf.old) (S.state shelf.new) }
-        ensures cause { FaultHasCause (S.fault_count shelf.old) (S.fault_count shelf.new) result }
+        ensures looks { LooksUp S.state S.fault_count self.old.asked self.old self.new shelf.old shelf.new result }
     {
         let _held = self.frames.len();
         let Some((n, frame)) = self.frames.peek_lru() else {
@@ -335,13 +285,9 @@ impl Cache {
 
     // A box with the bytes of page n.
     fn read<S: Shelf>(&mut self, shelf: &mut S, n: u32) -> Result<Box<[u8; PAGE_SIZE]>, Fault>
-        requires over { IsOver self.old (S.state shelf.old) }
-        requires page { IsTrue (is_counted self.old n) }
-        ensures bytes { let file = unit_file (S.state shelf.old) self.old.store.unit in
-            IfOk result (λ page. IsTrue (S.state shelf.new).is_honest → page.value ≡ page_of (content file) n) }
-        ensures frames { self.new.frames ≡ self.old.frames }
-        ensures store { self.new.store ≡ self.old.store }
-        ensures asked { self.new.asked ≡ self.old.asked }
+        requires { IsOverPage n self.old (S.state shelf.old) }
+        ensures bytes { IfOk result (λ page. WasPage self.old.store.unit n (S.state shelf.old) (S.state shelf.new) page.value) }
+        ensures same { KeepsFrames self.old self.new }
         ensures only { OnlyAnswers (S.state shelf.old) (S.state shelf.new) }
         ensures cause { FaultHasCause (S.fault_count shelf.old) (S.fault_count shelf.new) result }
     {
@@ -357,9 +303,7 @@ impl Cache {
 
     // A box with any bytes: the one left over, or a new one.
     fn box_for_page(&mut self) -> Result<Box<[u8; PAGE_SIZE]>, Fault>
-        ensures frames { self.new.frames ≡ self.old.frames }
-        ensures store { self.new.store ≡ self.old.store }
-        ensures asked { self.new.asked ≡ self.old.asked }
+        ensures same { KeepsFrames self.old self.new }
         ensures memory { OnErr result (result ≡ Err Fault.Memory) }
     {
         match self.spare.take() {
@@ -371,11 +315,9 @@ impl Cache {
     // Puts a frame in front, and keeps the box that it pushes out.
     fn put(&mut self, n: u32, frame: Frame) -> Result<(), Fault>
         requires { frame_of self.old n ≡ None }
-        ensures put { OnOk result (self.new.frames ≡ lru_cache (put_entries nat_eq self.old.frames n frame) self.old.frames.cap) }
-        ensures kept { OnErr result (self.new.frames ≡ self.old.frames) }
+        ensures pushed { Pushes n frame self.old.frames self.new.frames result }
         ensures fits { length self.old.frames.entries ≤ self.old.frames.cap }
-        ensures store { self.new.store ≡ self.old.store }
-        ensures asked { self.new.asked ≡ self.old.asked }
+        ensures same { ChangesFrames self.old self.new }
         ensures memory { OnErr result (result ≡ Err Fault.Memory) }
     {
         let _held = self.frames.len();

@@ -1,11 +1,11 @@
 //! The frames of a cache, in the order of their use.
-ghost use Rattle.std.specs.Prelude.{◌≡◌, ◌<◌, ◌≤◌, [], length, nat_eq, slice_get, is_some, option_map, None, IfOk, OnOk, OnErr};
+ghost use Rattle.std.specs.Prelude.{◌≡◌, ◌<◌, ◌≤◌, [], length, nat_eq, slice_get, is_some, option_map, None, IfOk};
 ghost use Rattle.std.specs.Option.{option_copied_mut};
 ghost use Rattle.std.specs.NonZero.{non_zero_usize_get};
 ghost use Rattle.std.specs.Borrow.{sem};
 ghost use Rattle.std.specs.Map.{lookup};
 ghost use Rattle.std.specs.Map.Iter.{deref_pair};
-ghost use Rattle.lru.specs.LruCache.{lru_cache, put_entries, IsValid, last_entry, promoted, demoted};
+ghost use Rattle.lru.specs.LruCache.{lru_cache, IsValid, last_entry, promoted, demoted};
 
 use crate::frame::Frame;
 use lru::LruCache;
@@ -38,6 +38,7 @@ impl Model for Frames {
 
 impl Frames {
     ghost use Rattle.page_cache.specs.FirstLends.{LendsFirst};
+    ghost use Rattle.page_cache.specs.Pushing.{Pushes};
 
     /// No frame yet, and room for so many.
     pub fn new(alloc: Global, cap: NonZeroUsize) -> Result<Frames, AllocError>
@@ -124,8 +125,7 @@ impl Frames {
     /// ago is pushed out, and its frame is the answer. Where memory lacks, all stays, and `frame` comes back.
     pub fn push(&mut self, n: u32, frame: Frame) -> Result<Option<Frame>, Option<Frame>>
         requires absent { lookup (nat_eq n) self.old.entries ≡ None }
-        ensures put { OnOk result (self.new ≡ lru_cache (put_entries nat_eq self.old n frame) self.old.cap) }
-        ensures kept { OnErr result (self.new ≡ self.old) }
+        ensures { Pushes n frame self.old self.new result }
     {
         if self.len() < self.cap().get() {
             return self.push_new(n, frame);
@@ -137,8 +137,7 @@ impl Frames {
     fn push_new(&mut self, n: u32, frame: Frame) -> Result<Option<Frame>, Option<Frame>>
         requires absent { lookup (nat_eq n) self.old.entries ≡ None }
         requires room { length self.old.entries < self.old.cap }
-        ensures put { OnOk result (self.new ≡ lru_cache (put_entries nat_eq self.old n frame) self.old.cap) }
-        ensures kept { OnErr result (self.new ≡ self.old) }
+        ensures { Pushes n frame self.old self.new result }
     {
         let place = self.places.len();
         if let Err(failed) = self.places.push(frame) {
@@ -154,8 +153,7 @@ impl Frames {
     fn push_over(&mut self, n: u32, frame: Frame) -> Result<Option<Frame>, Option<Frame>>
         requires absent { lookup (nat_eq n) self.old.entries ≡ None }
         requires full { self.old.cap ≤ length self.old.entries }
-        ensures put { OnOk result (self.new ≡ lru_cache (put_entries nat_eq self.old n frame) self.old.cap) }
-        ensures kept { OnErr result (self.new ≡ self.old) }
+        ensures { Pushes n frame self.old self.new result }
     {
         let _held = self.order.len();
         let place = match self.order.peek_lru() {

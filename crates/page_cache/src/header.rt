@@ -1,14 +1,13 @@
 //! The header page and the gate, which are not asked through the frames.
-ghost use Rattle.std.specs.Prelude.{◌≡◌, ◌<◌, IsTrue, OnOk, OnErr};
+ghost use Rattle.std.specs.Prelude.{◌≡◌, IsTrue, OnOk, OnErr};
 ghost use Rattle.page_store.specs.DeviceFile.{content};
-ghost use Rattle.page_store.specs.Images.{IsSettled};
-ghost use Rattle.page_store.specs.Moments.{Throughout};
-ghost use Rattle.page_store.specs.Gate.{AllRefused, AllOpen, with_gate, WasOrRefused, SameOrRefused, ClosedOrRefused};
-ghost use Rattle.page_store.specs.Pages.{page_of};
+ghost use Rattle.page_store.specs.Gate.{AllOpen, SameOrRefused};
 ghost use Rattle.page_store.specs.PageFacts.{page_over};
-ghost use Rattle.page_store.specs.ShelfState.{unit_file, FileGoes, KeepsOthers, OnlyAnswers, ChangesOnly, FaultHasCause};
-ghost use Rattle.page_cache.specs.Cached.{IsOver};
-ghost use Rattle.page_cache.specs.Calls.{KeepsPages, ShowsSame};
+ghost use Rattle.page_store.specs.ShelfState.{unit_file, WhereHonest, FileGoes, OnlyAnswers, ChangesOnly, FaultHasCause};
+ghost use Rattle.page_cache.specs.Cached.{IsOver, IsOverHeader};
+ghost use Rattle.page_cache.specs.HeaderCalls.{WasPage, HoldsPage, MayRefuse, MayClose, IsClosedAnew};
+ghost use Rattle.page_cache.specs.Quietly.{ReachesUnit};
+ghost use Rattle.page_cache.specs.Calls.{ShowsSame, PagesStay};
 
 use crate::cache::Cache;
 use io_state::Fault;
@@ -22,10 +21,8 @@ impl Cache {
         shelf: &mut S,
         page: &mut [u8; PAGE_SIZE],
     ) -> Result<(), Fault>
-        requires over { IsOver self.now (S.state shelf.old) }
-        requires header { 0 < self.now.store.pages }
-        ensures answer { let file = unit_file (S.state shelf.old) self.now.store.unit in
-            OnOk result (IsTrue (S.state shelf.new).is_honest → page.new ≡ page_of (content file) 0) }
+        requires { IsOverHeader self.now (S.state shelf.old) }
+        ensures answer { OnOk result (WasPage self.now.store.unit 0 (S.state shelf.old) (S.state shelf.new) page.new) }
         ensures over { IsOver self.now (S.state shelf.new) }
         ensures only { OnlyAnswers (S.state shelf.old) (S.state shelf.new) }
         ensures cause { FaultHasCause (S.fault_count shelf.old) (S.fault_count shelf.new) result }
@@ -39,14 +36,11 @@ impl Cache {
         shelf: &mut S,
         page: &[u8; PAGE_SIZE],
     ) -> Result<(), Fault>
-        requires over { IsOver self.old (S.state shelf.old) }
-        requires header { 0 < self.old.store.pages }
-        ensures written { OnOk result (IsTrue (S.state shelf.new).is_honest →
-            page_of (content (unit_file (S.state shelf.new) self.old.store.unit)) 0
-            ≡ page_over 0 (content (unit_file (S.state shelf.old) self.old.store.unit)) page.now) }
-        ensures kept { KeepsPages self.old self.new (S.state shelf.old) (S.state shelf.new) }
+        requires { IsOverHeader self.old (S.state shelf.old) }
+        ensures written { OnOk result (HoldsPage self.old.store.unit 0 (S.state shelf.new)
+            (page_over 0 (content (unit_file (S.state shelf.old) self.old.store.unit)) page.now)) }
         ensures same { self.new ≡ self.old }
-        ensures cause { FaultHasCause (S.fault_count shelf.old) (S.fault_count shelf.new) result }
+        ensures stay { PagesStay S.state S.fault_count self.old.asked self.old self.new shelf.old shelf.new result }
     {
         let _pages = self.store.pages;
         self.store.write_page(shelf, 0, page)
@@ -56,17 +50,12 @@ impl Cache {
     /// the cache is as it was, and the call may be made again.
     pub fn begin_change<S: Shelf>(&self, shelf: &mut S) -> Result<(), Fault>
         requires over { IsOver self.now (S.state shelf.old) }
-        // At each moment a crash leaves what it could leave before, or a refused file.
-        ensures images { let old = unit_file (S.state shelf.old) self.now.store.unit in
-            IsTrue (S.state shelf.new).is_honest →
-            Throughout (WasOrRefused old) old (unit_file (S.state shelf.new) self.now.store.unit) }
-        ensures open { OnOk result (IsTrue (S.state shelf.new).is_honest →
-            AllOpen (unit_file (S.state shelf.new) self.now.store.unit)) }
+        ensures images { MayRefuse self.now.store.unit (S.state shelf.old) (S.state shelf.new) }
+        ensures open { OnOk result (WhereHonest (S.state shelf.new) self.now.store.unit AllOpen) }
         ensures failed { OnErr result (IsTrue (S.state shelf.new).is_honest →
             FileGoes self.now.store.unit (S.state shelf.old) (S.state shelf.new) SameOrRefused) }
         ensures same { ShowsSame self.now self.now (S.state shelf.old) (S.state shelf.new) }
-        ensures only { KeepsOthers self.now.store.unit (S.state shelf.old) (S.state shelf.new) }
-        ensures cause { FaultHasCause (S.fault_count shelf.old) (S.fault_count shelf.new) result }
+        ensures only { ReachesUnit S.state S.fault_count self.now.store.unit shelf.old shelf.new result }
     {
         self.store.begin_change(shelf)
     }
@@ -74,12 +63,9 @@ impl Cache {
     /// Closes the gate after the last change.
     pub fn finish<S: Shelf>(&self, shelf: &mut S) -> Result<(), Fault>
         requires over { IsOver self.now (S.state shelf.old) }
-        ensures images { let old = unit_file (S.state shelf.old) self.now.store.unit in
-            IsTrue (S.state shelf.new).is_honest → AllRefused old →
-            Throughout (ClosedOrRefused old) old (unit_file (S.state shelf.new) self.now.store.unit) }
-        ensures closed { let new = unit_file (S.state shelf.new) self.now.store.unit in
-            let old = unit_file (S.state shelf.old) self.now.store.unit in
-            OnOk result ((content new ≡ with_gate 67 (content old)) × IsSettled new) }
+        ensures images { MayClose self.now.store.unit (S.state shelf.old) (S.state shelf.new) }
+        ensures closed { OnOk result
+            (FileGoes self.now.store.unit (S.state shelf.old) (S.state shelf.new) IsClosedAnew) }
         ensures same { OnOk result (ShowsSame self.now self.now (S.state shelf.old) (S.state shelf.new)) }
         ensures only { ChangesOnly self.now.store.unit (S.state shelf.old) (S.state shelf.new) }
         ensures cause { FaultHasCause (S.fault_count shelf.old) (S.fault_count shelf.new) result }

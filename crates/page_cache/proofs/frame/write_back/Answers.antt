@@ -13,7 +13,7 @@ returns-clause-written g c =
     let t = g.S.Shelf.state c.write_page.new.shelf in
     let store = c.args.store.now in
     if_ok c.write_page.result (λ w honest. written_here (unit_file s store.unit) (unit_file t store.unit) c.args.n store.pages c.args.page.now c.requires.page.0 c.requires.page.1
-    (c.requires.pages (sym c.write_page.ensures.only.honest ∙ honest)) c.told-page w) c.write_page.ensures.written
+    (c.requires.stored.pages (sym c.write_page.ensures.only.honest ∙ honest)) c.told-page w) c.write_page.ensures.written
 
 pub returns-clause-rewrites : goal.returns-clause-rewrites
 returns-clause-rewrites g c =
@@ -21,6 +21,6 @@ returns-clause-rewrites g c =
     let t = g.S.Shelf.state c.write_page.new.shelf in
     let store = c.args.store.now in
     let same = store_same store c.write_page.new.self c.args.n c.requires.page.1 c.write_page.result c.write_page.ensures.added c.write_page.ensures.kept in
-    rewritten store c.args.n s t c.args.page.now c.requires.unit c.requires.page.0 c.requires.page.1 c.requires.pages c.told-page c.write_page.ensures.only
+    rewritten store c.args.n s t c.args.page.now c.requires.stored.unit c.requires.page.0 c.requires.page.1 c.requires.stored.pages c.told-page c.write_page.ensures.only
     (subst (λ x. WhereHonest t x.unit (HasPages x.pages)) same c.write_page.ensures.pages)
     (either c.write_page.result c.write_page.ensures.written c.write_page.ensures.failed)

@@ -10,10 +10,10 @@ returns-in_err-load g c =
     let s = g.S.Shelf.state c.args.self.now.shelf.now in
     let t = g.S.Shelf.state c.load.new.shelf in
     let d = c.load.new.self in
-    let load = c.load.ensures in
+    let load = c.load.ensures.looks in
     let asked = load.asked in
     let y = err_from_is_err_and c.from_residual.result c.from_residual.ensures.1 in
-    let fails = fails_as c.in_err-load.field-0.0 _ _ ⊤ ⊥ c.in_err-load.ensures.cause in
+    let fails = fails_as c.in_err-load.field-0.0 _ _ ⊤ ⊥ c.in_err-load.ensures.looks.cause in
     let reads = reads_after old (record old { cache = d }) s t _ _ refl refl load.kept load.looks load.grows load.cause.no_fewer in
     rw (y.1, y.2) ((refl, (λ _. tt), (reads.rests, omega arith, (refl, refl, reads), (λ h. tt), (λ h there. fails.damage tt), fails.caused)), record { lends = tt })
 
@@ -25,7 +25,7 @@ returns g c =
     let d = c.load.new.self in
     let e = c.held.follows.lender-at-none in
     let same = c.held.follows.holds-at-none in
-    let load = c.load.ensures in
+    let load = c.load.ensures.looks in
     let ok = c.held.ensures.ok c.in_ok-load.ensures.held in
     let asked = load.asked in
     let again = same.asked in

@@ -11,10 +11,10 @@ returns-in_err-load g c =
     let s = g.S.Shelf.state c.args.self.now.shelf.now in
     let t = g.S.Shelf.state c.load.new.shelf in
     let d = c.load.new.self in
-    let load = c.load.ensures in
+    let load = c.load.ensures.looks in
     let asked = load.asked in
     let y = err_from_is_err_and c.from_residual.result c.from_residual.ensures.1 in
-    let fails = fails_as c.in_err-load.field-0.0 _ _ ⊤ ⊥ c.in_err-load.ensures.cause in
+    let fails = fails_as c.in_err-load.field-0.0 _ _ ⊤ ⊥ c.in_err-load.ensures.looks.cause in
     let reads = reads_after old (record old { cache = d }) s t _ _ refl refl load.kept load.looks load.grows load.cause.no_fewer in
     rw (y.1, y.2) ((refl, (λ w ok. absurd (cc)), (reads.rests, omega arith, (refl, refl, reads), (λ h there. fails.damage tt), fails.caused)), record { lends = tt })
 
@@ -24,7 +24,7 @@ returns g c =
     let s = g.S.Shelf.state c.args.self.now.shelf.now in
     let t = g.S.Shelf.state c.load.new.shelf in
     let d = c.load.new.self in
-    let load = c.load.ensures in
+    let load = c.load.ensures.looks in
     let ok = c.held_mut.ensures.ok c.in_ok-load.ensures.held in
     let asked = load.asked in
     let loaded = joined_after old.cache d old.pager s t c.requires.ready.joined load.kept.keeps.store load.kept.over in

@@ -9,7 +9,7 @@ pub returns-in_err-flush-clause-images : goal.returns-in_err-flush-clause-images
 returns-in_err-flush-clause-images g c honest changed =
     let unit = c.args.self.now.cache.store.unit in
     quiet_closes c.args.header.now c.args.self.now.cache (g.S.Shelf.state c.args.shelf.now) (unit_file (g.S.Shelf.state c.args.shelf.now) unit) (unit_file (g.S.Shelf.state c.flush.new.shelf) unit)
-    (c.requires.ready.gate changed (c.flush.ensures.kept.goes.others.honest honest)) c.flush.ensures.kept.goes.quiet
+    (c.requires.ready.gate changed (c.flush.ensures.stay.kept.goes.others.honest honest)) c.flush.ensures.stay.kept.goes.quiet
 
 pub returns-in_err-write_header-clause-images : goal.returns-in_err-write_header-clause-images
 returns-in_err-write_header-clause-images g c honest changed =
@@ -17,10 +17,10 @@ returns-in_err-write_header-clause-images g c honest changed =
     let s = g.S.Shelf.state c.args.shelf.now in
     let t = g.S.Shelf.state c.flush.new.shelf in
     let u = g.S.Shelf.state c.write_header.new.shelf in
-    let quiet : IsQuiet unit t u = rw c.flush.ensures.kept.keeps.store at c.write_header.ensures.kept.goes.quiet in
+    let quiet : IsQuiet unit t u = rw c.flush.ensures.stay.kept.keeps.store at c.write_header.ensures.stay.kept.goes.quiet in
     quiet_closes c.args.header.now c.args.self.now.cache s (unit_file s unit) (unit_file u unit)
-    (c.requires.ready.gate changed (c.flush.ensures.kept.goes.others.honest (c.write_header.ensures.kept.goes.others.honest honest)))
-    (quiet_then (unit_file s unit) (unit_file t unit) (unit_file u unit) c.flush.ensures.kept.goes.quiet quiet)
+    (c.requires.ready.gate changed (c.flush.ensures.stay.kept.goes.others.honest (c.write_header.ensures.stay.kept.goes.others.honest honest)))
+    (quiet_then (unit_file s unit) (unit_file t unit) (unit_file u unit) c.flush.ensures.stay.kept.goes.quiet quiet)
 
 pub returns-in_err-finish-clause-images : goal.returns-in_err-finish-clause-images
 returns-in_err-finish-clause-images g c honest changed =
@@ -30,10 +30,10 @@ returns-in_err-finish-clause-images g c honest changed =
     let u = g.S.Shelf.state c.write_header.new.shelf in
     let v = g.S.Shelf.state c.finish.new.shelf in
     let h2 : IsTrue u.is_honest = sym c.finish.ensures.only.honest ∙ honest in
-    let h1 = c.write_header.ensures.kept.goes.others.honest h2 in
-    let all = c.requires.ready.gate changed (c.flush.ensures.kept.goes.others.honest h1) in
-    all_closes c.args.header.now c.args.self.now.cache d s t u v c.flush.ensures.kept.keeps.store c.flush.ensures.kept.over (subst (λ x. IsOver x u) c.write_header.ensures.same c.write_header.ensures.kept.over) c.in_ok-flush.ensures.clean h1 h2
-    (c.flush.ensures.kept.pages h1) (subst (λ x. pages_of x u ≡ pages_of d t) c.write_header.ensures.same (c.write_header.ensures.kept.pages h2)) (c.in_ok-write_header.ensures.written h2) c.flush.ensures.kept.goes.quiet c.write_header.ensures.kept.goes.quiet all
+    let h1 = c.write_header.ensures.stay.kept.goes.others.honest h2 in
+    let all = c.requires.ready.gate changed (c.flush.ensures.stay.kept.goes.others.honest h1) in
+    all_closes c.args.header.now c.args.self.now.cache d s t u v c.flush.ensures.stay.kept.keeps.store c.flush.ensures.stay.kept.over (subst (λ x. IsOver x u) c.write_header.ensures.same c.write_header.ensures.stay.kept.over) c.in_ok-flush.ensures.clean h1 h2
+    (c.flush.ensures.stay.kept.pages h1) (subst (λ x. pages_of x u ≡ pages_of d t) c.write_header.ensures.same (c.write_header.ensures.stay.kept.pages h2)) (c.in_ok-write_header.ensures.written h2) c.flush.ensures.stay.kept.goes.quiet c.write_header.ensures.stay.kept.goes.quiet all
     (rw c.write_header.ensures.same at (c.finish.ensures.images honest))
 
 pub returns-clause-closed : goal.returns-clause-closed
@@ -44,10 +44,10 @@ returns-clause-closed g c honest changed =
     let u = g.S.Shelf.state c.write_header.new.shelf in
     let v = g.S.Shelf.state c.finish.new.shelf in
     let h2 : IsTrue u.is_honest = sym c.finish.ensures.only.honest ∙ honest in
-    let h1 = c.write_header.ensures.kept.goes.others.honest h2 in
-    let all = c.requires.ready.gate changed (c.flush.ensures.kept.goes.others.honest h1) in
-    all_closed c.args.header.now c.args.self.now.cache d s t u v c.flush.ensures.kept.keeps.store c.flush.ensures.kept.over (subst (λ x. IsOver x u) c.write_header.ensures.same c.write_header.ensures.kept.over) c.in_ok-flush.ensures.clean h1 h2
-    (c.flush.ensures.kept.pages h1) (subst (λ x. pages_of x u ≡ pages_of d t) c.write_header.ensures.same (c.write_header.ensures.kept.pages h2)) (c.in_ok-write_header.ensures.written h2) c.flush.ensures.kept.goes.quiet c.write_header.ensures.kept.goes.quiet all
+    let h1 = c.write_header.ensures.stay.kept.goes.others.honest h2 in
+    let all = c.requires.ready.gate changed (c.flush.ensures.stay.kept.goes.others.honest h1) in
+    all_closed c.args.header.now c.args.self.now.cache d s t u v c.flush.ensures.stay.kept.keeps.store c.flush.ensures.stay.kept.over (subst (λ x. IsOver x u) c.write_header.ensures.same c.write_header.ensures.stay.kept.over) c.in_ok-flush.ensures.clean h1 h2
+    (c.flush.ensures.stay.kept.pages h1) (subst (λ x. pages_of x u ≡ pages_of d t) c.write_header.ensures.same (c.write_header.ensures.stay.kept.pages h2)) (c.in_ok-write_header.ensures.written h2) c.flush.ensures.stay.kept.goes.quiet c.write_header.ensures.stay.kept.goes.quiet all
     (rw c.write_header.ensures.same at c.in_ok-finish.ensures.closed)
 
 pub returns-clause-images : goal.returns-clause-images
@@ -58,8 +58,8 @@ returns-clause-images g c honest changed =
     let u = g.S.Shelf.state c.write_header.new.shelf in
     let v = g.S.Shelf.state c.finish.new.shelf in
     let h2 : IsTrue u.is_honest = sym c.finish.ensures.only.honest ∙ honest in
-    let h1 = c.write_header.ensures.kept.goes.others.honest h2 in
-    let all = c.requires.ready.gate changed (c.flush.ensures.kept.goes.others.honest h1) in
-    all_closes c.args.header.now c.args.self.now.cache d s t u v c.flush.ensures.kept.keeps.store c.flush.ensures.kept.over (subst (λ x. IsOver x u) c.write_header.ensures.same c.write_header.ensures.kept.over) c.in_ok-flush.ensures.clean h1 h2
-    (c.flush.ensures.kept.pages h1) (subst (λ x. pages_of x u ≡ pages_of d t) c.write_header.ensures.same (c.write_header.ensures.kept.pages h2)) (c.in_ok-write_header.ensures.written h2) c.flush.ensures.kept.goes.quiet c.write_header.ensures.kept.goes.quiet all
+    let h1 = c.write_header.ensures.stay.kept.goes.others.honest h2 in
+    let all = c.requires.ready.gate changed (c.flush.ensures.stay.kept.goes.others.honest h1) in
+    all_closes c.args.header.now c.args.self.now.cache d s t u v c.flush.ensures.stay.kept.keeps.store c.flush.ensures.stay.kept.over (subst (λ x. IsOver x u) c.write_header.ensures.same c.write_header.ensures.stay.kept.over) c.in_ok-flush.ensures.clean h1 h2
+    (c.flush.ensures.stay.kept.pages h1) (subst (λ x. pages_of x u ≡ pages_of d t) c.write_header.ensures.same (c.write_header.ensures.stay.kept.pages h2)) (c.in_ok-write_header.ensures.written h2) c.flush.ensures.stay.kept.goes.quiet c.write_header.ensures.stay.kept.goes.quiet all
     (rw c.write_header.ensures.same at (c.finish.ensures.images honest))

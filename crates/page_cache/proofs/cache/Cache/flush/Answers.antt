@@ -1,12 +1,17 @@
-use Rattle.std.proofs.Common.{◌≡◌, ◌∙◌, subst, arith, length}
+use Rattle.std.proofs.Common.{rules, ◌≡◌, ◌∙◌, subst, arith, length}
 use Rattle.page_cache.proofs.QuietLemmas.{keeps_then}
 use Rattle.page_cache.proofs.TurnLemmas.{CleanFront, front_more, front_all}
 use Rattle.page_cache.proofs.cache.Cache.flush.Goals as goal
 
-pub returns-in_err-settle_last-clause-kept : goal.returns-in_err-settle_last-clause-kept
-returns-in_err-settle_last-clause-kept g c =
-    keeps_then c.args.self.now c.loop-turn.self c.settle_last.new.self (g.S.Shelf.state c.args.shelf.now) (g.S.Shelf.state c.loop-turn.shelf) (g.S.Shelf.state c.settle_last.new.shelf)
-    c.loop-turn.invariant.kept c.settle_last.ensures.kept
+pub returns-in_err-settle_last-clause-stay : goal.returns-in_err-settle_last-clause-stay
+returns-in_err-settle_last-clause-stay g c =
+    let i = c.loop-turn.invariant in
+    record {
+      kept = keeps_then c.args.self.now c.loop-turn.self c.settle_last.new.self (g.S.Shelf.state c.args.shelf.now) (g.S.Shelf.state c.loop-turn.shelf) (g.S.Shelf.state c.settle_last.new.shelf)
+          i.kept c.settle_last.ensures.stay.kept;
+      asked = c.settle_last.ensures.stay.asked ∙ i.asked;
+      cause = search rules;
+    }
 
 pub loop-turn-preserved : goal.loop-turn-preserved
 loop-turn-preserved g c =
@@ -14,9 +19,9 @@ loop-turn-preserved g c =
     let e = c.settle_last.ensures in
     let turn = c.in_ok-settle_last.ensures.turned in
     record {
-      kept = keeps_then c.args.self.now c.loop-turn.self c.settle_last.new.self (g.S.Shelf.state c.args.shelf.now) (g.S.Shelf.state c.loop-turn.shelf) (g.S.Shelf.state c.settle_last.new.shelf) i.kept e.kept;
-      asked = e.asked ∙ i.asked;
-      faults = let a = i.faults in let b = e.cause.no_fewer in omega arith;
+      kept = keeps_then c.args.self.now c.loop-turn.self c.settle_last.new.self (g.S.Shelf.state c.args.shelf.now) (g.S.Shelf.state c.loop-turn.shelf) (g.S.Shelf.state c.settle_last.new.shelf) i.kept e.stay.kept;
+      asked = e.stay.asked ∙ i.asked;
+      faults = let a = i.faults in let b = e.stay.cause.no_fewer in omega arith;
       long = turn.long ∙ i.long;
       front = front_more c.loop-turn.turn c.loop-turn.self c.settle_last.new.self i.front turn;
     }

@@ -1,4 +1,4 @@
-use Rattle.std.proofs.Common.{◌∙◌, refl, sym, ap, subst, option_map}
+use Rattle.std.proofs.Common.{rules, ◌∙◌, refl, sym, ap, subst, option_map}
 use Rattle.std.specs.Map.Iter.{deref_pair}
 use Rattle.page_cache.specs.Turning.{Turned}
 use Rattle.page_cache.proofs.WriteLemmas.{last_held}
@@ -14,8 +14,8 @@ returns-in-Some-clause-turned g c =
     let held = last_held w n frame c.len-held.ensures.valid last in
     rw c.write_last.ensures.same at (turned w c.settle.new.self n frame c.len-held.ensures.valid.0 last held c.settle.ensures.frames)
 
-pub returns-in-Some-clause-kept : goal.returns-in-Some-clause-kept
-returns-in-Some-clause-kept g c =
+pub returns-in-Some-clause-stay : goal.returns-in-Some-clause-stay
+returns-in-Some-clause-stay g c =
     let old = c.args.self.now in
     let w = c.write_last.new.self in
     let n = c.in-Some.n.now in
@@ -23,13 +23,17 @@ returns-in-Some-clause-kept g c =
     let last = sym c.peek_lru.ensures ∙ ap (option_map deref_pair) c.in-Some.is in
     let held = last_held w n frame c.len-held.ensures.valid last in
     let t = g.S.Shelf.state c.write_last.new.shelf in
-    let kept = c.write_last.ensures.kept in
+    let kept = c.write_last.ensures.looks.kept in
     let written = rw (sym c.write_last.ensures.same) at c.in_ok-write_last.ensures.last in
     record {
-      over = over_settled w c.settle.new.self n frame held c.settle.ensures.frames t c.settle.ensures.store kept.over (λ honest. written.settled honest n frame last);
-      pages = λ honest. pages_settled w c.settle.new.self n frame held c.settle.ensures.frames t c.settle.ensures.store ∙ kept.pages honest;
-      keeps = record { store = c.settle.ensures.store ∙ kept.keeps.store; cap = ap (λ x. x.cap) c.settle.ensures.frames ∙ kept.keeps.cap };
-      goes = kept.goes;
+      kept = record {
+        over = over_settled w c.settle.new.self n frame held c.settle.ensures.frames t c.settle.ensures.same.store kept.over (λ honest. written.settled honest n frame last);
+        pages = λ honest. pages_settled w c.settle.new.self n frame held c.settle.ensures.frames t c.settle.ensures.same.store ∙ kept.pages honest;
+        keeps = record { store = c.settle.ensures.same.store ∙ kept.keeps.store; cap = ap (λ x. x.cap) c.settle.ensures.frames ∙ kept.keeps.cap };
+        goes = kept.goes;
+      };
+      asked = search rules;
+      cause = c.in_ok-write_last.ensures.looks.cause;
     }
 
 pub returns-in-None-clause-turned : goal.returns-in-None-clause-turned

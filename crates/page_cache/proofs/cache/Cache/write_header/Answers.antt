@@ -24,15 +24,19 @@ returns-clause-written g c =
     let store = c.args.self.now.store in
     if_ok c.write_page.result (λ w honest. written_is_read (unit_file s store.unit) (unit_file t store.unit) 0 c.args.page.now (fewer 0 store.pages (unit_file s store.unit) (omega arith) (c.requires.over.pages (sym c.write_page.ensures.only.honest ∙ honest))) c.told-page w) c.write_page.ensures.written
 
-pub returns-clause-kept : goal.returns-clause-kept
-returns-clause-kept g c =
+pub returns-clause-stay : goal.returns-clause-stay
+returns-clause-stay g c =
     let old = c.args.self.now in
     let s = g.S.Shelf.state c.args.shelf.now in
     let t = g.S.Shelf.state c.write_page.new.shelf in
     let store = store_same old.store c.write_page.new.self 0 c.requires.header c.write_page.result c.write_page.ensures.added c.write_page.ensures.kept in
     rw store (record {
-      over = over_kept old s t (kept g c) c.requires.over;
-      pages = pages_kept old s t (kept g c);
-      keeps = record { store = refl; cap = refl };
-      goes = changes_quietly old.store.unit s t c.write_page.ensures.only c.write_page.ensures.quiet;
+      kept = record {
+        over = over_kept old s t (kept g c) c.requires.over;
+        pages = pages_kept old s t (kept g c);
+        keeps = record { store = refl; cap = refl };
+        goes = changes_quietly old.store.unit s t c.write_page.ensures.only c.write_page.ensures.quiet;
+      };
+      asked = refl;
+      cause = c.write_page.ensures.cause;
     })

@@ -1,6 +1,6 @@
-use Rattle.std.proofs.Common.{◌∙◌, refl, sym, ap, option_map}
+use Rattle.std.proofs.Common.{rules, ◌∙◌, sym, ap, option_map}
 use Rattle.std.specs.Map.Iter.{deref_pair}
-use Rattle.page_cache.proofs.WriteLemmas.{last_held, held_low, over_rewritten, pages_rewritten, last_written, nothing_clean}
+use Rattle.page_cache.proofs.WriteLemmas.{last_held, held_low, looks_rewritten, last_written}
 use Rattle.page_cache.proofs.cache.Cache.write_last.Goals as goal
 
 pub write_back-requires-clause-page : goal.write_back-requires-clause-page
@@ -9,50 +9,24 @@ write_back-requires-clause-page g c =
     let held = last_held old c.in-Some.n.now c.in-Some.frame.now c.len-held.ensures.valid (sym c.peek_lru.ensures ∙ ap (option_map deref_pair) c.in-Some.is) in
     held_low old (g.S.Shelf.state c.args.shelf.now) c.in-Some.n.now c.in-Some.frame.now c.requires.over held
 
-pub returns-in_err-write_back-clause-kept : goal.returns-in_err-write_back-clause-kept
-returns-in_err-write_back-clause-kept g c =
-    let old = c.args.self.now in
-    let s = g.S.Shelf.state c.args.shelf.now in
-    let t = g.S.Shelf.state c.write_back.new.shelf in
-    let w = c.write_back.ensures in
-    let held = last_held old c.in-Some.n.now c.in-Some.frame.now c.len-held.ensures.valid (sym c.peek_lru.ensures ∙ ap (option_map deref_pair) c.in-Some.is) in
-    rw w.store (record {
-      over = over_rewritten old s t c.in-Some.n.now c.in-Some.frame.now c.requires.over held w.rewrites w.goes.others.honest c.if-frame.true;
-      pages = pages_rewritten old s t c.in-Some.n.now c.in-Some.frame.now c.requires.over held w.rewrites w.goes.others.honest;
-      keeps = record { store = refl; cap = refl };
-      goes = w.goes;
-    })
-
 pub returns-in_err-write_back-clause-looks : goal.returns-in_err-write_back-clause-looks
 returns-in_err-write_back-clause-looks g c =
     let old = c.args.self.now in
+    let w = c.write_back.ensures in
     let held = last_held old c.in-Some.n.now c.in-Some.frame.now c.len-held.ensures.valid (sym c.peek_lru.ensures ∙ ap (option_map deref_pair) c.in-Some.is) in
-    rw c.write_back.ensures.store (nothing_clean old _ _ c.in-Some.n.now c.in-Some.frame.now held c.if-frame.true)
+    rw w.store (looks_rewritten g.S.Shelf.state g.S.Shelf.fault_count old c.args.shelf.now c.write_back.new.shelf c.in-Some.n.now c.in-Some.frame.now _ c.requires.over held c.if-frame.true w.rewrites w.writes.goes (search rules))
 
 pub returns-in_ok-write_back-clause-last : goal.returns-in_ok-write_back-clause-last
 returns-in_ok-write_back-clause-last g c =
     last_written c.args.self.now (g.S.Shelf.state c.write_back.new.shelf) c.in-Some.n.now c.in-Some.frame.now (sym c.peek_lru.ensures ∙ ap (option_map deref_pair) c.in-Some.is)
     (λ honest. sym (c.in_ok-write_back.ensures.written honest ∙ c.deref.ensures))
 
-pub returns-in_ok-write_back-clause-kept : goal.returns-in_ok-write_back-clause-kept
-returns-in_ok-write_back-clause-kept g c =
-    let old = c.args.self.now in
-    let s = g.S.Shelf.state c.args.shelf.now in
-    let t = g.S.Shelf.state c.write_back.new.shelf in
-    let w = c.write_back.ensures in
-    let held = last_held old c.in-Some.n.now c.in-Some.frame.now c.len-held.ensures.valid (sym c.peek_lru.ensures ∙ ap (option_map deref_pair) c.in-Some.is) in
-    rw w.store (record {
-      over = over_rewritten old s t c.in-Some.n.now c.in-Some.frame.now c.requires.over held w.rewrites w.goes.others.honest c.if-frame.true;
-      pages = pages_rewritten old s t c.in-Some.n.now c.in-Some.frame.now c.requires.over held w.rewrites w.goes.others.honest;
-      keeps = record { store = refl; cap = refl };
-      goes = w.goes;
-    })
-
 pub returns-in_ok-write_back-clause-looks : goal.returns-in_ok-write_back-clause-looks
 returns-in_ok-write_back-clause-looks g c =
     let old = c.args.self.now in
+    let w = c.write_back.ensures in
     let held = last_held old c.in-Some.n.now c.in-Some.frame.now c.len-held.ensures.valid (sym c.peek_lru.ensures ∙ ap (option_map deref_pair) c.in-Some.is) in
-    rw c.write_back.ensures.store (nothing_clean old _ _ c.in-Some.n.now c.in-Some.frame.now held c.if-frame.true)
+    rw w.store (looks_rewritten g.S.Shelf.state g.S.Shelf.fault_count old c.args.shelf.now c.write_back.new.shelf c.in-Some.n.now c.in-Some.frame.now _ c.requires.over held c.if-frame.true w.rewrites w.writes.goes c.in_ok-write_back.ensures.writes.cause)
 
 pub returns-else-frame-clause-last : goal.returns-else-frame-clause-last
 returns-else-frame-clause-last g c =

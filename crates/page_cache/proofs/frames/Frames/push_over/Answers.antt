@@ -20,9 +20,9 @@ invariant_of-self c =
     (rw (← c.self.view_is) at c.requires.absent) c.len-held.ensures.valid (rw (← c.self.view_is) at c.requires.full) last c.in-Ok.ensures.entries in
     rw c.replace.ensures.after all.placed
 
-pub returns-in-Ok-clause-put : goal.returns-in-Ok-clause-put
-returns-in-Ok-clause-put c =
+pub returns-in-Ok : goal.returns-in-Ok
+returns-in-Ok c =
     let last = sym c.peek_lru.ensures ∙ ap (option_map deref_pair) c.in-Some.is in
     let all = pushed_over c.self.inside.places.items c.self.inside.order c.put.new.self c.args.n c.in-Some.field-0-0.now c.in-Some.place.now c.args.frame c.self.invariant
     (rw (← c.self.view_is) at c.requires.absent) c.len-held.ensures.valid (rw (← c.self.view_is) at c.requires.full) last c.in-Ok.ensures.entries in
-    ap (λ w. lru_cache (framed (slice_set c.self.inside.places.items c.in-Some.place.now w) c.put.new.self.entries) c.put.new.self.cap) c.replace.ensures.after ∙ all.view ∙ ap (λ f. lru_cache (put_entries nat_eq f c.args.n c.args.frame) f.cap) c.self.view_is
+    record { put = ap (λ w. lru_cache (framed (slice_set c.self.inside.places.items c.in-Some.place.now w) c.put.new.self.entries) c.put.new.self.cap) c.replace.ensures.after ∙ all.view ∙ ap (λ f. lru_cache (put_entries nat_eq f c.args.n c.args.frame) f.cap) c.self.view_is; kept = tt }
