@@ -3,6 +3,7 @@ pub mod Chain
 pub mod Joining
 pub mod Taking
 pub mod Order
+pub mod PagerCalls
 pub mod HeaderNumbers
 pub mod PagedFile
 pub mod Steps

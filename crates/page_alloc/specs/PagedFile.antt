@@ -1,13 +1,15 @@
 -- A file that is open, and what its making and its closing leave.
-use Rattle.std.specs.Prelude.{◌≡◌, ◌⊎◌, ℕ, ◌*◌, ◌≤◌, List, ◌∷◌, length, drop, true, false, IsTrue, Some}
+use Rattle.std.specs.Prelude.{◌≡◌, ◌⊎◌, ℕ, ◌*◌, ◌≤◌, if◌then◌else◌, List, [], ◌∷◌, length, drop, true, false, IsTrue, Some}
 use Rattle.page_store.specs.DeviceFile.{DeviceFile, content}
 use Rattle.page_store.specs.Images.{IsSettled}
 use Rattle.page_store.specs.Moments.{Throughout}
 use Rattle.page_store.specs.Gate.{IsClosed, IsRefused, AllOpen, AllRefused, SameOrRefused}
-use Rattle.page_store.specs.Pages.{page_of}
-use Rattle.page_store.specs.ShelfState.{ShelfState, unit_file}
+use Rattle.page_store.specs.Pages.{page_of, HasPages}
+use Rattle.page_store.specs.ShelfState.{ShelfState, HasUnit, unit_file, WhereHonest}
+use Rattle.page_store.specs.declared.store.Store.{Store}
 use Rattle.page_cache.specs.declared.cache.Cache.{Cache}
 use Rattle.page_cache.specs.Cached.{pages_of, is_counted, IsClean}
+use Rattle.page_alloc.specs.declared.pager.Pager.{Pager}
 use Rattle.page_alloc.specs.declared.paged_file.PagedFile.{PagedFile}
 use Rattle.page_alloc.specs.Joining.{IsJoined}
 
@@ -43,3 +45,23 @@ pub record ClosedWith (header : List ℕ) (cache : Cache) (shelf : ShelfState) (
 -- at each moment a crash leaves a refused file, or such bytes
 abbrev pub ClosesPages : List ℕ → Cache → ShelfState → DeviceFile → DeviceFile → Type 0
 ClosesPages header cache shelf old new = Throughout (λ c. IsRefused c ⊎ ((bytes : List ℕ) × (c ≡ Some bytes) × IsClosedWith header cache shelf bytes)) old new
+
+-- where the shelf is honest and a change was begun: at each moment a crash leaves a refused file, or that which is closed at the end
+abbrev pub MayShut : List ℕ → PagedFile → ShelfState → ShelfState → Type 0
+MayShut header held before after = IsTrue after.is_honest → held.changed ≡ true
+    → ClosesPages header held.cache before (unit_file before held.cache.store.unit) (unit_file after held.cache.store.unit)
+
+-- where the shelf is honest and a change was begun, the file is closed with this header and the pages
+abbrev pub IsShut : List ℕ → PagedFile → ShelfState → ShelfState → Type 0
+IsShut header held before after = IsTrue after.is_honest → held.changed ≡ true → ClosedWith header held.cache before (unit_file after held.cache.store.unit)
+
+-- the pages of a file that is there, with these numbers of pages and at most so many frames, of which none was asked for; it shows the pages
+-- of the file, over each shelf that has them
+pub record IsOldPagedFile (stored : Store) (most : ℕ) (numbers : Pager) (held : PagedFile) : Type 0 where
+  pub pager : held.pager ≡ numbers
+  pub changed : held.changed ≡ false
+  pub store : held.cache.store ≡ stored
+  pub asked : held.cache.asked ≡ 0
+  pub frames : held.cache.frames.cap ≡ most
+  pub ready : (shelf : ShelfState) → HasUnit shelf stored.unit → WhereHonest shelf stored.unit (HasPages stored.pages) → IsOpenOver held shelf
+  pub pages : (shelf : ShelfState) (n : ℕ) → pages_of held.cache shelf n ≡ (if is_counted held.cache n then page_of (content (unit_file shelf stored.unit)) n else [])

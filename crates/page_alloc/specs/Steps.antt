@@ -1,8 +1,7 @@
 -- What every call on the pages of an open file keeps, at a fault too.
 use Rattle.std.specs.Prelude.{◌≡◌, ℕ, ◌≤◌, false, IsTrue}
-use Rattle.page_store.specs.Moments.{Throughout}
-use Rattle.page_store.specs.Gate.{WasOrRefused}
 use Rattle.page_store.specs.ShelfState.{ShelfState, unit_file, KeepsOthers}
+use Rattle.page_cache.specs.HeaderCalls.{MayRefuse}
 use Rattle.pages.specs.PagesState.{PagesState, Rests}
 use Rattle.page_alloc.specs.declared.paged_file.PagedFile.{PagedFile}
 use Rattle.page_alloc.specs.Joining.{pages_state, PartsGo}
@@ -37,7 +36,6 @@ pub record Moves (old new : PagedFile) (before after : ShelfState) (failed fails
   pub others : KeepsOthers old.cache.store.unit before after
   pub faults : failed ≤ fails
   pub ready : IsOpenOver old before → IsOpenOver new after
-  pub images : IsOpenOver old before → IsTrue after.is_honest →
-      Throughout (WasOrRefused (unit_file before old.cache.store.unit)) (unit_file before old.cache.store.unit) (unit_file after old.cache.store.unit)
+  pub images : IsOpenOver old before → MayRefuse old.cache.store.unit before after
   pub stands : IsOpenOver old before → IsTrue after.is_honest →
       StandsOrRefused (unit_file before old.cache.store.unit) (unit_file after old.cache.store.unit)

@@ -1,14 +1,10 @@
 //! A file that is open: its cache, its free pages, and its gate.
-ghost use Rattle.std.specs.Prelude.{◌≡◌, ℕ, ◌<◌, ◌≤◌, [], true, false, IsTrue, IfOk, OnOk, OnErr, if◌then◌else◌};
+ghost use Rattle.std.specs.Prelude.{◌≡◌, ◌<◌, ◌≤◌, true, false, IfOk, OnOk, MatchResult};
 ghost use Rattle.std.specs.NonZero.{non_zero_usize_get};
-ghost use Rattle.page_store.specs.DeviceFile.{content};
-ghost use Rattle.page_store.specs.Moments.{Throughout};
-ghost use Rattle.page_store.specs.Gate.{WasOrRefused};
-ghost use Rattle.page_store.specs.Pages.{page_of, HasPages};
-ghost use Rattle.page_store.specs.ShelfState.{ShelfState, WhereHonest, FileGoes, HasUnit, unit_file, KeepsOthers, FaultHasCause};
-ghost use Rattle.page_cache.specs.Cached.{pages_of, is_counted};
+ghost use Rattle.page_store.specs.ShelfState.{HasUnit, KeepsOthers, FaultHasCause};
 ghost use Rattle.page_cache.specs.Calls.{ShowsSame};
-ghost use Rattle.page_alloc.specs.PagedFile.{IsOpenOver, IsNewPagedFile, StandsOrRefused, ClosesPages, ClosedWith};
+ghost use Rattle.page_cache.specs.HeaderCalls.{OpensGate};
+ghost use Rattle.page_alloc.specs.PagedFile.{IsOpenOver, IsNewPagedFile, IsOldPagedFile, StandsOrRefused, MayShut, IsShut};
 ghost use Rattle.page_alloc.specs.Steps.{Moves};
 
 use crate::pager::Pager;
@@ -42,14 +38,7 @@ impl PagedFile {
         ensures made { IfOk result (λ held. IsNewPagedFile held unit limit) }
         ensures ready { IfOk result (λ held. IsOpenOver held (S.state shelf.new)) }
         ensures frames { IfOk result (λ held. held.cache.frames.cap ≡ non_zero_usize_get frames) }
-        // At each moment a crash leaves what it could leave before, or a refused file.
-        ensures images { let old = unit_file (S.state shelf.old) unit in
-            IsTrue (S.state shelf.new).is_honest →
-            Throughout (WasOrRefused old) old (unit_file (S.state shelf.new) unit) }
-        ensures failed { OnErr result (IsTrue (S.state shelf.new).is_honest →
-            FileGoes unit (S.state shelf.old) (S.state shelf.new) StandsOrRefused) }
-        ensures others { KeepsOthers unit (S.state shelf.old) (S.state shelf.new) }
-        ensures cause { FaultHasCause (S.fault_count shelf.old) (S.fault_count shelf.new) result }
+        ensures opens { OpensGate S.state S.fault_count unit StandsOrRefused shelf.old shelf.new result }
     {
         let mut store = Store::make(shelf, unit)?;
         store.write_page(shelf, 0, header)?;
@@ -71,17 +60,8 @@ impl PagedFile {
     ) -> Result<PagedFile, Fault>
         requires counted { pager.count ≤ store.pages }
         requires header { 0 < pager.count }
-        ensures pager { IfOk result (λ held. held.pager ≡ pager) }
-        ensures changed { IfOk result (λ held. held.changed ≡ false) }
-        ensures store { IfOk result (λ held. held.cache.store ≡ store) }
-        ensures asked { IfOk result (λ held. held.cache.asked ≡ 0) }
-        ensures frames { IfOk result (λ held. held.cache.frames.cap ≡ non_zero_usize_get frames) }
-        ensures ready { IfOk result (λ held. (shelf : ShelfState) → HasUnit shelf store.unit →
-            WhereHonest shelf store.unit (HasPages store.pages) → IsOpenOver held shelf) }
-        // It shows the pages of the file.
-        ensures pages { IfOk result (λ held. (shelf : ShelfState) (n : ℕ) → pages_of held.cache shelf n
-            ≡ (if is_counted held.cache n then page_of (content (unit_file shelf store.unit)) n else [])) }
-        ensures memory { OnErr result (result ≡ Err Fault.Memory) }
+        ensures { MatchResult result
+            (IsOldPagedFile store (non_zero_usize_get frames) pager) (λ fault. fault ≡ Fault.Memory) }
     {
         Ok(PagedFile {
             cache: Cache::new(alloc, store, frames)?,
@@ -94,8 +74,7 @@ impl PagedFile {
     /// and the file as it was or refused; the call may be made again.
     pub fn begin<S: Shelf>(&mut self, shelf: &mut S) -> Result<(), Fault>
         requires ready { IsOpenOver self.old (S.state shelf.old) }
-        ensures begun { OnOk result (self.new ≡ record self.old { changed = true }) }
-        ensures kept { OnErr result (self.new ≡ self.old) }
+        ensures begun { MatchResult result (λ _. self.new ≡ record self.old { changed = true }) (λ _. self.new ≡ self.old) }
         ensures same { ShowsSame self.old.cache self.new.cache (S.state shelf.old) (S.state shelf.new) }
         ensures nothing { self.old.changed ≡ true → (S.state shelf.new).file ≡ (S.state shelf.old).file }
         ensures moves { Moves self.old self.new (S.state shelf.old) (S.state shelf.new)
@@ -115,14 +94,8 @@ impl PagedFile {
     pub fn close<S: Shelf>(&mut self, shelf: &mut S, header: &[u8; PAGE_SIZE]) -> Result<(), Fault>
         requires ready { IsOpenOver self.old (S.state shelf.old) }
         ensures nothing { self.old.changed ≡ false → (S.state shelf.new).file ≡ (S.state shelf.old).file }
-        ensures closed { OnOk result (IsTrue (S.state shelf.new).is_honest → self.old.changed ≡ true →
-            ClosedWith header.now self.old.cache (S.state shelf.old)
-            (unit_file (S.state shelf.new) self.old.cache.store.unit)) }
-        // At each moment a crash leaves a refused file, or that which is closed at the end.
-        ensures images { let old = unit_file (S.state shelf.old) self.old.cache.store.unit in
-            IsTrue (S.state shelf.new).is_honest → self.old.changed ≡ true →
-            ClosesPages header.now self.old.cache (S.state shelf.old) old
-            (unit_file (S.state shelf.new) self.old.cache.store.unit) }
+        ensures closed { OnOk result (IsShut header.now self.old (S.state shelf.old) (S.state shelf.new)) }
+        ensures images { MayShut header.now self.old (S.state shelf.old) (S.state shelf.new) }
         ensures others { KeepsOthers self.old.cache.store.unit (S.state shelf.old) (S.state shelf.new) }
         ensures cause { FaultHasCause (S.fault_count shelf.old) (S.fault_count shelf.new) result }
     {

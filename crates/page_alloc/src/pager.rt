@@ -1,12 +1,11 @@
 //! The free pages of a file, and how many pages it has.
-ghost use Rattle.std.specs.Prelude.{◌≡◌, ℕ, ◌+◌, ◌-◌, ◌<◌, ◌≤◌, IsSome, IsTrue, IfOk, IfErr, OnOk, OnErr, ⊤};
-ghost use Rattle.page_cache.specs.Cached.{is_counted, pages_of, IsOver};
+ghost use Rattle.std.specs.Prelude.{◌≡◌, ◌<◌, IsTrue, IfOk, OnOk, OnErr, ⊤};
+ghost use Rattle.page_cache.specs.Cached.{pages_of, IsOver, IsOverPage};
 ghost use Rattle.page_cache.specs.Calls.{KeepsPages};
-ghost use Rattle.pages.specs.PagesState.{Rests};
-ghost use Rattle.page_alloc.specs.FreePage.{is_free, next_of};
-ghost use Rattle.page_alloc.specs.Joining.{pages_state, free_pages, available_of, IsJoined, PartsGo, HasFailed};
-ghost use Rattle.page_alloc.specs.Order.{TakesInOrder, GivesInOrder};
-ghost use Rattle.page_alloc.specs.Taking.{Taken, Given, Freed, CallFails};
+ghost use Rattle.page_alloc.specs.FreePage.{next_of};
+ghost use Rattle.page_alloc.specs.Joining.{available_of, IsJoined};
+ghost use Rattle.page_alloc.specs.PagerCalls.{WasSound, WasInUse, WasMarked, FailsOnly, AsksOnce, PagerGoes, TakesPage, GivesPage};
+ghost use Rattle.page_alloc.specs.Taking.{Freed};
 
 use crate::free_page;
 use io_state::Fault;
@@ -50,20 +49,10 @@ impl Pager {
     /// available; Damage where the first free page is not one. A fault leaves each page as it was.
     pub fn take<S: Shelf>(&mut self, cache: &mut Cache, shelf: &mut S) -> Result<u32, Fault>
         requires ready { IsJoined cache.old self.old (S.state shelf.old) }
-        ensures taken { let old = pages_state cache.old self.old (S.state shelf.old) in
-            IfOk result (Taken old (pages_state cache.new self.new (S.state shelf.new))) }
-        ensures kept { let old = pages_state cache.old self.old (S.state shelf.old) in
-            OnErr result (Rests old (pages_state cache.new self.new (S.state shelf.new))) }
-        ensures fails { let old = pages_state cache.old self.old (S.state shelf.old) in
-            IfErr result (CallFails (IsTrue (S.state shelf.new).is_honest × IsTrue old.is_sound)
-            (HasFailed (S.fault_count shelf.old) (S.fault_count shelf.new)) (available_of self.old ≡ 0)) }
-        ensures asked { cache.new.asked ≤ cache.old.asked + 1 }
-        ensures limit { self.new.limit ≡ self.old.limit }
-        ensures goes { PartsGo cache.old cache.new (S.state shelf.old) (S.state shelf.new)
-            (S.fault_count shelf.old) (S.fault_count shelf.new) }
-        ensures ready { IsJoined cache.new self.new (S.state shelf.new) }
-        ensures order { IsTrue (S.state shelf.new).is_honest → TakesInOrder self.old self.new
-            (free_pages cache.old self.old (S.state shelf.old)) (free_pages cache.new self.new (S.state shelf.new)) result }
+        ensures takes { TakesPage S.state cache.old cache.new self.old self.new shelf.old shelf.new result }
+        ensures fails { FailsOnly S.fault_count (WasSound S.state cache.old self.old shelf.old shelf.new)
+            (available_of self.old ≡ 0) shelf.old shelf.new result }
+        ensures goes { PagerGoes S.state S.fault_count cache.old cache.new self.old self.new shelf.old shelf.new }
     {
         if self.free > 0 {
             self.take_free(cache, shelf)
@@ -76,20 +65,10 @@ impl Pager {
     fn take_free<S: Shelf>(&mut self, cache: &mut Cache, shelf: &mut S) -> Result<u32, Fault>
         requires ready { IsJoined cache.old self.old (S.state shelf.old) }
         requires free { 0 < self.old.free }
-        ensures taken { let old = pages_state cache.old self.old (S.state shelf.old) in
-            IfOk result (Taken old (pages_state cache.new self.new (S.state shelf.new))) }
-        ensures kept { let old = pages_state cache.old self.old (S.state shelf.old) in
-            OnErr result (Rests old (pages_state cache.new self.new (S.state shelf.new))) }
-        ensures fails { let old = pages_state cache.old self.old (S.state shelf.old) in
-            IfErr result (CallFails (IsTrue (S.state shelf.new).is_honest × IsTrue old.is_sound)
-            (HasFailed (S.fault_count shelf.old) (S.fault_count shelf.new)) ⊥) }
-        ensures asked { cache.new.asked ≤ cache.old.asked + 1 }
-        ensures limit { self.new.limit ≡ self.old.limit }
-        ensures goes { PartsGo cache.old cache.new (S.state shelf.old) (S.state shelf.new)
-            (S.fault_count shelf.old) (S.fault_count shelf.new) }
-        ensures ready { IsJoined cache.new self.new (S.state shelf.new) }
-        ensures order { IsTrue (S.state shelf.new).is_honest → TakesInOrder self.old self.new
-            (free_pages cache.old self.old (S.state shelf.old)) (free_pages cache.new self.new (S.state shelf.new)) result }
+        ensures takes { TakesPage S.state cache.old cache.new self.old self.new shelf.old shelf.new result }
+        ensures fails { FailsOnly S.fault_count (WasSound S.state cache.old self.old shelf.old shelf.new)
+            ⊥ shelf.old shelf.new result }
+        ensures goes { PagerGoes S.state S.fault_count cache.old cache.new self.old self.new shelf.old shelf.new }
     {
         let n = self.first;
         if n == 0 || n >= self.count {
@@ -105,19 +84,9 @@ impl Pager {
     fn take_new<S: Shelf>(&mut self, cache: &mut Cache, shelf: &mut S) -> Result<u32, Fault>
         requires ready { IsJoined cache.old self.old (S.state shelf.old) }
         requires free { self.old.free ≡ 0 }
-        ensures taken { let old = pages_state cache.old self.old (S.state shelf.old) in
-            IfOk result (Taken old (pages_state cache.new self.new (S.state shelf.new))) }
-        ensures kept { let old = pages_state cache.old self.old (S.state shelf.old) in
-            OnErr result (Rests old (pages_state cache.new self.new (S.state shelf.new))) }
-        ensures fails { IfErr result (CallFails ⊤
-            (HasFailed (S.fault_count shelf.old) (S.fault_count shelf.new)) (available_of self.old ≡ 0)) }
-        ensures asked { cache.new.asked ≤ cache.old.asked + 1 }
-        ensures limit { self.new.limit ≡ self.old.limit }
-        ensures goes { PartsGo cache.old cache.new (S.state shelf.old) (S.state shelf.new)
-            (S.fault_count shelf.old) (S.fault_count shelf.new) }
-        ensures ready { IsJoined cache.new self.new (S.state shelf.new) }
-        ensures order { IsTrue (S.state shelf.new).is_honest → TakesInOrder self.old self.new
-            (free_pages cache.old self.old (S.state shelf.old)) (free_pages cache.new self.new (S.state shelf.new)) result }
+        ensures takes { TakesPage S.state cache.old cache.new self.old self.new shelf.old shelf.new result }
+        ensures fails { FailsOnly S.fault_count ⊤ (available_of self.old ≡ 0) shelf.old shelf.new result }
+        ensures goes { PagerGoes S.state S.fault_count cache.old cache.new self.old self.new shelf.old shelf.new }
     {
         if self.count >= self.limit {
             return Err(Fault::Full);
@@ -132,21 +101,10 @@ impl Pager {
     /// A fault leaves each page as it was.
     pub fn give<S: Shelf>(&mut self, cache: &mut Cache, shelf: &mut S, n: u32) -> Result<(), Fault>
         requires ready { IsJoined cache.old self.old (S.state shelf.old) }
-        ensures given { let old = pages_state cache.old self.old (S.state shelf.old) in
-            OnOk result (Given old (pages_state cache.new self.new (S.state shelf.new)) n) }
-        ensures kept { let old = pages_state cache.old self.old (S.state shelf.old) in
-            OnErr result (Rests old (pages_state cache.new self.new (S.state shelf.new))) }
-        ensures fails { let old = pages_state cache.old self.old (S.state shelf.old) in
-            IfErr result (CallFails (IsTrue (S.state shelf.new).is_honest × IsSome (old.live n))
-            (HasFailed (S.fault_count shelf.old) (S.fault_count shelf.new)) ⊥) }
-        ensures asked { cache.new.asked ≤ cache.old.asked + 1 }
-        ensures limit { self.new.limit ≡ self.old.limit }
-        ensures goes { PartsGo cache.old cache.new (S.state shelf.old) (S.state shelf.new)
-            (S.fault_count shelf.old) (S.fault_count shelf.new) }
-        ensures ready { IsJoined cache.new self.new (S.state shelf.new) }
-        ensures order { let old = pages_state cache.old self.old (S.state shelf.old) in
-            IsTrue (S.state shelf.new).is_honest → IsSome (old.live n) → GivesInOrder n self.old self.new
-            (free_pages cache.old self.old (S.state shelf.old)) (free_pages cache.new self.new (S.state shelf.new)) result }
+        ensures gives { GivesPage S.state n cache.old cache.new self.old self.new shelf.old shelf.new result }
+        ensures fails { FailsOnly S.fault_count (WasInUse S.state n cache.old self.old shelf.old shelf.new)
+            ⊥ shelf.old shelf.new result }
+        ensures goes { PagerGoes S.state S.fault_count cache.old cache.new self.old self.new shelf.old shelf.new }
     {
         if n == 0 || n >= self.count || self.free >= self.count - 1 {
             return Err(Fault::Damage);
@@ -160,17 +118,13 @@ impl Pager {
 
 // The page that a free page links to.
 fn next_free<S: Shelf>(cache: &mut Cache, shelf: &mut S, n: u32) -> Result<u32, Fault>
-    requires over { IsOver cache.old (S.state shelf.old) }
-    requires page { IsTrue (is_counted cache.old n) }
+    requires { IsOverPage n cache.old (S.state shelf.old) }
     ensures next { IsTrue (S.state shelf.new).is_honest →
         IfOk result (λ next. next ≡ next_of (pages_of cache.old (S.state shelf.old) n)) }
     ensures kept { KeepsPages cache.old cache.new (S.state shelf.old) (S.state shelf.new) }
-    ensures fails { let page = pages_of cache.old (S.state shelf.old) n in
-        IfErr result (CallFails (IsTrue (S.state shelf.new).is_honest × IsTrue (is_free page))
-        (HasFailed (S.fault_count shelf.old) (S.fault_count shelf.new)) ⊥) }
-    ensures asked { cache.new.asked ≤ cache.old.asked + 1 }
-    ensures grows { cache.old.asked ≤ cache.new.asked }
-    ensures faults { S.fault_count shelf.old ≤ S.fault_count shelf.new }
+    ensures fails { FailsOnly S.fault_count (WasMarked S.state n cache.old shelf.old shelf.new)
+        ⊥ shelf.old shelf.new result }
+    ensures asks { AsksOnce S.state S.fault_count cache.old cache.new shelf.old shelf.new }
 {
     cache.load(shelf, n)?;
     let page = cache.held(n)?;
@@ -182,14 +136,11 @@ fn next_free<S: Shelf>(cache: &mut Cache, shelf: &mut S, n: u32) -> Result<u32, 
 
 // Makes a page a free one, before this one.
 fn make_free<S: Shelf>(cache: &mut Cache, shelf: &mut S, n: u32, next: u32) -> Result<(), Fault>
-    requires ready { IsOver cache.old (S.state shelf.old) }
-    requires page { IsTrue (is_counted cache.old n) }
+    requires { IsOverPage n cache.old (S.state shelf.old) }
     ensures freed { OnOk result (Freed n next cache.old cache.new (S.state shelf.old) (S.state shelf.new)) }
     ensures kept { OnErr result (KeepsPages cache.old cache.new (S.state shelf.old) (S.state shelf.new)) }
-    ensures fails { IfErr result (CallFails ⊤ (HasFailed (S.fault_count shelf.old) (S.fault_count shelf.new)) ⊥) }
-    ensures asked { cache.new.asked ≤ cache.old.asked + 1 }
-    ensures goes { PartsGo cache.old cache.new (S.state shelf.old) (S.state shelf.new)
-        (S.fault_count shelf.old) (S.fault_count shelf.new) }
+    ensures fails { FailsOnly S.fault_count ⊤ ⊥ shelf.old shelf.new result }
+    ensures asks { AsksOnce S.state S.fault_count cache.old cache.new shelf.old shelf.new }
     ensures over { IsOver cache.new (S.state shelf.new) }
 {
     cache.load(shelf, n)?;

@@ -1,5 +1,6 @@
 -- What a page of zeros that is added leaves of the list of pages.
 use Rattle.std.proofs.Common.{◌-◌, ◌≤◌, zero, suc, ◌≡◌, ◌≢◌, inl, inr, ℕ, ◌+◌, ◌<◌, max, ltb, ◌&&◌, true, false, if◌then◌else◌, List, [], length, get_or, replicate, Option, Some, None, refl, sym, ◌∙◌, ap, subst, arith, IsTrue, Result, Ok, Err, OnOk, OnErr, nat_eq, slice_get}
+use Rattle.std.specs.Prelude.{MatchResult}
 use Rattle.std.specs.Option.{option_map_or}
 use Rattle.std.proofs.lemmas.Bool.{cases_Bool, and_parts, and_from, ltb-true, ltb-false, lt-ltb, le-ltb, both_ways, and_right}
 use Rattle.page_store.specs.DeviceFile.{DeviceFile, content}
@@ -73,9 +74,9 @@ pub page_written : (f g : DeviceFile) (n : ℕ) (page : List ℕ) → 0 < n → 
 page_written f g n page low has w whole = written_is_read f g n page has whole w ∙ over_positive n (content f) page low
 
 pub adds : (old new : Store) (n : ℕ) (page : List ℕ) (t : ShelfState) (r : Result (Unit {0}) Fault) → max old.pages (n + 1) ≡ n + 1 → OnOk r (new ≡ record old { pages = max old.pages (n + 1) })
-    → OnOk r (IsTrue t.is_honest → page_of (content (unit_file t old.unit)) n ≡ page) → OnOk r (AddsPage n page old new t)
-adds old new n page t (Ok x) most added written = record { store = added ∙ ap (λ p. record old { pages = p }) most; written = written }
-adds old new n page t (Err x) most added written = tt
+    → OnErr r (new ≡ old) → OnOk r (IsTrue t.is_honest → page_of (content (unit_file t old.unit)) n ≡ page) → MatchResult r (λ _. AddsPage n page old new t) (λ _. new ≡ old)
+adds old new n page t (Ok x) most added kept written = record { store = added ∙ ap (λ p. record old { pages = p }) most; written = written }
+adds old new n page t (Err x) most added kept written = kept
 
 pub extended : (old new : Store) (n : ℕ) (s t : ShelfState) (page : List ℕ) → HasUnit s old.unit → n ≡ old.pages → WhereHonest s old.unit (HasPages old.pages) → length page ≡ 4096 → ChangesOnly old.unit s t
     → (r : Result (Unit {0}) Fault) → OnOk r (new ≡ record old { pages = max old.pages (n + 1) }) → OnErr r (new ≡ old) → WhereHonest t new.unit (HasPages new.pages)

@@ -1,5 +1,5 @@
 //! The cache, and what it reads and writes.
-ghost use Rattle.std.specs.Prelude.{◌≡◌, ◌≢◌, ◌-◌, ◌^◌, ◌<◌, ◌≤◌, length, slice_get, option_map, None, Some, IsSome, IsTrue, IfOk, OnOk, OnErr};
+ghost use Rattle.std.specs.Prelude.{◌≡◌, ◌-◌, ◌^◌, ◌<◌, ◌≤◌, length, slice_get, option_map, None, Some, IsSome, IsTrue, IfOk, OnOk, OnErr};
 ghost use Rattle.std.specs.NonZero.{non_zero_usize_get};
 ghost use Rattle.lru.specs.LruCache.{lru_cache};
 ghost use Rattle.page_store.specs.ShelfState.{OnlyAnswers, FaultHasCause};

@@ -1,12 +1,9 @@
 //! The header page and the gate, which are not asked through the frames.
-ghost use Rattle.std.specs.Prelude.{◌≡◌, IsTrue, OnOk, OnErr};
-ghost use Rattle.page_store.specs.DeviceFile.{content};
+ghost use Rattle.std.specs.Prelude.{◌≡◌, OnOk};
 ghost use Rattle.page_store.specs.Gate.{AllOpen, SameOrRefused};
-ghost use Rattle.page_store.specs.PageFacts.{page_over};
-ghost use Rattle.page_store.specs.ShelfState.{unit_file, WhereHonest, FileGoes, OnlyAnswers, ChangesOnly, FaultHasCause};
+ghost use Rattle.page_store.specs.ShelfState.{WhereHonest, FileGoes, OnlyAnswers, ChangesOnly, FaultHasCause};
 ghost use Rattle.page_cache.specs.Cached.{IsOver, IsOverHeader};
-ghost use Rattle.page_cache.specs.HeaderCalls.{WasPage, HoldsPage, MayRefuse, MayClose, IsClosedAnew};
-ghost use Rattle.page_cache.specs.Quietly.{ReachesUnit};
+ghost use Rattle.page_cache.specs.HeaderCalls.{header_with, WasPage, HoldsPage, MayClose, IsClosedAnew, OpensGate};
 ghost use Rattle.page_cache.specs.Calls.{ShowsSame, PagesStay};
 
 use crate::cache::Cache;
@@ -38,7 +35,7 @@ impl Cache {
     ) -> Result<(), Fault>
         requires { IsOverHeader self.old (S.state shelf.old) }
         ensures written { OnOk result (HoldsPage self.old.store.unit 0 (S.state shelf.new)
-            (page_over 0 (content (unit_file (S.state shelf.old) self.old.store.unit)) page.now)) }
+            (header_with self.old.store.unit (S.state shelf.old) page.now)) }
         ensures same { self.new ≡ self.old }
         ensures stay { PagesStay S.state S.fault_count self.old.asked self.old self.new shelf.old shelf.new result }
     {
@@ -50,12 +47,9 @@ impl Cache {
     /// the cache is as it was, and the call may be made again.
     pub fn begin_change<S: Shelf>(&self, shelf: &mut S) -> Result<(), Fault>
         requires over { IsOver self.now (S.state shelf.old) }
-        ensures images { MayRefuse self.now.store.unit (S.state shelf.old) (S.state shelf.new) }
         ensures open { OnOk result (WhereHonest (S.state shelf.new) self.now.store.unit AllOpen) }
-        ensures failed { OnErr result (IsTrue (S.state shelf.new).is_honest →
-            FileGoes self.now.store.unit (S.state shelf.old) (S.state shelf.new) SameOrRefused) }
         ensures same { ShowsSame self.now self.now (S.state shelf.old) (S.state shelf.new) }
-        ensures only { ReachesUnit S.state S.fault_count self.now.store.unit shelf.old shelf.new result }
+        ensures opens { OpensGate S.state S.fault_count self.now.store.unit SameOrRefused shelf.old shelf.new result }
     {
         self.store.begin_change(shelf)
     }

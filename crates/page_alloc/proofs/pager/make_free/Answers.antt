@@ -1,4 +1,4 @@
-use Rattle.std.proofs.Common.{◌≡◌, ◌∙◌, sym, ap, subst, is_ok, true, arith}
+use Rattle.std.proofs.Common.{rules, ◌≡◌, ◌∙◌, sym, ap, subst, is_ok, true, arith}
 use Rattle.page_cache.proofs.OverLemmas.{set_page, set_others, over_set}
 use Rattle.page_alloc.specs.FreePage.{is_free, next_of}
 use Rattle.page_alloc.proofs.JoinLemmas.{counted_after, parts_after}
@@ -23,10 +23,13 @@ returns-clause-over g c =
     let set = c.held_mut.follows.holds w (ap is_ok c.in_ok-page.was) in
     over_set c.args.n w c.load.new.self (c.held_mut.follows.lender w) set (g.S.Shelf.state c.load.new.shelf) (counted_after c.args.cache.now c.load.new.self c.args.n c.load.ensures.looks.kept.keeps.store c.requires.page) c.load.ensures.looks.kept.over
 
-pub returns-clause-goes : goal.returns-clause-goes
-returns-clause-goes g c =
+pub returns-clause-asks : goal.returns-clause-asks
+returns-clause-asks g c =
     let w = c.link.new.page in
     let set = c.held_mut.follows.holds w (ap is_ok c.in_ok-page.was) in
     let keeps = c.load.ensures.looks.kept.keeps in
-    parts_after c.args.cache.now (c.held_mut.follows.lender w) (g.S.Shelf.state c.args.shelf.now) (g.S.Shelf.state c.load.new.shelf) _ _
-    (record { store = set.store ∙ keeps.store; cap = set.cap ∙ keeps.cap }) c.load.ensures.looks.kept.goes (let p = c.load.ensures.looks.grows in let q = set.asked in omega arith) c.load.ensures.looks.cause.no_fewer
+    record {
+      asked = search rules;
+      goes = parts_after c.args.cache.now (c.held_mut.follows.lender w) (g.S.Shelf.state c.args.shelf.now) (g.S.Shelf.state c.load.new.shelf) _ _
+          (record { store = set.store ∙ keeps.store; cap = set.cap ∙ keeps.cap }) c.load.ensures.looks.kept.goes (let p = c.load.ensures.looks.grows in let q = set.asked in omega arith) c.load.ensures.looks.cause.no_fewer;
+    }

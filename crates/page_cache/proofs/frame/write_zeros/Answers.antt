@@ -14,7 +14,7 @@ returns-clause-added g c =
     let t = g.S.Shelf.state c.write_page.new.shelf in
     let store = c.args.store.now in
     let most : max store.pages (c.args.n + 1) ≡ c.args.n + 1 = let last = c.requires.page.1 in omega arith in
-    adds store c.write_page.new.self c.args.n c.fill.new.self t c.write_page.result most c.write_page.ensures.added
+    adds store c.write_page.new.self c.args.n c.fill.new.self t c.write_page.result most c.write_page.ensures.added c.write_page.ensures.kept
     (if_ok c.write_page.result (λ w honest. page_written (unit_file s store.unit) (unit_file t store.unit) c.args.n c.fill.new.self c.requires.page.0
     (subst (λ k. HasPages k (unit_file s store.unit)) (sym c.requires.page.1) (c.requires.stored.pages (sym c.write_page.ensures.only.honest ∙ honest))) w (c.fill.ensures.len ∙ c.told-page)) c.write_page.ensures.written)
 

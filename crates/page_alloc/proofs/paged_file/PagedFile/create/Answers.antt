@@ -1,4 +1,4 @@
-use Rattle.std.proofs.Common.{◌≡◌, ◌≤◌, ◌∙◌, sym, ap, subst, arith, IsTrue, inr}
+use Rattle.std.proofs.Common.{rules, ◌≡◌, ◌≤◌, ◌∙◌, sym, ap, subst, arith, IsTrue, inr}
 use Rattle.page_store.proofs.OpenLemmas.{opened_open, open_kept, all_refused}
 use Rattle.page_store.specs.ShelfState.{HasUnit, unit_file, IsQuiet}
 use Rattle.page_store.specs.Gate.{AllOpen}
@@ -6,35 +6,50 @@ use Rattle.page_alloc.proofs.OpenLemmas.{made_quietly}
 use Rattle.page_alloc.proofs.JoinLemmas.{at_err_where}
 use Rattle.page_alloc.proofs.paged_file.PagedFile.create.Goals as goal
 
-pub returns-in_err-write_page-clause-images : goal.returns-in_err-write_page-clause-images
-returns-in_err-write_page-clause-images g c honest =
+pub returns-in_err-write_page-clause-opens : goal.returns-in_err-write_page-clause-opens
+returns-in_err-write_page-clause-opens g c =
     let unit = c.args.unit in
     let s = g.S.Shelf.state c.args.shelf.now in
     let t = g.S.Shelf.state c.make.new.shelf in
     let u = g.S.Shelf.state c.write_page.new.shelf in
-    let before : IsTrue t.is_honest = sym c.write_page.ensures.only.honest ∙ honest in
-    let all = opened_open (unit_file s unit) (unit_file t unit) (c.in_ok-store.ensures.opens before) in
-    made_quietly (unit_file s unit) (unit_file t unit) (unit_file u unit) (c.make.ensures.images before) all (subst (λ n. IsQuiet n t u) c.in_ok-store.ensures.store.named c.write_page.ensures.quiet)
+    let quiet : IsQuiet unit t u = subst (λ n. IsQuiet n t u) c.in_ok-store.ensures.store.named c.write_page.ensures.quiet in
+    let all : IsTrue u.is_honest → AllOpen (unit_file t unit) = λ honest. opened_open (unit_file s unit) (unit_file t unit) (c.in_ok-store.ensures.opens (sym c.write_page.ensures.only.honest ∙ honest)) in
+    record {
+      images = λ honest. made_quietly (unit_file s unit) (unit_file t unit) (unit_file u unit) (c.make.ensures.images (sym c.write_page.ensures.only.honest ∙ honest)) (all honest) quiet;
+      failed = at_err_where _ _ _ (λ honest. inr (all_refused (unit_file u unit) (open_kept (unit_file t unit) (unit_file u unit) (all honest) quiet)));
+      others = search rules;
+      cause = search rules;
+    }
 
-pub returns-in_err-cache-clause-images : goal.returns-in_err-cache-clause-images
-returns-in_err-cache-clause-images g c honest =
+pub returns-in_err-cache-clause-opens : goal.returns-in_err-cache-clause-opens
+returns-in_err-cache-clause-opens g c =
     let unit = c.args.unit in
     let s = g.S.Shelf.state c.args.shelf.now in
     let t = g.S.Shelf.state c.make.new.shelf in
     let u = g.S.Shelf.state c.write_page.new.shelf in
-    let before : IsTrue t.is_honest = sym c.write_page.ensures.only.honest ∙ honest in
-    let all = opened_open (unit_file s unit) (unit_file t unit) (c.in_ok-store.ensures.opens before) in
-    made_quietly (unit_file s unit) (unit_file t unit) (unit_file u unit) (c.make.ensures.images before) all (subst (λ n. IsQuiet n t u) c.in_ok-store.ensures.store.named c.write_page.ensures.quiet)
+    let quiet : IsQuiet unit t u = subst (λ n. IsQuiet n t u) c.in_ok-store.ensures.store.named c.write_page.ensures.quiet in
+    let all : IsTrue u.is_honest → AllOpen (unit_file t unit) = λ honest. opened_open (unit_file s unit) (unit_file t unit) (c.in_ok-store.ensures.opens (sym c.write_page.ensures.only.honest ∙ honest)) in
+    record {
+      images = λ honest. made_quietly (unit_file s unit) (unit_file t unit) (unit_file u unit) (c.make.ensures.images (sym c.write_page.ensures.only.honest ∙ honest)) (all honest) quiet;
+      failed = at_err_where _ _ _ (λ honest. inr (all_refused (unit_file u unit) (open_kept (unit_file t unit) (unit_file u unit) (all honest) quiet)));
+      others = search rules;
+      cause = search rules;
+    }
 
-pub returns-clause-images : goal.returns-clause-images
-returns-clause-images g c honest =
+pub returns-clause-opens : goal.returns-clause-opens
+returns-clause-opens g c =
     let unit = c.args.unit in
     let s = g.S.Shelf.state c.args.shelf.now in
     let t = g.S.Shelf.state c.make.new.shelf in
     let u = g.S.Shelf.state c.write_page.new.shelf in
-    let before : IsTrue t.is_honest = sym c.write_page.ensures.only.honest ∙ honest in
-    let all = opened_open (unit_file s unit) (unit_file t unit) (c.in_ok-store.ensures.opens before) in
-    made_quietly (unit_file s unit) (unit_file t unit) (unit_file u unit) (c.make.ensures.images before) all (subst (λ n. IsQuiet n t u) c.in_ok-store.ensures.store.named c.write_page.ensures.quiet)
+    let quiet : IsQuiet unit t u = subst (λ n. IsQuiet n t u) c.in_ok-store.ensures.store.named c.write_page.ensures.quiet in
+    let all : IsTrue u.is_honest → AllOpen (unit_file t unit) = λ honest. opened_open (unit_file s unit) (unit_file t unit) (c.in_ok-store.ensures.opens (sym c.write_page.ensures.only.honest ∙ honest)) in
+    record {
+      images = λ honest. made_quietly (unit_file s unit) (unit_file t unit) (unit_file u unit) (c.make.ensures.images (sym c.write_page.ensures.only.honest ∙ honest)) (all honest) quiet;
+      failed = tt;
+      others = search rules;
+      cause = search rules;
+    }
 
 pub returns-clause-ready : goal.returns-clause-ready
 returns-clause-ready g c =
@@ -62,25 +77,3 @@ returns-clause-ready g c =
           let kept = open_kept (unit_file t unit) (unit_file u unit) all (subst (λ n. IsQuiet n t u) c.in_ok-store.ensures.store.named c.write_page.ensures.quiet) in
           subst (λ n. AllOpen (unit_file u n)) (sym (ap (λ x. x.unit) same ∙ named)) kept;
     }
-
-pub returns-in_err-write_page-clause-failed : goal.returns-in_err-write_page-clause-failed
-returns-in_err-write_page-clause-failed g c =
-    let unit = c.args.unit in
-    let s = g.S.Shelf.state c.args.shelf.now in
-    let t = g.S.Shelf.state c.make.new.shelf in
-    let u = g.S.Shelf.state c.write_page.new.shelf in
-    at_err_where _ _ _ (λ honest.
-    let before : IsTrue t.is_honest = sym c.write_page.ensures.only.honest ∙ honest in
-    let all = opened_open (unit_file s unit) (unit_file t unit) (c.in_ok-store.ensures.opens before) in
-    inr (all_refused (unit_file u unit) (open_kept (unit_file t unit) (unit_file u unit) all (subst (λ n. IsQuiet n t u) c.in_ok-store.ensures.store.named c.write_page.ensures.quiet))))
-
-pub returns-in_err-cache-clause-failed : goal.returns-in_err-cache-clause-failed
-returns-in_err-cache-clause-failed g c =
-    let unit = c.args.unit in
-    let s = g.S.Shelf.state c.args.shelf.now in
-    let t = g.S.Shelf.state c.make.new.shelf in
-    let u = g.S.Shelf.state c.write_page.new.shelf in
-    at_err_where _ _ _ (λ honest.
-    let before : IsTrue t.is_honest = sym c.write_page.ensures.only.honest ∙ honest in
-    let all = opened_open (unit_file s unit) (unit_file t unit) (c.in_ok-store.ensures.opens before) in
-    inr (all_refused (unit_file u unit) (open_kept (unit_file t unit) (unit_file u unit) all (subst (λ n. IsQuiet n t u) c.in_ok-store.ensures.store.named c.write_page.ensures.quiet))))

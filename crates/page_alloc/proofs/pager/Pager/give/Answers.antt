@@ -1,4 +1,4 @@
-use Rattle.std.proofs.Common.{◌≡◌, ◌+◌, suc, refl, arith}
+use Rattle.std.proofs.Common.{rules, ◌≡◌, ◌+◌, suc, refl, arith}
 use Rattle.page_cache.specs.Cached.{pages_of}
 use Rattle.page_alloc.proofs.ChainLemmas.{can_give, given_at, given_sound_at, given_first}
 use Rattle.page_alloc.proofs.JoinLemmas.{damaged, at_err, rested}
@@ -21,29 +21,28 @@ returns-then-n-eq0-clause-fails g c = record {
       ];
 }
 
-pub returns-in_err-make_free-clause-kept : goal.returns-in_err-make_free-clause-kept
-returns-in_err-make_free-clause-kept g c =
+pub returns-in_err-make_free-clause-gives : goal.returns-in_err-make_free-clause-gives
+returns-in_err-make_free-clause-gives g c =
     let kept = c.in_err-make_free.ensures.kept in
-    at_err c.from_residual.result (rested c.args.cache.now c.make_free.new.cache c.args.self.now (g.S.Shelf.state c.args.shelf.now) (g.S.Shelf.state c.make_free.new.shelf) kept.pages kept.goes.others.honest)
+    record {
+      given = search rules;
+      kept = at_err c.from_residual.result (rested c.args.cache.now c.make_free.new.cache c.args.self.now (g.S.Shelf.state c.args.shelf.now) (g.S.Shelf.state c.make_free.new.shelf) kept.pages kept.goes.others.honest);
+      order = search rules;
+    }
 
-pub returns-clause-given : goal.returns-clause-given
-returns-clause-given g c =
+pub returns-clause-gives : goal.returns-clause-gives
+returns-clause-gives g c =
     let p = c.args.self.now in
     let old = pages_of c.args.cache.now (g.S.Shelf.state c.args.shelf.now) in
     let new = pages_of c.make_free.new.cache (g.S.Shelf.state c.make_free.new.shelf) in
     let more : p.free + 1 ≡ suc p.free = omega arith in
     let freed = c.in_ok-make_free.ensures.freed in
     record {
-      page = λ honest there. given_at old new p.count c.args.n p.first p.free (p.free + 1) more (freed.others honest) freed.free freed.linked there;
-      sound = λ honest there. given_sound_at old new p.count c.args.n p.first p.free (p.free + 1) more (freed.others honest) freed.free freed.linked there;
-      one = omega arith;
+      given = record {
+        page = λ honest there. given_at old new p.count c.args.n p.first p.free (p.free + 1) more (freed.others honest) freed.free freed.linked there;
+        sound = λ honest there. given_sound_at old new p.count c.args.n p.first p.free (p.free + 1) more (freed.others honest) freed.free freed.linked there;
+        one = omega arith;
+      };
+      kept = tt;
+      order = λ honest there free before. (refl, given_first old new p.count c.args.n p.first p.free (p.free + 1) free more (freed.others honest) freed.free freed.linked there before);
     }
-
-pub returns-clause-order : goal.returns-clause-order
-returns-clause-order g c honest there free before =
-    let p = c.args.self.now in
-    let old = pages_of c.args.cache.now (g.S.Shelf.state c.args.shelf.now) in
-    let new = pages_of c.make_free.new.cache (g.S.Shelf.state c.make_free.new.shelf) in
-    let more : p.free + 1 ≡ suc p.free = omega arith in
-    let freed = c.in_ok-make_free.ensures.freed in
-    (refl, given_first old new p.count c.args.n p.first p.free (p.free + 1) free more (freed.others honest) freed.free freed.linked there before)

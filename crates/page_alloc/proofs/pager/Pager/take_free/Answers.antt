@@ -1,14 +1,18 @@
-use Rattle.std.proofs.Common.{refl, arith}
+use Rattle.std.proofs.Common.{rules, refl, arith}
 use Rattle.std.proofs.lemmas.Result.{err_from_is_err_and}
 use Rattle.page_cache.specs.Cached.{pages_of}
 use Rattle.page_alloc.proofs.ChainLemmas.{front_marked_at, taken_at, taken_sound_at, first_taken}
 use Rattle.page_alloc.proofs.JoinLemmas.{at_err, rested}
 use Rattle.page_alloc.proofs.pager.Pager.take_free.Goals as goal
 
-pub returns-in_err-next-clause-kept : goal.returns-in_err-next-clause-kept
-returns-in_err-next-clause-kept g c =
+pub returns-in_err-next-clause-takes : goal.returns-in_err-next-clause-takes
+returns-in_err-next-clause-takes g c =
     let kept = c.next_free.ensures.kept in
-    at_err c.from_residual.result (rested c.args.cache.now c.next_free.new.cache c.args.self.now (g.S.Shelf.state c.args.shelf.now) (g.S.Shelf.state c.next_free.new.shelf) kept.pages kept.goes.others.honest)
+    record {
+      taken = search rules;
+      kept = at_err c.from_residual.result (rested c.args.cache.now c.next_free.new.cache c.args.self.now (g.S.Shelf.state c.args.shelf.now) (g.S.Shelf.state c.next_free.new.shelf) kept.pages kept.goes.others.honest);
+      order = search rules;
+    }
 
 pub returns-in_err-next-clause-fails : goal.returns-in_err-next-clause-fails
 returns-in_err-next-clause-fails g c =
@@ -20,24 +24,22 @@ returns-in_err-next-clause-fails g c =
       damage = λ sound. fails.damage (sound.0, front_marked_at (pages_of c.args.cache.now (g.S.Shelf.state c.args.shelf.now)) p.count p.first p.free c.requires.free sound.1);
     })
 
-pub returns-clause-taken : goal.returns-clause-taken
-returns-clause-taken g c =
+pub returns-clause-takes : goal.returns-clause-takes
+returns-clause-takes g c =
     let p = c.args.self.now in
     let old = pages_of c.args.cache.now (g.S.Shelf.state c.args.shelf.now) in
     let new = pages_of c.next_free.new.cache (g.S.Shelf.state c.next_free.new.shelf) in
     let some = c.requires.free in
     let positive = c.if-n-eq0.false in
     record {
-      number = omega arith;
-      page = λ honest sound. (_, taken_at old new p.count p.first c.in_ok-next.next p.free some (c.next_free.ensures.kept.pages honest) (c.in_ok-next.ensures.next honest) sound);
-      sound = λ honest sound. taken_sound_at old new p.count p.first c.in_ok-next.next p.free some (c.next_free.ensures.kept.pages honest) (c.in_ok-next.ensures.next honest) sound;
-      one = omega arith;
+      taken = record {
+        number = omega arith;
+        page = λ honest sound. (_, taken_at old new p.count p.first c.in_ok-next.next p.free some (c.next_free.ensures.kept.pages honest) (c.in_ok-next.ensures.next honest) sound);
+        sound = λ honest sound. taken_sound_at old new p.count p.first c.in_ok-next.next p.free some (c.next_free.ensures.kept.pages honest) (c.in_ok-next.ensures.next honest) sound;
+        one = omega arith;
+      };
+      kept = tt;
+      order = λ honest free before.
+          let taken = first_taken old new p.count p.first c.in_ok-next.next p.free free c.requires.free (c.next_free.ensures.kept.pages honest) (c.in_ok-next.ensures.next honest) before in
+          rw taken.1 (refl, refl, taken.2);
     }
-
-pub returns-clause-order : goal.returns-clause-order
-returns-clause-order g c honest free before =
-    let p = c.args.self.now in
-    let old = pages_of c.args.cache.now (g.S.Shelf.state c.args.shelf.now) in
-    let new = pages_of c.next_free.new.cache (g.S.Shelf.state c.next_free.new.shelf) in
-    let taken = first_taken old new p.count p.first c.in_ok-next.next p.free free c.requires.free (c.next_free.ensures.kept.pages honest) (c.in_ok-next.ensures.next honest) before in
-    rw taken.1 (refl, refl, taken.2)

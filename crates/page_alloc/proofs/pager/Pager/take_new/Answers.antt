@@ -1,35 +1,37 @@
-use Rattle.std.proofs.Common.{◌≡◌, ◌+◌, Some, refl, arith}
+use Rattle.std.proofs.Common.{rules, ◌≡◌, ◌+◌, Some, refl, arith}
 use Rattle.page_cache.specs.Cached.{pages_of}
 use Rattle.page_alloc.specs.Chain.{chain}
 use Rattle.page_alloc.proofs.ChainLemmas.{added, still_none}
 use Rattle.page_alloc.proofs.JoinLemmas.{at_err, rested}
 use Rattle.page_alloc.proofs.pager.Pager.take_new.Goals as goal
 
-pub returns-in_err-zero-clause-kept : goal.returns-in_err-zero-clause-kept
-returns-in_err-zero-clause-kept g c =
-    at_err c.from_residual.result (rested c.args.cache.now c.zero.new.self c.args.self.now (g.S.Shelf.state c.args.shelf.now) (g.S.Shelf.state c.zero.new.shelf) c.in_err-zero.ensures.kept.pages c.zero.ensures.goes_on.goes.others.honest)
+pub returns-in_err-zero-clause-takes : goal.returns-in_err-zero-clause-takes
+returns-in_err-zero-clause-takes g c =
+    record {
+      taken = search rules;
+      kept = at_err c.from_residual.result (rested c.args.cache.now c.zero.new.self c.args.self.now (g.S.Shelf.state c.args.shelf.now) (g.S.Shelf.state c.zero.new.shelf) c.in_err-zero.ensures.kept.pages c.zero.ensures.goes_on.goes.others.honest);
+      order = search rules;
+    }
 
-pub returns-clause-taken : goal.returns-clause-taken
-returns-clause-taken g c =
+pub returns-clause-takes : goal.returns-clause-takes
+returns-clause-takes g c =
     let p = c.args.self.now in
     let s = g.S.Shelf.state c.args.shelf.now in
     let t = g.S.Shelf.state c.zero.new.shelf in
-    let pages = pages_of c.args.cache.now s in
+    let old = pages_of c.args.cache.now s in
     let new = pages_of c.zero.new.self t in
     let header = c.requires.ready.header in
     let low = c.if-self.false in
-    rw c.requires.free (record {
-      number = omega arith;
-      page = λ honest sound. (_, added pages new p.count p.first header (c.in_ok-zero.ensures.zeroed.others honest) sound);
-      sound = λ honest sound. sound;
-      one = omega arith;
-    })
-
-pub returns-clause-order : goal.returns-clause-order
-returns-clause-order g c honest free before =
-    let p = c.args.self.now in
-    let old = pages_of c.args.cache.now (g.S.Shelf.state c.args.shelf.now) in
-    let new = pages_of c.zero.new.self (g.S.Shelf.state c.zero.new.shelf) in
-    let was : chain old p.count p.first 0 ≡ Some free = rw c.requires.free at before in
-    let none = still_none old new p.count (p.count + 1) p.first free was in
-    rw (none.0, c.requires.free) (refl, refl, none.1)
+    record {
+      taken = rw c.requires.free (record {
+        number = omega arith;
+        page = λ honest sound. (_, added old new p.count p.first header (c.in_ok-zero.ensures.zeroed.others honest) sound);
+        sound = λ honest sound. sound;
+        one = omega arith;
+      });
+      kept = tt;
+      order = λ honest free before.
+          let was : chain old p.count p.first 0 ≡ Some free = rw c.requires.free at before in
+          let none = still_none old new p.count (p.count + 1) p.first free was in
+          rw (none.0, c.requires.free) (refl, refl, none.1);
+    }

@@ -83,7 +83,7 @@ returns-in-Err g c =
     let box = c.box_for_page.ensures.same in
     let w = c.write_zeros.ensures in
     let last = c.requires.page.1 ∙ sym (ap (λ x. x.pages) room.keeps.store) in
-    let all = all_added m _ t u c.args.n c.requires.page.0 last box.frames (rw box.store at w.extends) room.over (rw box.store at w.writes.goes) (Err c.in-Err.fault) tt (c.in-Err.ensures.kept ∙ box.store) tt in
+    let all = all_added m _ t u c.args.n c.requires.page.0 last box.frames (rw box.store at w.extends) room.over (rw box.store at w.writes.goes) (Err c.in-Err.fault) tt (c.in-Err.ensures.added ∙ box.store) tt in
     record {
       zeroed = tt;
       kept = keeps_then old m _ s t u kept all.kept;

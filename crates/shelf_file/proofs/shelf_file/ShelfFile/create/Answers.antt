@@ -18,7 +18,7 @@ returns-in_err-file-clause-images g c =
     let old = unit_file (g.S.Shelf.state c.args.shelf.now) c.args.unit in
     at_end (λ s. IsTrue (g.S.Shelf.state s).is_honest → Throughout (WasOrRefused old) old (unit_file (g.S.Shelf.state s) c.args.unit))
     _ _ c.shelf-1.given.1 c.create-2.ensures.writes.step.1
-    (made_images c.args.unit c.args.limit c.in_ok-pages.pages _ _ _ _ _ c.in_ok-pages.ensures.made c.in_ok-pages.ensures.ready c.create-2.ensures.writes.step.2 old c.create.ensures.images)
+    (made_images c.args.unit c.args.limit c.in_ok-pages.pages _ _ _ _ _ c.in_ok-pages.ensures.made c.in_ok-pages.ensures.ready c.create-2.ensures.writes.step.2 old c.create.ensures.opens.images)
 
 pub returns-in_err-file-clause-failed : goal.returns-in_err-file-clause-failed
 returns-in_err-file-clause-failed g c =
@@ -33,7 +33,7 @@ returns-in_err-file-clause-cause g c =
     _ _ c.shelf-1.given.1 c.create-2.ensures.writes.step.1
     (handed_on c.from_residual-in_err-file.result c.in_err-file.field-0.0 _ c.from_residual-in_err-file.ensures.1
     (made_cause c.args.unit c.args.limit c.in_ok-pages.pages _ _ _ _ _ c.in_ok-pages.ensures.made c.in_ok-pages.ensures.ready c.create-2.ensures.writes.step.2
-    (g.S.Shelf.fault_count c.args.shelf.now) (length c.args.schema.now.keys) c.in_err-file.field-0.0 c.create.ensures.cause.no_fewer c.requires.limit c.key_count-keys.ensures.schema.few c.in_err-file.ensures.writes.cause))
+    (g.S.Shelf.fault_count c.args.shelf.now) (length c.args.schema.now.keys) c.in_err-file.field-0.0 c.create.ensures.opens.cause.no_fewer c.requires.limit c.key_count-keys.ensures.schema.few c.in_err-file.ensures.writes.cause))
 
 pub returns-in_err-file-clause-damage : goal.returns-in_err-file-clause-damage
 returns-in_err-file-clause-damage g c =
@@ -70,4 +70,4 @@ returns-clause-images g c =
     let old = unit_file (g.S.Shelf.state c.args.shelf.now) c.args.unit in
     at_end (λ s. IsTrue (g.S.Shelf.state s).is_honest → Throughout (WasOrRefused old) old (unit_file (g.S.Shelf.state s) c.args.unit))
     _ _ c.shelf-1.given.1 c.create-2.ensures.writes.step.1
-    (made_images c.args.unit c.args.limit c.in_ok-pages.pages _ _ _ _ _ c.in_ok-pages.ensures.made c.in_ok-pages.ensures.ready c.create-2.ensures.writes.step.2 old c.create.ensures.images)
+    (made_images c.args.unit c.args.limit c.in_ok-pages.pages _ _ _ _ _ c.in_ok-pages.ensures.made c.in_ok-pages.ensures.ready c.create-2.ensures.writes.step.2 old c.create.ensures.opens.images)

@@ -1,0 +1,57 @@
+-- What the calls that take pages and give them back leave, at a fault too.
+use Rattle.std.specs.Prelude.{◌≡◌, ℕ, ◌+◌, ◌≤◌, IsTrue, IsSome, Result, IfOk, IfErr, OnOk, OnErr}
+use Rattle.io_state.specs.declared.fault.Fault.{Fault}
+use Rattle.page_store.specs.ShelfState.{ShelfState}
+use Rattle.page_cache.specs.declared.cache.Cache.{Cache}
+use Rattle.page_cache.specs.Cached.{pages_of}
+use Rattle.pages.specs.PagesState.{Rests}
+use Rattle.page_alloc.specs.declared.pager.Pager.{Pager}
+use Rattle.page_alloc.specs.FreePage.{is_free}
+use Rattle.page_alloc.specs.Joining.{pages_state, free_pages, IsJoined, PartsGo, HasFailed}
+use Rattle.page_alloc.specs.Order.{TakesInOrder, GivesInOrder}
+use Rattle.page_alloc.specs.Taking.{Taken, Given, CallFails}
+
+module _ {H : Type 0} (count : H → ℕ) where
+  -- a fault of the call is no Damage where the pages were sound, and Full only where room was lacking
+  abbrev pub FailsOnly : {X : Type 0} → Type 0 → Type 0 → H → H → Result X Fault → Type 0
+  FailsOnly sound lacks_room before after result = IfErr result (CallFails sound (HasFailed (count before) (count after)) lacks_room)
+
+-- of shelves that show this state and count their faults so
+module _ {H : Type 0} (state : H → ShelfState) (count : H → ℕ) where
+  -- a call that asks for one page at most
+  pub record AsksOnce (old new : Cache) (before after : H) : Type 0 where
+    pub asked : new.asked ≤ old.asked + 1
+    pub goes : PartsGo old new (state before) (state after) (count before) (count after)
+
+  -- so, and further calls may be made, with the same limit of pages
+  pub record PagerGoes (old new : Cache) (from to : Pager) (before after : H) : Type 0 where
+    pub asked : new.asked ≤ old.asked + 1
+    pub limit : to.limit ≡ from.limit
+    pub goes : PartsGo old new (state before) (state after) (count before) (count after)
+    pub ready : IsJoined new to (state after)
+
+module _ {H : Type 0} (state : H → ShelfState) where
+  -- the shelf is honest after a call before which the free pages were what they should be
+  abbrev pub WasSound : Cache → Pager → H → H → Type 0
+  WasSound cache pager before after = IsTrue (state after).is_honest × IsTrue (pages_state cache pager (state before)).is_sound
+
+  -- the shelf is honest after a call before which page n was in use
+  abbrev pub WasInUse : ℕ → Cache → Pager → H → H → Type 0
+  WasInUse n cache pager before after = IsTrue (state after).is_honest × IsSome ((pages_state cache pager (state before)).live n)
+
+  -- the shelf is honest after a call before which page n was marked as a free one
+  abbrev pub WasMarked : ℕ → Cache → H → H → Type 0
+  WasMarked n cache before after = IsTrue (state after).is_honest × IsTrue (is_free (pages_of cache (state before) n))
+
+  -- a call that takes a page, or leaves all of them as they were
+  pub record TakesPage (old new : Cache) (from to : Pager) (before after : H) (result : Result ℕ Fault) : Type 0 where
+    pub taken : IfOk result (Taken (pages_state old from (state before)) (pages_state new to (state after)))
+    pub kept : OnErr result (Rests (pages_state old from (state before)) (pages_state new to (state after)))
+    pub order : IsTrue (state after).is_honest → TakesInOrder from to (free_pages old from (state before)) (free_pages new to (state after)) result
+
+  -- a call that gives page n back, or leaves all pages as they were
+  pub record GivesPage {X : Type 0} (n : ℕ) (old new : Cache) (from to : Pager) (before after : H) (result : Result X Fault) : Type 0 where
+    pub given : OnOk result (Given (pages_state old from (state before)) (pages_state new to (state after)) n)
+    pub kept : OnErr result (Rests (pages_state old from (state before)) (pages_state new to (state after)))
+    pub order : IsTrue (state after).is_honest → IsSome ((pages_state old from (state before)).live n)
+        → GivesInOrder n from to (free_pages old from (state before)) (free_pages new to (state after)) result
