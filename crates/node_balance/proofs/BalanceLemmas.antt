@@ -2,76 +2,70 @@
 use Rattle.std.proofs.Common.{◌≡◌, ◌≢◌, ℕ, zero, suc, Bool, Option, Some, ◌+◌, ◌*◌, ◌/◌, ◌<◌, ◌≤◌, List, ◌++◌, ◌∷◌, false, length, take, slice_index_or, [], refl, ap, sym, ◌∙◌, arith}
 use Rattle.std.proofs.lemmas.List.{length-append}
 use Rattle.tree_node.specs.declared.shape.Shape.{Shape}
-use Rattle.tree_node.specs.Leaf.{IsLeaf, leaf_entries, leaf_room}
+use Rattle.tree_node.specs.Leaf.{leaf_entries, leaf_room, LeavesInOrder}
 use Rattle.tree_node.proofs.LeafLemmas.{leaf_room_some}
-use Rattle.tree_node.specs.Inner.{IsInner, separators, children, inner_room}
-use Rattle.node_balance.specs.Balance.{HasSeparator, LeavesShared, InnersShared, AreShared, Balances}
+use Rattle.tree_node.specs.Inner.{separators, inner_room, InnersInOrder}
+use Rattle.node_balance.specs.Balance.{ChangesSeparator, LeavesShared, InnersShared, AreShared, Balances}
 
 pub lengths : {X : Type 0} (a b c d : List X) → a ++ b ≡ c ++ d → length a + length b ≡ length c + length d
 lengths a b c d e = sym (length-append a b) ∙ ap length e ∙ length-append c d
 
 -- the left one had less
-pub left_filled : (shape : Shape) (left right left_now right_now : List ℕ) → IsLeaf shape left_now → IsLeaf shape right_now
-    → leaf_entries shape left_now ++ leaf_entries shape right_now ≡ leaf_entries shape left ++ leaf_entries shape right
+pub left_filled : (shape : Shape) (left right left_now right_now : List ℕ) → LeavesInOrder shape left right left_now right_now
     → length (leaf_entries shape left_now) ≡ length (leaf_entries shape left) + 1
     → 2 * (leaf_room shape / 2) ≤ length (leaf_entries shape left) + length (leaf_entries shape right) → length (leaf_entries shape left) < length (leaf_entries shape right)
     → LeavesShared shape left right left_now right_now (take shape.width (slice_index_or (leaf_entries shape right_now) 0 []))
-left_filled shape left right left_now right_now lower upper has more enough fewer =
-    let same = lengths (leaf_entries shape left_now) (leaf_entries shape right_now) (leaf_entries shape left) (leaf_entries shape right) has in
+left_filled shape left right left_now right_now in_order more enough fewer =
+    let same = lengths (leaf_entries shape left_now) (leaf_entries shape right_now) (leaf_entries shape left) (leaf_entries shape right) in_order.has in
     let room = leaf_room_some shape in
     record {
-      lower = lower;
-      upper = upper;
-      has = has;
+      lower = in_order.lower;
+      upper = in_order.upper;
+      has = in_order.has;
       between = refl;
       some = (omega arith, omega arith);
       fill = λ a b. (omega arith, omega arith);
     }
 
 -- the right one had less
-pub right_filled : (shape : Shape) (left right left_now right_now : List ℕ) → IsLeaf shape left_now → IsLeaf shape right_now
-    → leaf_entries shape left_now ++ leaf_entries shape right_now ≡ leaf_entries shape left ++ leaf_entries shape right
+pub right_filled : (shape : Shape) (left right left_now right_now : List ℕ) → LeavesInOrder shape left right left_now right_now
     → length (leaf_entries shape right_now) ≡ length (leaf_entries shape right) + 1
     → 2 * (leaf_room shape / 2) ≤ length (leaf_entries shape left) + length (leaf_entries shape right) → length (leaf_entries shape right) < length (leaf_entries shape left)
     → LeavesShared shape left right left_now right_now (take shape.width (slice_index_or (leaf_entries shape right_now) 0 []))
-right_filled shape left right left_now right_now lower upper has more enough fewer =
-    let same = lengths (leaf_entries shape left_now) (leaf_entries shape right_now) (leaf_entries shape left) (leaf_entries shape right) has in
+right_filled shape left right left_now right_now in_order more enough fewer =
+    let same = lengths (leaf_entries shape left_now) (leaf_entries shape right_now) (leaf_entries shape left) (leaf_entries shape right) in_order.has in
     let room = leaf_room_some shape in
     record {
-      lower = lower;
-      upper = upper;
-      has = has;
+      lower = in_order.lower;
+      upper = in_order.upper;
+      has = in_order.has;
       between = refl;
       some = (omega arith, omega arith);
       fill = λ a b. (omega arith, omega arith);
     }
 
 -- an answer that two nodes share what they have
-pub only_shared : (shape : Shape) (k at : ℕ) (node left right node_now left_now right_now key : List ℕ) → HasSeparator shape at key node node_now
+pub only_shared : (shape : Shape) (k at : ℕ) (node left right node_now left_now right_now key : List ℕ) → ChangesSeparator shape at key node node_now
     → AreShared shape k (slice_index_or (separators shape node) at []) left right left_now right_now key → Balances shape k at node left right node_now left_now right_now (Some false)
 only_shared shape k at node left right node_now left_now right_now key parent pair =
     record { joined = λ e. cc e; shared = λ e. record { key = key; parent = parent; pair = pair }; neither = λ e. cc e }
 
 -- the same of inner nodes: the left one had less
-pub left_inner : (shape : Shape) (between left right left_now right_now key : List ℕ) → IsInner shape left_now → IsInner shape right_now
-    → separators shape left_now ++ key ∷ separators shape right_now ≡ separators shape left ++ between ∷ separators shape right
-    → children shape left_now ++ children shape right_now ≡ children shape left ++ children shape right
+pub left_inner : (shape : Shape) (between left right left_now right_now key : List ℕ) → InnersInOrder shape between key left right left_now right_now
     → length (separators shape left_now) ≡ length (separators shape left) + 1
     → 2 * (inner_room shape / 2) ≤ length (separators shape left) + length (separators shape right) → length (separators shape left) < length (separators shape right)
     → InnersShared shape between left right left_now right_now key
-left_inner shape between left right left_now right_now key lower upper has below more enough fewer =
-    let same = lengths (separators shape left_now) (key ∷ separators shape right_now) (separators shape left) (between ∷ separators shape right) has in
-    record { lower = lower; upper = upper; has = has; below = below; fill = λ a b. (omega arith, omega arith) }
+left_inner shape between left right left_now right_now key in_order more enough fewer =
+    let same = lengths (separators shape left_now) (key ∷ separators shape right_now) (separators shape left) (between ∷ separators shape right) in_order.has in
+    record { lower = in_order.lower; upper = in_order.upper; has = in_order.has; below = in_order.below; fill = λ a b. (omega arith, omega arith) }
 
-pub right_inner : (shape : Shape) (between left right left_now right_now key : List ℕ) → IsInner shape left_now → IsInner shape right_now
-    → separators shape left_now ++ key ∷ separators shape right_now ≡ separators shape left ++ between ∷ separators shape right
-    → children shape left_now ++ children shape right_now ≡ children shape left ++ children shape right
+pub right_inner : (shape : Shape) (between left right left_now right_now key : List ℕ) → InnersInOrder shape between key left right left_now right_now
     → length (separators shape right_now) ≡ length (separators shape right) + 1
     → 2 * (inner_room shape / 2) ≤ length (separators shape left) + length (separators shape right) → length (separators shape right) < length (separators shape left)
     → InnersShared shape between left right left_now right_now key
-right_inner shape between left right left_now right_now key lower upper has below more enough fewer =
-    let same = lengths (separators shape left_now) (key ∷ separators shape right_now) (separators shape left) (between ∷ separators shape right) has in
-    record { lower = lower; upper = upper; has = has; below = below; fill = λ a b. (omega arith, omega arith) }
+right_inner shape between left right left_now right_now key in_order more enough fewer =
+    let same = lengths (separators shape left_now) (key ∷ separators shape right_now) (separators shape left) (between ∷ separators shape right) in_order.has in
+    record { lower = in_order.lower; upper = in_order.upper; has = in_order.has; below = in_order.below; fill = λ a b. (omega arith, omega arith) }
 
 -- inner nodes are alike at every level
 pub above_leaves : (shape : Shape) (k at : ℕ) (node left right node_now left_now right_now : List ℕ) (result : Option Bool) → k ≢ 0

@@ -12,7 +12,7 @@ pub record LosesSeparator (shape : Shape) (at : ℕ) (old new : List ℕ) : Type
   pub below : children shape new ≡ remove (children shape old) (at + 1)
 
 -- the separator at this place is another one
-pub record HasSeparator (shape : Shape) (at : ℕ) (key old new : List ℕ) : Type 0 where
+pub record ChangesSeparator (shape : Shape) (at : ℕ) (key old new : List ℕ) : Type 0 where
   pub inner : IsInner shape new
   pub separator : separators shape new ≡ slice_set (separators shape old) at key
   pub below : children shape new ≡ children shape old
@@ -67,7 +67,7 @@ AreShared shape (suc k) between left right left_now right_now key = InnersShared
 -- a node and two of its children with k levels below these, where the two share what they have
 pub record Shares (shape : Shape) (k at : ℕ) (node left right node_now left_now right_now : List ℕ) : Type 0 where
   pub key : List ℕ
-  pub parent : HasSeparator shape at key node node_now
+  pub parent : ChangesSeparator shape at key node node_now
   pub pair : AreShared shape k (slice_index_or (separators shape node) at []) left right left_now right_now key
 
 -- a node and two of its children, which become one

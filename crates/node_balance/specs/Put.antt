@@ -1,16 +1,12 @@
 -- One entry or separator more in a node, part of which goes to another page where it is full.
-use Rattle.std.specs.Prelude.{◌≡◌, ℕ, ◌+◌, ◌≤◌, List, [], take, length, slice_index_or, Some, None, Option}
+use Rattle.std.specs.Prelude.{◌≡◌, ℕ, ◌+◌, ◌≤◌, List, [], take, length, insert, slice_index_or, Some, None, Option}
 use Rattle.arrayvec.specs.ArrayVec.{ArrayVec}
 use Rattle.tree_node.specs.declared.shape.Shape.{Shape}
-use Rattle.tree_node.specs.Leaf.{IsLeaf, leaf_entries}
-use Rattle.tree_node.specs.Inner.{IsInner, separators, children}
+use Rattle.tree_node.specs.Leaf.{IsLeaf, leaf_entries, LeafHas}
+use Rattle.tree_node.specs.Inner.{IsInner, separators, children, InnerHas}
 use Rattle.tree_node.specs.Split.{IsCut, IsSplit}
+use Rattle.node_balance.specs.declared.separator.Separator.{Separator}
 use Rattle.node_balance.specs.Fill.{least}
-
--- the leaf has these entries
-pub record LeafHas (shape : Shape) (page : List ℕ) (entries : List (List ℕ)) : Type 0 where
-  pub leaf : IsLeaf shape page
-  pub has : leaf_entries shape page ≡ entries
 
 -- two leaves have these entries, both at least half full, and the key is the first of the second one
 pub record LeavesHave (shape : Shape) (page upper : List ℕ) (entries : List (List ℕ)) (key : List ℕ) : Type 0 where
@@ -27,12 +23,6 @@ abbrev pub PutInLeaf : Shape → (page upper : List ℕ) → List (List ℕ) →
 PutInLeaf shape page upper entries None = LeafHas shape page entries
 PutInLeaf shape page upper entries (Some key) = LeavesHave shape page upper entries key.items
 
--- the node has these separators and children
-pub record InnerHas (shape : Shape) (page : List ℕ) (seps : List (List ℕ)) (below : List ℕ) : Type 0 where
-  pub inner : IsInner shape page
-  pub has : separators shape page ≡ seps
-  pub leads : children shape page ≡ below
-
 -- two nodes have them, both at least half full, but for the separator between the two
 pub record InnersHave (shape : Shape) (page upper : List ℕ) (seps : List (List ℕ)) (below : List ℕ) (key : List ℕ) : Type 0 where
   pub inner : IsInner shape page
@@ -47,3 +37,8 @@ pub record InnersHave (shape : Shape) (page upper : List ℕ) (seps : List (List
 abbrev pub PutInInner : Shape → (page upper : List ℕ) → List (List ℕ) → List ℕ → Option (ArrayVec ℕ) → Type 0
 PutInInner shape page upper seps below None = InnerHas shape page seps below
 PutInInner shape page upper seps below (Some key) = InnersHave shape page upper seps below key.items
+
+-- a separator stands at this place of an inner node, with the child to its right; or, where a key is answered, two nodes have what is there then
+abbrev pub PutsSeparator : Shape → (place : ℕ) → Separator → (page page_now upper : List ℕ) → Option (ArrayVec ℕ) → Type 0
+PutsSeparator shape place separator page page_now upper key =
+    PutInInner shape page_now upper (insert (separators shape page) place separator.key.items) (insert (children shape page) (place + 1) separator.child) key

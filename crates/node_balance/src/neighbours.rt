@@ -1,10 +1,9 @@
 //! Two nodes side by side, of which one has too little.
 
-ghost use Rattle.std.specs.Prelude.{◌≡◌, ◌+◌, ◌-◌, ◌*◌, ◌<◌, ◌≤◌, ℕ, length, ◌++◌, ◌∷◌, [], take, remove, slice_set, slice_index_or};
-ghost use Rattle.tree_node.specs.Leaf.{IsLeaf, leaf_entries, leaf_room};
-ghost use Rattle.tree_node.specs.Inner.{IsInner, separators, children, inner_room};
-ghost use Rattle.node_balance.specs.Fill.{least};
-ghost use Rattle.node_balance.specs.Balance.{LosesSeparator, HasSeparator, LeavesJoined, LeavesShared, InnersJoined, InnersShared, Joins, Shares, Balances};
+ghost use Rattle.std.specs.Prelude.{◌≡◌, ◌+◌, length, [], take, slice_index_or};
+ghost use Rattle.tree_node.specs.Leaf.{leaf_entries, HasEntryAt, CanMergeLeaf, CanBorrowEntry, LeavesInOrder};
+ghost use Rattle.tree_node.specs.Inner.{separators, HasSeparatorAt, CanMergeInner, CanBorrowChild, InnersInOrder};
+ghost use Rattle.node_balance.specs.Balance.{LosesSeparator, ChangesSeparator, LeavesJoined, InnersJoined, Balances};
 
 use page_bytes::PAGE_SIZE;
 use tree_node::{
@@ -13,8 +12,7 @@ use tree_node::{
 
 /// Takes a separator out, and the child to its right.
 fn lose(node: &mut [u8; PAGE_SIZE], shape: Shape, at: usize)
-    requires inner { IsInner shape node.old }
-    requires place { at < length (separators shape node.old) }
+    requires { HasSeparatorAt shape at node.old }
     ensures { LosesSeparator shape at node.old node.new }
 {
     InnerViewMut { page: node, shape }.remove_at(at);
@@ -22,20 +20,17 @@ fn lose(node: &mut [u8; PAGE_SIZE], shape: Shape, at: usize)
 
 /// Puts the first key of a leaf between that leaf and the one before it.
 fn lead(node: &mut [u8; PAGE_SIZE], shape: Shape, at: usize, right: &[u8; PAGE_SIZE])
-    requires inner { IsInner shape node.old }
-    requires place { at < length (separators shape node.old) }
-    requires leaf { IsLeaf shape right.now }
-    requires some { 0 < length (leaf_entries shape right.now) }
-    ensures { HasSeparator shape at (take shape.width (slice_index_or (leaf_entries shape right.now) 0 [])) node.old node.new }
+    requires place { HasSeparatorAt shape at node.old }
+    requires first { HasEntryAt shape 0 right.now }
+    ensures { ChangesSeparator shape at (take shape.width (slice_index_or (leaf_entries shape right.now) 0 []))
+        node.old node.new }
 {
     let right = LeafView { page: right, shape };
     InnerViewMut { page: node, shape }.set_separator(at, right.key(0));
 }
 
 fn join_leaves(left: &mut [u8; PAGE_SIZE], right: &[u8; PAGE_SIZE], shape: Shape)
-    requires left { IsLeaf shape left.old }
-    requires right { IsLeaf shape right.now }
-    requires room { length (leaf_entries shape left.old) + length (leaf_entries shape right.now) ≤ leaf_room shape }
+    requires { CanMergeLeaf shape left.old right.now }
     ensures { LeavesJoined shape left.old right.now left.new }
 {
     LeafViewMut { page: left, shape }.merge_from(right);
@@ -44,13 +39,8 @@ fn join_leaves(left: &mut [u8; PAGE_SIZE], right: &[u8; PAGE_SIZE], shape: Shape
 /// The first entry of the leaf to the right goes over to the left one.
 #[tactic(auto, using(crate::proofs::BalanceLemmas::lengths))]
 fn fill_left_leaf(left: &mut [u8; PAGE_SIZE], right: &mut [u8; PAGE_SIZE], shape: Shape)
-    requires left { IsLeaf shape left.old }
-    requires right { IsLeaf shape right.old }
-    requires room { length (leaf_entries shape left.old) < leaf_room shape }
-    requires some { 0 < length (leaf_entries shape right.old) }
-    ensures lower { IsLeaf shape left.new }
-    ensures upper { IsLeaf shape right.new }
-    ensures has { leaf_entries shape left.new ++ leaf_entries shape right.new ≡ leaf_entries shape left.old ++ leaf_entries shape right.old }
+    requires { CanBorrowEntry shape left.old right.old }
+    ensures in_order { LeavesInOrder shape left.old right.old left.new right.new }
     ensures more { length (leaf_entries shape left.new) ≡ length (leaf_entries shape left.old) + 1 }
 {
     LeafViewMut { page: left, shape }.borrow_from_right(right);
@@ -58,13 +48,8 @@ fn fill_left_leaf(left: &mut [u8; PAGE_SIZE], right: &mut [u8; PAGE_SIZE], shape
 
 /// The last entry of the leaf to the left goes over to the right one.
 fn fill_right_leaf(left: &mut [u8; PAGE_SIZE], right: &mut [u8; PAGE_SIZE], shape: Shape)
-    requires left { IsLeaf shape left.old }
-    requires right { IsLeaf shape right.old }
-    requires room { length (leaf_entries shape right.old) < leaf_room shape }
-    requires some { 0 < length (leaf_entries shape left.old) }
-    ensures lower { IsLeaf shape left.new }
-    ensures upper { IsLeaf shape right.new }
-    ensures has { leaf_entries shape left.new ++ leaf_entries shape right.new ≡ leaf_entries shape left.old ++ leaf_entries shape right.old }
+    requires { CanBorrowEntry shape right.old left.old }
+    ensures in_order { LeavesInOrder shape left.old right.old left.new right.new }
     ensures more { length (leaf_entries shape right.new) ≡ length (leaf_entries shape right.old) + 1 }
 {
     LeafViewMut { page: right, shape }.borrow_from_left(left);
@@ -78,8 +63,7 @@ fn balance_leaves(
     shape: Shape,
     at: usize,
 ) -> Option<bool>
-    requires inner { IsInner shape node.old }
-    requires place { at < length (separators shape node.old) }
+    requires { HasSeparatorAt shape at node.old }
     ensures { Balances shape 0 at node.old left.old right.old node.new left.new right.new result }
 {
     if !is_leaf(left, shape) || !is_leaf(right, shape) {
@@ -107,8 +91,7 @@ fn balance_leaves(
 
 /// A separator that outlives its page.
 fn separator_at(node: &[u8; PAGE_SIZE], shape: Shape, at: usize) -> TreeKey
-    requires inner { IsInner shape node.now }
-    requires place { at < length (separators shape node.now) }
+    requires { HasSeparatorAt shape at node.now }
     ensures value { result.items ≡ slice_index_or (separators shape node.now) at [] }
     ensures width { length result.items ≡ shape.width }
 {
@@ -118,10 +101,7 @@ fn separator_at(node: &[u8; PAGE_SIZE], shape: Shape, at: usize) -> TreeKey
 }
 
 fn join_inners(between: &[u8], left: &mut [u8; PAGE_SIZE], right: &[u8; PAGE_SIZE], shape: Shape)
-    requires left { IsInner shape left.old }
-    requires right { IsInner shape right.now }
-    requires room { length (separators shape left.old) + length (separators shape right.now) < inner_room shape }
-    requires width { length between.now ≡ shape.width }
+    requires { CanMergeInner shape between.now left.old right.now }
     ensures { InnersJoined shape between.now left.old right.now left.new }
 {
     InnerViewMut { page: left, shape }.merge_from(between, right);
@@ -134,16 +114,8 @@ fn fill_left_inner(
     right: &mut [u8; PAGE_SIZE],
     shape: Shape,
 ) -> TreeKey
-    requires left { IsInner shape left.old }
-    requires right { IsInner shape right.old }
-    requires room { length (separators shape left.old) < inner_room shape }
-    requires some { 0 < length (separators shape right.old) }
-    requires width { length between.now ≡ shape.width }
-    ensures lower { IsInner shape left.new }
-    ensures upper { IsInner shape right.new }
-    ensures width { length result.items ≡ shape.width }
-    ensures has { separators shape left.new ++ result.items ∷ separators shape right.new ≡ separators shape left.old ++ between.now ∷ separators shape right.old }
-    ensures below { children shape left.new ++ children shape right.new ≡ children shape left.old ++ children shape right.old }
+    requires { CanBorrowChild shape between.now left.old right.old }
+    ensures in_order { InnersInOrder shape between.now result.items left.old right.old left.new right.new }
     ensures more { length (separators shape left.new) ≡ length (separators shape left.old) + 1 }
 {
     InnerViewMut { page: left, shape }.borrow_from_right(between, right)
@@ -156,16 +128,8 @@ fn fill_right_inner(
     right: &mut [u8; PAGE_SIZE],
     shape: Shape,
 ) -> TreeKey
-    requires left { IsInner shape left.old }
-    requires right { IsInner shape right.old }
-    requires room { length (separators shape right.old) < inner_room shape }
-    requires some { 0 < length (separators shape left.old) }
-    requires width { length between.now ≡ shape.width }
-    ensures lower { IsInner shape left.new }
-    ensures upper { IsInner shape right.new }
-    ensures width { length result.items ≡ shape.width }
-    ensures has { separators shape left.new ++ result.items ∷ separators shape right.new ≡ separators shape left.old ++ between.now ∷ separators shape right.old }
-    ensures below { children shape left.new ++ children shape right.new ≡ children shape left.old ++ children shape right.old }
+    requires { CanBorrowChild shape between.now right.old left.old }
+    ensures in_order { InnersInOrder shape between.now result.items left.old right.old left.new right.new }
     ensures more { length (separators shape right.new) ≡ length (separators shape right.old) + 1 }
 {
     InnerViewMut { page: right, shape }.borrow_from_left(between, left)
@@ -173,10 +137,9 @@ fn fill_right_inner(
 
 /// Puts a separator in the place of another one.
 fn set(node: &mut [u8; PAGE_SIZE], shape: Shape, at: usize, key: &[u8])
-    requires inner { IsInner shape node.old }
-    requires place { at < length (separators shape node.old) }
+    requires place { HasSeparatorAt shape at node.old }
     requires width { length key.now ≡ shape.width }
-    ensures { HasSeparator shape at key.now node.old node.new }
+    ensures { ChangesSeparator shape at key.now node.old node.new }
 {
     InnerViewMut { page: node, shape }.set_separator(at, key);
 }
@@ -189,8 +152,7 @@ fn balance_inners(
     shape: Shape,
     at: usize,
 ) -> Option<bool>
-    requires inner { IsInner shape node.old }
-    requires place { at < length (separators shape node.old) }
+    requires { HasSeparatorAt shape at node.old }
     ensures { Balances shape 1 at node.old left.old right.old node.new left.new right.new result }
 {
     if !is_inner(left, shape) || !is_inner(right, shape) {
@@ -226,8 +188,7 @@ pub fn balance(
     shape: Shape,
     at: usize,
 ) -> Option<bool>
-    requires inner { IsInner shape node.old }
-    requires place { at < length (separators shape node.old) }
+    requires { HasSeparatorAt shape at node.old }
     ensures { Balances shape levels at node.old left.old right.old node.new left.new right.new result }
 {
     if levels == 0 {

@@ -1,9 +1,9 @@
 //! One entry or separator more in the bytes of a node.
 
-ghost use Rattle.std.specs.Prelude.{◌≡◌, ◌+◌, ◌/◌, ◌<◌, ◌≤◌, ℕ, length, insert, take, slice_index_or, []};
-ghost use Rattle.tree_node.specs.Leaf.{IsLeaf, leaf_entries};
-ghost use Rattle.tree_node.specs.Inner.{IsInner, separators, children};
-ghost use Rattle.node_balance.specs.Put.{PutInLeaf, PutInInner};
+ghost use Rattle.std.specs.Prelude.{◌≡◌, length, insert, take, slice_index_or, []};
+ghost use Rattle.tree_node.specs.Leaf.{leaf_entries, HasEntryAt, EntryCanStandAt};
+ghost use Rattle.tree_node.specs.Inner.{CanStandAt};
+ghost use Rattle.node_balance.specs.Put.{PutInLeaf, PutsSeparator};
 
 use crate::separator::Separator;
 use page_bytes::PAGE_SIZE;
@@ -18,9 +18,7 @@ pub fn put_in_leaf(
     place: usize,
     entry: &[u8],
 ) -> Option<TreeKey>
-    requires leaf { IsLeaf shape page.old }
-    requires within { place ≤ length (leaf_entries shape page.old) }
-    requires size { length entry.now ≡ shape.entry }
+    requires { EntryCanStandAt shape place entry.now page.old }
     ensures { PutInLeaf shape page.new upper.new
         (insert (leaf_entries shape page.old) place entry.now) result }
 {
@@ -35,8 +33,7 @@ pub fn put_in_leaf(
 
 /// The first key of a leaf.
 fn first_key(page: &[u8; PAGE_SIZE], shape: Shape) -> TreeKey
-    requires leaf { IsLeaf shape page.now }
-    requires some { 0 < length (leaf_entries shape page.now) }
+    requires { HasEntryAt shape 0 page.now }
     ensures value { result.items ≡ take shape.width (slice_index_or (leaf_entries shape page.now) 0 []) }
     ensures width { length result.items ≡ shape.width }
 {
@@ -55,12 +52,8 @@ pub fn put_in_inner(
     place: usize,
     separator: &Separator,
 ) -> Option<TreeKey>
-    requires inner { IsInner shape page.old }
-    requires within { place ≤ length (separators shape page.old) }
-    requires width { length separator.now.key.items ≡ shape.width }
-    ensures { PutInInner shape page.new upper.new
-        (insert (separators shape page.old) place separator.now.key.items)
-        (insert (children shape page.old) (place + 1) separator.now.child) result }
+    requires { CanStandAt shape place separator.now.key.items page.old }
+    ensures { PutsSeparator shape place separator.now page.old page.new upper.new result }
 {
     let full = InnerView { page, shape }.is_full();
     if !full {

@@ -133,11 +133,8 @@ returns-in_ok-end_shared-in-Some-false-clause-rebalanced g c honest sound t low 
       no_damage = tt;
     }
 
-pub balance-requires-clause-inner : goal.balance-requires-clause-inner
-balance-requires-clause-inner g c = c.in_ok-pair.ensures.inner.0
-
-pub balance-requires-clause-place : goal.balance-requires-clause-place
-balance-requires-clause-place g c = c.in_ok-pair.ensures.inner.1
+pub balance-requires : goal.balance-requires
+balance-requires g c = record { inner = c.in_ok-pair.ensures.inner.0; place = c.in_ok-pair.ensures.inner.1 }
 
 pub returns-in_err-pair-clause-few : goal.returns-in_err-pair-clause-few
 returns-in_err-pair-clause-few g c = as_many ((g.P.Pages.shown.state c.args.pages.now).available) ((g.P.Pages.shown.state c.read_pair.new.pages).available) (g.met.P.Pages.reads_available c.args.pages.now c.read_pair.new.pages c.read_pair.ensures.reads.step)

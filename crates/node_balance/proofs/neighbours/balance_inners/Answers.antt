@@ -9,8 +9,7 @@ returns-then-lower-upper-2 c =
     only_shared c.args.shape 1 c.args.at c.args.node.now c.args.left.now c.args.right.now _ _ _ _ c.set.ensures
     (subst (λ (b : List ℕ). InnersShared c.args.shape b c.args.left.now c.args.right.now c.fill_left_inner-key.new.left c.fill_left_inner-key.new.right c.as_slice-then-lower-upper-2-2.result.now) between
     (left_inner c.args.shape c.as_slice-then-lower-upper-2.result.now c.args.left.now c.args.right.now c.fill_left_inner-key.new.left c.fill_left_inner-key.new.right c.as_slice-then-lower-upper-2-2.result.now
-    c.fill_left_inner-key.ensures.lower c.fill_left_inner-key.ensures.upper
-    (rw c.as_slice-then-lower-upper-2-2.ensures.value c.fill_left_inner-key.ensures.has) c.fill_left_inner-key.ensures.below c.fill_left_inner-key.ensures.more (omega arith) (omega arith)))
+    (rw c.as_slice-then-lower-upper-2-2.ensures.value c.fill_left_inner-key.ensures.in_order) c.fill_left_inner-key.ensures.more (omega arith) (omega arith)))
 
 pub returns-then-upper-lower : goal.returns-then-upper-lower
 returns-then-upper-lower c =
@@ -18,5 +17,4 @@ returns-then-upper-lower c =
     only_shared c.args.shape 1 c.args.at c.args.node.now c.args.left.now c.args.right.now _ _ _ _ c.set-then-upper-lower.ensures
     (subst (λ (b : List ℕ). InnersShared c.args.shape b c.args.left.now c.args.right.now c.fill_right_inner-key.new.left c.fill_right_inner-key.new.right c.as_slice-then-upper-lower-2.result.now) between
     (right_inner c.args.shape c.as_slice-then-upper-lower.result.now c.args.left.now c.args.right.now c.fill_right_inner-key.new.left c.fill_right_inner-key.new.right c.as_slice-then-upper-lower-2.result.now
-    c.fill_right_inner-key.ensures.lower c.fill_right_inner-key.ensures.upper
-    (rw c.as_slice-then-upper-lower-2.ensures.value c.fill_right_inner-key.ensures.has) c.fill_right_inner-key.ensures.below c.fill_right_inner-key.ensures.more (omega arith) (omega arith)))
+    (rw c.as_slice-then-upper-lower-2.ensures.value c.fill_right_inner-key.ensures.in_order) c.fill_right_inner-key.ensures.more (omega arith) (omega arith)))

@@ -6,10 +6,10 @@ pub returns-then-lower-upper-2 : goal.returns-then-lower-upper-2
 returns-then-lower-upper-2 c =
     only_shared c.args.shape 0 c.args.at c.args.node.now c.args.left.now c.args.right.now _ _ _ _ c.lead.ensures
     (left_filled c.args.shape c.args.left.now c.args.right.now c.fill_left_leaf.new.left c.fill_left_leaf.new.right
-    c.fill_left_leaf.ensures.lower c.fill_left_leaf.ensures.upper c.fill_left_leaf.ensures.has c.fill_left_leaf.ensures.more (omega arith) (omega arith))
+    c.fill_left_leaf.ensures.in_order c.fill_left_leaf.ensures.more (omega arith) (omega arith))
 
 pub returns-then-upper-lower : goal.returns-then-upper-lower
 returns-then-upper-lower c =
     only_shared c.args.shape 0 c.args.at c.args.node.now c.args.left.now c.args.right.now _ _ _ _ c.lead-then-upper-lower.ensures
     (right_filled c.args.shape c.args.left.now c.args.right.now c.fill_right_leaf.new.left c.fill_right_leaf.new.right
-    c.fill_right_leaf.ensures.lower c.fill_right_leaf.ensures.upper c.fill_right_leaf.ensures.has c.fill_right_leaf.ensures.more (omega arith) (omega arith))
+    c.fill_right_leaf.ensures.in_order c.fill_right_leaf.ensures.more (omega arith) (omega arith))
