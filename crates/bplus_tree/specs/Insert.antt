@@ -14,6 +14,7 @@ use Rattle.bplus_tree.specs.Edits.{with_entry}
 use Rattle.bplus_tree.specs.Split.{HasWidth}
 use Rattle.tree_search.specs.Stored.{IsLeafAt}
 use Rattle.bplus_tree.specs.Grow.{HasLeaf}
+use Rattle.tree_node.specs.Leaf.{leaf_entries}
 use Rattle.tree_node.specs.Order.{Ascends}
 use Rattle.bplus_tree.specs.Remove.{Becomes, IsHalfFullWithRoot}
 
@@ -68,6 +69,10 @@ PutsBelow shape before after is_sound h page e result =
 abbrev pub IsPutIf : ℕ → List ℕ → (old new : List (List ℕ)) → Bool → Type 0
 IsPutIf width e old new true = (entry_of width (take width e) old ≡ None) × (new ≡ with_entry width e old)
 IsPutIf width e old new false = new ≡ old
+
+-- and of the bytes of a leaf whose entries rise
+abbrev pub PutsInBytes : Shape → List ℕ → (old new : List ℕ) → Bool → Type 0
+PutsInBytes shape e old new done = Ascends shape.width (leaf_entries shape old) → IsPutIf shape.width e (leaf_entries shape old) (leaf_entries shape new) done
 
 -- and of its page
 abbrev pub HasPutInPlaceIf : Shape → PageMap → PageMap → ℕ → List ℕ → List (List ℕ) → Bool → Type 0

@@ -13,3 +13,4 @@ pub mod Split
 pub mod Grow
 pub mod Insert
 pub mod GrowRoot
+pub mod Changes

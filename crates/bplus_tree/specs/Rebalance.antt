@@ -28,13 +28,15 @@ pub record HasShared (before after : PageMap) (p : ℕ) (node : List ℕ) (q : �
   pub third : after r ≡ Some right
   pub others : (n : ℕ) → n ≢ p → n ≢ q → n ≢ r → after n ≡ before n
 
-abbrev pub EndsJoined : (before after : PageMap) (is_sound : Type 0) (p : ℕ) (node : List ℕ) (q : ℕ) (left : List ℕ) (r : ℕ) → Result Unit Fault → Type 0
-EndsJoined before after is_sound p node q left r result =
-    AreThree before p q r → IsAnswer result (λ done. HasJoined before after p node q left r × is_sound)
+-- the two children of a pair have become one
+abbrev pub EndsJoined : PageMap → PageMap → Type 0 → ℕ → Pair → (node left : List ℕ) → Result Unit Fault → Type 0
+EndsJoined before after is_sound page pair node left result =
+    AreThree before page pair.lower pair.upper → IsAnswer result (λ done. HasJoined before after page node pair.lower left pair.upper × is_sound)
 
-abbrev pub EndsShared : (before after : PageMap) (is_sound : Type 0) (p : ℕ) (node : List ℕ) (q : ℕ) (left : List ℕ) (r : ℕ) (right : List ℕ) → Result Unit Fault → Type 0
-EndsShared before after is_sound p node q left r right result =
-    AreThree before p q r → IsAnswer result (λ done. HasShared before after p node q left r right × is_sound)
+-- the two children of a pair have other entries, or other children
+abbrev pub EndsShared : PageMap → PageMap → Type 0 → ℕ → Pair → (node left right : List ℕ) → Result Unit Fault → Type 0
+EndsShared before after is_sound page pair node left right result =
+    AreThree before page pair.lower pair.upper → IsAnswer result (λ done. HasShared before after page node pair.lower left pair.upper right × is_sound)
 
 -- a separator beside child `place`, and the pages of the children on its two sides
 pub record IsBeside (shape : Shape) (place : ℕ) (node : List ℕ) (pair : Pair) : Type 0 where

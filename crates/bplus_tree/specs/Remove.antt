@@ -8,6 +8,7 @@ use Rattle.bplus_tree.specs.declared.remove.Shrunk.{Shrunk}
 use Rattle.bplus_tree.specs.declared.remove.Shrunk.TheVariants.{Absent, Taken}
 use Rattle.node_balance.specs.Fill.{least}
 use Rattle.arrayvec.specs.ArrayVec.{ArrayVec}
+use Rattle.tree_node.specs.Leaf.{leaf_entries}
 use Rattle.tree_node.specs.Order.{Ascends, IsRank}
 use Rattle.tree_search.specs.Tree.{TreeOf, entries_of, pages_of, size_of, Bound, IsHalfFull, IsRooted}
 use Rattle.tree_search.specs.Stored.{IsLeafAt}
@@ -99,6 +100,10 @@ pub record IsTaken (shape : Shape) (key : List ℕ) (old new : List (List ℕ)) 
 abbrev pub IsTakenIf : Shape → List ℕ → (old new : List (List ℕ)) → ArrayVec ℕ → Bool → Type 0
 IsTakenIf shape key old new entry true = IsTaken shape key old new entry.items
 IsTakenIf shape key old new entry false = new ≡ old
+
+-- and of the bytes of a leaf whose entries rise
+abbrev pub TakesFromBytes : Shape → List ℕ → (old new : List ℕ) → ArrayVec ℕ → Bool → Type 0
+TakesFromBytes shape key old new entry done = Ascends shape.width (leaf_entries shape old) → IsTakenIf shape key (leaf_entries shape old) (leaf_entries shape new) entry done
 
 -- and of its page
 pub record HasTakenInPlace (shape : Shape) (before after : PageMap) (page : ℕ) (key : List ℕ) (entries : List (List ℕ)) (entry : List ℕ) : Type 0 where

@@ -1,7 +1,8 @@
 //! The root after a removal.
 
 ghost use Rattle.std.specs.Prelude.{◌≡◌, ◌<◌, ◌≤◌, IsTrue, IfOk};
-ghost use Rattle.pages.specs.PageCalls.{ReadsPages, WritesPages};
+ghost use Rattle.pages.specs.PageCalls.{ReadsPages};
+ghost use Rattle.bplus_tree.specs.Changes.{CanWrite, WhereSound, GivesPages};
 ghost use Rattle.bplus_tree.specs.Collapse.{Sees, CollapsesInner, Collapses};
 
 use io_state::Fault;
@@ -17,13 +18,11 @@ pub struct Base {
 
 /// Gives the root back where it has one child only, which is the root then.
 pub fn collapse<P: Pages>(pages: &mut P, shape: Shape, root: u32, levels: u8) -> Result<Base, Fault>
-    requires ready { P.shown.IsReady pages.old }
-    requires open { P.shown.CanChange pages.old }
-    ensures collapsed { IsTrue (P.shown.state pages.new).is_honest → IsTrue (P.shown.state pages.old).is_sound
-        → Collapses shape (P.shown.state pages.old).live (P.shown.state pages.new).live (IsTrue (P.shown.state pages.new).is_sound) levels root result }
+    requires { CanWrite P.shown pages.old }
+    ensures collapsed { WhereSound P.shown pages.old pages.new
+        (λ before after sound. Collapses shape before after sound levels root result) }
     ensures height { IfOk result (λ base. base.levels ≤ levels) }
-    ensures few { (P.shown.state pages.old).available ≤ (P.shown.state pages.new).available }
-    ensures writes { WritesPages P.shown 2 ⊥ pages.old pages.new result }
+    ensures writes { GivesPages P.shown 2 pages.old pages.new result }
 {
     if levels == 0 {
         return Ok(Base { root, levels });
@@ -39,12 +38,10 @@ pub fn collapse<P: Pages>(pages: &mut P, shape: Shape, root: u32, levels: u8) ->
 
 /// Gives an inner node back that has one child only, and answers the child.
 fn collapse_inner<P: Pages>(pages: &mut P, shape: Shape, page: u32) -> Result<Option<u32>, Fault>
-    requires ready { P.shown.IsReady pages.old }
-    requires open { P.shown.CanChange pages.old }
-    ensures inner_collapsed { IsTrue (P.shown.state pages.new).is_honest → IsTrue (P.shown.state pages.old).is_sound
-        → CollapsesInner shape (P.shown.state pages.old).live (P.shown.state pages.new).live (IsTrue (P.shown.state pages.new).is_sound) page result }
-    ensures few { (P.shown.state pages.old).available ≤ (P.shown.state pages.new).available }
-    ensures writes { WritesPages P.shown 2 ⊥ pages.old pages.new result }
+    requires { CanWrite P.shown pages.old }
+    ensures inner_collapsed { WhereSound P.shown pages.old pages.new
+        (λ before after sound. CollapsesInner shape before after sound page result) }
+    ensures writes { GivesPages P.shown 2 pages.old pages.new result }
 {
     match only_child(pages, shape, page)? {
         None => Ok(None),

@@ -1,7 +1,7 @@
 //! The page of a new tree.
 
 ghost use Rattle.std.specs.Prelude.{◌≡◌, ◌≢◌, IsTrue, IsSome, OnOk};
-ghost use Rattle.pages.specs.PageCalls.{WritesPages};
+ghost use Rattle.bplus_tree.specs.Changes.{CanWrite, KeepsSound, EditsPages};
 ghost use Rattle.bplus_tree.specs.Start.{Starts};
 
 use io_state::Fault;
@@ -10,14 +10,11 @@ use tree_node::{Shape, write_leaf};
 
 /// Writes a leaf without entries.
 pub fn write_empty_leaf<P: Pages>(pages: &mut P, shape: Shape, page: u32) -> Result<(), Fault>
-    requires ready { P.shown.IsReady pages.old }
-    requires open { P.shown.CanChange pages.old }
+    requires { CanWrite P.shown pages.old }
     ensures started { IsTrue (P.shown.state pages.new).is_honest
         → Starts shape (P.shown.state pages.old).live (P.shown.state pages.new).live page result }
-    ensures sound { IsTrue (P.shown.state pages.new).is_honest → IsSome ((P.shown.state pages.old).live page)
-        → (P.shown.state pages.new).is_sound ≡ (P.shown.state pages.old).is_sound }
-    ensures available { (P.shown.state pages.new).available ≡ (P.shown.state pages.old).available }
-    ensures writes { WritesPages P.shown 1 ⊥ pages.old pages.new result }
+    ensures sound { KeepsSound P.shown page pages.old pages.new }
+    ensures writes { EditsPages P.shown 1 pages.old pages.new result }
 {
     write_leaf(pages.page_mut(page)?, shape);
     Ok(())

@@ -3,7 +3,7 @@
 ghost use Rattle.std.specs.Prelude.{◌≡◌, ◌≢◌, ◌+◌, ◌<◌, ◌≤◌, ◌↔◌, IsTrue, IfOk, length, insert, ◌∷◌, []};
 ghost use Rattle.tree_node.specs.Leaf.{IsLeaf, leaf_entries, leaf_room};
 ghost use Rattle.tree_node.specs.Inner.{IsInner, separators};
-ghost use Rattle.pages.specs.PageCalls.{WritesPages};
+ghost use Rattle.bplus_tree.specs.Changes.{CanWrite, CanInsert, WhereSound, TakesOne};
 ghost use Rattle.bplus_tree.specs.Split.{HasWidth};
 ghost use Rattle.bplus_tree.specs.Grow.{AddsToLeaf, AddsToInner, IsRootOver, AddsRoot};
 
@@ -25,15 +25,11 @@ pub fn add_to_leaf<P: Pages>(
     place: usize,
     entry: &[u8],
 ) -> Result<Option<Separator>, Fault>
-    requires size { length entry.now ≡ shape.entry }
-    requires ready { P.shown.IsReady pages.old }
-    requires open { P.shown.CanChange pages.old }
-    ensures added { IsTrue (P.shown.state pages.new).is_honest → IsTrue (P.shown.state pages.old).is_sound
-        → AddsToLeaf shape (P.shown.state pages.old).live (P.shown.state pages.new).live
-        (IsTrue (P.shown.state pages.new).is_sound) page place entry.now result }
+    requires { CanInsert P.shown shape entry.now pages.old }
+    ensures added { WhereSound P.shown pages.old pages.new
+        (λ before after sound. AddsToLeaf shape before after sound page place entry.now result) }
     ensures width { IfOk result (HasWidth shape.width) }
-    ensures few { (P.shown.state pages.old).available ≤ (P.shown.state pages.new).available + 1 }
-    ensures writes { WritesPages P.shown 4 ((P.shown.state pages.old).available ≡ 0) pages.old pages.new result }
+    ensures writes { TakesOne P.shown 4 pages.old pages.new result }
 {
     let mut lower = [0; PAGE_SIZE];
     copy(pages, page, &mut lower)?;
@@ -66,14 +62,11 @@ pub fn add_to_inner<P: Pages>(
     separator: &Separator,
 ) -> Result<Option<Separator>, Fault>
     requires width { length separator.now.key.items ≡ shape.width }
-    requires ready { P.shown.IsReady pages.old }
-    requires open { P.shown.CanChange pages.old }
-    ensures added { IsTrue (P.shown.state pages.new).is_honest → IsTrue (P.shown.state pages.old).is_sound
-        → AddsToInner shape (P.shown.state pages.old).live (P.shown.state pages.new).live
-        (IsTrue (P.shown.state pages.new).is_sound) page place separator.now result }
+    requires pages { CanWrite P.shown pages.old }
+    ensures added { WhereSound P.shown pages.old pages.new
+        (λ before after sound. AddsToInner shape before after sound page place separator.now result) }
     ensures width { IfOk result (HasWidth shape.width) }
-    ensures few { (P.shown.state pages.old).available ≤ (P.shown.state pages.new).available + 1 }
-    ensures writes { WritesPages P.shown 4 ((P.shown.state pages.old).available ≡ 0) pages.old pages.new result }
+    ensures writes { TakesOne P.shown 4 pages.old pages.new result }
 {
     let mut lower = [0; PAGE_SIZE];
     copy(pages, page, &mut lower)?;
@@ -103,13 +96,10 @@ pub fn add_root<P: Pages>(
     separator: &Separator,
 ) -> Result<u32, Fault>
     requires width { length separator.now.key.items ≡ shape.width }
-    requires ready { P.shown.IsReady pages.old }
-    requires open { P.shown.CanChange pages.old }
-    ensures added { IsTrue (P.shown.state pages.new).is_honest → IsTrue (P.shown.state pages.old).is_sound
-        → AddsRoot shape (P.shown.state pages.old).live (P.shown.state pages.new).live
-        (IsTrue (P.shown.state pages.new).is_sound) left separator.now result }
-    ensures few { (P.shown.state pages.old).available ≤ (P.shown.state pages.new).available + 1 }
-    ensures writes { WritesPages P.shown 2 ((P.shown.state pages.old).available ≡ 0) pages.old pages.new result }
+    requires pages { CanWrite P.shown pages.old }
+    ensures added { WhereSound P.shown pages.old pages.new
+        (λ before after sound. AddsRoot shape before after sound left separator.now result) }
+    ensures writes { TakesOne P.shown 2 pages.old pages.new result }
 {
     let root = pages.take()?;
     let mut bytes = [0; PAGE_SIZE];

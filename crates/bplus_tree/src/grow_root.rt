@@ -1,7 +1,7 @@
 //! The root after an insert.
 
 ghost use Rattle.std.specs.Prelude.{◌≡◌, ◌+◌, ◌<◌, ◌≤◌, IsTrue, IfOk};
-ghost use Rattle.pages.specs.PageCalls.{WritesPages};
+ghost use Rattle.bplus_tree.specs.Changes.{CanWrite, WhereSound, TakesOne};
 ghost use Rattle.bplus_tree.specs.Split.{HasWidth};
 ghost use Rattle.bplus_tree.specs.GrowRoot.{GrowsRoot};
 
@@ -24,14 +24,11 @@ pub fn grow_root<P: Pages>(
 ) -> Result<Base, Fault>
     requires low { levels < 19 }
     requires width { HasWidth shape.width up }
-    requires ready { P.shown.IsReady pages.old }
-    requires open { P.shown.CanChange pages.old }
-    ensures grown { IsTrue (P.shown.state pages.new).is_honest → IsTrue (P.shown.state pages.old).is_sound
-        → GrowsRoot shape (P.shown.state pages.old).live (P.shown.state pages.new).live
-        (IsTrue (P.shown.state pages.new).is_sound) levels root up result }
+    requires pages { CanWrite P.shown pages.old }
+    ensures grown { WhereSound P.shown pages.old pages.new
+        (λ before after sound. GrowsRoot shape before after sound levels root up result) }
     ensures height { IfOk result (λ base. base.levels ≤ levels + 1) }
-    ensures few { (P.shown.state pages.old).available ≤ (P.shown.state pages.new).available + 1 }
-    ensures writes { WritesPages P.shown 2 ((P.shown.state pages.old).available ≡ 0) pages.old pages.new result }
+    ensures writes { TakesOne P.shown 2 pages.old pages.new result }
 {
     match up {
         None => Ok(Base { root, levels }),

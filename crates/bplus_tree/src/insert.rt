@@ -2,9 +2,8 @@
 
 ghost use Rattle.std.specs.Prelude.{◌≡◌, ◌≢◌, ◌+◌, ◌*◌, ◌<◌, ◌≤◌, false, IsTrue, IfOk, length, take, insert};
 ghost use Rattle.tree_node.specs.Leaf.{IsLeaf, leaf_entries, leaf_room};
-ghost use Rattle.tree_node.specs.Order.{Ascends};
-ghost use Rattle.pages.specs.PageCalls.{WritesPages};
-ghost use Rattle.bplus_tree.specs.Insert.{Inserts, HasWholeKey, PutsBelow, PutsInPlace, IsPutIf};
+ghost use Rattle.bplus_tree.specs.Changes.{CanInsert, WhereSound, EditsPages, TakesOne, TakesUpTo};
+ghost use Rattle.bplus_tree.specs.Insert.{Inserts, HasWholeKey, PutsBelow, PutsInPlace, PutsInBytes};
 
 use crate::grow::{add_to_inner, add_to_leaf};
 use io_state::Fault;
@@ -31,15 +30,11 @@ pub fn insert_below<P: Pages>(
     levels: u8,
     entry: &[u8],
 ) -> Result<Grown, Fault>
-    requires size { length entry.now ≡ shape.entry }
-    requires ready { P.shown.IsReady pages.old }
-    requires open { P.shown.CanChange pages.old }
-    ensures inserted { IsTrue (P.shown.state pages.new).is_honest → IsTrue (P.shown.state pages.old).is_sound
-        → Inserts shape (P.shown.state pages.old).live (P.shown.state pages.new).live
-        (IsTrue (P.shown.state pages.new).is_sound) levels page entry.now result }
+    requires { CanInsert P.shown shape entry.now pages.old }
+    ensures inserted { WhereSound P.shown pages.old pages.new
+        (λ before after sound. Inserts shape before after sound levels page entry.now result) }
     ensures width { IfOk result (HasWholeKey shape) }
-    ensures few { (P.shown.state pages.old).available ≤ (P.shown.state pages.new).available + (levels + 1) }
-    ensures writes { WritesPages P.shown (6 * (levels + 1)) ((P.shown.state pages.old).available < levels + 1) pages.old pages.new result }
+    ensures writes { TakesUpTo P.shown (levels + 1) (6 * (levels + 1)) pages.old pages.new result }
 {
     if levels == 0 {
         return insert_in_leaf(pages, shape, page, entry);
@@ -64,14 +59,10 @@ pub fn put_below<P: Pages>(
     levels: u8,
     entry: &[u8],
 ) -> Result<bool, Fault>
-    requires size { length entry.now ≡ shape.entry }
-    requires ready { P.shown.IsReady pages.old }
-    requires open { P.shown.CanChange pages.old }
-    ensures put { IsTrue (P.shown.state pages.new).is_honest → IsTrue (P.shown.state pages.old).is_sound
-        → PutsBelow shape (P.shown.state pages.old).live (P.shown.state pages.new).live
-        (IsTrue (P.shown.state pages.new).is_sound) levels page entry.now result }
-    ensures available { (P.shown.state pages.new).available ≡ (P.shown.state pages.old).available }
-    ensures writes { WritesPages P.shown (levels + 1) ⊥ pages.old pages.new result }
+    requires { CanInsert P.shown shape entry.now pages.old }
+    ensures put { WhereSound P.shown pages.old pages.new
+        (λ before after sound. PutsBelow shape before after sound levels page entry.now result) }
+    ensures writes { EditsPages P.shown (levels + 1) pages.old pages.new result }
 {
     if levels == 0 {
         return put_in_place(pages, shape, page, entry);
@@ -87,14 +78,10 @@ fn put_in_place<P: Pages>(
     page: u32,
     entry: &[u8],
 ) -> Result<bool, Fault>
-    requires size { length entry.now ≡ shape.entry }
-    requires ready { P.shown.IsReady pages.old }
-    requires open { P.shown.CanChange pages.old }
-    ensures put { IsTrue (P.shown.state pages.new).is_honest → IsTrue (P.shown.state pages.old).is_sound
-        → PutsInPlace shape (P.shown.state pages.old).live (P.shown.state pages.new).live
-        (IsTrue (P.shown.state pages.new).is_sound) page entry.now result }
-    ensures available { (P.shown.state pages.new).available ≡ (P.shown.state pages.old).available }
-    ensures writes { WritesPages P.shown 1 ⊥ pages.old pages.new result }
+    requires { CanInsert P.shown shape entry.now pages.old }
+    ensures put { WhereSound P.shown pages.old pages.new
+        (λ before after sound. PutsInPlace shape before after sound page entry.now result) }
+    ensures writes { EditsPages P.shown 1 pages.old pages.new result }
 {
     let bytes = pages.page_mut(page)?;
     if !is_leaf(bytes, shape) {
@@ -108,8 +95,7 @@ fn put_new(page: &mut [u8; PAGE_SIZE], shape: Shape, entry: &[u8]) -> bool
     requires leaf { IsLeaf shape page.old }
     requires size { length entry.now ≡ shape.entry }
     ensures leaf { IsLeaf shape page.new }
-    ensures put { Ascends shape.width (leaf_entries shape page.old)
-        → IsPutIf shape.width entry.now (leaf_entries shape page.old) (leaf_entries shape page.new) result }
+    ensures put { PutsInBytes shape entry.now page.old page.new result }
     ensures same { result ≡ false → page.new ≡ page.old }
 {
     let key = &entry[..shape.width as usize];
@@ -140,15 +126,11 @@ fn insert_in_leaf<P: Pages>(
     page: u32,
     entry: &[u8],
 ) -> Result<Grown, Fault>
-    requires size { length entry.now ≡ shape.entry }
-    requires ready { P.shown.IsReady pages.old }
-    requires open { P.shown.CanChange pages.old }
-    ensures inserted { IsTrue (P.shown.state pages.new).is_honest → IsTrue (P.shown.state pages.old).is_sound
-        → Inserts shape (P.shown.state pages.old).live (P.shown.state pages.new).live
-        (IsTrue (P.shown.state pages.new).is_sound) 0 page entry.now result }
+    requires { CanInsert P.shown shape entry.now pages.old }
+    ensures inserted { WhereSound P.shown pages.old pages.new
+        (λ before after sound. Inserts shape before after sound 0 page entry.now result) }
     ensures width { IfOk result (HasWholeKey shape) }
-    ensures few { (P.shown.state pages.old).available ≤ (P.shown.state pages.new).available + 1 }
-    ensures writes { WritesPages P.shown 6 ((P.shown.state pages.old).available ≡ 0) pages.old pages.new result }
+    ensures writes { TakesOne P.shown 6 pages.old pages.new result }
 {
     let Look { place, found } = seek(pages, shape, page, &entry[..shape.width as usize])?;
     match found {

@@ -2,7 +2,8 @@
 
 ghost use Rattle.std.specs.Prelude.{◌≡◌, ◌≢◌, ◌+◌, ◌*◌, ◌<◌, ◌≤◌, ◌↔◌, IsTrue, IsSome, IfOk, OnOk, length, slice_index};
 ghost use Rattle.tree_node.specs.Inner.{IsInner, separators, children};
-ghost use Rattle.pages.specs.PageCalls.{ReadsPages, WritesPages};
+ghost use Rattle.pages.specs.PageCalls.{ReadsPages};
+ghost use Rattle.bplus_tree.specs.Changes.{CanWrite, WhereSound, GivesPages};
 ghost use Rattle.node_balance.specs.Balance.{Balances};
 ghost use Rattle.node_balance.specs.Fill.{least};
 ghost use Rattle.bplus_tree.specs.Rebalance.{EndsJoined, EndsShared, IsPairAt, ReadsPair};
@@ -50,12 +51,10 @@ fn end_joined<P: Pages>(
     pair: Pair,
     left: &[u8; PAGE_SIZE],
 ) -> Result<(), Fault>
-    requires ready { P.shown.IsReady pages.old }
-    requires open { P.shown.CanChange pages.old }
-    ensures ended { IsTrue (P.shown.state pages.new).is_honest → IsTrue (P.shown.state pages.old).is_sound
-        → EndsJoined (P.shown.state pages.old).live (P.shown.state pages.new).live (IsTrue (P.shown.state pages.new).is_sound) page node.now pair.lower left.now pair.upper result }
-    ensures few { (P.shown.state pages.old).available ≤ (P.shown.state pages.new).available }
-    ensures writes { WritesPages P.shown 3 ⊥ pages.old pages.new result }
+    requires { CanWrite P.shown pages.old }
+    ensures ended { WhereSound P.shown pages.old pages.new
+        (λ before after sound. EndsJoined before after sound page pair node.now left.now result) }
+    ensures writes { GivesPages P.shown 3 pages.old pages.new result }
 {
     store(pages, page, node)?;
     store(pages, pair.lower, left)?;
@@ -72,12 +71,10 @@ fn end_shared<P: Pages>(
     left: &[u8; PAGE_SIZE],
     right: &[u8; PAGE_SIZE],
 ) -> Result<(), Fault>
-    requires ready { P.shown.IsReady pages.old }
-    requires open { P.shown.CanChange pages.old }
-    ensures ended { IsTrue (P.shown.state pages.new).is_honest → IsTrue (P.shown.state pages.old).is_sound
-        → EndsShared (P.shown.state pages.old).live (P.shown.state pages.new).live (IsTrue (P.shown.state pages.new).is_sound) page node.now pair.lower left.now pair.upper right.now result }
-    ensures few { (P.shown.state pages.old).available ≤ (P.shown.state pages.new).available }
-    ensures writes { WritesPages P.shown 3 ⊥ pages.old pages.new result }
+    requires { CanWrite P.shown pages.old }
+    ensures ended { WhereSound P.shown pages.old pages.new
+        (λ before after sound. EndsShared before after sound page pair node.now left.now right.now result) }
+    ensures writes { GivesPages P.shown 3 pages.old pages.new result }
 {
     store(pages, page, node)?;
     store(pages, pair.lower, left)?;
@@ -94,12 +91,10 @@ pub fn rebalance<P: Pages>(
     levels: u8,
     place: usize,
 ) -> Result<bool, Fault>
-    requires ready { P.shown.IsReady pages.old }
-    requires open { P.shown.CanChange pages.old }
-    ensures rebalanced { IsTrue (P.shown.state pages.new).is_honest → IsTrue (P.shown.state pages.old).is_sound
-        → Rebalances shape (P.shown.state pages.old).live (P.shown.state pages.new).live (IsTrue (P.shown.state pages.new).is_sound) levels page place result }
-    ensures few { (P.shown.state pages.old).available ≤ (P.shown.state pages.new).available }
-    ensures writes { WritesPages P.shown 6 ⊥ pages.old pages.new result }
+    requires { CanWrite P.shown pages.old }
+    ensures rebalanced { WhereSound P.shown pages.old pages.new
+        (λ before after sound. Rebalances shape before after sound levels page place result) }
+    ensures writes { GivesPages P.shown 6 pages.old pages.new result }
 {
     let mut node = [0; PAGE_SIZE];
     let mut left = [0; PAGE_SIZE];

@@ -2,10 +2,9 @@
 
 ghost use Rattle.std.specs.Prelude.{◌≡◌, ◌+◌, ◌*◌, ◌<◌, ◌≤◌, ◌↔◌, false, IsTrue, length, remove};
 ghost use Rattle.tree_node.specs.Leaf.{IsLeaf, leaf_entries};
-ghost use Rattle.tree_node.specs.Order.{Ascends};
 ghost use Rattle.node_balance.specs.Fill.{least};
-ghost use Rattle.pages.specs.PageCalls.{WritesPages};
-ghost use Rattle.bplus_tree.specs.Remove.{Removes, TakesOut, OutOfLeaf, TakesBelow, TakesInPlace, IsTakenIf};
+ghost use Rattle.bplus_tree.specs.Changes.{CanWrite, WhereSound, EditsPages, GivesPages};
+ghost use Rattle.bplus_tree.specs.Remove.{Removes, TakesOut, OutOfLeaf, TakesBelow, TakesInPlace, TakesFromBytes};
 
 use crate::rebalance::rebalance;
 use io_state::Fault;
@@ -31,12 +30,10 @@ pub fn remove_below<P: Pages>(
     levels: u8,
     key: &[u8],
 ) -> Result<Shrunk, Fault>
-    requires ready { P.shown.IsReady pages.old }
-    requires open { P.shown.CanChange pages.old }
-    ensures removed { IsTrue (P.shown.state pages.new).is_honest → IsTrue (P.shown.state pages.old).is_sound
-        → Removes shape (P.shown.state pages.old).live (P.shown.state pages.new).live (IsTrue (P.shown.state pages.new).is_sound) levels page key.now result }
-    ensures few { (P.shown.state pages.old).available ≤ (P.shown.state pages.new).available }
-    ensures writes { WritesPages P.shown (7 * (levels + 1)) ⊥ pages.old pages.new result }
+    requires { CanWrite P.shown pages.old }
+    ensures removed { WhereSound P.shown pages.old pages.new
+        (λ before after sound. Removes shape before after sound levels page key.now result) }
+    ensures writes { GivesPages P.shown (7 * (levels + 1)) pages.old pages.new result }
 {
     if levels == 0 {
         return remove_from_leaf(pages, shape, page, key);
@@ -66,12 +63,10 @@ pub fn take_below<P: Pages>(
     key: &[u8],
     to: &mut Entry,
 ) -> Result<bool, Fault>
-    requires ready { P.shown.IsReady pages.old }
-    requires open { P.shown.CanChange pages.old }
-    ensures taken { IsTrue (P.shown.state pages.new).is_honest → IsTrue (P.shown.state pages.old).is_sound
-        → TakesBelow shape (P.shown.state pages.old).live (P.shown.state pages.new).live (IsTrue (P.shown.state pages.new).is_sound) levels page key.now to.new result }
-    ensures available { (P.shown.state pages.new).available ≡ (P.shown.state pages.old).available }
-    ensures writes { WritesPages P.shown (levels + 1) ⊥ pages.old pages.new result }
+    requires { CanWrite P.shown pages.old }
+    ensures taken { WhereSound P.shown pages.old pages.new
+        (λ before after sound. TakesBelow shape before after sound levels page key.now to.new result) }
+    ensures writes { EditsPages P.shown (levels + 1) pages.old pages.new result }
 {
     if levels == 0 {
         return take_in_place(pages, shape, page, key, to);
@@ -88,12 +83,10 @@ fn take_in_place<P: Pages>(
     key: &[u8],
     to: &mut Entry,
 ) -> Result<bool, Fault>
-    requires ready { P.shown.IsReady pages.old }
-    requires open { P.shown.CanChange pages.old }
-    ensures taken { IsTrue (P.shown.state pages.new).is_honest → IsTrue (P.shown.state pages.old).is_sound
-        → TakesInPlace shape (P.shown.state pages.old).live (P.shown.state pages.new).live (IsTrue (P.shown.state pages.new).is_sound) page key.now to.new result }
-    ensures available { (P.shown.state pages.new).available ≡ (P.shown.state pages.old).available }
-    ensures writes { WritesPages P.shown 1 ⊥ pages.old pages.new result }
+    requires { CanWrite P.shown pages.old }
+    ensures taken { WhereSound P.shown pages.old pages.new
+        (λ before after sound. TakesInPlace shape before after sound page key.now to.new result) }
+    ensures writes { EditsPages P.shown 1 pages.old pages.new result }
 {
     let bytes = pages.page_mut(page)?;
     if !is_leaf(bytes, shape) {
@@ -106,8 +99,7 @@ fn take_in_place<P: Pages>(
 fn take_spare(page: &mut [u8; PAGE_SIZE], shape: Shape, key: &[u8], to: &mut Entry) -> bool
     requires leaf { IsLeaf shape page.old }
     ensures leaf { IsLeaf shape page.new }
-    ensures taken { Ascends shape.width (leaf_entries shape page.old)
-        → IsTakenIf shape key.now (leaf_entries shape page.old) (leaf_entries shape page.new) to.new result }
+    ensures taken { TakesFromBytes shape key.now page.old page.new to.new result }
     ensures same { result ≡ false → page.new ≡ page.old }
 {
     let leaf = LeafView { page, shape };
@@ -127,12 +119,10 @@ fn remove_from_leaf<P: Pages>(
     page: u32,
     key: &[u8],
 ) -> Result<Shrunk, Fault>
-    requires ready { P.shown.IsReady pages.old }
-    requires open { P.shown.CanChange pages.old }
-    ensures removed { IsTrue (P.shown.state pages.new).is_honest → IsTrue (P.shown.state pages.old).is_sound
-        → Removes shape (P.shown.state pages.old).live (P.shown.state pages.new).live (IsTrue (P.shown.state pages.new).is_sound) 0 page key.now result }
-    ensures few { (P.shown.state pages.old).available ≤ (P.shown.state pages.new).available }
-    ensures writes { WritesPages P.shown 2 ⊥ pages.old pages.new result }
+    requires { CanWrite P.shown pages.old }
+    ensures removed { WhereSound P.shown pages.old pages.new
+        (λ before after sound. Removes shape before after sound 0 page key.now result) }
+    ensures writes { GivesPages P.shown 2 pages.old pages.new result }
 {
     let Look { place, found } = seek(pages, shape, page, key)?;
     match found {
@@ -146,12 +136,10 @@ fn remove_from_leaf<P: Pages>(
 
 /// Takes entry `place` out of a leaf. The answer is whether the leaf has too little now.
 fn take_out<P: Pages>(pages: &mut P, shape: Shape, page: u32, place: usize) -> Result<bool, Fault>
-    requires ready { P.shown.IsReady pages.old }
-    requires open { P.shown.CanChange pages.old }
-    ensures taken { IsTrue (P.shown.state pages.new).is_honest → IsTrue (P.shown.state pages.old).is_sound
-        → OutOfLeaf shape (P.shown.state pages.old).live (P.shown.state pages.new).live (IsTrue (P.shown.state pages.new).is_sound) page place result }
-    ensures few { (P.shown.state pages.old).available ≤ (P.shown.state pages.new).available }
-    ensures writes { WritesPages P.shown 1 ⊥ pages.old pages.new result }
+    requires { CanWrite P.shown pages.old }
+    ensures taken { WhereSound P.shown pages.old pages.new
+        (λ before after sound. OutOfLeaf shape before after sound page place result) }
+    ensures writes { GivesPages P.shown 1 pages.old pages.new result }
 {
     let bytes = pages.page_mut(page)?;
     if !is_leaf(bytes, shape) {

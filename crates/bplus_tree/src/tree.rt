@@ -1,7 +1,7 @@
 //! A tree, from its root.
 
 ghost use Rattle.std.specs.Prelude.{◌≡◌, ◌≢◌, ◌+◌, ◌-◌, ◌*◌, ◌^◌, ◌<◌, ◌≤◌, IsTrue, IsSome, IfOk, OnOk, Ok, Err, None, length, take};
-ghost use Rattle.pages.specs.PageCalls.{ReadsPages, WritesPages};
+ghost use Rattle.pages.specs.PageCalls.{ReadsPages};
 
 use crate::collapse::collapse;
 use crate::empty_leaf::write_empty_leaf;
@@ -34,6 +34,7 @@ pub struct Tree {
 }
 
 impl Tree {
+    ghost use Rattle.bplus_tree.specs.Changes.{CanWrite, CanInsert, WhereSound, GivesPages, TakesOne, TakesUpTo, KeepsShape};
     ghost use Rattle.bplus_tree.specs.Within.{FindsWithin};
     ghost use Rattle.bplus_tree.specs.Depth.{IsPastAll, FindsDamage};
     ghost use Rattle.bplus_tree.specs.Standing.{Answers, Tells, MakesTree, Inserts, Removes, one_more};
@@ -42,14 +43,12 @@ impl Tree {
 
     /// A tree without entries, in a page of its own. Full where no page is available.
     pub fn empty<P: Pages>(pages: &mut P, shape: Shape) -> Result<Tree, Fault>
-        requires ready { P.shown.IsReady pages.old }
-        requires open { P.shown.CanChange pages.old }
-        ensures made { IsTrue (P.shown.state pages.new).is_honest → IsTrue (P.shown.state pages.old).is_sound
-            → MakesTree shape (P.shown.state pages.old).live (P.shown.state pages.new).live (IsTrue (P.shown.state pages.new).is_sound) result }
+        requires { CanWrite P.shown pages.old }
+        ensures made { WhereSound P.shown pages.old pages.new
+            (λ before after sound. MakesTree shape before after sound result) }
         ensures shape { IfOk result (λ tree. (tree.shape ≡ shape) × (tree.levels ≡ 0)) }
-        ensures few { (P.shown.state pages.old).available ≤ (P.shown.state pages.new).available + 1 }
         ensures one { OnOk result ((P.shown.state pages.new).available + 1 ≡ (P.shown.state pages.old).available) }
-        ensures writes { WritesPages P.shown 2 ((P.shown.state pages.old).available ≡ 0) pages.old pages.new result }
+        ensures writes { TakesOne P.shown 2 pages.old pages.new result }
     {
         let root = pages.take()?;
         write_empty_leaf(pages, shape, root)?;
@@ -177,17 +176,13 @@ impl Tree {
     /// Full where no page is available; Memory only where the pages want it. Damage also where the tree has 20 levels, or 4,096 times as many entries
     /// as the file has pages, which no tree that stands comes to. After a fault nothing is known of the tree.
     pub fn insert<P: Pages>(&mut self, pages: &mut P, entry: &[u8]) -> Result<Option<Entry>, Fault>
-        requires size { length entry.now ≡ self.old.shape.entry }
-        requires ready { P.shown.IsReady pages.old }
-        requires open { P.shown.CanChange pages.old }
-        ensures inserted { IsTrue (P.shown.state pages.new).is_honest → IsTrue (P.shown.state pages.old).is_sound
-            → Inserts (P.shown.state pages.old).live (P.shown.state pages.new).live (IsTrue (P.shown.state pages.new).is_sound) self.old self.new entry.now result }
+        requires { CanInsert P.shown self.old.shape entry.now pages.old }
+        ensures inserted { WhereSound P.shown pages.old pages.new
+            (λ before after sound. Inserts before after sound self.old self.new entry.now result) }
         ensures deep { IsPastAll self.old → FindsDamage self.old self.new pages.old pages.new result }
-        ensures shape { self.new.shape ≡ self.old.shape }
-        ensures height { self.new.levels ≤ self.old.levels + 1 }
-        ensures few { (P.shown.state pages.old).available ≤ (P.shown.state pages.new).available + (self.old.levels + 2) }
+        ensures shape { KeepsShape (self.old.levels + 1) self.old self.new }
         ensures changes { result ≡ Ok None → self.new.changes ≡ one_more self.old.changes }
-        ensures writes { WritesPages P.shown (8 * (self.old.levels + 2)) ((P.shown.state pages.old).available < self.old.levels + 2) pages.old pages.new result }
+        ensures writes { TakesUpTo P.shown (self.old.levels + 2) (8 * (self.old.levels + 2)) pages.old pages.new result }
     {
         let room = 4096 * u64::from(pages.count());
         if self.levels >= GREATEST_LEVELS || self.count >= room {
@@ -208,16 +203,12 @@ impl Tree {
         entry: &[u8],
     ) -> Result<Option<Entry>, Fault>
         requires low { (self.old.levels < 19) × (self.old.count < 2 ^ 64 - 1) }
-        requires size { length entry.now ≡ self.old.shape.entry }
-        requires ready { P.shown.IsReady pages.old }
-        requires open { P.shown.CanChange pages.old }
-        ensures inserted { IsTrue (P.shown.state pages.new).is_honest → IsTrue (P.shown.state pages.old).is_sound
-            → Inserts (P.shown.state pages.old).live (P.shown.state pages.new).live (IsTrue (P.shown.state pages.new).is_sound) self.old self.new entry.now result }
-        ensures shape { self.new.shape ≡ self.old.shape }
-        ensures height { self.new.levels ≤ self.old.levels + 1 }
-        ensures few { (P.shown.state pages.old).available ≤ (P.shown.state pages.new).available + (self.old.levels + 2) }
+        requires put { CanInsert P.shown self.old.shape entry.now pages.old }
+        ensures inserted { WhereSound P.shown pages.old pages.new
+            (λ before after sound. Inserts before after sound self.old self.new entry.now result) }
+        ensures shape { KeepsShape (self.old.levels + 1) self.old self.new }
         ensures changes { result ≡ Ok None → self.new.changes ≡ one_more self.old.changes }
-        ensures writes { WritesPages P.shown (7 * (self.old.levels + 2)) ((P.shown.state pages.old).available < self.old.levels + 2) pages.old pages.new result }
+        ensures writes { TakesUpTo P.shown (self.old.levels + 2) (7 * (self.old.levels + 2)) pages.old pages.new result }
     {
         match insert_below(pages, self.shape, self.root, self.levels, entry)? {
             Grown::Present(found) => Ok(Some(found)),
@@ -237,15 +228,12 @@ impl Tree {
 
     /// Takes the entry of a key out, and answers it. Where the key is not there, nothing is changed.
     pub fn remove<P: Pages>(&mut self, pages: &mut P, key: &[u8]) -> Result<Option<Entry>, Fault>
-        requires ready { P.shown.IsReady pages.old }
-        requires open { P.shown.CanChange pages.old }
-        ensures removed { IsTrue (P.shown.state pages.new).is_honest → IsTrue (P.shown.state pages.old).is_sound
-            → Removes (P.shown.state pages.old).live (P.shown.state pages.new).live (IsTrue (P.shown.state pages.new).is_sound) self.old self.new key.now result }
-        ensures shape { self.new.shape ≡ self.old.shape }
-        ensures height { self.new.levels ≤ self.old.levels }
+        requires { CanWrite P.shown pages.old }
+        ensures removed { WhereSound P.shown pages.old pages.new
+            (λ before after sound. Removes before after sound self.old self.new key.now result) }
+        ensures shape { KeepsShape self.old.levels self.old self.new }
         ensures changes { IfOk result (λ found. IsSome found → self.new.changes ≡ one_more self.old.changes) }
-        ensures few { (P.shown.state pages.old).available ≤ (P.shown.state pages.new).available }
-        ensures writes { WritesPages P.shown (8 * (self.old.levels + 2)) ⊥ pages.old pages.new result }
+        ensures writes { GivesPages P.shown (8 * (self.old.levels + 2)) pages.old pages.new result }
     {
         let mut entry = Entry::new();
         if take_below(pages, self.shape, self.root, self.levels, key, &mut entry)? {
@@ -262,15 +250,12 @@ impl Tree {
         pages: &mut P,
         key: &[u8],
     ) -> Result<Option<Entry>, Fault>
-        requires ready { P.shown.IsReady pages.old }
-        requires open { P.shown.CanChange pages.old }
-        ensures removed { IsTrue (P.shown.state pages.new).is_honest → IsTrue (P.shown.state pages.old).is_sound
-            → Removes (P.shown.state pages.old).live (P.shown.state pages.new).live (IsTrue (P.shown.state pages.new).is_sound) self.old self.new key.now result }
-        ensures shape { self.new.shape ≡ self.old.shape }
-        ensures height { self.new.levels ≤ self.old.levels }
+        requires { CanWrite P.shown pages.old }
+        ensures removed { WhereSound P.shown pages.old pages.new
+            (λ before after sound. Removes before after sound self.old self.new key.now result) }
+        ensures shape { KeepsShape self.old.levels self.old self.new }
         ensures changes { IfOk result (λ found. IsSome found → self.new.changes ≡ one_more self.old.changes) }
-        ensures few { (P.shown.state pages.old).available ≤ (P.shown.state pages.new).available }
-        ensures writes { WritesPages P.shown (7 * (self.old.levels + 2)) ⊥ pages.old pages.new result }
+        ensures writes { GivesPages P.shown (7 * (self.old.levels + 2)) pages.old pages.new result }
     {
         match remove_below(pages, self.shape, self.root, self.levels, key)? {
             Shrunk::Absent => Ok(None),

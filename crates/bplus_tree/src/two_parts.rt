@@ -1,7 +1,7 @@
 //! A page that has changed, and part of which may have gone to a new page.
 
 ghost use Rattle.std.specs.Prelude.{◌≡◌, ◌≢◌, ◌+◌, ◌≤◌, IsTrue, IfOk, option_map};
-ghost use Rattle.pages.specs.PageCalls.{WritesPages};
+ghost use Rattle.bplus_tree.specs.Changes.{CanWrite, WhereSound, TakesOne};
 ghost use Rattle.bplus_tree.specs.Split.{Splits, WritesParts};
 
 use io_state::Fault;
@@ -21,14 +21,11 @@ pub fn write_parts<P: Pages>(
     upper: &[u8; PAGE_SIZE],
     key: Option<TreeKey>,
 ) -> Result<Option<Separator>, Fault>
-    requires ready { P.shown.IsReady pages.old }
-    requires open { P.shown.CanChange pages.old }
-    ensures written { IsTrue (P.shown.state pages.new).is_honest → IsTrue (P.shown.state pages.old).is_sound
-        → WritesParts (P.shown.state pages.old).live (P.shown.state pages.new).live
-        (IsTrue (P.shown.state pages.new).is_sound) page lower.now upper.now key result }
+    requires { CanWrite P.shown pages.old }
+    ensures written { WhereSound P.shown pages.old pages.new
+        (λ before after sound. WritesParts before after sound page lower.now upper.now key result) }
     ensures key { IfOk result (λ up. option_map (λ separator. separator.key) up ≡ key) }
-    ensures few { (P.shown.state pages.old).available ≤ (P.shown.state pages.new).available + 1 }
-    ensures writes { WritesPages P.shown 3 ((P.shown.state pages.old).available ≡ 0) pages.old pages.new result }
+    ensures writes { TakesOne P.shown 3 pages.old pages.new result }
 {
     match key {
         None => {
@@ -49,13 +46,10 @@ fn write_split<P: Pages>(
     lower: &[u8; PAGE_SIZE],
     upper: &[u8; PAGE_SIZE],
 ) -> Result<u32, Fault>
-    requires ready { P.shown.IsReady pages.old }
-    requires open { P.shown.CanChange pages.old }
-    ensures split { IsTrue (P.shown.state pages.new).is_honest → IsTrue (P.shown.state pages.old).is_sound
-        → Splits (P.shown.state pages.old).live (P.shown.state pages.new).live
-        (IsTrue (P.shown.state pages.new).is_sound) page lower.now upper.now result }
-    ensures few { (P.shown.state pages.old).available ≤ (P.shown.state pages.new).available + 1 }
-    ensures writes { WritesPages P.shown 3 ((P.shown.state pages.old).available ≡ 0) pages.old pages.new result }
+    requires { CanWrite P.shown pages.old }
+    ensures split { WhereSound P.shown pages.old pages.new
+        (λ before after sound. Splits before after sound page lower.now upper.now result) }
+    ensures writes { TakesOne P.shown 3 pages.old pages.new result }
 {
     let right = pages.take()?;
     store(pages, page, lower)?;

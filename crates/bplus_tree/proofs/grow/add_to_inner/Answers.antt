@@ -20,6 +20,10 @@ returns-clause-added g c honest sound seps below at within =
 pub returns-clause-writes : goal.returns-clause-writes
 returns-clause-writes g c =
     record {
+      few =
+          let same = g.met.P.Pages.reads_available c.args.pages.now c.copy.new.pages c.copy.ensures.reads.step in
+          let few = c.write_parts.ensures.writes.few in
+          omega arith;
       cause =
           let old = c.args.pages.now in
           let mid = c.copy.new.pages in

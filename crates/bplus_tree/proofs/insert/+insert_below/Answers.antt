@@ -98,6 +98,12 @@ returns-in_err-up-in-Added-Some-clause-inserted g t c honest sound =
 pub returns-in_err-up-in-Added-Some-clause-writes : goal.returns-in_err-up-in-Added-Some-clause-writes
 returns-in_err-up-in-Added-Some-clause-writes g t c =
     record {
+      few =
+          let same = g.met.P.Pages.reads_available c.args.pages.now c.descend.new.pages c.descend.ensures.reads.step in
+          let first = c.insert_below.ensures.writes.few in
+          let last = c.add_to_inner.ensures.writes.few in
+          let some = c.if-levels-eq0.false in
+          omega arith;
       cause =
           let old = c.args.pages.now in
           let mid = c.descend.new.pages in
@@ -106,7 +112,7 @@ returns-in_err-up-in-Added-Some-clause-writes g t c =
           let reads = c.descend.ensures.reads.step in
           let goes = g.met.P.Pages.writes_on old mid new (g.met.P.Pages.reads_writes old mid reads) c.insert_below.ensures.writes.step in
           let same = g.met.P.Pages.reads_available old mid reads in
-          let few = c.insert_below.ensures.few in
+          let few = c.insert_below.ensures.writes.few in
           let some = c.if-levels-eq0.false in
           fails_since c.from_residual-in_err-up-in-Added-Some.result _ (g.P.Pages.shown.HasFailed new last) (g.P.Pages.shown.HasFailed old last) ((g.P.Pages.shown.state new).available ≡ 0) ((g.P.Pages.shown.state old).available < c.args.levels + 1)
           c.from_residual-in_err-up-in-Added-Some.ensures.1 (g.met.P.Pages.failed_after old new last goes) (λ none. omega arith) c.in_err-up-in-Added-Some.ensures.writes.cause;
@@ -115,10 +121,11 @@ returns-in_err-up-in-Added-Some-clause-writes g t c =
           g.met.P.Pages.writes_on c.args.pages.now c.insert_below.new.pages c.add_to_inner.new.pages (g.met.P.Pages.writes_on c.args.pages.now c.descend.new.pages c.insert_below.new.pages (g.met.P.Pages.reads_writes c.args.pages.now c.descend.new.pages c.descend.ensures.reads.step) c.insert_below.ensures.writes.step) c.add_to_inner.ensures.writes.step;
     }
 
-pub add_to_inner-requires-clause-ready : goal.add_to_inner-requires-clause-ready
-add_to_inner-requires-clause-ready g m c =
-    g.met.P.Pages.writes_ready c.descend.new.pages c.insert_below.new.pages c.insert_below.ensures.writes.step (g.met.P.Pages.writes_ready c.args.pages.now c.descend.new.pages (g.met.P.Pages.reads_writes c.args.pages.now c.descend.new.pages c.descend.ensures.reads.step) c.requires.ready)
-
-pub add_to_inner-requires-clause-open : goal.add_to_inner-requires-clause-open
-add_to_inner-requires-clause-open g m c =
-    g.met.P.Pages.writes_changing c.descend.new.pages c.insert_below.new.pages c.insert_below.ensures.writes.step (g.met.P.Pages.writes_changing c.args.pages.now c.descend.new.pages (g.met.P.Pages.reads_writes c.args.pages.now c.descend.new.pages c.descend.ensures.reads.step) c.requires.open)
+pub add_to_inner-requires-clause-pages : goal.add_to_inner-requires-clause-pages
+add_to_inner-requires-clause-pages g m c =
+    let goes = g.met.P.Pages.reads_writes c.args.pages.now c.descend.new.pages c.descend.ensures.reads.step in
+    let on = c.insert_below.ensures.writes.step in
+    record {
+      ready = g.met.P.Pages.writes_ready c.descend.new.pages c.insert_below.new.pages on (g.met.P.Pages.writes_ready c.args.pages.now c.descend.new.pages goes c.requires.ready);
+      changing = g.met.P.Pages.writes_changing c.descend.new.pages c.insert_below.new.pages on (g.met.P.Pages.writes_changing c.args.pages.now c.descend.new.pages goes c.requires.changing);
+    }

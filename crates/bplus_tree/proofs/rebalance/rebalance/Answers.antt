@@ -15,21 +15,28 @@ as_many before after same = omega arith
 since : (before between after : ℕ) → between ≡ before → between ≤ after → before ≤ after
 since before between after same few = omega arith
 
-pub end_joined-requires-clause-ready : goal.end_joined-requires-clause-ready
-end_joined-requires-clause-ready g c = g.met.P.Pages.writes_ready c.args.pages.now c.read_pair.new.pages (g.met.P.Pages.reads_writes c.args.pages.now c.read_pair.new.pages c.read_pair.ensures.reads.step) c.requires.ready
+pub end_joined-requires : goal.end_joined-requires
+end_joined-requires g c =
+    let goes = g.met.P.Pages.reads_writes c.args.pages.now c.read_pair.new.pages c.read_pair.ensures.reads.step in
+    record {
+      ready = g.met.P.Pages.writes_ready c.args.pages.now c.read_pair.new.pages goes c.requires.ready;
+      changing = g.met.P.Pages.writes_changing c.args.pages.now c.read_pair.new.pages goes c.requires.changing;
+    }
 
-pub end_joined-requires-clause-open : goal.end_joined-requires-clause-open
-end_joined-requires-clause-open g c = g.met.P.Pages.writes_changing c.args.pages.now c.read_pair.new.pages (g.met.P.Pages.reads_writes c.args.pages.now c.read_pair.new.pages c.read_pair.ensures.reads.step) c.requires.open
-
-pub end_shared-requires-clause-ready : goal.end_shared-requires-clause-ready
-end_shared-requires-clause-ready g c = g.met.P.Pages.writes_ready c.args.pages.now c.read_pair.new.pages (g.met.P.Pages.reads_writes c.args.pages.now c.read_pair.new.pages c.read_pair.ensures.reads.step) c.requires.ready
-
-pub end_shared-requires-clause-open : goal.end_shared-requires-clause-open
-end_shared-requires-clause-open g c = g.met.P.Pages.writes_changing c.args.pages.now c.read_pair.new.pages (g.met.P.Pages.reads_writes c.args.pages.now c.read_pair.new.pages c.read_pair.ensures.reads.step) c.requires.open
+pub end_shared-requires : goal.end_shared-requires
+end_shared-requires g c =
+    let goes = g.met.P.Pages.reads_writes c.args.pages.now c.read_pair.new.pages c.read_pair.ensures.reads.step in
+    record {
+      ready = g.met.P.Pages.writes_ready c.args.pages.now c.read_pair.new.pages goes c.requires.ready;
+      changing = g.met.P.Pages.writes_changing c.args.pages.now c.read_pair.new.pages goes c.requires.changing;
+    }
 
 pub returns-in_err-end_joined-in-Some-true-clause-writes : goal.returns-in_err-end_joined-in-Some-true-clause-writes
 returns-in_err-end_joined-in-Some-true-clause-writes g c =
     record {
+      few =
+          since ((g.P.Pages.shown.state c.args.pages.now).available) ((g.P.Pages.shown.state c.read_pair.new.pages).available) ((g.P.Pages.shown.state c.end_joined.new.pages).available)
+          (g.met.P.Pages.reads_available c.args.pages.now c.read_pair.new.pages c.read_pair.ensures.reads.step) c.end_joined.ensures.writes.few;
       cause =
           fails_since c.from_residual-in_err-end_joined-in-Some-true.result _ (g.P.Pages.shown.HasFailed c.read_pair.new.pages c.end_joined.new.pages) (g.P.Pages.shown.HasFailed c.args.pages.now c.end_joined.new.pages) ⊥ ⊥ c.from_residual-in_err-end_joined-in-Some-true.ensures.1
           (g.met.P.Pages.failed_after c.args.pages.now c.read_pair.new.pages c.end_joined.new.pages (g.met.P.Pages.reads_writes c.args.pages.now c.read_pair.new.pages c.read_pair.ensures.reads.step)) (λ x. x) c.in_err-end_joined-in-Some-true.ensures.writes.cause;
@@ -40,6 +47,9 @@ returns-in_err-end_joined-in-Some-true-clause-writes g c =
 pub returns-in_ok-end_joined-in-Some-true-clause-writes : goal.returns-in_ok-end_joined-in-Some-true-clause-writes
 returns-in_ok-end_joined-in-Some-true-clause-writes g c =
     record {
+      few =
+          since ((g.P.Pages.shown.state c.args.pages.now).available) ((g.P.Pages.shown.state c.read_pair.new.pages).available) ((g.P.Pages.shown.state c.end_joined.new.pages).available)
+          (g.met.P.Pages.reads_available c.args.pages.now c.read_pair.new.pages c.read_pair.ensures.reads.step) c.end_joined.ensures.writes.few;
       cause = tt;
       asked = grind (arith, common_steps);
       step = g.met.P.Pages.writes_on c.args.pages.now c.read_pair.new.pages c.end_joined.new.pages (g.met.P.Pages.reads_writes c.args.pages.now c.read_pair.new.pages c.read_pair.ensures.reads.step) c.end_joined.ensures.writes.step;
@@ -48,6 +58,9 @@ returns-in_ok-end_joined-in-Some-true-clause-writes g c =
 pub returns-in_err-end_shared-in-Some-false-clause-writes : goal.returns-in_err-end_shared-in-Some-false-clause-writes
 returns-in_err-end_shared-in-Some-false-clause-writes g c =
     record {
+      few =
+          since ((g.P.Pages.shown.state c.args.pages.now).available) ((g.P.Pages.shown.state c.read_pair.new.pages).available) ((g.P.Pages.shown.state c.end_shared.new.pages).available)
+          (g.met.P.Pages.reads_available c.args.pages.now c.read_pair.new.pages c.read_pair.ensures.reads.step) c.end_shared.ensures.writes.few;
       cause =
           fails_since c.from_residual-in_err-end_shared-in-Some-false.result _ (g.P.Pages.shown.HasFailed c.read_pair.new.pages c.end_shared.new.pages) (g.P.Pages.shown.HasFailed c.args.pages.now c.end_shared.new.pages) ⊥ ⊥ c.from_residual-in_err-end_shared-in-Some-false.ensures.1
           (g.met.P.Pages.failed_after c.args.pages.now c.read_pair.new.pages c.end_shared.new.pages (g.met.P.Pages.reads_writes c.args.pages.now c.read_pair.new.pages c.read_pair.ensures.reads.step)) (λ x. x) c.in_err-end_shared-in-Some-false.ensures.writes.cause;
@@ -58,6 +71,9 @@ returns-in_err-end_shared-in-Some-false-clause-writes g c =
 pub returns-in_ok-end_shared-in-Some-false-clause-writes : goal.returns-in_ok-end_shared-in-Some-false-clause-writes
 returns-in_ok-end_shared-in-Some-false-clause-writes g c =
     record {
+      few =
+          since ((g.P.Pages.shown.state c.args.pages.now).available) ((g.P.Pages.shown.state c.read_pair.new.pages).available) ((g.P.Pages.shown.state c.end_shared.new.pages).available)
+          (g.met.P.Pages.reads_available c.args.pages.now c.read_pair.new.pages c.read_pair.ensures.reads.step) c.end_shared.ensures.writes.few;
       cause = tt;
       asked = grind (arith, common_steps);
       step = g.met.P.Pages.writes_on c.args.pages.now c.read_pair.new.pages c.end_shared.new.pages (g.met.P.Pages.reads_writes c.args.pages.now c.read_pair.new.pages c.read_pair.ensures.reads.step) c.end_shared.ensures.writes.step;
@@ -136,24 +152,20 @@ returns-in_ok-end_shared-in-Some-false-clause-rebalanced g c honest sound t low 
 pub balance-requires : goal.balance-requires
 balance-requires g c = record { inner = c.in_ok-pair.ensures.inner.0; place = c.in_ok-pair.ensures.inner.1 }
 
-pub returns-in_err-pair-clause-few : goal.returns-in_err-pair-clause-few
-returns-in_err-pair-clause-few g c = as_many ((g.P.Pages.shown.state c.args.pages.now).available) ((g.P.Pages.shown.state c.read_pair.new.pages).available) (g.met.P.Pages.reads_available c.args.pages.now c.read_pair.new.pages c.read_pair.ensures.reads.step)
+pub returns-in_err-pair-clause-writes : goal.returns-in_err-pair-clause-writes
+returns-in_err-pair-clause-writes g c =
+    record {
+      few = as_many ((g.P.Pages.shown.state c.args.pages.now).available) ((g.P.Pages.shown.state c.read_pair.new.pages).available) (g.met.P.Pages.reads_available c.args.pages.now c.read_pair.new.pages c.read_pair.ensures.reads.step);
+      cause = grind (arith, common_steps);
+      asked = grind (arith, common_steps);
+      step = g.met.P.Pages.reads_writes c.args.pages.now c.read_pair.new.pages c.read_pair.ensures.reads.step;
+    }
 
-pub returns-in-None-clause-few : goal.returns-in-None-clause-few
-returns-in-None-clause-few g c = as_many ((g.P.Pages.shown.state c.args.pages.now).available) ((g.P.Pages.shown.state c.read_pair.new.pages).available) (g.met.P.Pages.reads_available c.args.pages.now c.read_pair.new.pages c.read_pair.ensures.reads.step)
-
-pub returns-in_err-end_joined-in-Some-true-clause-few : goal.returns-in_err-end_joined-in-Some-true-clause-few
-returns-in_err-end_joined-in-Some-true-clause-few g c =
-    since ((g.P.Pages.shown.state c.args.pages.now).available) ((g.P.Pages.shown.state c.read_pair.new.pages).available) ((g.P.Pages.shown.state c.end_joined.new.pages).available) (g.met.P.Pages.reads_available c.args.pages.now c.read_pair.new.pages c.read_pair.ensures.reads.step) c.end_joined.ensures.few
-
-pub returns-in_ok-end_joined-in-Some-true-clause-few : goal.returns-in_ok-end_joined-in-Some-true-clause-few
-returns-in_ok-end_joined-in-Some-true-clause-few g c =
-    since ((g.P.Pages.shown.state c.args.pages.now).available) ((g.P.Pages.shown.state c.read_pair.new.pages).available) ((g.P.Pages.shown.state c.end_joined.new.pages).available) (g.met.P.Pages.reads_available c.args.pages.now c.read_pair.new.pages c.read_pair.ensures.reads.step) c.end_joined.ensures.few
-
-pub returns-in_err-end_shared-in-Some-false-clause-few : goal.returns-in_err-end_shared-in-Some-false-clause-few
-returns-in_err-end_shared-in-Some-false-clause-few g c =
-    since ((g.P.Pages.shown.state c.args.pages.now).available) ((g.P.Pages.shown.state c.read_pair.new.pages).available) ((g.P.Pages.shown.state c.end_shared.new.pages).available) (g.met.P.Pages.reads_available c.args.pages.now c.read_pair.new.pages c.read_pair.ensures.reads.step) c.end_shared.ensures.few
-
-pub returns-in_ok-end_shared-in-Some-false-clause-few : goal.returns-in_ok-end_shared-in-Some-false-clause-few
-returns-in_ok-end_shared-in-Some-false-clause-few g c =
-    since ((g.P.Pages.shown.state c.args.pages.now).available) ((g.P.Pages.shown.state c.read_pair.new.pages).available) ((g.P.Pages.shown.state c.end_shared.new.pages).available) (g.met.P.Pages.reads_available c.args.pages.now c.read_pair.new.pages c.read_pair.ensures.reads.step) c.end_shared.ensures.few
+pub returns-in-None-clause-writes : goal.returns-in-None-clause-writes
+returns-in-None-clause-writes g c =
+    record {
+      few = as_many ((g.P.Pages.shown.state c.args.pages.now).available) ((g.P.Pages.shown.state c.read_pair.new.pages).available) (g.met.P.Pages.reads_available c.args.pages.now c.read_pair.new.pages c.read_pair.ensures.reads.step);
+      cause = grind (arith, common_steps);
+      asked = grind (arith, common_steps);
+      step = g.met.P.Pages.reads_writes c.args.pages.now c.read_pair.new.pages c.read_pair.ensures.reads.step;
+    }

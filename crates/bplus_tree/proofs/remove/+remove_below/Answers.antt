@@ -76,10 +76,11 @@ returns-in_err-short-in-Taken-clause-removed g t c honest sound =
     c.in_ok-down.down (c.in_ok-down.ensures.down h1) after ((g.P.Pages.shown.state c.rebalance.new.pages).live) (IsTrue (g.P.Pages.shown.state c.rebalance.new.pages).is_sound) was_sound c.in-Taken.entry c.in-Taken.short _
     c.from_residual-in_err-short-in-Taken.result c.if-short.true removes (c.in_err-short-in-Taken.ensures.rebalanced honest) c.from_residual-in_err-short-in-Taken.ensures.1
 
-pub rebalance-requires-clause-ready : goal.rebalance-requires-clause-ready
-rebalance-requires-clause-ready g m c =
-    g.met.P.Pages.writes_ready c.descend.new.pages c.remove_below.new.pages c.remove_below.ensures.writes.step (g.met.P.Pages.writes_ready c.args.pages.now c.descend.new.pages (g.met.P.Pages.reads_writes c.args.pages.now c.descend.new.pages c.descend.ensures.reads.step) c.requires.ready)
-
-pub rebalance-requires-clause-open : goal.rebalance-requires-clause-open
-rebalance-requires-clause-open g m c =
-    g.met.P.Pages.writes_changing c.descend.new.pages c.remove_below.new.pages c.remove_below.ensures.writes.step (g.met.P.Pages.writes_changing c.args.pages.now c.descend.new.pages (g.met.P.Pages.reads_writes c.args.pages.now c.descend.new.pages c.descend.ensures.reads.step) c.requires.open)
+pub rebalance-requires : goal.rebalance-requires
+rebalance-requires g m c =
+    let goes = g.met.P.Pages.reads_writes c.args.pages.now c.descend.new.pages c.descend.ensures.reads.step in
+    let on = c.remove_below.ensures.writes.step in
+    record {
+      ready = g.met.P.Pages.writes_ready c.descend.new.pages c.remove_below.new.pages on (g.met.P.Pages.writes_ready c.args.pages.now c.descend.new.pages goes c.requires.ready);
+      changing = g.met.P.Pages.writes_changing c.descend.new.pages c.remove_below.new.pages on (g.met.P.Pages.writes_changing c.args.pages.now c.descend.new.pages goes c.requires.changing);
+    }
