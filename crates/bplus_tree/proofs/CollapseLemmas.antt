@@ -84,23 +84,23 @@ collapsed_same shape before after h root t same tree apart filled rooted =
       changes = changes_none before after (pages_of h t) same apart;
     }
 
-pub collapses_leaf : (shape : Shape) (before after : PageMap) (is_sound : Type 0) (h root : ℕ) → h ≡ 0 → after ≡ before → is_sound → Collapses shape before after is_sound h root (Ok (record { root = root; levels = h }))
+pub collapses_leaf : (shape : Shape) (before after : PageMap) (is_sound : Type 0) (h root : ℕ) → h ≡ 0 → after ≡ before → is_sound → Collapses shape h root (Ok (record { root = root; levels = h })) before after is_sound
 collapses_leaf shape before after is_sound zero root none same sound t tree apart filled =
     record { answer = (collapsed_same shape before after zero root t same tree apart filled tt, sound); no_damage = tt }
 collapses_leaf shape before after is_sound (suc h) root none same sound t tree apart filled = absurd (omega arith)
 
 module _ (shape : Shape) (before after : PageMap) (is_sound : Type 0) (h k root : ℕ) (one : h ≡ suc k) where
-  pub collapses_none : CollapsesInner shape before after is_sound root (Ok None) → Collapses shape before after is_sound h root (Ok (record { root = root; levels = h }))
-  collapses_none collapses = subst (λ (n : ℕ). Collapses shape before after is_sound n root (Ok (record { root = root; levels = n }))) (sym one) (λ t tree apart filled.
+  pub collapses_none : CollapsesInner shape root (Ok None) before after is_sound → Collapses shape h root (Ok (record { root = root; levels = h })) before after is_sound
+  collapses_none collapses = subst (λ (n : ℕ). Collapses shape n root (Ok (record { root = root; levels = n })) before after is_sound) (sym one) (λ t tree apart filled.
       let a = (collapses t.1 (map (page_of k) t.2) (at_root shape before k root t tree)).answer in
       record { answer = (collapsed_same shape before after (suc k) root t a.0.1 tree apart filled a.0.0, a.1); no_damage = tt })
 
-  pub collapses_some : (child : ℕ) → CollapsesInner shape before after is_sound root (Ok (Some child)) → Collapses shape before after is_sound h root (Ok (record { root = child; levels = k }))
-  collapses_some child collapses = subst (λ (n : ℕ). Collapses shape before after is_sound n root (Ok (record { root = child; levels = k }))) (sym one) (λ t tree apart filled.
+  pub collapses_some : (child : ℕ) → CollapsesInner shape root (Ok (Some child)) before after is_sound → Collapses shape h root (Ok (record { root = child; levels = k })) before after is_sound
+  collapses_some child collapses = subst (λ (n : ℕ). Collapses shape n root (Ok (record { root = child; levels = k })) before after is_sound) (sym one) (λ t tree apart filled.
       let a = (collapses t.1 (map (page_of k) t.2) (at_root shape before k root t tree)).answer in
       record { answer = (collapsed_child shape before after is_sound k root child t tree apart filled a.0, a.1); no_damage = tt })
 
-  pub collapses_fault : (fault : Fault) (out : Result Base Fault) → CollapsesInner shape before after is_sound root (Err fault) → IsErrAnd out (λ e. e ≡ fault) → Collapses shape before after is_sound h root out
-  collapses_fault fault out collapses was = subst (λ (n : ℕ). Collapses shape before after is_sound n root out) (sym one) (λ t tree apart filled.
+  pub collapses_fault : (fault : Fault) (out : Result Base Fault) → CollapsesInner shape root (Err fault) before after is_sound → IsErrAnd out (λ e. e ≡ fault) → Collapses shape h root out before after is_sound
+  collapses_fault fault out collapses was = subst (λ (n : ℕ). Collapses shape n root out before after is_sound) (sym one) (λ t tree apart filled.
       let a = collapses t.1 (map (page_of k) t.2) (at_root shape before k root t tree) in
       fails out fault (λ base. HasSettledRoot shape before after (suc k) t base × is_sound) was a.no_damage)

@@ -83,9 +83,9 @@ both_ok (Err e) P Q R f a q = record { answer = tt; no_damage = a.no_damage }
 
 -- a copy of a node was changed and written back
 module _ (shape : Shape) (before mid after : PageMap) (is_sound : Type 0) (page place : ℕ) (bytes lower upper : List ℕ) (key : Option (ArrayVec ℕ)) (result : Result (Option Separator) Fault)
-    (same : mid ≡ before) (there : before page ≡ Some bytes) (written : WritesParts mid after is_sound page lower upper key result) (keyed : IfOk result (λ up. option_map (λ (s : Separator). s.key) up ≡ key)) where
+    (same : mid ≡ before) (there : before page ≡ Some bytes) (written : WritesParts page lower upper key result mid after is_sound) (keyed : IfOk result (λ up. option_map (λ (s : Separator). s.key) up ≡ key)) where
   wrote : IsAnswer result (λ up. IsSplitOrWhole before after page lower upper key up × is_sound)
-  wrote = (subst (λ (m : PageMap). WritesParts m after is_sound page lower upper key result) same written) (rw there refl)
+  wrote = (subst (λ (m : PageMap). WritesParts page lower upper key result m after is_sound) same written) (rw there refl)
 
   pub leaf_rebuilt : (e : List ℕ) (entries : List (List ℕ)) → IsLeafAt shape before page entries → PutInLeaf shape lower upper (insert (leaf_entries shape bytes) place e) key
       → IsAnswer result (λ up. HasAddedToLeaf shape before after page (insert entries place e) up × is_sound)

@@ -99,12 +99,12 @@ module _ (shape : Shape) (before mid after : PageMap) (h root : ℕ) (own : List
       (record { tree = tree; whole = whole; has = ap (λ (l : List (List ℕ)). entries_of h two.left ++ l) (append-nil (entries_of h two.right)) ∙ two.has; changes = frame })
 
 module _ (shape : Shape) (h root : ℕ) where
-  pub grows_none : (mid after : PageMap) (is_sound : Type 0) → after ≡ mid → is_sound → GrowsRoot shape mid after is_sound h root None (Ok (record { root = root; levels = h }))
+  pub grows_none : (mid after : PageMap) (is_sound : Type 0) → after ≡ mid → is_sound → GrowsRoot shape h root None (Ok (record { root = root; levels = h })) mid after is_sound
   grows_none mid after is_sound same sound before t entries rooted grown =
       record { answer = (subst (λ (m : PageMap). HasGrownRoot shape before m (pages_of h t) entries (record { root = root; levels = h })) (sym same) (grown_same shape before mid h root t entries rooted grown), sound); no_damage = tt }
 
-  pub grows_above : (mid after : PageMap) (is_sound : Type 0) (separator : Separator) (new levels : ℕ) → levels ≡ suc h → AddsRoot shape mid after is_sound root separator (Ok new)
-      → GrowsRoot shape mid after is_sound h root (Some separator) (Ok (record { root = new; levels = levels }))
+  pub grows_above : (mid after : PageMap) (is_sound : Type 0) (separator : Separator) (new levels : ℕ) → levels ≡ suc h → AddsRoot shape root separator (Ok new) mid after is_sound
+      → GrowsRoot shape h root (Some separator) (Ok (record { root = new; levels = levels })) mid after is_sound
   grows_above mid after is_sound separator new levels one adds before t entries rooted grown =
       let a = adds.answer in
       record { answer = (grown_above shape before mid after h root (pages_of h t) entries separator new grown a.0 levels one, a.1); no_damage = tt }

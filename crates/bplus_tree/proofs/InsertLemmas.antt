@@ -98,7 +98,7 @@ module _ (shape : Shape) (before mid after : PageMap) (page : ℕ) (low high : B
 
 pub leaf_grows : (shape : Shape) (before mid after : PageMap) (is_sound : Type 0) (page : ℕ) (low high : Bound) (e : List ℕ) (t : TreeOf zero) (look : Look) (result : Result (Option Separator) Fault)
     → mid ≡ before → IsTree shape before zero page low high t → NotBelow low (take shape.width e) → Below high (take shape.width e) → IsLook shape.width (take shape.width e) t.1 look → look.found ≡ None
-    → AddsToLeaf shape mid after is_sound page look.place e result → IsAnswer result (λ up. HasInsertedBelow shape before after zero page low high e t (Added up) × is_sound)
+    → AddsToLeaf shape page look.place e result mid after is_sound → IsAnswer result (λ up. HasInsertedBelow shape before after zero page low high e t (Added up) × is_sound)
 leaf_grows shape before mid after is_sound page low high e t look result same tree lo hi is missed adds =
     let none : entry_of shape.width (take shape.width e) t.1 ≡ None = sym is.found ∙ ap (option_map (λ (f : ArrayVec ℕ). f.items)) missed in
     let at : IsLeafAt shape mid page t.1 = subst (λ (m : PageMap). IsLeafAt shape m page t.1) (sym same) (subst (λ (n : ℕ). IsLeafAt shape before n t.1) tree.root tree.holds) in
@@ -121,8 +121,8 @@ put_page shape before after page e old new true there writes leaf same put =
 put_page shape before after page e old new false there writes leaf same put =
     written_same before after page old there (record { page = writes.page ∙ ap Some (same refl); others = writes.others })
 
-pub put_leaf : (shape : Shape) (before after : PageMap) (is_sound : Type 0) (h page : ℕ) (e : List ℕ) (out : Result Bool Fault) → h ≡ 0 → PutsInPlace shape before after is_sound page e out
-    → PutsBelow shape before after is_sound h page e out
+pub put_leaf : (shape : Shape) (before after : PageMap) (is_sound : Type 0) (h page : ℕ) (e : List ℕ) (out : Result Bool Fault) → h ≡ 0 → PutsInPlace shape page e out before after is_sound
+    → PutsBelow shape h page e out before after is_sound
 put_leaf shape before after is_sound zero page e out none puts t low high whole lo hi =
     answer_map out (λ done. HasPutInPlaceIf shape before after page e t.1 done × is_sound) (λ done. HasPutIf shape before after zero page low high e t done × is_sound)
     (λ done put. (placed done put.0, put.1)) (puts t.1 (subst (λ (n : ℕ). IsLeafAt shape before n t.1) whole.stands.root whole.stands.holds) whole.stands.ordered.0)
@@ -305,18 +305,18 @@ child_same shape before after k page low high e t step whole child new =
 -- ---- the exits of an insert below a page
 
 module _ (shape : Shape) (h k page : ℕ) (e : List ℕ) (one : h ≡ suc k) where
-  at_one : (before after : PageMap) (is_sound : Type 0) (out : Result Grown Fault) → Inserts shape before after is_sound (suc k) page e out → Inserts shape before after is_sound h page e out
-  at_one before after is_sound out r = subst (λ (n : ℕ). Inserts shape before after is_sound n page e out) (sym one) r
+  at_one : (before after : PageMap) (is_sound : Type 0) (out : Result Grown Fault) → Inserts shape (suc k) page e out before after is_sound → Inserts shape h page e out before after is_sound
+  at_one before after is_sound out r = subst (λ (n : ℕ). Inserts shape n page e out before after is_sound) (sym one) r
 
   pub down_fails : (before after : PageMap) (is_sound : Type 0) (fault : Fault) (out : Result Grown Fault) → Steps shape before page (take shape.width e) (Err fault) → IsErrAnd out (λ f. f ≡ fault)
-      → Inserts shape before after is_sound h page e out
+      → Inserts shape h page e out before after is_sound
   down_fails before after is_sound fault out steps was = at_one before after is_sound out (λ t low high whole lo hi.
       let a = step_of shape before k page low high (take shape.width e) t (Err fault) whole.stands steps in
       fails out fault (λ grown. HasInsertedBelow shape before after (suc k) page low high e t grown × is_sound) was a.no_damage)
 
   pub put_fails : (before after : PageMap) (is_sound : Type 0) (fault : Fault) (out : Result Bool Fault) → Steps shape before page (take shape.width e) (Err fault) → IsErrAnd out (λ f. f ≡ fault)
-      → PutsBelow shape before after is_sound h page e out
-  put_fails before after is_sound fault out steps was = subst (λ (n : ℕ). PutsBelow shape before after is_sound n page e out) (sym one) (λ t low high whole lo hi.
+      → PutsBelow shape h page e out before after is_sound
+  put_fails before after is_sound fault out steps was = subst (λ (n : ℕ). PutsBelow shape n page e out before after is_sound) (sym one) (λ t low high whole lo hi.
       let a = step_of shape before k page low high (take shape.width e) t (Err fault) whole.stands steps in
       fails out fault (λ done. HasPutIf shape before after (suc k) page low high e t done × is_sound) was a.no_damage)
 
@@ -326,24 +326,24 @@ module _ (shape : Shape) (h k page : ℕ) (e : List ℕ) (one : h ≡ suc k) whe
         child_of_whole shape before k page low high (take shape.width e) t step whole (step_of shape before k page low high (take shape.width e) t (Ok step) whole.stands steps).answer
 
     below_answer : (after : PageMap) (is_sound : Type 0) (out : Result Grown Fault) (low high : Bound) (t : TreeOf (suc k)) (whole : IsWhole shape before (suc k) page low high t)
-        → NotBelow low (take shape.width e) → Below high (take shape.width e) → Inserts shape mid after is_sound k step.child e out
+        → NotBelow low (take shape.width e) → Below high (take shape.width e) → Inserts shape k step.child e out mid after is_sound
         → (let child = child_at low high t whole in IsAnswer out (λ grown. HasInsertedBelow shape before after k step.child child.row.from child.row.to e child.row.here grown × is_sound))
     below_answer after is_sound out low high t whole lo hi inserts =
         let child = child_at low high t whole in
-        (subst (λ (m : PageMap). Inserts shape m after is_sound k step.child e out) same inserts) child.row.here child.row.from child.row.to child.whole (child.row.under lo) (child.row.over hi)
+        (subst (λ (m : PageMap). Inserts shape k step.child e out m after is_sound) same inserts) child.row.here child.row.from child.row.to child.whole (child.row.under lo) (child.row.over hi)
 
     none_below : (low high : Bound) (t : TreeOf (suc k)) (whole : IsWhole shape before (suc k) page low high t) (o : Option (List ℕ))
         → (let child = child_at low high t whole in entry_of shape.width (take shape.width e) (entries_of k child.row.here) ≡ o) → entry_of shape.width (take shape.width e) (entries_of (suc k) t) ≡ o
     none_below low high t whole o is =
         let child = child_at low high t whole in entry_below shape.width k (take shape.width e) low high t.1 t.2 step.place child.row ∙ is
 
-    pub put_inner : (after : PageMap) (is_sound : Type 0) (out : Result Bool Fault) → PutsBelow shape mid after is_sound k step.child e out → PutsBelow shape before after is_sound h page e out
-    put_inner after is_sound out puts = subst (λ (n : ℕ). PutsBelow shape before after is_sound n page e out) (sym one) put_at_one
+    pub put_inner : (after : PageMap) (is_sound : Type 0) (out : Result Bool Fault) → PutsBelow shape k step.child e out mid after is_sound → PutsBelow shape h page e out before after is_sound
+    put_inner after is_sound out puts = subst (λ (n : ℕ). PutsBelow shape n page e out before after is_sound) (sym one) put_at_one
       where
-        put_at_one : PutsBelow shape before after is_sound (suc k) page e out
+        put_at_one : PutsBelow shape (suc k) page e out before after is_sound
         put_at_one t low high whole lo hi =
             let child = child_at low high t whole in
-            let a = (subst (λ (m : PageMap). PutsBelow shape m after is_sound k step.child e out) same puts) child.row.here child.row.from child.row.to child.whole (child.row.under lo) (child.row.over hi) in
+            let a = (subst (λ (m : PageMap). PutsBelow shape k step.child e out m after is_sound) same puts) child.row.here child.row.from child.row.to child.whole (child.row.under lo) (child.row.over hi) in
             answer_map out (λ done. HasPutIf shape before after k step.child child.row.from child.row.to e child.row.here done × is_sound)
             (λ done. HasPutIf shape before after (suc k) page low high e t done × is_sound) (λ done put. (grown child done put.0, put.1)) a
           where
@@ -353,26 +353,26 @@ module _ (shape : Shape) (h k page : ℕ) (e : List ℕ) (one : h ≡ suc k) whe
                 (entry_below shape.width k (take shape.width e) low high t.1 t.2 step.place child.row ∙ put.0, child_same shape before after k page low high e t step whole child put.1)
             grown child false put = put
 
-    pub child_fails : (after : PageMap) (is_sound : Type 0) (fault : Fault) (out : Result Grown Fault) → Inserts shape mid after is_sound k step.child e (Err fault) → IsErrAnd out (λ f. f ≡ fault)
-        → Inserts shape before after is_sound h page e out
+    pub child_fails : (after : PageMap) (is_sound : Type 0) (fault : Fault) (out : Result Grown Fault) → Inserts shape k step.child e (Err fault) mid after is_sound → IsErrAnd out (λ f. f ≡ fault)
+        → Inserts shape h page e out before after is_sound
     child_fails after is_sound fault out inserts was = at_one before after is_sound out (λ t low high whole lo hi.
         let a = below_answer after is_sound (Err fault) low high t whole lo hi inserts in
         fails out fault (λ grown. HasInsertedBelow shape before after (suc k) page low high e t grown × is_sound) was a.no_damage)
 
-    pub child_has : (after : PageMap) (is_sound : Type 0) (found : ArrayVec ℕ) → Inserts shape mid after is_sound k step.child e (Ok (Present found)) → Inserts shape before after is_sound h page e (Ok (Present found))
+    pub child_has : (after : PageMap) (is_sound : Type 0) (found : ArrayVec ℕ) → Inserts shape k step.child e (Ok (Present found)) mid after is_sound → Inserts shape h page e (Ok (Present found)) before after is_sound
     child_has after is_sound found inserts = at_one before after is_sound (Ok (Present found)) (λ t low high whole lo hi.
         let a = (below_answer after is_sound (Ok (Present found)) low high t whole lo hi inserts).answer in
         record { answer = ((none_below low high t whole (Some found.items) a.0.0, a.0.1), a.1); no_damage = tt })
 
-    pub child_grown : (after : PageMap) (is_sound : Type 0) → Inserts shape mid after is_sound k step.child e (Ok (Added None)) → Inserts shape before after is_sound h page e (Ok (Added None))
+    pub child_grown : (after : PageMap) (is_sound : Type 0) → Inserts shape k step.child e (Ok (Added None)) mid after is_sound → Inserts shape h page e (Ok (Added None)) before after is_sound
     child_grown after is_sound inserts = at_one before after is_sound (Ok (Added None)) (λ t low high whole lo hi.
         let child = child_at low high t whole in
         let a = (below_answer after is_sound (Ok (Added None)) low high t whole lo hi inserts).answer in
         record { answer = ((none_below low high t whole None a.0.0, child_same shape before after k page low high e t step whole child a.0.1), a.1); no_damage = tt })
 
     -- the child was split, and its parent has a separator more
-    split_answer : (after late : PageMap) (is_sound was_sound : Type 0) (separator : Separator) (result : Result (Option Separator) Fault) → Inserts shape mid after was_sound k step.child e (Ok (Added (Some separator)))
-        → (was_sound → AddsToInner shape after late is_sound page step.place separator result) → (t : TreeOf (suc k)) (low high : Bound) → IsWhole shape before (suc k) page low high t
+    split_answer : (after late : PageMap) (is_sound was_sound : Type 0) (separator : Separator) (result : Result (Option Separator) Fault) → Inserts shape k step.child e (Ok (Added (Some separator))) mid after was_sound
+        → (was_sound → AddsToInner shape page step.place separator result after late is_sound) → (t : TreeOf (suc k)) (low high : Bound) → IsWhole shape before (suc k) page low high t
         → NotBelow low (take shape.width e) → Below high (take shape.width e) → IsAnswer result (λ up. HasInsertedBelow shape before late (suc k) page low high e t (Added up) × is_sound)
     split_answer after late is_sound was_sound separator result inserts adds t low high whole lo hi =
         let child = child_at low high t whole in
@@ -402,13 +402,13 @@ module _ (shape : Shape) (h k page : ℕ) (e : List ℕ) (one : h ≡ suc k) whe
               (parted_split shape before after late k low high page (flat_map (pages_of k) t.2) (with_entry shape.width e (flat_map (entries_of k) t.2)) ss xs parted up put),
         )
 
-    pub split_grown : (after late : PageMap) (is_sound was_sound : Type 0) (separator : Separator) (up : Option Separator) → Inserts shape mid after was_sound k step.child e (Ok (Added (Some separator)))
-        → (was_sound → AddsToInner shape after late is_sound page step.place separator (Ok up)) → Inserts shape before late is_sound h page e (Ok (Added up))
+    pub split_grown : (after late : PageMap) (is_sound was_sound : Type 0) (separator : Separator) (up : Option Separator) → Inserts shape k step.child e (Ok (Added (Some separator))) mid after was_sound
+        → (was_sound → AddsToInner shape page step.place separator (Ok up) after late is_sound) → Inserts shape h page e (Ok (Added up)) before late is_sound
     split_grown after late is_sound was_sound separator up inserts adds = at_one before late is_sound (Ok (Added up)) (λ t low high whole lo hi.
         record { answer = (split_answer after late is_sound was_sound separator (Ok up) inserts adds t low high whole lo hi).answer; no_damage = tt })
 
-    pub split_fails : (after late : PageMap) (is_sound was_sound : Type 0) (separator : Separator) (fault : Fault) (out : Result Grown Fault) → Inserts shape mid after was_sound k step.child e (Ok (Added (Some separator)))
-        → (was_sound → AddsToInner shape after late is_sound page step.place separator (Err fault)) → IsErrAnd out (λ f. f ≡ fault) → Inserts shape before late is_sound h page e out
+    pub split_fails : (after late : PageMap) (is_sound was_sound : Type 0) (separator : Separator) (fault : Fault) (out : Result Grown Fault) → Inserts shape k step.child e (Ok (Added (Some separator))) mid after was_sound
+        → (was_sound → AddsToInner shape page step.place separator (Err fault) after late is_sound) → IsErrAnd out (λ f. f ≡ fault) → Inserts shape h page e out before late is_sound
     split_fails after late is_sound was_sound separator fault out inserts adds was = at_one before late is_sound out (λ t low high whole lo hi.
         fails out fault (λ grown. HasInsertedBelow shape before late (suc k) page low high e t grown × is_sound) was
         (split_answer after late is_sound was_sound separator (Err fault) inserts adds t low high whole lo hi).no_damage)

@@ -157,7 +157,7 @@ leaf_without shape before after page low high key t i e tree rank was leaf frame
     }
 
 pub leaf_removes : (shape : Shape) (before mid after : PageMap) (is_sound : Type 0) (page : ℕ) (low high : Bound) (key : List ℕ) (t : TreeOf zero) (look : Look) (entry : ArrayVec ℕ) (result : Result Bool Fault)
-    → mid ≡ before → IsTree shape before zero page low high t → IsLook shape.width key t.1 look → look.found ≡ Some entry → OutOfLeaf shape mid after is_sound page look.place result
+    → mid ≡ before → IsTree shape before zero page low high t → IsLook shape.width key t.1 look → look.found ≡ Some entry → OutOfLeaf shape page look.place result mid after is_sound
     → IsAnswer result (λ short. HasRemovedBelow shape before after zero page low high key t (Taken entry short) × is_sound)
 leaf_removes shape before mid after is_sound page low high key t look entry result same tree is found out =
     let was : entry_of shape.width key t.1 ≡ Some entry.items = sym is.found ∙ ap (option_map (λ (e : ArrayVec ℕ). e.items)) found in
@@ -187,8 +187,8 @@ leaf_taken shape before after page low high key t entry tree put =
     let enough : least shape zero ≤ size_of zero left.becomes.tree = subst (λ (n : ℕ). least shape zero ≤ n) (ap length taken.left ∙ sym left.size) taken.enough in
     record { was = taken.was; becomes = left.becomes; enough = λ full. enough; rooted = λ r. tt }
 
-pub take_leaf : (shape : Shape) (before after : PageMap) (is_sound : Type 0) (h page : ℕ) (key : List ℕ) (entry : ArrayVec ℕ) (out : Result Bool Fault) → h ≡ 0 → TakesInPlace shape before after is_sound page key entry out
-    → TakesBelow shape before after is_sound h page key entry out
+pub take_leaf : (shape : Shape) (before after : PageMap) (is_sound : Type 0) (h page : ℕ) (key : List ℕ) (entry : ArrayVec ℕ) (out : Result Bool Fault) → h ≡ 0 → TakesInPlace shape page key entry out before after is_sound
+    → TakesBelow shape h page key entry out before after is_sound
 take_leaf shape before after is_sound zero page key entry out none takes t low high whole =
     answers out (λ done. HasTakenInPlaceIf shape before after page key t.1 entry done × is_sound) (λ done. HasTakenIf shape before after zero page low high key t entry.items done × is_sound)
     (λ done put. (placed done put.0, put.1)) (takes t.1 (subst (λ (n : ℕ). IsLeafAt shape before n t.1) whole.stands.root whole.stands.holds) whole.stands.ordered.0)
@@ -307,18 +307,18 @@ but_here F L (y ∷ front) x back zero is a l b = absurd (omega arith)
 but_here F L (y ∷ front) x back (suc place) is a l b = (a.0, but_here F L front x back place (omega arith) a.1 l b)
 
 module _ (shape : Shape) (h k page : ℕ) (key : List ℕ) (one : h ≡ suc k) where
-  at_one : (before after : PageMap) (is_sound : Type 0) (out : Result Shrunk Fault) → Removes shape before after is_sound (suc k) page key out → Removes shape before after is_sound h page key out
-  at_one before after is_sound out r = subst (λ (n : ℕ). Removes shape before after is_sound n page key out) (sym one) r
+  at_one : (before after : PageMap) (is_sound : Type 0) (out : Result Shrunk Fault) → Removes shape (suc k) page key out before after is_sound → Removes shape h page key out before after is_sound
+  at_one before after is_sound out r = subst (λ (n : ℕ). Removes shape n page key out before after is_sound) (sym one) r
 
   pub down_fails : (before after : PageMap) (is_sound : Type 0) (fault : Fault) (out : Result Shrunk Fault) → Steps shape before page key (Err fault) → IsErrAnd out (λ e. e ≡ fault)
-      → Removes shape before after is_sound h page key out
+      → Removes shape h page key out before after is_sound
   down_fails before after is_sound fault out steps was = at_one before after is_sound out (λ t low high whole.
       let a = step_of shape before k page low high key t (Err fault) whole.stands steps in
       fails out fault (λ shrunk. HasRemovedBelow shape before after (suc k) page low high key t shrunk × is_sound) was a.no_damage)
 
   pub take_fails : (before after : PageMap) (is_sound : Type 0) (entry : ArrayVec ℕ) (fault : Fault) (out : Result Bool Fault) → Steps shape before page key (Err fault) → IsErrAnd out (λ e. e ≡ fault)
-      → TakesBelow shape before after is_sound h page key entry out
-  take_fails before after is_sound entry fault out steps was = subst (λ (n : ℕ). TakesBelow shape before after is_sound n page key entry out) (sym one) (λ t low high whole.
+      → TakesBelow shape h page key entry out before after is_sound
+  take_fails before after is_sound entry fault out steps was = subst (λ (n : ℕ). TakesBelow shape n page key entry out before after is_sound) (sym one) (λ t low high whole.
       let a = step_of shape before k page low high key t (Err fault) whole.stands steps in
       fails out fault (λ done. HasTakenIf shape before after (suc k) page low high key t entry.items done × is_sound) was a.no_damage)
 
@@ -326,19 +326,19 @@ module _ (shape : Shape) (h k page : ℕ) (key : List ℕ) (one : h ≡ suc k) w
     child_at : (low high : Bound) (t : TreeOf (suc k)) → IsWhole shape before (suc k) page low high t → Child shape before k page low high key t step
     child_at low high t whole = child_of_whole shape before k page low high key t step whole (step_of shape before k page low high key t (Ok step) whole.stands steps).answer
 
-    below_answer : (after : PageMap) (is_sound : Type 0) (out : Result Shrunk Fault) (low high : Bound) (t : TreeOf (suc k)) (whole : IsWhole shape before (suc k) page low high t) → Removes shape mid after is_sound k step.child key out
+    below_answer : (after : PageMap) (is_sound : Type 0) (out : Result Shrunk Fault) (low high : Bound) (t : TreeOf (suc k)) (whole : IsWhole shape before (suc k) page low high t) → Removes shape k step.child key out mid after is_sound
         → (let child = child_at low high t whole in IsAnswer out (λ shrunk. HasRemovedBelow shape before after k step.child child.row.from child.row.to key child.row.here shrunk × is_sound))
     below_answer after is_sound out low high t whole removes =
         let child = child_at low high t whole in
-        (subst (λ (m : PageMap). Removes shape m after is_sound k step.child key out) same removes) child.row.here child.row.from child.row.to child.whole
+        (subst (λ (m : PageMap). Removes shape k step.child key out m after is_sound) same removes) child.row.here child.row.from child.row.to child.whole
 
-    pub take_inner : (after : PageMap) (is_sound : Type 0) (entry : ArrayVec ℕ) (out : Result Bool Fault) → TakesBelow shape mid after is_sound k step.child key entry out → TakesBelow shape before after is_sound h page key entry out
-    take_inner after is_sound entry out takes = subst (λ (n : ℕ). TakesBelow shape before after is_sound n page key entry out) (sym one) take_at_one
+    pub take_inner : (after : PageMap) (is_sound : Type 0) (entry : ArrayVec ℕ) (out : Result Bool Fault) → TakesBelow shape k step.child key entry out mid after is_sound → TakesBelow shape h page key entry out before after is_sound
+    take_inner after is_sound entry out takes = subst (λ (n : ℕ). TakesBelow shape n page key entry out before after is_sound) (sym one) take_at_one
       where
-        take_at_one : TakesBelow shape before after is_sound (suc k) page key entry out
+        take_at_one : TakesBelow shape (suc k) page key entry out before after is_sound
         take_at_one t low high whole =
             let child = child_at low high t whole in
-            let a = (subst (λ (m : PageMap). TakesBelow shape m after is_sound k step.child key entry out) same takes) child.row.here child.row.from child.row.to child.whole in
+            let a = (subst (λ (m : PageMap). TakesBelow shape k step.child key entry out m after is_sound) same takes) child.row.here child.row.from child.row.to child.whole in
             answers out (λ done. HasTakenIf shape before after k step.child child.row.from child.row.to key child.row.here entry.items done × is_sound)
             (λ done. HasTakenIf shape before after (suc k) page low high key t entry.items done × is_sound) (λ done put. (taken child done put.0, put.1)) a
           where
@@ -363,13 +363,13 @@ module _ (shape : Shape) (h k page : ℕ) (key : List ℕ) (one : h ≡ suc k) w
                 }
             taken child false put = put
 
-    pub child_fails : (after : PageMap) (is_sound : Type 0) (fault : Fault) (out : Result Shrunk Fault) → Removes shape mid after is_sound k step.child key (Err fault) → IsErrAnd out (λ e. e ≡ fault)
-        → Removes shape before after is_sound h page key out
+    pub child_fails : (after : PageMap) (is_sound : Type 0) (fault : Fault) (out : Result Shrunk Fault) → Removes shape k step.child key (Err fault) mid after is_sound → IsErrAnd out (λ e. e ≡ fault)
+        → Removes shape h page key out before after is_sound
     child_fails after is_sound fault out removes was = at_one before after is_sound out (λ t low high whole.
         let a = below_answer after is_sound (Err fault) low high t whole removes in
         fails out fault (λ shrunk. HasRemovedBelow shape before after (suc k) page low high key t shrunk × is_sound) was a.no_damage)
 
-    pub child_absent : (after : PageMap) (is_sound : Type 0) → Removes shape mid after is_sound k step.child key (Ok Absent) → Removes shape before after is_sound h page key (Ok Absent)
+    pub child_absent : (after : PageMap) (is_sound : Type 0) → Removes shape k step.child key (Ok Absent) mid after is_sound → Removes shape h page key (Ok Absent) before after is_sound
     child_absent after is_sound removes = at_one before after is_sound (Ok Absent) (λ t low high whole.
         let child = child_at low high t whole in
         let a = (below_answer after is_sound (Ok Absent) low high t whole removes).answer in
@@ -377,7 +377,7 @@ module _ (shape : Shape) (h k page : ℕ) (key : List ℕ) (one : h ≡ suc k) w
 
     -- the child has enough still
     pub child_taken : (after : PageMap) (is_sound : Type 0) (entry : ArrayVec ℕ) (short few : Bool) → short ≡ false → IsTrue few ↔ (step.count < least shape 1)
-        → Removes shape mid after is_sound k step.child key (Ok (Taken entry short)) → Removes shape before after is_sound h page key (Ok (Taken entry few))
+        → Removes shape k step.child key (Ok (Taken entry short)) mid after is_sound → Removes shape h page key (Ok (Taken entry few)) before after is_sound
     child_taken after is_sound entry short few enough few_is removes = at_one before after is_sound (Ok (Taken entry few)) (λ t low high whole.
         let child = child_at low high t whole in
         let a = (below_answer after is_sound (Ok (Taken entry short)) low high t whole removes).answer in
@@ -411,7 +411,7 @@ module _ (shape : Shape) (h k page : ℕ) (key : List ℕ) (one : h ≡ suc k) w
 
     -- the child lacked one, and the node was rebalanced
     pub child_rebalanced : (after late : PageMap) (is_sound : Type 0) (was_sound : Type 0) (entry : ArrayVec ℕ) (short : Bool) (rebalanced : Result Bool Fault) → short ≡ true
-        → Removes shape mid after was_sound k step.child key (Ok (Taken entry short)) → (was_sound → Rebalances shape after late is_sound k page step.place rebalanced)
+        → Removes shape k step.child key (Ok (Taken entry short)) mid after was_sound → (was_sound → Rebalances shape k page step.place rebalanced after late is_sound)
         → (t : TreeOf (suc k)) (low high : Bound) → IsWhole shape before (suc k) page low high t
         → IsAnswer rebalanced (λ few. HasRemovedBelow shape before late (suc k) page low high key t (Taken entry few) × is_sound)
     child_rebalanced after late is_sound was_sound entry short rebalanced lacks removes rebalances t low high whole =
@@ -456,14 +456,14 @@ module _ (shape : Shape) (h k page : ℕ) (key : List ℕ) (one : h ≡ suc k) w
         if_ok (Err e) P Q f h = tt
 
     pub rebalanced_ok : (after late : PageMap) (is_sound was_sound : Type 0) (entry : ArrayVec ℕ) (short few : Bool) → short ≡ true
-        → Removes shape mid after was_sound k step.child key (Ok (Taken entry short)) → (was_sound → Rebalances shape after late is_sound k page step.place (Ok few))
-        → Removes shape before late is_sound h page key (Ok (Taken entry few))
+        → Removes shape k step.child key (Ok (Taken entry short)) mid after was_sound → (was_sound → Rebalances shape k page step.place (Ok few) after late is_sound)
+        → Removes shape h page key (Ok (Taken entry few)) before late is_sound
     rebalanced_ok after late is_sound was_sound entry short few lacks removes rebalances = at_one before late is_sound (Ok (Taken entry few)) (λ t low high whole.
         record { answer = (child_rebalanced after late is_sound was_sound entry short (Ok few) lacks removes rebalances t low high whole).answer; no_damage = tt })
 
     pub rebalance_fails : (after late : PageMap) (is_sound was_sound : Type 0) (entry : ArrayVec ℕ) (short : Bool) (fault : Fault) (out : Result Shrunk Fault) → short ≡ true
-        → Removes shape mid after was_sound k step.child key (Ok (Taken entry short)) → (was_sound → Rebalances shape after late is_sound k page step.place (Err fault)) → IsErrAnd out (λ e. e ≡ fault)
-        → Removes shape before late is_sound h page key out
+        → Removes shape k step.child key (Ok (Taken entry short)) mid after was_sound → (was_sound → Rebalances shape k page step.place (Err fault) after late is_sound) → IsErrAnd out (λ e. e ≡ fault)
+        → Removes shape h page key out before late is_sound
     rebalance_fails after late is_sound was_sound entry short fault out lacks removes rebalances was = at_one before late is_sound out (λ t low high whole.
         fails out fault (λ shrunk. HasRemovedBelow shape before late (suc k) page low high key t shrunk × is_sound) was
         (child_rebalanced after late is_sound was_sound entry short (Err fault) lacks removes rebalances t low high whole).no_damage)

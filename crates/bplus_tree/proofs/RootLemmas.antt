@@ -22,7 +22,7 @@ module _ (old : Tree) (e : List ℕ) (before : PageMap) (entries : List (List �
       (subst (λ (es : List (List ℕ)). entry_of old.shape.width (take old.shape.width e) es ≡ Some found.items) stands.has h.0, h.1, refl)
 
   pub inserted_one : (mid late : PageMap) (is_sound : Type 0) (up : Option Separator) (base : Base) (count changes : ℕ) (low : base.levels < 20) → count ≡ old.count + 1
-      → HasInsertedBelow old.shape before mid old.levels old.root None None e stands.value (Added up) → GrowsRoot old.shape mid late is_sound old.levels old.root up (Ok base)
+      → HasInsertedBelow old.shape before mid old.levels old.root None None e stands.value (Added up) → GrowsRoot old.shape old.levels old.root up (Ok base) mid late is_sound
       → HasInserted before late old (record { shape = old.shape; root = base.root; levels = base.levels; count = count; changes = changes; low = low }) e entries own None × is_sound
   inserted_one mid late is_sound up base count changes low count_is h grows =
       let r = (grows before stands.value (with_entry old.shape.width e (entries_of old.levels stands.value)) stands.whole.rooted h.1).answer in

@@ -23,7 +23,7 @@ removed_absent before after old key entries own stands h =
     (subst (λ (es : List (List ℕ)). entry_of old.shape.width key es ≡ None) stands.has h.0, h.1, refl)
 
 pub removed_some : (before mid late : PageMap) (is_sound : Type 0) (old : Tree) (key : List ℕ) (entries : List (List ℕ)) (own : List ℕ) (stands : TreeStands old before entries own) (entry : ArrayVec ℕ) (short : Bool) (base : Base) (n changes : ℕ) (low : base.levels < 20) → n ≡ old.count - 1
-    → HasRemovedBelow old.shape before mid old.levels old.root None None key stands.value (Taken entry short) → Collapses old.shape mid late is_sound old.levels old.root (Ok base)
+    → HasRemovedBelow old.shape before mid old.levels old.root None None key stands.value (Taken entry short) → Collapses old.shape old.levels old.root (Ok base) mid late is_sound
     → HasRemoved before late old (record { shape = old.shape; root = base.root; levels = base.levels; count = n; changes = changes; low = low }) key entries own (Some entry) × is_sound
 removed_some before mid late is_sound old key entries own stands entry short base n changes low is_n h collapses =
     let b = h.1.becomes in

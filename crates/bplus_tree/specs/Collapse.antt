@@ -25,8 +25,8 @@ HasCollapsed before after page separators below None = (1 ≤ length separators)
 HasCollapsed before after page separators below (Some child) =
     (length separators ≡ 0) × (child ≡ slice_index below 0) × (after page ≡ None) × ((n : ℕ) → n ≢ page → after n ≡ before n)
 
-abbrev pub CollapsesInner : Shape → PageMap → PageMap → Type 0 → ℕ → Result (Option ℕ) Fault → Type 0
-CollapsesInner shape before after is_sound page result =
+abbrev pub CollapsesInner : Shape → ℕ → Result (Option ℕ) Fault → PageMap → PageMap → Type 0 → Type 0
+CollapsesInner shape page result before after is_sound =
     (separators : List (List ℕ)) (below : List ℕ) → IsInnerAt shape before page separators below
     → IsAnswer result (λ child. HasCollapsed before after page separators below child × is_sound)
 
@@ -37,7 +37,7 @@ pub record HasSettledRoot (shape : Shape) (before after : PageMap) (h : ℕ) (t 
   pub has : entries_of base.levels tree ≡ entries_of h t
   pub changes : ChangesPages before after (pages_of h t) (pages_of base.levels tree)
 
-abbrev pub Collapses : Shape → PageMap → PageMap → Type 0 → ℕ → ℕ → Result Base Fault → Type 0
-Collapses shape before after is_sound h root result =
+abbrev pub Collapses : Shape → ℕ → ℕ → Result Base Fault → PageMap → PageMap → Type 0 → Type 0
+Collapses shape h root result before after is_sound =
     (t : TreeOf h) → IsTree shape before h root None None t → AreApart (pages_of h t) → IsHalfFull shape h t
     → IsAnswer result (λ base. HasSettledRoot shape before after h t base × is_sound)

@@ -32,8 +32,8 @@ HasAddedToLeaf shape before after page entries None = HasLeaf shape before after
 HasAddedToLeaf shape before after page entries (Some separator) = HasLeaves shape before after page entries separator
 
 -- an entry is put before entry `place` of a leaf
-abbrev pub AddsToLeaf : Shape → PageMap → PageMap → Type 0 → ℕ → ℕ → List ℕ → Result (Option Separator) Fault → Type 0
-AddsToLeaf shape before after is_sound page place e result =
+abbrev pub AddsToLeaf : Shape → ℕ → ℕ → List ℕ → Result (Option Separator) Fault → PageMap → PageMap → Type 0 → Type 0
+AddsToLeaf shape page place e result before after is_sound =
     (entries : List (List ℕ)) → IsLeafAt shape before page entries → place ≤ length entries
     → IsAnswer result (λ separator. HasAddedToLeaf shape before after page (insert entries place e) separator × is_sound)
 
@@ -62,8 +62,8 @@ HasAddedToInner shape before after page seps below None = HasInner shape before 
 HasAddedToInner shape before after page seps below (Some separator) = HasInners shape before after page seps below separator
 
 -- a separator is put before separator `place` of an inner node, with the child to its right
-abbrev pub AddsToInner : Shape → PageMap → PageMap → Type 0 → ℕ → ℕ → Separator → Result (Option Separator) Fault → Type 0
-AddsToInner shape before after is_sound page place new result =
+abbrev pub AddsToInner : Shape → ℕ → ℕ → Separator → Result (Option Separator) Fault → PageMap → PageMap → Type 0 → Type 0
+AddsToInner shape page place new result before after is_sound =
     (seps : List (List ℕ)) (below : List ℕ) → IsInnerAt shape before page seps below → place ≤ length seps
     → IsAnswer result (λ separator. HasAddedToInner shape before after page (insert seps place new.key.items) (insert below (place + 1) new.child) separator × is_sound)
 
@@ -80,6 +80,6 @@ pub record HasRoot (shape : Shape) (before after : PageMap) (left : ℕ) (separa
   pub others : (n : ℕ) → n ≢ root → after n ≡ before n
 
 -- an inner node is written above two nodes
-abbrev pub AddsRoot : Shape → PageMap → PageMap → Type 0 → ℕ → Separator → Result ℕ Fault → Type 0
-AddsRoot shape before after is_sound left separator result =
+abbrev pub AddsRoot : Shape → ℕ → Separator → Result ℕ Fault → PageMap → PageMap → Type 0 → Type 0
+AddsRoot shape left separator result before after is_sound =
     IsAnswer result (λ root. HasRoot shape before after left separator root × is_sound)

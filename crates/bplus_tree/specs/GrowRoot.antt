@@ -19,7 +19,7 @@ pub record HasGrownRoot (shape : Shape) (before after : PageMap) (own : List ℕ
   pub changes : ChangesPages before after own (pages_of base.levels tree)
 
 -- of a tree that has grown since an earlier state of the pages
-abbrev pub GrowsRoot : Shape → PageMap → PageMap → Type 0 → ℕ → ℕ → Option Separator → Result Base Fault → Type 0
-GrowsRoot shape mid after is_sound h root up result =
+abbrev pub GrowsRoot : Shape → ℕ → ℕ → Option Separator → Result Base Fault → PageMap → PageMap → Type 0 → Type 0
+GrowsRoot shape h root up result mid after is_sound =
     (before : PageMap) (t : TreeOf h) (entries : List (List ℕ)) → IsRooted h t → HasGrown shape before mid h root None None (pages_of h t) (size_of h t) entries up
     → IsAnswer result (λ base. HasGrownRoot shape before after (pages_of h t) entries base × is_sound)

@@ -45,8 +45,8 @@ HasInsertedBelow shape before after h page low high e t (Added up) =
     × HasGrown shape before after h page low high (pages_of h t) (size_of h t) (with_entry shape.width e (entries_of h t)) up
 
 -- of a tree within bounds between which the key belongs
-abbrev pub Inserts : Shape → PageMap → PageMap → Type 0 → ℕ → ℕ → List ℕ → Result Grown Fault → Type 0
-Inserts shape before after is_sound h page e result =
+abbrev pub Inserts : Shape → ℕ → ℕ → List ℕ → Result Grown Fault → PageMap → PageMap → Type 0 → Type 0
+Inserts shape h page e result before after is_sound =
     (t : TreeOf h) (low high : Bound) → IsWhole shape before h page low high t → NotBelow low (take shape.width e) → Below high (take shape.width e)
     → IsAnswer result (λ grown. HasInsertedBelow shape before after h page low high e t grown × is_sound)
 
@@ -60,8 +60,8 @@ abbrev pub HasPutIf : (shape : Shape) → PageMap → PageMap → (h page : ℕ)
 HasPutIf shape before after h page low high e t true = HasInsertedBelow shape before after h page low high e t (Added None)
 HasPutIf shape before after h page low high e t false = after ≡ before
 
-abbrev pub PutsBelow : Shape → PageMap → PageMap → Type 0 → ℕ → ℕ → List ℕ → Result Bool Fault → Type 0
-PutsBelow shape before after is_sound h page e result =
+abbrev pub PutsBelow : Shape → ℕ → ℕ → List ℕ → Result Bool Fault → PageMap → PageMap → Type 0 → Type 0
+PutsBelow shape h page e result before after is_sound =
     (t : TreeOf h) (low high : Bound) → IsWhole shape before h page low high t → NotBelow low (take shape.width e) → Below high (take shape.width e)
     → IsAnswer result (λ done. HasPutIf shape before after h page low high e t done × is_sound)
 
@@ -80,7 +80,7 @@ HasPutInPlaceIf shape before after page e entries true =
     (entry_of shape.width (take shape.width e) entries ≡ None) × HasLeaf shape before after page (with_entry shape.width e entries)
 HasPutInPlaceIf shape before after page e entries false = after ≡ before
 
-abbrev pub PutsInPlace : Shape → PageMap → PageMap → Type 0 → ℕ → List ℕ → Result Bool Fault → Type 0
-PutsInPlace shape before after is_sound page e result =
+abbrev pub PutsInPlace : Shape → ℕ → List ℕ → Result Bool Fault → PageMap → PageMap → Type 0 → Type 0
+PutsInPlace shape page e result before after is_sound =
     (entries : List (List ℕ)) → IsLeafAt shape before page entries → Ascends shape.width entries
     → IsAnswer result (λ done. HasPutInPlaceIf shape before after page e entries done × is_sound)

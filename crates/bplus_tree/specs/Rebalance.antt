@@ -29,13 +29,13 @@ pub record HasShared (before after : PageMap) (p : ℕ) (node : List ℕ) (q : �
   pub others : (n : ℕ) → n ≢ p → n ≢ q → n ≢ r → after n ≡ before n
 
 -- the two children of a pair have become one
-abbrev pub EndsJoined : PageMap → PageMap → Type 0 → ℕ → Pair → (node left : List ℕ) → Result Unit Fault → Type 0
-EndsJoined before after is_sound page pair node left result =
+abbrev pub EndsJoined : ℕ → Pair → (node left : List ℕ) → Result Unit Fault → PageMap → PageMap → Type 0 → Type 0
+EndsJoined page pair node left result before after is_sound =
     AreThree before page pair.lower pair.upper → IsAnswer result (λ done. HasJoined before after page node pair.lower left pair.upper × is_sound)
 
 -- the two children of a pair have other entries, or other children
-abbrev pub EndsShared : PageMap → PageMap → Type 0 → ℕ → Pair → (node left right : List ℕ) → Result Unit Fault → Type 0
-EndsShared before after is_sound page pair node left right result =
+abbrev pub EndsShared : ℕ → Pair → (node left right : List ℕ) → Result Unit Fault → PageMap → PageMap → Type 0 → Type 0
+EndsShared page pair node left right result before after is_sound =
     AreThree before page pair.lower pair.upper → IsAnswer result (λ done. HasShared before after page node pair.lower left pair.upper right × is_sound)
 
 -- a separator beside child `place`, and the pages of the children on its two sides

@@ -38,8 +38,8 @@ HasRemovedBelow shape before after h page low high key t (Taken entry short) =
     (entry_of shape.width key (entries_of h t) ≡ Some entry.items)
     × BecomesShort shape before after h page low high (pages_of h t) (size_of h t - 1) (without_key shape.width key (entries_of h t)) short
 
-abbrev pub Removes : Shape → PageMap → PageMap → Type 0 → ℕ → ℕ → List ℕ → Result Shrunk Fault → Type 0
-Removes shape before after is_sound h page key result =
+abbrev pub Removes : Shape → ℕ → ℕ → List ℕ → Result Shrunk Fault → PageMap → PageMap → Type 0 → Type 0
+Removes shape h page key result before after is_sound =
     (t : TreeOf h) (low high : Bound) → IsWhole shape before h page low high t
     → IsAnswer result (λ shrunk. HasRemovedBelow shape before after h page low high key t shrunk × is_sound)
 
@@ -56,8 +56,8 @@ abbrev pub LacksOne : Shape → (h : ℕ) → TreeOf h → Type 0
 LacksOne shape h t = (least shape h ≡ size_of h t + 1) × IsHalfFull shape h t
 
 -- a node one of whose children lacks one
-abbrev pub Rebalances : Shape → PageMap → PageMap → Type 0 → ℕ → ℕ → ℕ → Result Bool Fault → Type 0
-Rebalances shape before after is_sound k page place result =
+abbrev pub Rebalances : Shape → ℕ → ℕ → ℕ → Result Bool Fault → PageMap → PageMap → Type 0 → Type 0
+Rebalances shape k page place result before after is_sound =
     (t : TreeOf (suc k)) (low high : Bound) → IsTree shape before (suc k) page low high t → AreApart (pages_of (suc k) t)
     → AreFullBut (IsHalfFullWithRoot shape k) (LacksOne shape k) place t.2 → 1 ≤ length t.1
     → IsAnswer result (λ short. BecomesShort shape before after (suc k) page low high (pages_of (suc k) t) (length t.1 - 1) (entries_of (suc k) t) short × is_sound)
@@ -68,8 +68,8 @@ pub record TakesOut (shape : Shape) (before after : PageMap) (page : ℕ) (entri
   pub others : (n : ℕ) → n ≢ page → after n ≡ before n
   pub short_is : IsTrue short ↔ (length entries < least shape 0)
 
-abbrev pub OutOfLeaf : Shape → PageMap → PageMap → Type 0 → ℕ → ℕ → Result Bool Fault → Type 0
-OutOfLeaf shape before after is_sound page place result =
+abbrev pub OutOfLeaf : Shape → ℕ → ℕ → Result Bool Fault → PageMap → PageMap → Type 0 → Type 0
+OutOfLeaf shape page place result before after is_sound =
     (entries : List (List ℕ)) → IsLeafAt shape before page entries → place < length entries
     → IsAnswer result (λ short. TakesOut shape before after page (remove entries place) short × is_sound)
 
@@ -84,8 +84,8 @@ abbrev pub HasTakenIf : (shape : Shape) → PageMap → PageMap → (h page : �
 HasTakenIf shape before after h page low high key t entry true = HasTaken shape before after h page low high key t entry
 HasTakenIf shape before after h page low high key t entry false = after ≡ before
 
-abbrev pub TakesBelow : Shape → PageMap → PageMap → Type 0 → ℕ → ℕ → List ℕ → ArrayVec ℕ → Result Bool Fault → Type 0
-TakesBelow shape before after is_sound h page key entry result =
+abbrev pub TakesBelow : Shape → ℕ → ℕ → List ℕ → ArrayVec ℕ → Result Bool Fault → PageMap → PageMap → Type 0 → Type 0
+TakesBelow shape h page key entry result before after is_sound =
     (t : TreeOf h) (low high : Bound) → IsWhole shape before h page low high t
     → IsAnswer result (λ done. HasTakenIf shape before after h page low high key t entry.items done × is_sound)
 
@@ -116,7 +116,7 @@ abbrev pub HasTakenInPlaceIf : Shape → PageMap → PageMap → ℕ → List �
 HasTakenInPlaceIf shape before after page key entries entry true = HasTakenInPlace shape before after page key entries entry.items
 HasTakenInPlaceIf shape before after page key entries entry false = after ≡ before
 
-abbrev pub TakesInPlace : Shape → PageMap → PageMap → Type 0 → ℕ → List ℕ → ArrayVec ℕ → Result Bool Fault → Type 0
-TakesInPlace shape before after is_sound page key entry result =
+abbrev pub TakesInPlace : Shape → ℕ → List ℕ → ArrayVec ℕ → Result Bool Fault → PageMap → PageMap → Type 0 → Type 0
+TakesInPlace shape page key entry result before after is_sound =
     (entries : List (List ℕ)) → IsLeafAt shape before page entries → Ascends shape.width entries
     → IsAnswer result (λ done. HasTakenInPlaceIf shape before after page key entries entry done × is_sound)

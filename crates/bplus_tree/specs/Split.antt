@@ -14,8 +14,8 @@ pub record HasSplit (before after : PageMap) (page : ℕ) (lower upper : List �
   pub others : (n : ℕ) → n ≢ page → n ≢ right → after n ≡ before n
 
 -- the two parts of a page that is in use are written
-abbrev pub Splits : PageMap → PageMap → Type 0 → ℕ → (lower upper : List ℕ) → Result ℕ Fault → Type 0
-Splits before after is_sound page lower upper result =
+abbrev pub Splits : ℕ → (lower upper : List ℕ) → Result ℕ Fault → PageMap → PageMap → Type 0 → Type 0
+Splits page lower upper result before after is_sound =
     IsSome (before page) → IsAnswer result (λ right. HasSplit before after page lower upper right × is_sound)
 
 -- the page was split where there is a key, which goes up
@@ -26,8 +26,8 @@ IsSplitOrWhole before after page lower upper None (Some separator) = ⊥
 IsSplitOrWhole before after page lower upper (Some key) None = ⊥
 
 -- a page that is in use is written, in two parts where there is a key
-abbrev pub WritesParts : PageMap → PageMap → Type 0 → ℕ → (lower upper : List ℕ) → Option (ArrayVec ℕ) → Result (Option Separator) Fault → Type 0
-WritesParts before after is_sound page lower upper key result =
+abbrev pub WritesParts : ℕ → (lower upper : List ℕ) → Option (ArrayVec ℕ) → Result (Option Separator) Fault → PageMap → PageMap → Type 0 → Type 0
+WritesParts page lower upper key result before after is_sound =
     IsSome (before page) → IsAnswer result (λ separator. IsSplitOrWhole before after page lower upper key separator × is_sound)
 
 -- where there is a separator, its key has this width

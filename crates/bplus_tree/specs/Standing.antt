@@ -45,8 +45,8 @@ pub record IsNewTree (shape : Shape) (before after : PageMap) (tree : Tree) : Ty
   pub shape_is : tree.shape ≡ shape
   pub low : tree.levels ≡ 0
 
-abbrev pub MakesTree : Shape → PageMap → PageMap → Type 0 → Result Tree Fault → Type 0
-MakesTree shape before after is_sound result = IsAnswer result (λ tree. IsNewTree shape before after tree × is_sound)
+abbrev pub MakesTree : Shape → Result Tree Fault → PageMap → PageMap → Type 0 → Type 0
+MakesTree shape result before after is_sound = IsAnswer result (λ tree. IsNewTree shape before after tree × is_sound)
 
 abbrev pub HasInserted : PageMap → PageMap → Tree → Tree → List ℕ → List (List ℕ) → List ℕ → Option (ArrayVec ℕ) → Type 0
 HasInserted before after old new e entries own (Some found) =
@@ -54,8 +54,8 @@ HasInserted before after old new e entries own (Some found) =
 HasInserted before after old new e entries own None =
     (entry_of old.shape.width (take old.shape.width e) entries ≡ None) × Changed before after new own (with_entry old.shape.width e entries)
 
-abbrev pub Inserts : PageMap → PageMap → Type 0 → Tree → Tree → List ℕ → Result (Option (ArrayVec ℕ)) Fault → Type 0
-Inserts before after is_sound old new e result =
+abbrev pub Inserts : Tree → Tree → List ℕ → Result (Option (ArrayVec ℕ)) Fault → PageMap → PageMap → Type 0 → Type 0
+Inserts old new e result before after is_sound =
     (entries : List (List ℕ)) (own : List ℕ) → TreeStands old before entries own → IsAnswer result (λ found. HasInserted before after old new e entries own found × is_sound)
 
 abbrev pub HasRemoved : PageMap → PageMap → Tree → Tree → List ℕ → List (List ℕ) → List ℕ → Option (ArrayVec ℕ) → Type 0
@@ -64,6 +64,6 @@ HasRemoved before after old new key entries own None =
 HasRemoved before after old new key entries own (Some found) =
     (entry_of old.shape.width key entries ≡ Some found.items) × Changed before after new own (without_key old.shape.width key entries)
 
-abbrev pub Removes : PageMap → PageMap → Type 0 → Tree → Tree → List ℕ → Result (Option (ArrayVec ℕ)) Fault → Type 0
-Removes before after is_sound old new key result =
+abbrev pub Removes : Tree → Tree → List ℕ → Result (Option (ArrayVec ℕ)) Fault → PageMap → PageMap → Type 0 → Type 0
+Removes old new key result before after is_sound =
     (entries : List (List ℕ)) (own : List ℕ) → TreeStands old before entries own → IsAnswer result (λ found. HasRemoved before after old new key entries own found × is_sound)

@@ -1,7 +1,7 @@
 //! The root after a removal.
 
 ghost use Rattle.std.specs.Prelude.{◌≡◌, ◌<◌, ◌≤◌, IsTrue, IfOk};
-ghost use Rattle.pages.specs.PageCalls.{ReadsPages};
+ghost use Rattle.tree_search.specs.LookUps.{LooksUp};
 ghost use Rattle.bplus_tree.specs.Changes.{CanWrite, WhereSound, GivesPages};
 ghost use Rattle.bplus_tree.specs.Collapse.{Sees, CollapsesInner, Collapses};
 
@@ -19,8 +19,7 @@ pub struct Base {
 /// Gives the root back where it has one child only, which is the root then.
 pub fn collapse<P: Pages>(pages: &mut P, shape: Shape, root: u32, levels: u8) -> Result<Base, Fault>
     requires { CanWrite P.shown pages.old }
-    ensures collapsed { WhereSound P.shown pages.old pages.new
-        (λ before after sound. Collapses shape before after sound levels root result) }
+    ensures collapsed { WhereSound P.shown pages.old pages.new (Collapses shape levels root result) }
     ensures height { IfOk result (λ base. base.levels ≤ levels) }
     ensures writes { GivesPages P.shown 2 pages.old pages.new result }
 {
@@ -39,8 +38,7 @@ pub fn collapse<P: Pages>(pages: &mut P, shape: Shape, root: u32, levels: u8) ->
 /// Gives an inner node back that has one child only, and answers the child.
 fn collapse_inner<P: Pages>(pages: &mut P, shape: Shape, page: u32) -> Result<Option<u32>, Fault>
     requires { CanWrite P.shown pages.old }
-    ensures inner_collapsed { WhereSound P.shown pages.old pages.new
-        (λ before after sound. CollapsesInner shape before after sound page result) }
+    ensures inner_collapsed { WhereSound P.shown pages.old pages.new (CollapsesInner shape page result) }
     ensures writes { GivesPages P.shown 2 pages.old pages.new result }
 {
     match only_child(pages, shape, page)? {
@@ -55,8 +53,7 @@ fn collapse_inner<P: Pages>(pages: &mut P, shape: Shape, page: u32) -> Result<Op
 /// The child of an inner node that has no separator.
 fn only_child<P: Pages>(pages: &mut P, shape: Shape, page: u32) -> Result<Option<u32>, Fault>
     requires ready { P.shown.IsReady pages.old }
-    ensures child { IsTrue (P.shown.state pages.new).is_honest → Sees shape (P.shown.state pages.old).live page result }
-    ensures reads { ReadsPages P.shown 1 pages.old pages.new result }
+    ensures { LooksUp P.shown 1 (λ live. Sees shape live page) pages.old pages.new result }
 {
     let bytes = pages.page(page)?;
     if !is_inner(bytes, shape) {

@@ -3,6 +3,7 @@
 ghost use Rattle.std.specs.Prelude.{◌≡◌, ◌+◌, ◌*◌, ◌≤◌, ◌↔◌, ℕ, List, IsTrue, IfOk, OnErr, length, take};
 ghost use Rattle.pages.specs.PageMap.{PageMap};
 ghost use Rattle.pages.specs.PageCalls.{ReadsPages};
+ghost use Rattle.tree_search.specs.LookUps.{WhenHonest, LooksUp};
 
 use crate::tree::Tree;
 use io_state::Fault;
@@ -46,8 +47,8 @@ impl Cursor {
     /// at a fault. It asks one page mostly, and never more than twice the height.
     pub fn next<P: Pages>(&mut self, tree: &Tree, pages: &mut P) -> Result<Option<Entry>, Fault>
         requires ready { P.shown.IsReady pages.old }
-        ensures moved { IsTrue (P.shown.state pages.new).is_honest
-            → CursorMoves self.old self.new tree.now (P.shown.state pages.old).live result }
+        ensures moved { WhenHonest P.shown pages.old pages.new
+            (λ live. CursorMoves self.old self.new tree.now live result) }
         ensures key { IfOk result (λ found. self.new.key.items
             ≡ key_after tree.now.shape.width self.old.key.items found) }
         ensures near { HasNeighbour self.old tree.now → (P.shown.state pages.new).asked ≤ (P.shown.state pages.old).asked + 1 }
@@ -80,8 +81,8 @@ impl Cursor {
         start: &[u8],
     ) -> Result<bool, Fault>
         requires ready { P.shown.IsReady pages.old }
-        ensures told { IsTrue (P.shown.state pages.new).is_honest
-            → TellsNext self.now tree.now (P.shown.state pages.old).live start.now result }
+        ensures told { WhenHonest P.shown pages.old pages.new
+            (λ live. TellsNext self.now tree.now live start.now result) }
         ensures reads { ReadsPages P.shown (2 * (tree.now.levels + 1)) pages.old pages.new result }
     {
         if self.has_neighbour(tree) {
@@ -103,8 +104,8 @@ impl Cursor {
     fn step<P: Pages>(&mut self, tree: &Tree, pages: &mut P) -> Result<Option<Entry>, Fault>
         requires near { HasNeighbour self.old tree.now }
         requires ready { P.shown.IsReady pages.old }
-        ensures moved { IsTrue (P.shown.state pages.new).is_honest
-            → CursorMoves self.old self.new tree.now (P.shown.state pages.old).live result }
+        ensures moved { WhenHonest P.shown pages.old pages.new
+            (λ live. CursorMoves self.old self.new tree.now live result) }
         ensures key { IfOk result (λ found. self.new.key.items
             ≡ key_after tree.now.shape.width self.old.key.items found) }
         ensures reads { ReadsPages P.shown 1 pages.old pages.new result }
@@ -129,9 +130,8 @@ impl Cursor {
         spot: &mut Spot,
     ) -> Result<Option<Entry>, Fault>
         requires ready { P.shown.IsReady pages.old }
-        ensures found { IsTrue (P.shown.state pages.new).is_honest
-            → LooksBehind self.now tree.now (P.shown.state pages.old).live spot.new result }
-        ensures reads { ReadsPages P.shown (2 * (tree.now.levels + 1)) pages.old pages.new result }
+        ensures { LooksUp P.shown (2 * (tree.now.levels + 1))
+            (λ live. LooksBehind self.now tree.now live spot.new) pages.old pages.new result }
     {
         let key = self.key.as_slice();
         next_below(pages, tree.shape, tree.root, tree.levels, key, true, spot)

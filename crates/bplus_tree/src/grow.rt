@@ -26,8 +26,7 @@ pub fn add_to_leaf<P: Pages>(
     entry: &[u8],
 ) -> Result<Option<Separator>, Fault>
     requires { CanInsert P.shown shape entry.now pages.old }
-    ensures added { WhereSound P.shown pages.old pages.new
-        (λ before after sound. AddsToLeaf shape before after sound page place entry.now result) }
+    ensures added { WhereSound P.shown pages.old pages.new (AddsToLeaf shape page place entry.now result) }
     ensures width { IfOk result (HasWidth shape.width) }
     ensures writes { TakesOne P.shown 4 pages.old pages.new result }
 {
@@ -63,8 +62,7 @@ pub fn add_to_inner<P: Pages>(
 ) -> Result<Option<Separator>, Fault>
     requires width { length separator.now.key.items ≡ shape.width }
     requires pages { CanWrite P.shown pages.old }
-    ensures added { WhereSound P.shown pages.old pages.new
-        (λ before after sound. AddsToInner shape before after sound page place separator.now result) }
+    ensures added { WhereSound P.shown pages.old pages.new (AddsToInner shape page place separator.now result) }
     ensures width { IfOk result (HasWidth shape.width) }
     ensures writes { TakesOne P.shown 4 pages.old pages.new result }
 {
@@ -97,8 +95,7 @@ pub fn add_root<P: Pages>(
 ) -> Result<u32, Fault>
     requires width { length separator.now.key.items ≡ shape.width }
     requires pages { CanWrite P.shown pages.old }
-    ensures added { WhereSound P.shown pages.old pages.new
-        (λ before after sound. AddsRoot shape before after sound left separator.now result) }
+    ensures added { WhereSound P.shown pages.old pages.new (AddsRoot shape left separator.now result) }
     ensures writes { TakesOne P.shown 2 pages.old pages.new result }
 {
     let root = pages.take()?;

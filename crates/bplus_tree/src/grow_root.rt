@@ -25,8 +25,7 @@ pub fn grow_root<P: Pages>(
     requires low { levels < 19 }
     requires width { HasWidth shape.width up }
     requires pages { CanWrite P.shown pages.old }
-    ensures grown { WhereSound P.shown pages.old pages.new
-        (λ before after sound. GrowsRoot shape before after sound levels root up result) }
+    ensures grown { WhereSound P.shown pages.old pages.new (GrowsRoot shape levels root up result) }
     ensures height { IfOk result (λ base. base.levels ≤ levels + 1) }
     ensures writes { TakesOne P.shown 2 pages.old pages.new result }
 {

@@ -31,8 +31,7 @@ pub fn insert_below<P: Pages>(
     entry: &[u8],
 ) -> Result<Grown, Fault>
     requires { CanInsert P.shown shape entry.now pages.old }
-    ensures inserted { WhereSound P.shown pages.old pages.new
-        (λ before after sound. Inserts shape before after sound levels page entry.now result) }
+    ensures inserted { WhereSound P.shown pages.old pages.new (Inserts shape levels page entry.now result) }
     ensures width { IfOk result (HasWholeKey shape) }
     ensures writes { TakesUpTo P.shown (levels + 1) (6 * (levels + 1)) pages.old pages.new result }
 {
@@ -60,8 +59,7 @@ pub fn put_below<P: Pages>(
     entry: &[u8],
 ) -> Result<bool, Fault>
     requires { CanInsert P.shown shape entry.now pages.old }
-    ensures put { WhereSound P.shown pages.old pages.new
-        (λ before after sound. PutsBelow shape before after sound levels page entry.now result) }
+    ensures put { WhereSound P.shown pages.old pages.new (PutsBelow shape levels page entry.now result) }
     ensures writes { EditsPages P.shown (levels + 1) pages.old pages.new result }
 {
     if levels == 0 {
@@ -79,8 +77,7 @@ fn put_in_place<P: Pages>(
     entry: &[u8],
 ) -> Result<bool, Fault>
     requires { CanInsert P.shown shape entry.now pages.old }
-    ensures put { WhereSound P.shown pages.old pages.new
-        (λ before after sound. PutsInPlace shape before after sound page entry.now result) }
+    ensures put { WhereSound P.shown pages.old pages.new (PutsInPlace shape page entry.now result) }
     ensures writes { EditsPages P.shown 1 pages.old pages.new result }
 {
     let bytes = pages.page_mut(page)?;
@@ -127,8 +124,7 @@ fn insert_in_leaf<P: Pages>(
     entry: &[u8],
 ) -> Result<Grown, Fault>
     requires { CanInsert P.shown shape entry.now pages.old }
-    ensures inserted { WhereSound P.shown pages.old pages.new
-        (λ before after sound. Inserts shape before after sound 0 page entry.now result) }
+    ensures inserted { WhereSound P.shown pages.old pages.new (Inserts shape 0 page entry.now result) }
     ensures width { IfOk result (HasWholeKey shape) }
     ensures writes { TakesOne P.shown 6 pages.old pages.new result }
 {

@@ -3,6 +3,7 @@
 ghost use Rattle.std.specs.Prelude.{◌≡◌, ◌≢◌, ◌+◌, ◌*◌, ◌<◌, ◌≤◌, ◌↔◌, IsTrue, IsSome, IfOk, OnOk, length, slice_index};
 ghost use Rattle.tree_node.specs.Inner.{IsInner, separators, children};
 ghost use Rattle.pages.specs.PageCalls.{ReadsPages};
+ghost use Rattle.tree_search.specs.LookUps.{WhenHonest};
 ghost use Rattle.bplus_tree.specs.Changes.{CanWrite, WhereSound, GivesPages};
 ghost use Rattle.node_balance.specs.Balance.{Balances};
 ghost use Rattle.node_balance.specs.Fill.{least};
@@ -52,8 +53,7 @@ fn end_joined<P: Pages>(
     left: &[u8; PAGE_SIZE],
 ) -> Result<(), Fault>
     requires { CanWrite P.shown pages.old }
-    ensures ended { WhereSound P.shown pages.old pages.new
-        (λ before after sound. EndsJoined before after sound page pair node.now left.now result) }
+    ensures ended { WhereSound P.shown pages.old pages.new (EndsJoined page pair node.now left.now result) }
     ensures writes { GivesPages P.shown 3 pages.old pages.new result }
 {
     store(pages, page, node)?;
@@ -72,8 +72,7 @@ fn end_shared<P: Pages>(
     right: &[u8; PAGE_SIZE],
 ) -> Result<(), Fault>
     requires { CanWrite P.shown pages.old }
-    ensures ended { WhereSound P.shown pages.old pages.new
-        (λ before after sound. EndsShared before after sound page pair node.now left.now right.now result) }
+    ensures ended { WhereSound P.shown pages.old pages.new (EndsShared page pair node.now left.now right.now result) }
     ensures writes { GivesPages P.shown 3 pages.old pages.new result }
 {
     store(pages, page, node)?;
@@ -92,8 +91,7 @@ pub fn rebalance<P: Pages>(
     place: usize,
 ) -> Result<bool, Fault>
     requires { CanWrite P.shown pages.old }
-    ensures rebalanced { WhereSound P.shown pages.old pages.new
-        (λ before after sound. Rebalances shape before after sound levels page place result) }
+    ensures rebalanced { WhereSound P.shown pages.old pages.new (Rebalances shape levels page place result) }
     ensures writes { GivesPages P.shown 6 pages.old pages.new result }
 {
     let mut node = [0; PAGE_SIZE];
@@ -127,7 +125,8 @@ fn read_pair<P: Pages>(
 ) -> Result<Pair, Fault>
     requires ready { P.shown.IsReady pages.old }
     ensures inner { IfOk result (λ pair. IsInner shape node.new × (pair.at < length (separators shape node.new))) }
-    ensures read { IsTrue (P.shown.state pages.new).is_honest → ReadsPair shape (P.shown.state pages.old).live page place node.new left.new right.new result }
+    ensures read { WhenHonest P.shown pages.old pages.new
+        (λ live. ReadsPair shape live page place node.new left.new right.new result) }
     ensures reads { ReadsPages P.shown 3 pages.old pages.new result }
 {
     copy(pages, page, node)?;

@@ -31,8 +31,7 @@ pub fn remove_below<P: Pages>(
     key: &[u8],
 ) -> Result<Shrunk, Fault>
     requires { CanWrite P.shown pages.old }
-    ensures removed { WhereSound P.shown pages.old pages.new
-        (λ before after sound. Removes shape before after sound levels page key.now result) }
+    ensures removed { WhereSound P.shown pages.old pages.new (Removes shape levels page key.now result) }
     ensures writes { GivesPages P.shown (7 * (levels + 1)) pages.old pages.new result }
 {
     if levels == 0 {
@@ -64,8 +63,7 @@ pub fn take_below<P: Pages>(
     to: &mut Entry,
 ) -> Result<bool, Fault>
     requires { CanWrite P.shown pages.old }
-    ensures taken { WhereSound P.shown pages.old pages.new
-        (λ before after sound. TakesBelow shape before after sound levels page key.now to.new result) }
+    ensures taken { WhereSound P.shown pages.old pages.new (TakesBelow shape levels page key.now to.new result) }
     ensures writes { EditsPages P.shown (levels + 1) pages.old pages.new result }
 {
     if levels == 0 {
@@ -84,8 +82,7 @@ fn take_in_place<P: Pages>(
     to: &mut Entry,
 ) -> Result<bool, Fault>
     requires { CanWrite P.shown pages.old }
-    ensures taken { WhereSound P.shown pages.old pages.new
-        (λ before after sound. TakesInPlace shape before after sound page key.now to.new result) }
+    ensures taken { WhereSound P.shown pages.old pages.new (TakesInPlace shape page key.now to.new result) }
     ensures writes { EditsPages P.shown 1 pages.old pages.new result }
 {
     let bytes = pages.page_mut(page)?;
@@ -120,8 +117,7 @@ fn remove_from_leaf<P: Pages>(
     key: &[u8],
 ) -> Result<Shrunk, Fault>
     requires { CanWrite P.shown pages.old }
-    ensures removed { WhereSound P.shown pages.old pages.new
-        (λ before after sound. Removes shape before after sound 0 page key.now result) }
+    ensures removed { WhereSound P.shown pages.old pages.new (Removes shape 0 page key.now result) }
     ensures writes { GivesPages P.shown 2 pages.old pages.new result }
 {
     let Look { place, found } = seek(pages, shape, page, key)?;
@@ -137,8 +133,7 @@ fn remove_from_leaf<P: Pages>(
 /// Takes entry `place` out of a leaf. The answer is whether the leaf has too little now.
 fn take_out<P: Pages>(pages: &mut P, shape: Shape, page: u32, place: usize) -> Result<bool, Fault>
     requires { CanWrite P.shown pages.old }
-    ensures taken { WhereSound P.shown pages.old pages.new
-        (λ before after sound. OutOfLeaf shape before after sound page place result) }
+    ensures taken { WhereSound P.shown pages.old pages.new (OutOfLeaf shape page place result) }
     ensures writes { GivesPages P.shown 1 pages.old pages.new result }
 {
     let bytes = pages.page_mut(page)?;

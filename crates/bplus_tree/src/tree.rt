@@ -1,7 +1,7 @@
 //! A tree, from its root.
 
 ghost use Rattle.std.specs.Prelude.{◌≡◌, ◌≢◌, ◌+◌, ◌-◌, ◌*◌, ◌^◌, ◌<◌, ◌≤◌, IsTrue, IsSome, IfOk, OnOk, Ok, Err, None, length, take};
-ghost use Rattle.pages.specs.PageCalls.{ReadsPages};
+ghost use Rattle.tree_search.specs.LookUps.{LooksUp};
 
 use crate::collapse::collapse;
 use crate::empty_leaf::write_empty_leaf;
@@ -44,8 +44,7 @@ impl Tree {
     /// A tree without entries, in a page of its own. Full where no page is available.
     pub fn empty<P: Pages>(pages: &mut P, shape: Shape) -> Result<Tree, Fault>
         requires { CanWrite P.shown pages.old }
-        ensures made { WhereSound P.shown pages.old pages.new
-            (λ before after sound. MakesTree shape before after sound result) }
+        ensures made { WhereSound P.shown pages.old pages.new (MakesTree shape result) }
         ensures shape { IfOk result (λ tree. (tree.shape ≡ shape) × (tree.levels ≡ 0)) }
         ensures one { OnOk result ((P.shown.state pages.new).available + 1 ≡ (P.shown.state pages.old).available) }
         ensures writes { TakesOne P.shown 2 pages.old pages.new result }
@@ -71,9 +70,8 @@ impl Tree {
     /// The entry of a key. A key may have any length; one that is too short or too long is not found.
     pub fn find<P: Pages>(&self, pages: &mut P, key: &[u8]) -> Result<Option<Entry>, Fault>
         requires ready { P.shown.IsReady pages.old }
-        ensures found { IsTrue (P.shown.state pages.new).is_honest
-            → Answers self.now (P.shown.state pages.old).live (entry_of self.now.shape.width key.now) result }
-        ensures reads { ReadsPages P.shown (self.now.levels + 1) pages.old pages.new result }
+        ensures { LooksUp P.shown (self.now.levels + 1)
+            (λ live. Answers self.now live (entry_of self.now.shape.width key.now)) pages.old pages.new result }
     {
         find_below(pages, self.shape, self.root, self.levels, key)
     }
@@ -88,9 +86,8 @@ impl Tree {
     ) -> Result<bool, Fault>
         requires ready { P.shown.IsReady pages.old }
         requires size { self.now.shape.width + length tail.old ≡ self.now.shape.entry }
-        ensures found { IsTrue (P.shown.state pages.new).is_honest
-            → Tells (IsTail self.now.shape.width tail.new) self.now (P.shown.state pages.old).live key.now result }
-        ensures reads { ReadsPages P.shown (self.now.levels + 1) pages.old pages.new result }
+        ensures { LooksUp P.shown (self.now.levels + 1)
+            (λ live. Tells (IsTail self.now.shape.width tail.new) self.now live key.now) pages.old pages.new result }
     {
         find_tail(pages, self.shape, self.root, self.levels, key, tail)
     }
@@ -98,8 +95,8 @@ impl Tree {
     /// Whether a key, which may have any length, has an entry.
     pub fn has<P: Pages>(&self, pages: &mut P, key: &[u8]) -> Result<bool, Fault>
         requires ready { P.shown.IsReady pages.old }
-        ensures told { IsTrue (P.shown.state pages.new).is_honest → Tells TellsPresence self.now (P.shown.state pages.old).live key.now result }
-        ensures reads { ReadsPages P.shown (self.now.levels + 1) pages.old pages.new result }
+        ensures { LooksUp P.shown (self.now.levels + 1)
+            (λ live. Tells TellsPresence self.now live key.now) pages.old pages.new result }
     {
         has_below(pages, self.shape, self.root, self.levels, key)
     }
@@ -107,9 +104,8 @@ impl Tree {
     /// The first entry whose key is not below this one, which may have any length.
     pub fn at_or_after<P: Pages>(&self, pages: &mut P, key: &[u8]) -> Result<Option<Entry>, Fault>
         requires ready { P.shown.IsReady pages.old }
-        ensures found { IsTrue (P.shown.state pages.new).is_honest
-            → Answers self.now (P.shown.state pages.old).live (first_from self.now.shape.width key.now) result }
-        ensures reads { ReadsPages P.shown (2 * (self.now.levels + 1)) pages.old pages.new result }
+        ensures { LooksUp P.shown (2 * (self.now.levels + 1))
+            (λ live. Answers self.now live (first_from self.now.shape.width key.now)) pages.old pages.new result }
     {
         let mut spot = Spot::nowhere();
         next_below(
@@ -126,9 +122,8 @@ impl Tree {
     /// The first entry whose key is above this one, which may have any length.
     pub fn after<P: Pages>(&self, pages: &mut P, key: &[u8]) -> Result<Option<Entry>, Fault>
         requires ready { P.shown.IsReady pages.old }
-        ensures found { IsTrue (P.shown.state pages.new).is_honest
-            → Answers self.now (P.shown.state pages.old).live (first_after self.now.shape.width key.now) result }
-        ensures reads { ReadsPages P.shown (2 * (self.now.levels + 1)) pages.old pages.new result }
+        ensures { LooksUp P.shown (2 * (self.now.levels + 1))
+            (λ live. Answers self.now live (first_after self.now.shape.width key.now)) pages.old pages.new result }
     {
         let mut spot = Spot::nowhere();
         next_below(
@@ -145,9 +140,8 @@ impl Tree {
     /// The entry of the greatest key.
     pub fn last<P: Pages>(&self, pages: &mut P) -> Result<Option<Entry>, Fault>
         requires ready { P.shown.IsReady pages.old }
-        ensures found { IsTrue (P.shown.state pages.new).is_honest
-            → Answers self.now (P.shown.state pages.old).live (last_of) result }
-        ensures reads { ReadsPages P.shown (self.now.levels + 1) pages.old pages.new result }
+        ensures { LooksUp P.shown (self.now.levels + 1)
+            (λ live. Answers self.now live (last_of)) pages.old pages.new result }
     {
         last_below(pages, self.shape, self.root, self.levels)
     }
@@ -163,9 +157,8 @@ impl Tree {
         to: &[u8],
     ) -> Result<Option<First>, Fault>
         requires ready { P.shown.IsReady pages.old }
-        ensures found { IsTrue (P.shown.state pages.new).is_honest
-            → FindsWithin self.now (P.shown.state pages.old).live from.now to.now result }
-        ensures reads { ReadsPages P.shown (2 * (self.now.levels + 1)) pages.old pages.new result }
+        ensures { LooksUp P.shown (2 * (self.now.levels + 1))
+            (λ live. FindsWithin self.now live from.now to.now) pages.old pages.new result }
     {
         first_within(pages, self.shape, self.root, self.levels, from, to)
     }
@@ -177,8 +170,7 @@ impl Tree {
     /// as the file has pages, which no tree that stands comes to. After a fault nothing is known of the tree.
     pub fn insert<P: Pages>(&mut self, pages: &mut P, entry: &[u8]) -> Result<Option<Entry>, Fault>
         requires { CanInsert P.shown self.old.shape entry.now pages.old }
-        ensures inserted { WhereSound P.shown pages.old pages.new
-            (λ before after sound. Inserts before after sound self.old self.new entry.now result) }
+        ensures inserted { WhereSound P.shown pages.old pages.new (Inserts self.old self.new entry.now result) }
         ensures deep { IsPastAll self.old → FindsDamage self.old self.new pages.old pages.new result }
         ensures shape { KeepsShape (self.old.levels + 1) self.old self.new }
         ensures changes { result ≡ Ok None → self.new.changes ≡ one_more self.old.changes }
@@ -204,8 +196,7 @@ impl Tree {
     ) -> Result<Option<Entry>, Fault>
         requires low { (self.old.levels < 19) × (self.old.count < 2 ^ 64 - 1) }
         requires put { CanInsert P.shown self.old.shape entry.now pages.old }
-        ensures inserted { WhereSound P.shown pages.old pages.new
-            (λ before after sound. Inserts before after sound self.old self.new entry.now result) }
+        ensures inserted { WhereSound P.shown pages.old pages.new (Inserts self.old self.new entry.now result) }
         ensures shape { KeepsShape (self.old.levels + 1) self.old self.new }
         ensures changes { result ≡ Ok None → self.new.changes ≡ one_more self.old.changes }
         ensures writes { TakesUpTo P.shown (self.old.levels + 2) (7 * (self.old.levels + 2)) pages.old pages.new result }
@@ -229,8 +220,7 @@ impl Tree {
     /// Takes the entry of a key out, and answers it. Where the key is not there, nothing is changed.
     pub fn remove<P: Pages>(&mut self, pages: &mut P, key: &[u8]) -> Result<Option<Entry>, Fault>
         requires { CanWrite P.shown pages.old }
-        ensures removed { WhereSound P.shown pages.old pages.new
-            (λ before after sound. Removes before after sound self.old self.new key.now result) }
+        ensures removed { WhereSound P.shown pages.old pages.new (Removes self.old self.new key.now result) }
         ensures shape { KeepsShape self.old.levels self.old self.new }
         ensures changes { IfOk result (λ found. IsSome found → self.new.changes ≡ one_more self.old.changes) }
         ensures writes { GivesPages P.shown (8 * (self.old.levels + 2)) pages.old pages.new result }
@@ -251,8 +241,7 @@ impl Tree {
         key: &[u8],
     ) -> Result<Option<Entry>, Fault>
         requires { CanWrite P.shown pages.old }
-        ensures removed { WhereSound P.shown pages.old pages.new
-            (λ before after sound. Removes before after sound self.old self.new key.now result) }
+        ensures removed { WhereSound P.shown pages.old pages.new (Removes self.old self.new key.now result) }
         ensures shape { KeepsShape self.old.levels self.old self.new }
         ensures changes { IfOk result (λ found. IsSome found → self.new.changes ≡ one_more self.old.changes) }
         ensures writes { GivesPages P.shown (7 * (self.old.levels + 2)) pages.old pages.new result }

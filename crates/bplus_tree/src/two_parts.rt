@@ -22,8 +22,7 @@ pub fn write_parts<P: Pages>(
     key: Option<TreeKey>,
 ) -> Result<Option<Separator>, Fault>
     requires { CanWrite P.shown pages.old }
-    ensures written { WhereSound P.shown pages.old pages.new
-        (λ before after sound. WritesParts before after sound page lower.now upper.now key result) }
+    ensures written { WhereSound P.shown pages.old pages.new (WritesParts page lower.now upper.now key result) }
     ensures key { IfOk result (λ up. option_map (λ separator. separator.key) up ≡ key) }
     ensures writes { TakesOne P.shown 3 pages.old pages.new result }
 {
@@ -47,8 +46,7 @@ fn write_split<P: Pages>(
     upper: &[u8; PAGE_SIZE],
 ) -> Result<u32, Fault>
     requires { CanWrite P.shown pages.old }
-    ensures split { WhereSound P.shown pages.old pages.new
-        (λ before after sound. Splits before after sound page lower.now upper.now result) }
+    ensures split { WhereSound P.shown pages.old pages.new (Splits page lower.now upper.now result) }
     ensures writes { TakesOne P.shown 3 pages.old pages.new result }
 {
     let right = pages.take()?;

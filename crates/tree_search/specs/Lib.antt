@@ -6,3 +6,4 @@ pub mod Search
 pub mod Range
 pub mod Spot
 pub mod Tail
+pub mod LookUps

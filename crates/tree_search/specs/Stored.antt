@@ -4,6 +4,7 @@ use Rattle.tree_node.specs.declared.shape.Shape.{Shape}
 use Rattle.page_bytes.specs.Each.{Each}
 use Rattle.tree_node.specs.Leaf.{IsLeaf, leaf_entries}
 use Rattle.tree_node.specs.Inner.{IsInner, separators, children}
+use Rattle.tree_node.specs.Order.{Ascends}
 use Rattle.pages.specs.PageMap.{PageMap}
 use Rattle.tree_search.specs.Tree.{TreeOf, page_of}
 
@@ -21,6 +22,10 @@ pub record IsInnerAt (shape : Shape) (pages : PageMap) (page : ℕ) (seps : List
   pub inner : IsInner shape bytes
   pub rises : separators shape bytes ≡ seps
   pub leads : children shape bytes ≡ below
+
+-- what is so of the entries of a leaf, where they rise
+abbrev pub WhereRising : Shape → List ℕ → (List (List ℕ) → Type 0) → Type 0
+WhereRising shape page Says = Ascends shape.width (leaf_entries shape page) → Says (leaf_entries shape page)
 
 -- the tree stands in these pages
 abbrev pub Holds : Shape → PageMap → (h : ℕ) → TreeOf h → Type 0

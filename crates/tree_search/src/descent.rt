@@ -1,11 +1,12 @@
 //! One step down a tree, and a look into a leaf.
 
 ghost use Rattle.std.specs.Prelude.{◌≡◌, ◌+◌, ◌<◌, true, IsTrue, length};
-ghost use Rattle.pages.specs.PageCalls.{ReadsPages};
+ghost use Rattle.tree_search.specs.LookUps.{LooksUp};
 ghost use Rattle.tree_search.specs.Descent.{Steps, IsDescentStep, Looks, IsLook, IsKeyAt};
 ghost use Rattle.tree_node.specs.Inner.{IsInner, separators, children};
 ghost use Rattle.tree_node.specs.Leaf.{IsLeaf, leaf_entries};
-ghost use Rattle.tree_node.specs.Order.{Ascends, IsRank};
+ghost use Rattle.tree_node.specs.Order.{IsRank};
+ghost use Rattle.tree_search.specs.Stored.{WhereRising};
 
 use crate::spot::entry_with;
 use io_state::Fault;
@@ -38,8 +39,7 @@ pub fn descend<P: Pages>(
     key: &[u8],
 ) -> Result<StepDown, Fault>
     requires ready { P.shown.IsReady pages.old }
-    ensures down { IsTrue (P.shown.state pages.new).is_honest → Steps shape (P.shown.state pages.old).live page key.now result }
-    ensures reads { ReadsPages P.shown 1 pages.old pages.new result }
+    ensures { LooksUp P.shown 1 (λ live. Steps shape live page key.now) pages.old pages.new result }
 {
     let bytes = pages.page(page)?;
     if !is_inner(bytes, shape) {
@@ -67,8 +67,7 @@ pub fn step_in(page: &[u8; PAGE_SIZE], shape: Shape, key: &[u8]) -> StepDown
 /// Looks for a key in a leaf.
 pub fn seek<P: Pages>(pages: &mut P, shape: Shape, page: u32, key: &[u8]) -> Result<Look, Fault>
     requires ready { P.shown.IsReady pages.old }
-    ensures sought { IsTrue (P.shown.state pages.new).is_honest → Looks shape (P.shown.state pages.old).live page key.now result }
-    ensures reads { ReadsPages P.shown 1 pages.old pages.new result }
+    ensures { LooksUp P.shown 1 (λ live. Looks shape live page key.now) pages.old pages.new result }
 {
     let bytes = pages.page(page)?;
     if !is_leaf(bytes, shape) {
@@ -80,7 +79,7 @@ pub fn seek<P: Pages>(pages: &mut P, shape: Shape, page: u32, key: &[u8]) -> Res
 /// Looks for a key in the bytes of a leaf.
 fn find_in(page: &[u8; PAGE_SIZE], shape: Shape, key: &[u8]) -> Look
     requires leaf { IsLeaf shape page.now }
-    ensures { Ascends shape.width (leaf_entries shape page.now) → IsLook shape.width key.now (leaf_entries shape page.now) result }
+    ensures { WhereRising shape page.now (λ entries. IsLook shape.width key.now entries result) }
 {
     let leaf = LeafView { page, shape };
     let place = leaf.rank(key);
@@ -95,9 +94,8 @@ fn find_in(page: &[u8; PAGE_SIZE], shape: Shape, key: &[u8]) -> Look
 pub fn has_key(page: &[u8; PAGE_SIZE], shape: Shape, place: usize, key: &[u8]) -> bool
     requires leaf { IsLeaf shape page.now }
     ensures within { result ≡ true → place < length (leaf_entries shape page.now) }
-    ensures key { Ascends shape.width (leaf_entries shape page.now)
-        → IsRank shape.width key.now (leaf_entries shape page.now) place
-        → IsKeyAt shape.width key.now (leaf_entries shape page.now) place result }
+    ensures key { WhereRising shape page.now
+        (λ entries. IsRank shape.width key.now entries place → IsKeyAt shape.width key.now entries place result) }
 {
     let leaf = LeafView { page, shape };
     if place >= leaf.count() {

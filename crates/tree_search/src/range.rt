@@ -5,6 +5,7 @@ ghost use Rattle.tree_node.specs.Inner.{IsInner, separators, children};
 ghost use Rattle.tree_node.specs.Leaf.{IsLeaf, leaf_entries};
 ghost use Rattle.tree_node.specs.Order.{less};
 ghost use Rattle.pages.specs.PageCalls.{ReadsPages};
+ghost use Rattle.tree_search.specs.LookUps.{WhenHonest, LooksUp};
 ghost use Rattle.tree_search.specs.Range.{FindsBelow, Sights, SightsInLeaf, IsSightFrom, Fronts, FrontsInLeaf, HasFront, IsFork, Forks, IsUnended, told_first, told_seen, seen, alone};
 
 use crate::descent::{StepDown, step_in};
@@ -49,9 +50,8 @@ pub fn first_within<P: Pages>(
     to: &[u8],
 ) -> Result<Option<First>, Fault>
     requires ready { P.shown.IsReady pages.old }
-    ensures found { IsTrue (P.shown.state pages.new).is_honest
-        → FindsBelow shape (P.shown.state pages.old).live levels page from.now to.now result }
-    ensures reads { ReadsPages P.shown (2 * (levels + 1)) pages.old pages.new result }
+    ensures { LooksUp P.shown (2 * (levels + 1))
+        (λ live. FindsBelow shape live levels page from.now to.now) pages.old pages.new result }
 {
     let mut entry = Entry::new();
     match fill_within(pages, shape, page, levels, from, to, &mut entry)? {
@@ -71,8 +71,8 @@ fn fill_within<P: Pages>(
     entry: &mut Entry,
 ) -> Result<Option<bool>, Fault>
     requires ready { P.shown.IsReady pages.old }
-    ensures found { IsTrue (P.shown.state pages.new).is_honest
-        → FindsBelow shape (P.shown.state pages.old).live levels page from.now to.now (told_first entry.new result) }
+    ensures found { WhenHonest P.shown pages.old pages.new
+        (λ live. FindsBelow shape live levels page from.now to.now (told_first entry.new result)) }
     ensures reads { ReadsPages P.shown (2 * (levels + 1)) pages.old pages.new result }
 {
     match look_below(pages, shape, page, levels, from, to, entry)? {
@@ -92,8 +92,8 @@ fn look_below<P: Pages>(
     entry: &mut Entry,
 ) -> Result<Sight, Fault>
     requires ready { P.shown.IsReady pages.old }
-    ensures sight { IsTrue (P.shown.state pages.new).is_honest
-        → Sights shape (P.shown.state pages.old).live levels page from.now to.now (told_seen entry.new result) }
+    ensures sight { WhenHonest P.shown pages.old pages.new
+        (λ live. Sights shape live levels page from.now to.now (told_seen entry.new result)) }
     ensures open { IfOk result (λ sight. IsUnended sight → (P.shown.state pages.new).asked ≤ (P.shown.state pages.old).asked + (levels + 1)) }
     ensures reads { ReadsPages P.shown (2 * (levels + 1)) pages.old pages.new result }
 {
@@ -129,8 +129,8 @@ fn look_in_leaf<P: Pages>(
     entry: &mut Entry,
 ) -> Result<Sight, Fault>
     requires ready { P.shown.IsReady pages.old }
-    ensures sight { IsTrue (P.shown.state pages.new).is_honest
-        → SightsInLeaf shape (P.shown.state pages.old).live page from.now to.now (told_seen entry.new result) }
+    ensures sight { WhenHonest P.shown pages.old pages.new
+        (λ live. SightsInLeaf shape live page from.now to.now (told_seen entry.new result)) }
     ensures reads { ReadsPages P.shown 1 pages.old pages.new result }
 {
     let bytes = pages.page(page)?;
@@ -178,8 +178,7 @@ fn fork_at<P: Pages>(
     to: &[u8],
 ) -> Result<Fork, Fault>
     requires ready { P.shown.IsReady pages.old }
-    ensures fork { IsTrue (P.shown.state pages.new).is_honest → Forks shape (P.shown.state pages.old).live page from.now to.now result }
-    ensures reads { ReadsPages P.shown 1 pages.old pages.new result }
+    ensures { LooksUp P.shown 1 (λ live. Forks shape live page from.now to.now) pages.old pages.new result }
 {
     let bytes = pages.page(page)?;
     if !is_inner(bytes, shape) {
@@ -209,8 +208,8 @@ fn front_below<P: Pages>(
     entry: &mut Entry,
 ) -> Result<Option<bool>, Fault>
     requires ready { P.shown.IsReady pages.old }
-    ensures front { IsTrue (P.shown.state pages.new).is_honest
-        → Fronts shape (P.shown.state pages.old).live levels page to.now (told_first entry.new result) }
+    ensures front { WhenHonest P.shown pages.old pages.new
+        (λ live. Fronts shape live levels page to.now (told_first entry.new result)) }
     ensures reads { ReadsPages P.shown (levels + 1) pages.old pages.new result }
 {
     if levels == 0 {
@@ -229,7 +228,8 @@ fn has_front<P: Pages>(
     to: &[u8],
 ) -> Result<bool, Fault>
     requires ready { P.shown.IsReady pages.old }
-    ensures front { IsTrue (P.shown.state pages.new).is_honest → HasFront shape (P.shown.state pages.old).live levels page to.now result }
+    ensures front { WhenHonest P.shown pages.old pages.new
+        (λ live. HasFront shape live levels page to.now result) }
     ensures reads { ReadsPages P.shown (levels + 1) pages.old pages.new result }
 {
     let mut entry = Entry::new();
@@ -246,8 +246,8 @@ fn front_of_leaf<P: Pages>(
     entry: &mut Entry,
 ) -> Result<Option<bool>, Fault>
     requires ready { P.shown.IsReady pages.old }
-    ensures front { IsTrue (P.shown.state pages.new).is_honest
-        → FrontsInLeaf shape (P.shown.state pages.old).live page to.now (told_first entry.new result) }
+    ensures front { WhenHonest P.shown pages.old pages.new
+        (λ live. FrontsInLeaf shape live page to.now (told_first entry.new result)) }
     ensures reads { ReadsPages P.shown 1 pages.old pages.new result }
 {
     let bytes = pages.page(page)?;

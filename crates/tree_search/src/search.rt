@@ -2,8 +2,9 @@
 
 ghost use Rattle.std.specs.Prelude.{◌≡◌, ◌+◌, ◌*◌, ◌<◌, ◌≤◌, IsTrue, IfOk, Ok, None, length, option_map};
 ghost use Rattle.tree_node.specs.Leaf.{IsLeaf, leaf_entries};
-ghost use Rattle.tree_node.specs.Order.{Ascends};
+ghost use Rattle.tree_search.specs.Stored.{WhereRising};
 ghost use Rattle.pages.specs.PageCalls.{ReadsPages};
+ghost use Rattle.tree_search.specs.LookUps.{WhenHonest, LooksUp};
 ghost use Rattle.tree_search.specs.Calls.{entry_of, last_of};
 ghost use Rattle.tree_search.specs.Spot.{IsInLeafIf, Spots, SpotsInLeaf, SpotsFirst, SpotsFirstInLeaf};
 ghost use Rattle.tree_search.specs.Search.{Finds, FindsFilled, FindsInLeaf, FindsFirst, FirstOfLeaf, FirstChild, FindsLast, LastOfLeaf, LastChild, IsFound, IsPlace, LeadsToLeaf, FillsFromLeaf, filled, first_of};
@@ -24,7 +25,8 @@ pub fn find_below<P: Pages>(
     key: &[u8],
 ) -> Result<Option<Entry>, Fault>
     requires ready { P.shown.IsReady pages.old }
-    ensures found { IsTrue (P.shown.state pages.new).is_honest → Finds shape (P.shown.state pages.old).live levels page (entry_of shape.width key.now) result }
+    ensures found { WhenHonest P.shown pages.old pages.new
+        (λ live. Finds shape live levels page (entry_of shape.width key.now) result) }
     ensures reads { ReadsPages P.shown (levels + 1) pages.old pages.new result }
 {
     let leaf = leaf_below(pages, shape, page, levels, key)?;
@@ -44,7 +46,8 @@ pub fn leaf_below<P: Pages>(
     key: &[u8],
 ) -> Result<u32, Fault>
     requires ready { P.shown.IsReady pages.old }
-    ensures leaf { IsTrue (P.shown.state pages.new).is_honest → LeadsToLeaf shape (P.shown.state pages.old).live levels page key.now result }
+    ensures leaf { WhenHonest P.shown pages.old pages.new
+        (λ live. LeadsToLeaf shape live levels page key.now result) }
     ensures reads { ReadsPages P.shown levels pages.old pages.new result }
 {
     if levels == 0 {
@@ -63,9 +66,8 @@ fn find_in_leaf<P: Pages>(
     to: &mut Entry,
 ) -> Result<bool, Fault>
     requires ready { P.shown.IsReady pages.old }
-    ensures found { IsTrue (P.shown.state pages.new).is_honest
-        → FillsFromLeaf shape (P.shown.state pages.old).live page (entry_of shape.width key.now) to.new result }
-    ensures reads { ReadsPages P.shown 1 pages.old pages.new result }
+    ensures { LooksUp P.shown 1
+        (λ live. FillsFromLeaf shape live page (entry_of shape.width key.now) to.new) pages.old pages.new result }
 {
     let bytes = pages.page(page)?;
     if !is_leaf(bytes, shape) {
@@ -77,8 +79,8 @@ fn find_in_leaf<P: Pages>(
 /// The same in the bytes of a leaf.
 fn find_entry(bytes: &[u8; PAGE_SIZE], shape: Shape, key: &[u8], to: &mut Entry) -> bool
     requires leaf { IsLeaf shape bytes.now }
-    ensures { Ascends shape.width (leaf_entries shape bytes.now)
-        → IsFound (entry_of shape.width key.now) (leaf_entries shape bytes.now) (filled to.new result) }
+    ensures { WhereRising shape bytes.now
+        (λ entries. IsFound (entry_of shape.width key.now) entries (filled to.new result)) }
 {
     let leaf = LeafView { page: bytes, shape };
     let place = leaf.rank(key);
@@ -100,9 +102,10 @@ pub fn next_below<P: Pages>(
     spot: &mut Spot,
 ) -> Result<Option<Entry>, Fault>
     requires ready { P.shown.IsReady pages.old }
-    ensures found { IsTrue (P.shown.state pages.new).is_honest
-        → FindsFilled shape (P.shown.state pages.old).live levels page (first_of past shape.width key.now) result }
-    ensures spot { IsTrue (P.shown.state pages.new).is_honest → Spots shape (P.shown.state pages.old).live levels page spot.new result }
+    ensures found { WhenHonest P.shown pages.old pages.new
+        (λ live. FindsFilled shape live levels page (first_of past shape.width key.now) result) }
+    ensures spot { WhenHonest P.shown pages.old pages.new
+        (λ live. Spots shape live levels page spot.new result) }
     ensures none { result ≡ Ok None → (P.shown.state pages.new).asked ≤ (P.shown.state pages.old).asked + (levels + 1) }
     ensures reads { ReadsPages P.shown (2 * (levels + 1)) pages.old pages.new result }
 {
@@ -129,9 +132,10 @@ fn next_in_leaf<P: Pages>(
     spot: &mut Spot,
 ) -> Result<Option<Entry>, Fault>
     requires ready { P.shown.IsReady pages.old }
-    ensures found { IsTrue (P.shown.state pages.new).is_honest
-        → FindsInLeaf shape (P.shown.state pages.old).live page (first_of past shape.width key.now) result }
-    ensures spot { IsTrue (P.shown.state pages.new).is_honest → SpotsInLeaf shape (P.shown.state pages.old).live page spot.new result }
+    ensures found { WhenHonest P.shown pages.old pages.new
+        (λ live. FindsInLeaf shape live page (first_of past shape.width key.now) result) }
+    ensures spot { WhenHonest P.shown pages.old pages.new
+        (λ live. SpotsInLeaf shape live page spot.new result) }
     ensures reads { ReadsPages P.shown 1 pages.old pages.new result }
 {
     let bytes = pages.page(page)?;
@@ -151,8 +155,8 @@ fn next_in(
     spot: &mut Spot,
 ) -> Option<Entry>
     requires leaf { IsLeaf shape bytes.now }
-    ensures found { Ascends shape.width (leaf_entries shape bytes.now)
-        → IsFound (first_of past shape.width key.now) (leaf_entries shape bytes.now) result }
+    ensures found { WhereRising shape bytes.now
+        (λ entries. IsFound (first_of past shape.width key.now) entries result) }
     ensures spot { IsInLeafIf page (leaf_entries shape bytes.now) spot.new result }
 {
     let place = place_in(bytes, shape, key, past);
@@ -162,8 +166,7 @@ fn next_in(
 /// How many entries of a leaf come before those at a key or behind it, and where `past`, before those behind it.
 fn place_in(bytes: &[u8; PAGE_SIZE], shape: Shape, key: &[u8], past: bool) -> usize
     requires leaf { IsLeaf shape bytes.now }
-    ensures { Ascends shape.width (leaf_entries shape bytes.now)
-        → IsPlace past shape.width key.now (leaf_entries shape bytes.now) result }
+    ensures { WhereRising shape bytes.now (λ entries. IsPlace past shape.width key.now entries result) }
 {
     let leaf = LeafView { page: bytes, shape };
     if past {
@@ -182,8 +185,10 @@ pub fn first_below<P: Pages>(
     spot: &mut Spot,
 ) -> Result<Entry, Fault>
     requires ready { P.shown.IsReady pages.old }
-    ensures first { IsTrue (P.shown.state pages.new).is_honest → FindsFirst shape (P.shown.state pages.old).live levels page result }
-    ensures spot { IsTrue (P.shown.state pages.new).is_honest → SpotsFirst shape (P.shown.state pages.old).live levels page spot.new result }
+    ensures first { WhenHonest P.shown pages.old pages.new
+        (λ live. FindsFirst shape live levels page result) }
+    ensures spot { WhenHonest P.shown pages.old pages.new
+        (λ live. SpotsFirst shape live levels page spot.new result) }
     ensures reads { ReadsPages P.shown (levels + 1) pages.old pages.new result }
 {
     if levels == 0 {
@@ -200,8 +205,10 @@ fn first_of_leaf<P: Pages>(
     spot: &mut Spot,
 ) -> Result<Entry, Fault>
     requires ready { P.shown.IsReady pages.old }
-    ensures first { IsTrue (P.shown.state pages.new).is_honest → FirstOfLeaf shape (P.shown.state pages.old).live page result }
-    ensures spot { IsTrue (P.shown.state pages.new).is_honest → SpotsFirstInLeaf shape (P.shown.state pages.old).live page spot.new result }
+    ensures first { WhenHonest P.shown pages.old pages.new
+        (λ live. FirstOfLeaf shape live page result) }
+    ensures spot { WhenHonest P.shown pages.old pages.new
+        (λ live. SpotsFirstInLeaf shape live page spot.new result) }
     ensures reads { ReadsPages P.shown 1 pages.old pages.new result }
 {
     match entry_in_leaf(pages, shape, page, 0, spot)? {
@@ -212,8 +219,7 @@ fn first_of_leaf<P: Pages>(
 
 pub fn first_child<P: Pages>(pages: &mut P, shape: Shape, page: u32) -> Result<u32, Fault>
     requires ready { P.shown.IsReady pages.old }
-    ensures child { IsTrue (P.shown.state pages.new).is_honest → FirstChild shape (P.shown.state pages.old).live page result }
-    ensures reads { ReadsPages P.shown 1 pages.old pages.new result }
+    ensures { LooksUp P.shown 1 (λ live. FirstChild shape live page) pages.old pages.new result }
 {
     let bytes = pages.page(page)?;
     if !is_inner(bytes, shape) {
@@ -230,7 +236,8 @@ pub fn last_below<P: Pages>(
     levels: u8,
 ) -> Result<Option<Entry>, Fault>
     requires ready { P.shown.IsReady pages.old }
-    ensures last { IsTrue (P.shown.state pages.new).is_honest → FindsLast shape (P.shown.state pages.old).live levels page result }
+    ensures last { WhenHonest P.shown pages.old pages.new
+        (λ live. FindsLast shape live levels page result) }
     ensures reads { ReadsPages P.shown (levels + 1) pages.old pages.new result }
 {
     if levels == 0 {
@@ -242,8 +249,7 @@ pub fn last_below<P: Pages>(
 
 fn last_of_leaf<P: Pages>(pages: &mut P, shape: Shape, page: u32) -> Result<Option<Entry>, Fault>
     requires ready { P.shown.IsReady pages.old }
-    ensures last { IsTrue (P.shown.state pages.new).is_honest → LastOfLeaf shape (P.shown.state pages.old).live page result }
-    ensures reads { ReadsPages P.shown 1 pages.old pages.new result }
+    ensures { LooksUp P.shown 1 (λ live. LastOfLeaf shape live page) pages.old pages.new result }
 {
     let bytes = pages.page(page)?;
     if !is_leaf(bytes, shape) {
@@ -266,8 +272,7 @@ fn last_in(page: &[u8; PAGE_SIZE], shape: Shape) -> Option<Entry>
 
 fn last_child<P: Pages>(pages: &mut P, shape: Shape, page: u32) -> Result<u32, Fault>
     requires ready { P.shown.IsReady pages.old }
-    ensures child { IsTrue (P.shown.state pages.new).is_honest → LastChild shape (P.shown.state pages.old).live page result }
-    ensures reads { ReadsPages P.shown 1 pages.old pages.new result }
+    ensures { LooksUp P.shown 1 (λ live. LastChild shape live page) pages.old pages.new result }
 {
     let bytes = pages.page(page)?;
     if !is_inner(bytes, shape) {

@@ -2,7 +2,7 @@
 
 ghost use Rattle.std.specs.Prelude.{◌≡◌, ◌<◌, ◌≤◌, IsTrue, length};
 ghost use Rattle.tree_node.specs.Leaf.{IsLeaf, leaf_entries};
-ghost use Rattle.pages.specs.PageCalls.{ReadsPages};
+ghost use Rattle.tree_search.specs.LookUps.{LooksUp};
 
 use io_state::Fault;
 use page_bytes::PAGE_SIZE;
@@ -41,9 +41,7 @@ pub fn entry_in_leaf<P: Pages>(
     spot: &mut Spot,
 ) -> Result<Option<Entry>, Fault>
     requires ready { P.shown.IsReady pages.old }
-    ensures entry { IsTrue (P.shown.state pages.new).is_honest
-        → EntryAt shape (P.shown.state pages.old).live page place spot.new result }
-    ensures reads { ReadsPages P.shown 1 pages.old pages.new result }
+    ensures { LooksUp P.shown 1 (λ live. EntryAt shape live page place spot.new) pages.old pages.new result }
 {
     let bytes = pages.page(page)?;
     if !is_leaf(bytes, shape) {
@@ -85,9 +83,8 @@ pub fn copy_entry<P: Pages>(
     to: &mut Entry,
 ) -> Result<bool, Fault>
     requires ready { P.shown.IsReady pages.old }
-    ensures entry { IsTrue (P.shown.state pages.new).is_honest
-        → CopiesEntry shape (P.shown.state pages.old).live page place to.new.items result }
-    ensures reads { ReadsPages P.shown 1 pages.old pages.new result }
+    ensures { LooksUp P.shown 1
+        (λ live. CopiesEntry shape live page place to.new.items) pages.old pages.new result }
 {
     let bytes = pages.page(page)?;
     if !is_leaf(bytes, shape) {
@@ -110,9 +107,8 @@ pub fn entry_begins_with<P: Pages>(
     start: &[u8],
 ) -> Result<bool, Fault>
     requires ready { P.shown.IsReady pages.old }
-    ensures told { IsTrue (P.shown.state pages.new).is_honest
-        → TellsStart shape (P.shown.state pages.old).live page place start.now result }
-    ensures reads { ReadsPages P.shown 1 pages.old pages.new result }
+    ensures { LooksUp P.shown 1
+        (λ live. TellsStart shape live page place start.now) pages.old pages.new result }
 {
     let bytes = pages.page(page)?;
     if !is_leaf(bytes, shape) {

@@ -2,8 +2,9 @@
 
 ghost use Rattle.std.specs.Prelude.{◌≡◌, ◌+◌, IsTrue, length};
 ghost use Rattle.pages.specs.PageCalls.{ReadsPages};
+ghost use Rattle.tree_search.specs.LookUps.{WhenHonest, LooksUp};
 ghost use Rattle.tree_node.specs.Leaf.{IsLeaf, leaf_entries};
-ghost use Rattle.tree_node.specs.Order.{Ascends};
+ghost use Rattle.tree_search.specs.Stored.{WhereRising};
 ghost use Rattle.tree_search.specs.Calls.{entry_of};
 ghost use Rattle.tree_search.specs.Tail.{IsTail, TellsPresence, TellsBelow, TellsInLeaf};
 
@@ -25,8 +26,8 @@ pub fn find_tail<P: Pages>(
 ) -> Result<bool, Fault>
     requires ready { P.shown.IsReady pages.old }
     requires size { shape.width + length tail.old ≡ shape.entry }
-    ensures found { IsTrue (P.shown.state pages.new).is_honest
-        → TellsBelow (IsTail shape.width tail.new) shape (P.shown.state pages.old).live levels page key.now result }
+    ensures found { WhenHonest P.shown pages.old pages.new
+        (λ live. TellsBelow (IsTail shape.width tail.new) shape live levels page key.now result) }
     ensures reads { ReadsPages P.shown (levels + 1) pages.old pages.new result }
 {
     let leaf = leaf_below(pages, shape, page, levels, key)?;
@@ -43,9 +44,8 @@ fn tail_in_leaf<P: Pages>(
 ) -> Result<bool, Fault>
     requires ready { P.shown.IsReady pages.old }
     requires size { shape.width + length tail.old ≡ shape.entry }
-    ensures found { IsTrue (P.shown.state pages.new).is_honest
-        → TellsInLeaf (IsTail shape.width tail.new) shape (P.shown.state pages.old).live page key.now result }
-    ensures reads { ReadsPages P.shown 1 pages.old pages.new result }
+    ensures { LooksUp P.shown 1
+        (λ live. TellsInLeaf (IsTail shape.width tail.new) shape live page key.now) pages.old pages.new result }
 {
     let bytes = pages.page(page)?;
     if !is_leaf(bytes, shape) {
@@ -58,8 +58,8 @@ fn tail_in_leaf<P: Pages>(
 fn copy_tail(bytes: &[u8; PAGE_SIZE], shape: Shape, key: &[u8], tail: &mut [u8]) -> bool
     requires leaf { IsLeaf shape bytes.now }
     requires size { shape.width + length tail.old ≡ shape.entry }
-    ensures { Ascends shape.width (leaf_entries shape bytes.now)
-        → IsTail shape.width tail.new (entry_of shape.width key.now (leaf_entries shape bytes.now)) result }
+    ensures { WhereRising shape bytes.now
+        (λ entries. IsTail shape.width tail.new (entry_of shape.width key.now entries) result) }
 {
     let leaf = LeafView { page: bytes, shape };
     let place = leaf.rank(key);
@@ -80,7 +80,8 @@ pub fn has_below<P: Pages>(
     key: &[u8],
 ) -> Result<bool, Fault>
     requires ready { P.shown.IsReady pages.old }
-    ensures told { IsTrue (P.shown.state pages.new).is_honest → TellsBelow TellsPresence shape (P.shown.state pages.old).live levels page key.now result }
+    ensures told { WhenHonest P.shown pages.old pages.new
+        (λ live. TellsBelow TellsPresence shape live levels page key.now result) }
     ensures reads { ReadsPages P.shown (levels + 1) pages.old pages.new result }
 {
     let leaf = leaf_below(pages, shape, page, levels, key)?;
@@ -90,8 +91,8 @@ pub fn has_below<P: Pages>(
 /// The same in a leaf.
 fn is_in_leaf<P: Pages>(pages: &mut P, shape: Shape, page: u32, key: &[u8]) -> Result<bool, Fault>
     requires ready { P.shown.IsReady pages.old }
-    ensures told { IsTrue (P.shown.state pages.new).is_honest → TellsInLeaf TellsPresence shape (P.shown.state pages.old).live page key.now result }
-    ensures reads { ReadsPages P.shown 1 pages.old pages.new result }
+    ensures { LooksUp P.shown 1
+        (λ live. TellsInLeaf TellsPresence shape live page key.now) pages.old pages.new result }
 {
     let bytes = pages.page(page)?;
     if !is_leaf(bytes, shape) {
@@ -103,8 +104,7 @@ fn is_in_leaf<P: Pages>(pages: &mut P, shape: Shape, page: u32, key: &[u8]) -> R
 /// The same in the bytes of a leaf.
 fn is_among(bytes: &[u8; PAGE_SIZE], shape: Shape, key: &[u8]) -> bool
     requires leaf { IsLeaf shape bytes.now }
-    ensures { Ascends shape.width (leaf_entries shape bytes.now)
-        → TellsPresence (entry_of shape.width key.now (leaf_entries shape bytes.now)) result }
+    ensures { WhereRising shape bytes.now (λ entries. TellsPresence (entry_of shape.width key.now entries) result) }
 {
     let leaf = LeafView { page: bytes, shape };
     has_key(bytes, shape, leaf.rank(key), key)

@@ -16,7 +16,7 @@ returns-in-None-clause-collapsed g c honest sound =
     let after = (g.P.Pages.shown.state c.collapse_inner.new.pages).live in
     let is_sound = IsTrue (g.P.Pages.shown.state c.collapse_inner.new.pages).is_sound in
     collapses_none c.args.shape before after is_sound c.args.levels (c.args.levels - 1) c.args.root one
-    (subst (λ (o : Option ℕ). CollapsesInner c.args.shape before after is_sound c.args.root (Ok o)) c.in-None.is (c.in_ok-collapse_inner.ensures.inner_collapsed honest sound))
+    (subst (λ (o : Option ℕ). CollapsesInner c.args.shape c.args.root (Ok o) before after is_sound) c.in-None.is (c.in_ok-collapse_inner.ensures.inner_collapsed honest sound))
 
 pub returns-in-Some-clause-collapsed : goal.returns-in-Some-clause-collapsed
 returns-in-Some-clause-collapsed g c honest sound =
@@ -25,4 +25,4 @@ returns-in-Some-clause-collapsed g c honest sound =
     let after = (g.P.Pages.shown.state c.collapse_inner.new.pages).live in
     let is_sound = IsTrue (g.P.Pages.shown.state c.collapse_inner.new.pages).is_sound in
     collapses_some c.args.shape before after is_sound c.args.levels (c.args.levels - 1) c.args.root one c.in-Some.child
-    (subst (λ (o : Option ℕ). CollapsesInner c.args.shape before after is_sound c.args.root (Ok o)) c.in-Some.is (c.in_ok-collapse_inner.ensures.inner_collapsed honest sound))
+    (subst (λ (o : Option ℕ). CollapsesInner c.args.shape c.args.root (Ok o) before after is_sound) c.in-Some.is (c.in_ok-collapse_inner.ensures.inner_collapsed honest sound))

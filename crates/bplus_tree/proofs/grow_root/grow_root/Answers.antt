@@ -7,7 +7,7 @@ use Rattle.bplus_tree.proofs.grow_root.grow_root.Goals as goal
 pub returns-in-None-clause-grown : goal.returns-in-None-clause-grown
 returns-in-None-clause-grown g c honest sound =
     let old = g.P.Pages.shown.state c.args.pages.now in
-    subst (λ (u : Option Separator). GrowsRoot c.args.shape old.live old.live (IsTrue old.is_sound) c.args.levels c.args.root u (Ok (record { root = c.args.root; levels = c.args.levels }))) (sym c.in-None.is)
+    subst (λ (u : Option Separator). GrowsRoot c.args.shape c.args.levels c.args.root u (Ok (record { root = c.args.root; levels = c.args.levels })) old.live old.live (IsTrue old.is_sound)) (sym c.in-None.is)
     (grows_none c.args.shape c.args.levels c.args.root old.live old.live (IsTrue old.is_sound) refl sound)
 
 pub returns-in_ok-root-in-Some-clause-grown : goal.returns-in_ok-root-in-Some-clause-grown
@@ -15,5 +15,5 @@ returns-in_ok-root-in-Some-clause-grown g c honest sound =
     let old = g.P.Pages.shown.state c.args.pages.now in
     let new = g.P.Pages.shown.state c.add_root.new.pages in
     let levels = c.args.levels + 1 in
-    subst (λ (u : Option Separator). GrowsRoot c.args.shape old.live new.live (IsTrue new.is_sound) c.args.levels c.args.root u (Ok (record { root = c.in_ok-root-in-Some.root; levels = levels }))) (sym c.in-Some.is)
+    subst (λ (u : Option Separator). GrowsRoot c.args.shape c.args.levels c.args.root u (Ok (record { root = c.in_ok-root-in-Some.root; levels = levels })) old.live new.live (IsTrue new.is_sound)) (sym c.in-Some.is)
     (grows_above c.args.shape c.args.levels c.args.root old.live new.live (IsTrue new.is_sound) c.in-Some.separator c.in_ok-root-in-Some.root levels (add-one c.args.levels) (c.in_ok-root-in-Some.ensures.added honest sound))

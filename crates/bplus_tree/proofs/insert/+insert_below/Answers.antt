@@ -11,14 +11,14 @@ pub returns-then-levels-eq0-clause-inserted : goal.returns-then-levels-eq0-claus
 returns-then-levels-eq0-clause-inserted g t c honest sound =
     let old = g.P.Pages.shown.state c.args.pages.now in
     let new = g.P.Pages.shown.state c.insert_in_leaf.new.pages in
-    subst (λ (n : ℕ). Inserts c.args.shape old.live new.live (IsTrue new.is_sound) n c.args.page c.args.entry.now c.insert_in_leaf.result) (sym c.if-levels-eq0.true) (c.insert_in_leaf.ensures.inserted honest sound)
+    subst (λ (n : ℕ). Inserts c.args.shape n c.args.page c.args.entry.now c.insert_in_leaf.result old.live new.live (IsTrue new.is_sound)) (sym c.if-levels-eq0.true) (c.insert_in_leaf.ensures.inserted honest sound)
 
 pub returns-in_err-down-clause-inserted : goal.returns-in_err-down-clause-inserted
 returns-in_err-down-clause-inserted g t c honest sound =
     let one : c.args.levels ≡ suc (c.args.levels - 1) = omega arith in
     let old = g.P.Pages.shown.state c.args.pages.now in
     let new = g.P.Pages.shown.state c.descend.new.pages in
-    down_fails c.args.shape c.args.levels (c.args.levels - 1) c.args.page c.args.entry.now one old.live new.live (IsTrue new.is_sound) _ c.from_residual.result (c.in_err-down.ensures.down honest) c.from_residual.ensures.1
+    down_fails c.args.shape c.args.levels (c.args.levels - 1) c.args.page c.args.entry.now one old.live new.live (IsTrue new.is_sound) _ c.from_residual.result (c.in_err-down.ensures.found honest) c.from_residual.ensures.1
 
 pub returns-in_err-found-clause-inserted : goal.returns-in_err-found-clause-inserted
 returns-in_err-found-clause-inserted g t c honest sound =
@@ -30,7 +30,7 @@ returns-in_err-found-clause-inserted g t c honest sound =
     let h = g.met.P.Pages.writes_honestly mid new c.insert_below.ensures.writes.step honest in
     let sound' : IsTrue (g.P.Pages.shown.state mid).is_sound = subst IsTrue (sym (g.met.P.Pages.reads_sound old mid reads h)) sound in
     child_fails c.args.shape c.args.levels (c.args.levels - 1) c.args.page c.args.entry.now one (g.P.Pages.shown.state old).live (g.P.Pages.shown.state mid).live (g.met.P.Pages.reads_live old mid reads h)
-    c.in_ok-down.down (c.in_ok-down.ensures.down h) (g.P.Pages.shown.state new).live (IsTrue (g.P.Pages.shown.state new).is_sound) _ c.from_residual-in_err-found.result (c.in_err-found.ensures.inserted honest sound')
+    c.in_ok-down.down (c.in_ok-down.ensures.found h) (g.P.Pages.shown.state new).live (IsTrue (g.P.Pages.shown.state new).is_sound) _ c.from_residual-in_err-found.result (c.in_err-found.ensures.inserted honest sound')
     c.from_residual-in_err-found.ensures.1
 
 pub returns-in-Present-clause-inserted : goal.returns-in-Present-clause-inserted
@@ -42,10 +42,10 @@ returns-in-Present-clause-inserted g t c honest sound =
     let reads = c.descend.ensures.reads.step in
     let h = g.met.P.Pages.writes_honestly mid new c.insert_below.ensures.writes.step honest in
     let sound' : IsTrue (g.P.Pages.shown.state mid).is_sound = subst IsTrue (sym (g.met.P.Pages.reads_sound old mid reads h)) sound in
-    let inserts = subst (λ (s : Grown). Inserts c.args.shape (g.P.Pages.shown.state mid).live (g.P.Pages.shown.state new).live (IsTrue (g.P.Pages.shown.state new).is_sound) (c.args.levels - 1) c.in_ok-down.down.child c.args.entry.now (Ok s))
+    let inserts = subst (λ (s : Grown). Inserts c.args.shape (c.args.levels - 1) c.in_ok-down.down.child c.args.entry.now (Ok s) (g.P.Pages.shown.state mid).live (g.P.Pages.shown.state new).live (IsTrue (g.P.Pages.shown.state new).is_sound))
     c.in-Present.is (c.in_ok-found.ensures.inserted honest sound') in
     child_has c.args.shape c.args.levels (c.args.levels - 1) c.args.page c.args.entry.now one (g.P.Pages.shown.state old).live (g.P.Pages.shown.state mid).live (g.met.P.Pages.reads_live old mid reads h)
-    c.in_ok-down.down (c.in_ok-down.ensures.down h) (g.P.Pages.shown.state new).live (IsTrue (g.P.Pages.shown.state new).is_sound) c.in-Present.found inserts
+    c.in_ok-down.down (c.in_ok-down.ensures.found h) (g.P.Pages.shown.state new).live (IsTrue (g.P.Pages.shown.state new).is_sound) c.in-Present.found inserts
 
 pub returns-in-Added-None-clause-inserted : goal.returns-in-Added-None-clause-inserted
 returns-in-Added-None-clause-inserted g t c honest sound =
@@ -56,10 +56,10 @@ returns-in-Added-None-clause-inserted g t c honest sound =
     let reads = c.descend.ensures.reads.step in
     let h = g.met.P.Pages.writes_honestly mid new c.insert_below.ensures.writes.step honest in
     let sound' : IsTrue (g.P.Pages.shown.state mid).is_sound = subst IsTrue (sym (g.met.P.Pages.reads_sound old mid reads h)) sound in
-    let inserts = subst (λ (s : Grown). Inserts c.args.shape (g.P.Pages.shown.state mid).live (g.P.Pages.shown.state new).live (IsTrue (g.P.Pages.shown.state new).is_sound) (c.args.levels - 1) c.in_ok-down.down.child c.args.entry.now (Ok s))
+    let inserts = subst (λ (s : Grown). Inserts c.args.shape (c.args.levels - 1) c.in_ok-down.down.child c.args.entry.now (Ok s) (g.P.Pages.shown.state mid).live (g.P.Pages.shown.state new).live (IsTrue (g.P.Pages.shown.state new).is_sound))
     (c.in-Added-None.is ∙ ap Added c.in-Added-None.field-0-is) (c.in_ok-found.ensures.inserted honest sound') in
     child_grown c.args.shape c.args.levels (c.args.levels - 1) c.args.page c.args.entry.now one (g.P.Pages.shown.state old).live (g.P.Pages.shown.state mid).live (g.met.P.Pages.reads_live old mid reads h)
-    c.in_ok-down.down (c.in_ok-down.ensures.down h) (g.P.Pages.shown.state new).live (IsTrue (g.P.Pages.shown.state new).is_sound) inserts
+    c.in_ok-down.down (c.in_ok-down.ensures.found h) (g.P.Pages.shown.state new).live (IsTrue (g.P.Pages.shown.state new).is_sound) inserts
 
 pub returns-in_ok-up-in-Added-Some-clause-inserted : goal.returns-in_ok-up-in-Added-Some-clause-inserted
 returns-in_ok-up-in-Added-Some-clause-inserted g t c honest sound =
@@ -72,10 +72,10 @@ returns-in_ok-up-in-Added-Some-clause-inserted g t c honest sound =
     let h2 = g.met.P.Pages.writes_honestly new last c.add_to_inner.ensures.writes.step honest in
     let h = g.met.P.Pages.writes_honestly mid new c.insert_below.ensures.writes.step h2 in
     let sound' : IsTrue (g.P.Pages.shown.state mid).is_sound = subst IsTrue (sym (g.met.P.Pages.reads_sound old mid reads h)) sound in
-    let inserts = subst (λ (s : Grown). Inserts c.args.shape (g.P.Pages.shown.state mid).live (g.P.Pages.shown.state new).live (IsTrue (g.P.Pages.shown.state new).is_sound) (c.args.levels - 1) c.in_ok-down.down.child c.args.entry.now (Ok s))
+    let inserts = subst (λ (s : Grown). Inserts c.args.shape (c.args.levels - 1) c.in_ok-down.down.child c.args.entry.now (Ok s) (g.P.Pages.shown.state mid).live (g.P.Pages.shown.state new).live (IsTrue (g.P.Pages.shown.state new).is_sound))
     (c.in-Added-Some.is ∙ ap Added c.in-Added-Some.field-0-is) (c.in_ok-found.ensures.inserted h2 sound') in
     split_grown c.args.shape c.args.levels (c.args.levels - 1) c.args.page c.args.entry.now one (g.P.Pages.shown.state old).live (g.P.Pages.shown.state mid).live (g.met.P.Pages.reads_live old mid reads h)
-    c.in_ok-down.down (c.in_ok-down.ensures.down h) (g.P.Pages.shown.state new).live (g.P.Pages.shown.state last).live (IsTrue (g.P.Pages.shown.state last).is_sound) (IsTrue (g.P.Pages.shown.state new).is_sound) c.in-Added-Some.separator
+    c.in_ok-down.down (c.in_ok-down.ensures.found h) (g.P.Pages.shown.state new).live (g.P.Pages.shown.state last).live (IsTrue (g.P.Pages.shown.state last).is_sound) (IsTrue (g.P.Pages.shown.state new).is_sound) c.in-Added-Some.separator
     c.in_ok-up-in-Added-Some.up inserts (c.in_ok-up-in-Added-Some.ensures.added honest)
 
 pub returns-in_err-up-in-Added-Some-clause-inserted : goal.returns-in_err-up-in-Added-Some-clause-inserted
@@ -89,10 +89,10 @@ returns-in_err-up-in-Added-Some-clause-inserted g t c honest sound =
     let h2 = g.met.P.Pages.writes_honestly new last c.add_to_inner.ensures.writes.step honest in
     let h = g.met.P.Pages.writes_honestly mid new c.insert_below.ensures.writes.step h2 in
     let sound' : IsTrue (g.P.Pages.shown.state mid).is_sound = subst IsTrue (sym (g.met.P.Pages.reads_sound old mid reads h)) sound in
-    let inserts = subst (λ (s : Grown). Inserts c.args.shape (g.P.Pages.shown.state mid).live (g.P.Pages.shown.state new).live (IsTrue (g.P.Pages.shown.state new).is_sound) (c.args.levels - 1) c.in_ok-down.down.child c.args.entry.now (Ok s))
+    let inserts = subst (λ (s : Grown). Inserts c.args.shape (c.args.levels - 1) c.in_ok-down.down.child c.args.entry.now (Ok s) (g.P.Pages.shown.state mid).live (g.P.Pages.shown.state new).live (IsTrue (g.P.Pages.shown.state new).is_sound))
     (c.in-Added-Some.is ∙ ap Added c.in-Added-Some.field-0-is) (c.in_ok-found.ensures.inserted h2 sound') in
     split_fails c.args.shape c.args.levels (c.args.levels - 1) c.args.page c.args.entry.now one (g.P.Pages.shown.state old).live (g.P.Pages.shown.state mid).live (g.met.P.Pages.reads_live old mid reads h)
-    c.in_ok-down.down (c.in_ok-down.ensures.down h) (g.P.Pages.shown.state new).live (g.P.Pages.shown.state last).live (IsTrue (g.P.Pages.shown.state last).is_sound) (IsTrue (g.P.Pages.shown.state new).is_sound) c.in-Added-Some.separator _
+    c.in_ok-down.down (c.in_ok-down.ensures.found h) (g.P.Pages.shown.state new).live (g.P.Pages.shown.state last).live (IsTrue (g.P.Pages.shown.state last).is_sound) (IsTrue (g.P.Pages.shown.state new).is_sound) c.in-Added-Some.separator _
     c.from_residual-in_err-up-in-Added-Some.result inserts (c.in_err-up-in-Added-Some.ensures.added honest) c.from_residual-in_err-up-in-Added-Some.ensures.1
 
 pub returns-in_err-up-in-Added-Some-clause-writes : goal.returns-in_err-up-in-Added-Some-clause-writes

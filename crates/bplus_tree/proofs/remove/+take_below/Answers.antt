@@ -13,7 +13,7 @@ returns-in_err-down-clause-taken g t c honest sound =
     let one : c.args.levels ≡ suc (c.args.levels - 1) = omega arith in
     let new = g.P.Pages.shown.state c.descend.new.pages in
     take_fails c.args.shape c.args.levels (c.args.levels - 1) c.args.page c.args.key.now one ((g.P.Pages.shown.state c.args.pages.now).live) new.live (IsTrue new.is_sound) c.args.to.now _ c.from_residual.result
-    (c.in_err-down.ensures.down honest) c.from_residual.ensures.1
+    (c.in_err-down.ensures.found honest) c.from_residual.ensures.1
 
 pub returns-clause-taken : goal.returns-clause-taken
 returns-clause-taken g t c honest sound =
@@ -25,4 +25,4 @@ returns-clause-taken g t c honest sound =
     let h = g.met.P.Pages.writes_honestly mid new c.take_below.ensures.writes.step honest in
     let sound' : IsTrue (g.P.Pages.shown.state mid).is_sound = subst IsTrue (sym (g.met.P.Pages.reads_sound old mid reads h)) sound in
     take_inner c.args.shape c.args.levels (c.args.levels - 1) c.args.page c.args.key.now one (g.P.Pages.shown.state old).live (g.P.Pages.shown.state mid).live (g.met.P.Pages.reads_live old mid reads h)
-    c.in_ok-down.down (c.in_ok-down.ensures.down h) (g.P.Pages.shown.state new).live (IsTrue (g.P.Pages.shown.state new).is_sound) c.take_below.new.to c.take_below.result (c.take_below.ensures.taken honest sound')
+    c.in_ok-down.down (c.in_ok-down.ensures.found h) (g.P.Pages.shown.state new).live (IsTrue (g.P.Pages.shown.state new).is_sound) c.take_below.new.to c.take_below.result (c.take_below.ensures.taken honest sound')

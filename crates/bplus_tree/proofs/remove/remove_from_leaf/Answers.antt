@@ -9,7 +9,7 @@ returns-in_err-short-in-Some-clause-removed g c honest sound t low high whole =
     let h1 = g.met.P.Pages.writes_honestly c.seek.new.pages c.take_out.new.pages c.take_out.ensures.writes.step honest in
     let before = (g.P.Pages.shown.state c.args.pages.now).live in
     let at = subst (λ (n : ℕ). IsLeafAt c.args.shape before n t.1) whole.stands.root whole.stands.holds in
-    let is = (c.in_ok-place.ensures.sought h1 t.1 at whole.stands.ordered.0).answer in
+    let is = (c.in_ok-place.ensures.found h1 t.1 at whole.stands.ordered.0).answer in
     let out = c.in_err-short-in-Some.ensures.taken honest (subst (λ (b : Bool). IsTrue b) (sym (g.met.P.Pages.reads_sound c.args.pages.now c.seek.new.pages c.seek.ensures.reads.step h1)) sound) in
     fails c.from_residual-in_err-short-in-Some.result _ _ c.from_residual-in_err-short-in-Some.ensures.1
     (leaf_removes c.args.shape before ((g.P.Pages.shown.state c.seek.new.pages).live) ((g.P.Pages.shown.state c.take_out.new.pages).live) (IsTrue (g.P.Pages.shown.state c.take_out.new.pages).is_sound) c.args.page low high c.args.key.now t c.in_ok-place.field-0
@@ -20,7 +20,7 @@ returns-in_ok-short-in-Some-clause-removed g c honest sound t low high whole =
     let h1 = g.met.P.Pages.writes_honestly c.seek.new.pages c.take_out.new.pages c.take_out.ensures.writes.step honest in
     let before = (g.P.Pages.shown.state c.args.pages.now).live in
     let at = subst (λ (n : ℕ). IsLeafAt c.args.shape before n t.1) whole.stands.root whole.stands.holds in
-    let is = (c.in_ok-place.ensures.sought h1 t.1 at whole.stands.ordered.0).answer in
+    let is = (c.in_ok-place.ensures.found h1 t.1 at whole.stands.ordered.0).answer in
     let out = c.in_ok-short-in-Some.ensures.taken honest (subst (λ (b : Bool). IsTrue b) (sym (g.met.P.Pages.reads_sound c.args.pages.now c.seek.new.pages c.seek.ensures.reads.step h1)) sound) in
     record {
       answer = (leaf_removes c.args.shape before ((g.P.Pages.shown.state c.seek.new.pages).live) ((g.P.Pages.shown.state c.take_out.new.pages).live) (IsTrue (g.P.Pages.shown.state c.take_out.new.pages).is_sound) c.args.page low high c.args.key.now t c.in_ok-place.field-0

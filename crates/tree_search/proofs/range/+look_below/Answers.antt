@@ -14,14 +14,14 @@ pub returns-in_err-fork-clause-sight : goal.returns-in_err-fork-clause-sight
 returns-in_err-fork-clause-sight g m c honest =
     let one : c.args.levels ≡ suc (c.args.levels - 1) = omega arith in
     sights_fail c.args.shape ((g.P.Pages.shown.state c.args.pages.now).live) c.args.levels (c.args.levels - 1) c.args.page c.args.from.now c.args.to.now one
-    _ (told_seen c.args.entry.now c.from_residual.result) (c.in_err-fork.ensures.fork honest) (seen_fails c.args.entry.now _ c.from_residual.result c.from_residual.ensures.1)
+    _ (told_seen c.args.entry.now c.from_residual.result) (c.in_err-fork.ensures.found honest) (seen_fails c.args.entry.now _ c.from_residual.result c.from_residual.ensures.1)
 
 pub returns-in_err-found-clause-sight : goal.returns-in_err-found-clause-sight
 returns-in_err-found-clause-sight g m c honest =
     let one : c.args.levels ≡ suc (c.args.levels - 1) = omega arith in
     let h1 = g.met.P.Pages.writes_honestly c.fork_at.new.pages c.look_below.new.pages (g.met.P.Pages.reads_writes c.fork_at.new.pages c.look_below.new.pages c.look_below.ensures.reads.step) honest in
     sights_child_fails c.args.shape ((g.P.Pages.shown.state c.args.pages.now).live) c.args.levels (c.args.levels - 1) c.args.page c.args.from.now c.args.to.now one
-    ((g.P.Pages.shown.state c.fork_at.new.pages).live) (g.met.P.Pages.reads_live c.args.pages.now c.fork_at.new.pages c.fork_at.ensures.reads.step h1) c.in_ok-fork.fork (c.in_ok-fork.ensures.fork h1)
+    ((g.P.Pages.shown.state c.fork_at.new.pages).live) (g.met.P.Pages.reads_live c.args.pages.now c.fork_at.new.pages c.fork_at.ensures.reads.step h1) c.in_ok-fork.fork (c.in_ok-fork.ensures.found h1)
     _ (told_seen c.look_below.new.entry c.from_residual-in_err-found.result) (c.in_err-found.ensures.sight honest)
     (seen_fails c.look_below.new.entry _ c.from_residual-in_err-found.result c.from_residual-in_err-found.ensures.1)
 
@@ -31,7 +31,7 @@ returns-in-Answered-clause-sight g m c honest =
     let h1 = g.met.P.Pages.writes_honestly c.fork_at.new.pages c.look_below.new.pages (g.met.P.Pages.reads_writes c.fork_at.new.pages c.look_below.new.pages c.look_below.ensures.reads.step) honest in
     let mid = (g.P.Pages.shown.state c.fork_at.new.pages).live in
     sights_settled c.args.shape ((g.P.Pages.shown.state c.args.pages.now).live) c.args.levels (c.args.levels - 1) c.args.page c.args.from.now c.args.to.now one
-    mid (g.met.P.Pages.reads_live c.args.pages.now c.fork_at.new.pages c.fork_at.ensures.reads.step h1) c.in_ok-fork.fork (c.in_ok-fork.ensures.fork h1)
+    mid (g.met.P.Pages.reads_live c.args.pages.now c.fork_at.new.pages c.fork_at.ensures.reads.step h1) c.in_ok-fork.fork (c.in_ok-fork.ensures.found h1)
     (first_with c.look_below.new.entry c.in-Answered.found) (rw c.in-Answered.is at (c.in_ok-found.ensures.sight honest))
 
 pub returns-then-fork-clause-sight : goal.returns-then-fork-clause-sight
@@ -40,7 +40,7 @@ returns-then-fork-clause-sight g m c honest =
     let h1 = g.met.P.Pages.writes_honestly c.fork_at.new.pages c.look_below.new.pages (g.met.P.Pages.reads_writes c.fork_at.new.pages c.look_below.new.pages c.look_below.ensures.reads.step) honest in
     let live = g.met.P.Pages.reads_live c.args.pages.now c.fork_at.new.pages c.fork_at.ensures.reads.step h1 in
     sights_past c.args.shape ((g.P.Pages.shown.state c.args.pages.now).live) c.args.levels (c.args.levels - 1) c.args.page c.args.from.now c.args.to.now one
-    ((g.P.Pages.shown.state c.fork_at.new.pages).live) live c.in_ok-fork.fork (c.in_ok-fork.ensures.fork h1)
+    ((g.P.Pages.shown.state c.fork_at.new.pages).live) live c.in_ok-fork.fork (c.in_ok-fork.ensures.found h1)
     (filled c.look_below.new.entry c.in-Unended.here) (first_with c.look_below.new.entry c.alone.result) c.if-fork.true
     (λ others none. subst (λ (o : Option Bool). Begin (only (filled c.look_below.new.entry c.in-Unended.here) ++ others) (first_with c.look_below.new.entry o)) (sym c.alone.ensures)
     (begins_alone c.look_below.new.entry c.in-Unended.here others none)) (rw c.in-Unended.is at (c.in_ok-found.ensures.sight honest))
@@ -51,7 +51,7 @@ returns-then-fork-2-clause-sight g m c honest =
     let h1 = g.met.P.Pages.writes_honestly c.fork_at.new.pages c.look_below.new.pages (g.met.P.Pages.reads_writes c.fork_at.new.pages c.look_below.new.pages c.look_below.ensures.reads.step) honest in
     let live = g.met.P.Pages.reads_live c.args.pages.now c.fork_at.new.pages c.fork_at.ensures.reads.step h1 in
     sights_open c.args.shape ((g.P.Pages.shown.state c.args.pages.now).live) c.args.levels (c.args.levels - 1) c.args.page c.args.from.now c.args.to.now one
-    ((g.P.Pages.shown.state c.fork_at.new.pages).live) live c.in_ok-fork.fork (c.in_ok-fork.ensures.fork h1)
+    ((g.P.Pages.shown.state c.fork_at.new.pages).live) live c.in_ok-fork.fork (c.in_ok-fork.ensures.found h1)
     (filled c.look_below.new.entry c.in-Unended.here) c.if-fork-2.true (rw c.in-Unended.is at (c.in_ok-found.ensures.sight honest))
 
 pub returns-in_err-followed-clause-sight : goal.returns-in_err-followed-clause-sight
@@ -61,7 +61,7 @@ returns-in_err-followed-clause-sight g m c honest =
     let h1 = g.met.P.Pages.writes_honestly c.fork_at.new.pages c.look_below.new.pages (g.met.P.Pages.reads_writes c.fork_at.new.pages c.look_below.new.pages c.look_below.ensures.reads.step) h2 in
     let live = g.met.P.Pages.reads_live c.args.pages.now c.fork_at.new.pages c.fork_at.ensures.reads.step h1 in
     sights_behind_fails c.args.shape ((g.P.Pages.shown.state c.args.pages.now).live) c.args.levels (c.args.levels - 1) c.args.page c.args.from.now c.args.to.now one
-    ((g.P.Pages.shown.state c.fork_at.new.pages).live) live c.in_ok-fork.fork (c.in_ok-fork.ensures.fork h1)
+    ((g.P.Pages.shown.state c.fork_at.new.pages).live) live c.in_ok-fork.fork (c.in_ok-fork.ensures.found h1)
     ((g.P.Pages.shown.state c.look_below.new.pages).live) _ (told_seen c.look_below.new.entry c.from_residual-in_err-followed.result) (g.met.P.Pages.reads_live c.fork_at.new.pages c.look_below.new.pages c.look_below.ensures.reads.step h2 ∙ live) c.if-fork-2.false
     (c.in_err-followed.ensures.front honest) (seen_fails c.look_below.new.entry _ c.from_residual-in_err-followed.result c.from_residual-in_err-followed.ensures.1)
 
@@ -88,7 +88,7 @@ returns-then-here-clause-sight g m c honest =
     let told = c.in_ok-followed.followed in
     let front = c.in_ok-followed.ensures.front honest in
     sights_behind c.args.shape ((g.P.Pages.shown.state c.args.pages.now).live) c.args.levels (c.args.levels - 1) c.args.page c.args.from.now c.args.to.now one
-    ((g.P.Pages.shown.state c.fork_at.new.pages).live) live c.in_ok-fork.fork (c.in_ok-fork.ensures.fork h1)
+    ((g.P.Pages.shown.state c.fork_at.new.pages).live) live c.in_ok-fork.fork (c.in_ok-fork.ensures.found h1)
     ((g.P.Pages.shown.state c.look_below.new.pages).live) (filled entry c.in-Unended.here) front.0 (first_with entry (Some told))
     (g.met.P.Pages.reads_live c.fork_at.new.pages c.look_below.new.pages c.look_below.ensures.reads.step h2 ∙ live) c.if-fork-2.false
     (rw c.in-Unended.is at (c.in_ok-found.ensures.sight h2)) front.1.0
@@ -105,7 +105,7 @@ returns-in_err-front-clause-sight g m c honest =
     let h1 = g.met.P.Pages.writes_honestly c.fork_at.new.pages c.look_below.new.pages (g.met.P.Pages.reads_writes c.fork_at.new.pages c.look_below.new.pages c.look_below.ensures.reads.step) h2 in
     let live = g.met.P.Pages.reads_live c.args.pages.now c.fork_at.new.pages c.fork_at.ensures.reads.step h1 in
     sights_behind_fails c.args.shape ((g.P.Pages.shown.state c.args.pages.now).live) c.args.levels (c.args.levels - 1) c.args.page c.args.from.now c.args.to.now one
-    ((g.P.Pages.shown.state c.fork_at.new.pages).live) live c.in_ok-fork.fork (c.in_ok-fork.ensures.fork h1)
+    ((g.P.Pages.shown.state c.fork_at.new.pages).live) live c.in_ok-fork.fork (c.in_ok-fork.ensures.found h1)
     ((g.P.Pages.shown.state c.look_below.new.pages).live) _ (told_seen c.front_below.new.entry c.from_residual-in_err-front.result) (g.met.P.Pages.reads_live c.fork_at.new.pages c.look_below.new.pages c.look_below.ensures.reads.step h2 ∙ live) c.if-fork-2.false
     (c.in_err-front.ensures.front honest) (seen_fails c.front_below.new.entry _ c.from_residual-in_err-front.result c.from_residual-in_err-front.ensures.1)
 
@@ -130,7 +130,7 @@ returns-clause-sight g m c honest =
     let live = g.met.P.Pages.reads_live c.args.pages.now c.fork_at.new.pages c.fork_at.ensures.reads.step h1 in
     let found = first_with c.front_below.new.entry c.in_ok-front.front in
     sights_behind c.args.shape ((g.P.Pages.shown.state c.args.pages.now).live) c.args.levels (c.args.levels - 1) c.args.page c.args.from.now c.args.to.now one
-    ((g.P.Pages.shown.state c.fork_at.new.pages).live) live c.in_ok-fork.fork (c.in_ok-fork.ensures.fork h1)
+    ((g.P.Pages.shown.state c.fork_at.new.pages).live) live c.in_ok-fork.fork (c.in_ok-fork.ensures.found h1)
     ((g.P.Pages.shown.state c.look_below.new.pages).live) (filled c.look_below.new.entry c.in-Unended.here) found found
     (g.met.P.Pages.reads_live c.fork_at.new.pages c.look_below.new.pages c.look_below.ensures.reads.step h2 ∙ live) c.if-fork-2.false
     (rw c.in-Unended.is at (c.in_ok-found.ensures.sight h2)) (c.in_ok-front.ensures.front honest)

@@ -10,14 +10,14 @@ returns-then-levels-eq0-clause-first g m c honest =
 pub returns-in_err-child-clause-first : goal.returns-in_err-child-clause-first
 returns-in_err-child-clause-first g m c honest =
     let one : c.args.levels ≡ suc (c.args.levels - 1) = omega arith in
-    first_down_fails c.args.shape ((g.P.Pages.shown.state c.args.pages.now).live) c.args.levels (c.args.levels - 1) c.args.page one _ c.from_residual.result (c.in_err-child.ensures.child honest) c.from_residual.ensures.1
+    first_down_fails c.args.shape ((g.P.Pages.shown.state c.args.pages.now).live) c.args.levels (c.args.levels - 1) c.args.page one _ c.from_residual.result (c.in_err-child.ensures.found honest) c.from_residual.ensures.1
 
 pub returns-clause-first : goal.returns-clause-first
 returns-clause-first g m c honest =
     let one : c.args.levels ≡ suc (c.args.levels - 1) = omega arith in
     let h1 = g.met.P.Pages.writes_honestly c.first_child.new.pages c.first_below.new.pages (g.met.P.Pages.reads_writes c.first_child.new.pages c.first_below.new.pages c.first_below.ensures.reads.step) honest in
     first_inner c.args.shape ((g.P.Pages.shown.state c.args.pages.now).live) c.args.levels (c.args.levels - 1) c.args.page one ((g.P.Pages.shown.state c.first_child.new.pages).live) c.in_ok-child.child c.first_below.result
-    (g.met.P.Pages.reads_live c.args.pages.now c.first_child.new.pages c.first_child.ensures.reads.step h1) (c.in_ok-child.ensures.child h1) (c.first_below.ensures.first honest)
+    (g.met.P.Pages.reads_live c.args.pages.now c.first_child.new.pages c.first_child.ensures.reads.step h1) (c.in_ok-child.ensures.found h1) (c.first_below.ensures.first honest)
 
 pub returns-then-levels-eq0-clause-spot : goal.returns-then-levels-eq0-clause-spot
 returns-then-levels-eq0-clause-spot g m c honest =
@@ -32,4 +32,4 @@ returns-clause-spot g m c honest =
     let one : c.args.levels ≡ suc (c.args.levels - 1) = omega arith in
     let h1 = g.met.P.Pages.writes_honestly c.first_child.new.pages c.first_below.new.pages (g.met.P.Pages.reads_writes c.first_child.new.pages c.first_below.new.pages c.first_below.ensures.reads.step) honest in
     spots_first_inner c.args.shape ((g.P.Pages.shown.state c.args.pages.now).live) c.args.levels (c.args.levels - 1) c.args.page c.first_below.new.spot one ((g.P.Pages.shown.state c.first_child.new.pages).live) c.in_ok-child.child c.first_below.result
-    (g.met.P.Pages.reads_live c.args.pages.now c.first_child.new.pages c.first_child.ensures.reads.step h1) (c.in_ok-child.ensures.child h1) (c.first_below.ensures.spot honest)
+    (g.met.P.Pages.reads_live c.args.pages.now c.first_child.new.pages c.first_child.ensures.reads.step h1) (c.in_ok-child.ensures.found h1) (c.first_below.ensures.spot honest)

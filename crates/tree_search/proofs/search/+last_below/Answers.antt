@@ -4,16 +4,16 @@ use Rattle.tree_search.proofs.search.+last_below.Goals as goal
 
 pub returns-then-levels-eq0-clause-last : goal.returns-then-levels-eq0-clause-last
 returns-then-levels-eq0-clause-last g m c honest =
-    last_leaf c.args.shape ((g.P.Pages.shown.state c.args.pages.now).live) c.args.levels c.args.page c.last_of_leaf.result c.if-levels-eq0.true (c.last_of_leaf.ensures.last honest)
+    last_leaf c.args.shape ((g.P.Pages.shown.state c.args.pages.now).live) c.args.levels c.args.page c.last_of_leaf.result c.if-levels-eq0.true (c.last_of_leaf.ensures.found honest)
 
 pub returns-in_err-child-clause-last : goal.returns-in_err-child-clause-last
 returns-in_err-child-clause-last g m c honest =
     let one : c.args.levels ≡ suc (c.args.levels - 1) = omega arith in
-    last_down_fails c.args.shape ((g.P.Pages.shown.state c.args.pages.now).live) c.args.levels (c.args.levels - 1) c.args.page one _ c.from_residual.result (c.in_err-child.ensures.child honest) c.from_residual.ensures.1
+    last_down_fails c.args.shape ((g.P.Pages.shown.state c.args.pages.now).live) c.args.levels (c.args.levels - 1) c.args.page one _ c.from_residual.result (c.in_err-child.ensures.found honest) c.from_residual.ensures.1
 
 pub returns-clause-last : goal.returns-clause-last
 returns-clause-last g m c honest =
     let one : c.args.levels ≡ suc (c.args.levels - 1) = omega arith in
     let h1 = g.met.P.Pages.writes_honestly c.last_child.new.pages c.last_below.new.pages (g.met.P.Pages.reads_writes c.last_child.new.pages c.last_below.new.pages c.last_below.ensures.reads.step) honest in
     last_inner c.args.shape ((g.P.Pages.shown.state c.args.pages.now).live) c.args.levels (c.args.levels - 1) c.args.page one ((g.P.Pages.shown.state c.last_child.new.pages).live) c.in_ok-child.child c.last_below.result
-    (g.met.P.Pages.reads_live c.args.pages.now c.last_child.new.pages c.last_child.ensures.reads.step h1) (c.in_ok-child.ensures.child h1) (c.last_below.ensures.last honest)
+    (g.met.P.Pages.reads_live c.args.pages.now c.last_child.new.pages c.last_child.ensures.reads.step h1) (c.in_ok-child.ensures.found h1) (c.last_below.ensures.last honest)

@@ -13,14 +13,14 @@ returns-then-levels-eq0-clause-found g m c honest =
 pub returns-in_err-down-clause-found : goal.returns-in_err-down-clause-found
 returns-in_err-down-clause-found g m c honest =
     let one : c.args.levels ≡ suc (c.args.levels - 1) = omega arith in
-    next_down_fails c.args.shape ((g.P.Pages.shown.state c.args.pages.now).live) c.args.levels (c.args.levels - 1) c.args.page c.args.key.now c.args.past one _ c.from_residual.result (c.in_err-down.ensures.down honest) c.from_residual.ensures.1
+    next_down_fails c.args.shape ((g.P.Pages.shown.state c.args.pages.now).live) c.args.levels (c.args.levels - 1) c.args.page c.args.key.now c.args.past one _ c.from_residual.result (c.in_err-down.ensures.found honest) c.from_residual.ensures.1
 
 pub returns-in_err-found-clause-found : goal.returns-in_err-found-clause-found
 returns-in_err-found-clause-found g m c honest =
     let one : c.args.levels ≡ suc (c.args.levels - 1) = omega arith in
     let h1 = g.met.P.Pages.writes_honestly c.descend.new.pages c.next_below.new.pages (g.met.P.Pages.reads_writes c.descend.new.pages c.next_below.new.pages c.next_below.ensures.reads.step) honest in
     next_child_fails c.args.shape ((g.P.Pages.shown.state c.args.pages.now).live) c.args.levels (c.args.levels - 1) c.args.page c.args.key.now c.args.past one ((g.P.Pages.shown.state c.descend.new.pages).live) (g.met.P.Pages.reads_live c.args.pages.now c.descend.new.pages c.descend.ensures.reads.step h1)
-    c.in_ok-down.down (c.in_ok-down.ensures.down h1) _ c.from_residual-in_err-found.result (c.in_err-found.ensures.found honest) c.from_residual-in_err-found.ensures.1
+    c.in_ok-down.down (c.in_ok-down.ensures.found h1) _ c.from_residual-in_err-found.result (c.in_err-found.ensures.found honest) c.from_residual-in_err-found.ensures.1
 
 pub returns-in-Some-clause-found : goal.returns-in-Some-clause-found
 returns-in-Some-clause-found g m c honest =
@@ -29,7 +29,7 @@ returns-in-Some-clause-found g m c honest =
     let mid = (g.P.Pages.shown.state c.descend.new.pages).live in
     let finds = subst (λ (o : Option (ArrayVec ℕ)). FindsFilled c.args.shape mid (c.args.levels - 1) c.in_ok-down.down.child (first_of c.args.past c.args.shape.width c.args.key.now) (Ok o)) c.in-Some.is (c.in_ok-found.ensures.found honest) in
     next_found c.args.shape ((g.P.Pages.shown.state c.args.pages.now).live) c.args.levels (c.args.levels - 1) c.args.page c.args.key.now c.args.past one mid (g.met.P.Pages.reads_live c.args.pages.now c.descend.new.pages c.descend.ensures.reads.step h1)
-    c.in_ok-down.down (c.in_ok-down.ensures.down h1) c.in-Some.found finds
+    c.in_ok-down.down (c.in_ok-down.ensures.found h1) c.in-Some.found finds
 
 pub returns-then-down-clause-found : goal.returns-then-down-clause-found
 returns-then-down-clause-found g m c honest =
@@ -38,7 +38,7 @@ returns-then-down-clause-found g m c honest =
     let mid = (g.P.Pages.shown.state c.descend.new.pages).live in
     let finds = subst (λ (o : Option (ArrayVec ℕ)). FindsFilled c.args.shape mid (c.args.levels - 1) c.in_ok-down.down.child (first_of c.args.past c.args.shape.width c.args.key.now) (Ok o)) c.in_default.is (c.in_ok-found.ensures.found honest) in
     next_none c.args.shape ((g.P.Pages.shown.state c.args.pages.now).live) c.args.levels (c.args.levels - 1) c.args.page c.args.key.now c.args.past one mid (g.met.P.Pages.reads_live c.args.pages.now c.descend.new.pages c.descend.ensures.reads.step h1)
-    c.in_ok-down.down (c.in_ok-down.ensures.down h1) c.if-down.true finds
+    c.in_ok-down.down (c.in_ok-down.ensures.found h1) c.if-down.true finds
 
 pub returns-in_err-first-clause-found : goal.returns-in_err-first-clause-found
 returns-in_err-first-clause-found g m c honest =
@@ -47,7 +47,7 @@ returns-in_err-first-clause-found g m c honest =
     let h1 = g.met.P.Pages.writes_honestly c.descend.new.pages c.next_below.new.pages (g.met.P.Pages.reads_writes c.descend.new.pages c.next_below.new.pages c.next_below.ensures.reads.step) h2 in
     let live = g.met.P.Pages.reads_live c.args.pages.now c.descend.new.pages c.descend.ensures.reads.step h1 in
     next_behind_fails c.args.shape ((g.P.Pages.shown.state c.args.pages.now).live) c.args.levels (c.args.levels - 1) c.args.page c.args.key.now c.args.past one ((g.P.Pages.shown.state c.descend.new.pages).live) live
-    c.in_ok-down.down (c.in_ok-down.ensures.down h1) ((g.P.Pages.shown.state c.next_below.new.pages).live) _ c.from_residual-in_err-first.result (g.met.P.Pages.reads_live c.descend.new.pages c.next_below.new.pages c.next_below.ensures.reads.step h2 ∙ live) c.if-down.false
+    c.in_ok-down.down (c.in_ok-down.ensures.found h1) ((g.P.Pages.shown.state c.next_below.new.pages).live) _ c.from_residual-in_err-first.result (g.met.P.Pages.reads_live c.descend.new.pages c.next_below.new.pages c.next_below.ensures.reads.step h2 ∙ live) c.if-down.false
     (c.in_err-first.ensures.first honest) c.from_residual-in_err-first.ensures.1
 
 pub returns-clause-found : goal.returns-clause-found
@@ -59,7 +59,7 @@ returns-clause-found g m c honest =
     let mid = (g.P.Pages.shown.state c.descend.new.pages).live in
     let finds = subst (λ (o : Option (ArrayVec ℕ)). FindsFilled c.args.shape mid (c.args.levels - 1) c.in_ok-down.down.child (first_of c.args.past c.args.shape.width c.args.key.now) (Ok o)) c.in_default.is (c.in_ok-found.ensures.found h2) in
     next_behind c.args.shape ((g.P.Pages.shown.state c.args.pages.now).live) c.args.levels (c.args.levels - 1) c.args.page c.args.key.now c.args.past one mid live
-    c.in_ok-down.down (c.in_ok-down.ensures.down h1) ((g.P.Pages.shown.state c.next_below.new.pages).live) c.in_ok-first.first (g.met.P.Pages.reads_live c.descend.new.pages c.next_below.new.pages c.next_below.ensures.reads.step h2 ∙ live) c.if-down.false finds (c.in_ok-first.ensures.first honest)
+    c.in_ok-down.down (c.in_ok-down.ensures.found h1) ((g.P.Pages.shown.state c.next_below.new.pages).live) c.in_ok-first.first (g.met.P.Pages.reads_live c.descend.new.pages c.next_below.new.pages c.next_below.ensures.reads.step h2 ∙ live) c.if-down.false finds (c.in_ok-first.ensures.first honest)
 
 pub returns-then-levels-eq0-clause-spot : goal.returns-then-levels-eq0-clause-spot
 returns-then-levels-eq0-clause-spot g m c honest =
@@ -83,7 +83,7 @@ returns-in-Some-clause-spot g m c honest =
     let h1 = g.met.P.Pages.writes_honestly c.descend.new.pages c.next_below.new.pages (g.met.P.Pages.reads_writes c.descend.new.pages c.next_below.new.pages c.next_below.ensures.reads.step) honest in
     let mid = (g.P.Pages.shown.state c.descend.new.pages).live in
     let spots = subst (λ (o : Option (ArrayVec ℕ)). Spots c.args.shape mid (c.args.levels - 1) c.in_ok-down.down.child c.next_below.new.spot (Ok o)) c.in-Some.is (c.in_ok-found.ensures.spot honest) in
-    spots_below c.args.shape ((g.P.Pages.shown.state c.args.pages.now).live) c.args.levels (c.args.levels - 1) c.args.page c.args.key.now one c.in_ok-down.down (c.in_ok-down.ensures.down h1) c.next_below.new.spot mid c.in-Some.found
+    spots_below c.args.shape ((g.P.Pages.shown.state c.args.pages.now).live) c.args.levels (c.args.levels - 1) c.args.page c.args.key.now one c.in_ok-down.down (c.in_ok-down.ensures.found h1) c.next_below.new.spot mid c.in-Some.found
     (g.met.P.Pages.reads_live c.args.pages.now c.descend.new.pages c.descend.ensures.reads.step h1) spots
 
 pub returns-clause-spot : goal.returns-clause-spot
@@ -92,7 +92,7 @@ returns-clause-spot g m c honest =
     let h2 = g.met.P.Pages.writes_honestly c.next_below.new.pages c.first_below.new.pages (g.met.P.Pages.reads_writes c.next_below.new.pages c.first_below.new.pages c.first_below.ensures.reads.step) honest in
     let h1 = g.met.P.Pages.writes_honestly c.descend.new.pages c.next_below.new.pages (g.met.P.Pages.reads_writes c.descend.new.pages c.next_below.new.pages c.next_below.ensures.reads.step) h2 in
     let live = g.met.P.Pages.reads_live c.args.pages.now c.descend.new.pages c.descend.ensures.reads.step h1 in
-    spots_behind c.args.shape ((g.P.Pages.shown.state c.args.pages.now).live) c.args.levels (c.args.levels - 1) c.args.page c.args.key.now one c.in_ok-down.down (c.in_ok-down.ensures.down h1) c.first_below.new.spot ((g.P.Pages.shown.state c.next_below.new.pages).live) c.in_ok-first.first
+    spots_behind c.args.shape ((g.P.Pages.shown.state c.args.pages.now).live) c.args.levels (c.args.levels - 1) c.args.page c.args.key.now one c.in_ok-down.down (c.in_ok-down.ensures.found h1) c.first_below.new.spot ((g.P.Pages.shown.state c.next_below.new.pages).live) c.in_ok-first.first
     (g.met.P.Pages.reads_live c.descend.new.pages c.next_below.new.pages c.next_below.ensures.reads.step h2 ∙ live) c.if-down.false (c.in_ok-first.ensures.spot honest)
 
 pub first_below-requires : goal.first_below-requires

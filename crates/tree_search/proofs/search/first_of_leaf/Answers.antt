@@ -7,18 +7,18 @@ use Rattle.tree_search.proofs.search.first_of_leaf.Goals as goal
 
 pub returns-in_err-entry-clause-first : goal.returns-in_err-entry-clause-first
 returns-in_err-entry-clause-first g c honest entries at some =
-    fails c.from_residual.result _ _ c.from_residual.ensures.1 (c.in_err-entry.ensures.entry honest entries at).no_damage
+    fails c.from_residual.result _ _ c.from_residual.ensures.1 (c.in_err-entry.ensures.found honest entries at).no_damage
 
 pub returns-in-Some-clause-first : goal.returns-in-Some-clause-first
 returns-in-Some-clause-first g c honest entries at some =
-    let found = subst (λ (o : Option (ArrayVec ℕ)). IsEntryAt c.args.page 0 entries c.entry_in_leaf.new.spot o) c.in-Some.is (c.in_ok-entry.ensures.entry honest entries at).answer in
+    let found = subst (λ (o : Option (ArrayVec ℕ)). IsEntryAt c.args.page 0 entries c.entry_in_leaf.new.spot o) c.in-Some.is (c.in_ok-entry.ensures.found honest entries at).answer in
     record { answer = first_entry c.args.page entries c.entry_in_leaf.new.spot c.in-Some.entry some found; no_damage = tt }
 
 pub returns-in-Some-clause-spot : goal.returns-in-Some-clause-spot
 returns-in-Some-clause-spot g c honest entries at =
-    (subst (λ (o : Option (ArrayVec ℕ)). IsEntryAt c.args.page 0 entries c.entry_in_leaf.new.spot o) c.in-Some.is (c.in_ok-entry.ensures.entry honest entries at).answer).1
+    (subst (λ (o : Option (ArrayVec ℕ)). IsEntryAt c.args.page 0 entries c.entry_in_leaf.new.spot o) c.in-Some.is (c.in_ok-entry.ensures.found honest entries at).answer).1
 
 pub returns-in-None-clause-first : goal.returns-in-None-clause-first
 returns-in-None-clause-first g c honest entries at some =
-    let past : length entries ≤ 0 = subst (λ (o : Option (ArrayVec ℕ)). IsEntryAt c.args.page 0 entries c.entry_in_leaf.new.spot o) c.in-None.is (c.in_ok-entry.ensures.entry honest entries at).answer in
+    let past : length entries ≤ 0 = subst (λ (o : Option (ArrayVec ℕ)). IsEntryAt c.args.page 0 entries c.entry_in_leaf.new.spot o) c.in-None.is (c.in_ok-entry.ensures.found honest entries at).answer in
     absurd (omega arith)

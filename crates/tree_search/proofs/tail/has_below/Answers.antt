@@ -12,4 +12,4 @@ returns-clause-told g c honest =
     let mid = c.leaf_below.new.pages in
     let h = g.met.P.Pages.writes_honestly mid c.is_in_leaf.new.pages (g.met.P.Pages.reads_writes mid c.is_in_leaf.new.pages c.is_in_leaf.ensures.reads.step) honest in
     leaf_told TellsPresence c.args.shape (g.P.Pages.shown.state old).live c.args.levels c.args.page c.args.key.now c.is_in_leaf.result (g.P.Pages.shown.state mid).live c.in_ok-leaf.leaf
-    (g.met.P.Pages.reads_live old mid c.leaf_below.ensures.reads.step h) (c.in_ok-leaf.ensures.leaf h) (c.is_in_leaf.ensures.told honest)
+    (g.met.P.Pages.reads_live old mid c.leaf_below.ensures.reads.step h) (c.in_ok-leaf.ensures.leaf h) (c.is_in_leaf.ensures.found honest)

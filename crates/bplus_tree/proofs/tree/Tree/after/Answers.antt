@@ -4,7 +4,11 @@ use Rattle.tree_search.specs.Calls.{first_after}
 use Rattle.tree_search.specs.Search.{IsFound}
 use Rattle.bplus_tree.proofs.tree.Tree.after.Goals as goal
 
-pub returns-clause-found : goal.returns-clause-found
-returns-clause-found g c honest entries own stands =
-    subst (λ (es : List (List ℕ)). IsAnswer c.next_below.result (IsFound (first_after c.args.self.now.shape.width c.args.key.now) es)) stands.has
-    (c.next_below.ensures.found honest stands.value None None stands.whole.stands stands.whole.filled)
+pub returns : goal.returns
+returns g c =
+    record {
+      found = λ honest entries own stands.
+          subst (λ (es : List (List ℕ)). IsAnswer c.next_below.result (IsFound (first_after c.args.self.now.shape.width c.args.key.now) es)) stands.has
+          (c.next_below.ensures.found honest stands.value None None stands.whole.stands stands.whole.filled);
+      reads = c.next_below.ensures.reads;
+    }

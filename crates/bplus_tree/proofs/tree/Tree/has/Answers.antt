@@ -4,7 +4,11 @@ use Rattle.tree_search.specs.Calls.{entry_of}
 use Rattle.tree_search.specs.Tail.{TellsPresence}
 use Rattle.bplus_tree.proofs.tree.Tree.has.Goals as goal
 
-pub returns-clause-told : goal.returns-clause-told
-returns-clause-told g c honest entries own stands =
-    subst (λ (es : List (List ℕ)). IsAnswer c.has_below.result (TellsPresence (entry_of c.args.self.now.shape.width c.args.key.now es))) stands.has
-    (c.has_below.ensures.told honest stands.value None None stands.whole.stands)
+pub returns : goal.returns
+returns g c =
+    record {
+      found = λ honest entries own stands.
+          subst (λ (es : List (List ℕ)). IsAnswer c.has_below.result (TellsPresence (entry_of c.args.self.now.shape.width c.args.key.now es))) stands.has
+          (c.has_below.ensures.told honest stands.value None None stands.whole.stands);
+      reads = c.has_below.ensures.reads;
+    }

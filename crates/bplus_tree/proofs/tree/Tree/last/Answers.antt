@@ -4,7 +4,11 @@ use Rattle.tree_search.specs.Calls.{last_of}
 use Rattle.tree_search.specs.Search.{IsFound}
 use Rattle.bplus_tree.proofs.tree.Tree.last.Goals as goal
 
-pub returns-clause-found : goal.returns-clause-found
-returns-clause-found g c honest entries own stands =
-    subst (λ (es : List (List ℕ)). IsAnswer c.last_below.result (IsFound last_of es)) stands.has
-    (c.last_below.ensures.last honest stands.value None None stands.whole.stands stands.whole.filled)
+pub returns : goal.returns
+returns g c =
+    record {
+      found = λ honest entries own stands.
+          subst (λ (es : List (List ℕ)). IsAnswer c.last_below.result (IsFound last_of es)) stands.has
+          (c.last_below.ensures.last honest stands.value None None stands.whole.stands stands.whole.filled);
+      reads = c.last_below.ensures.reads;
+    }

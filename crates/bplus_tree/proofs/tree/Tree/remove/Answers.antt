@@ -33,5 +33,5 @@ returns-clause-removed g c honest sound entries own stands =
     let a = (c.in_ok-take_below.ensures.taken h1 sound stands.value None None stands.whole).answer in
     let same : mid.live ≡ before =
     subst (λ (b : Bool). HasTakenIf old.shape before mid.live old.levels old.root None None c.args.key.now stands.value c.take_below.new.to.items b) c.if-branch.false a.0 in
-    (subst (λ (m : PageMap). Removes m new.live (IsTrue new.is_sound) old c.remove_or_rebalance.new.self c.args.key.now c.remove_or_rebalance.result) same
+    (subst (λ (m : PageMap). Removes old c.remove_or_rebalance.new.self c.args.key.now c.remove_or_rebalance.result m new.live (IsTrue new.is_sound)) same
     (c.remove_or_rebalance.ensures.removed honest a.1)) entries own stands

@@ -13,4 +13,4 @@ returns-clause-told g c honest entries own stands =
     let index = c.args.self.now in
     let value = c.args.value.now in
     if_ok c.has.result (TellsPresence (entry_of index.tree.shape.width value (map prime_bytes entries))) (λ (told : Bool). told ≡ is_some (find (has_prime value) entries))
-    (told_there index value entries stands.each) (c.has.ensures.told honest (map prime_bytes entries) own stands.tree)
+    (told_there index value entries stands.each) (c.has.ensures.found honest (map prime_bytes entries) own stands.tree)
