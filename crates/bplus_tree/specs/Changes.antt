@@ -18,13 +18,13 @@ pub record CanInsert {S : Type 0} (shown : ShownPages S) (shape : Shape) (entry 
   pub ready : shown.IsReady pages
   pub changing : shown.CanChange pages
 
--- What is so of the pages in use before and after a call, and of the free pages being what they should be: where no wrong answer of the
--- device was taken as true, and the free pages were what they should be.
+-- What a call leaves of the pages in use, and whether the free pages are sound then, where no wrong answer of the device was taken as true
+-- and the free pages were sound.
 abbrev pub WhereSound : {S : Type 0} → ShownPages S → (old new : S) → (PageMap → PageMap → Type 0 → Type 0) → Type 0
 WhereSound shown old new Leaves =
     IsTrue (shown.state new).is_honest → IsTrue (shown.state old).is_sound → Leaves (shown.state old).live (shown.state new).live (IsTrue (shown.state new).is_sound)
 
--- the free pages are what they should be where they were, as far as a call on a page in use goes
+-- a call on a page that is in use leaves the free pages as sound as they were
 abbrev pub KeepsSound : {S : Type 0} → ShownPages S → ℕ → (old new : S) → Type 0
 KeepsSound shown page old new =
     IsTrue (shown.state new).is_honest → IsSome ((shown.state old).live page) → (shown.state new).is_sound ≡ (shown.state old).is_sound

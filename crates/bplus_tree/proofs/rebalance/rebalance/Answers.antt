@@ -34,9 +34,7 @@ end_shared-requires g c =
 pub returns-in_err-end_joined-in-Some-true-clause-writes : goal.returns-in_err-end_joined-in-Some-true-clause-writes
 returns-in_err-end_joined-in-Some-true-clause-writes g c =
     record {
-      few =
-          since ((g.P.Pages.shown.state c.args.pages.now).available) ((g.P.Pages.shown.state c.read_pair.new.pages).available) ((g.P.Pages.shown.state c.end_joined.new.pages).available)
-          (g.met.P.Pages.reads_available c.args.pages.now c.read_pair.new.pages c.read_pair.ensures.reads.step) c.end_joined.ensures.writes.few;
+      few = since _ _ _ (g.met.P.Pages.reads_available c.args.pages.now c.read_pair.new.pages c.read_pair.ensures.reads.step) c.end_joined.ensures.writes.few;
       cause =
           fails_since c.from_residual-in_err-end_joined-in-Some-true.result _ (g.P.Pages.shown.HasFailed c.read_pair.new.pages c.end_joined.new.pages) (g.P.Pages.shown.HasFailed c.args.pages.now c.end_joined.new.pages) ⊥ ⊥ c.from_residual-in_err-end_joined-in-Some-true.ensures.1
           (g.met.P.Pages.failed_after c.args.pages.now c.read_pair.new.pages c.end_joined.new.pages (g.met.P.Pages.reads_writes c.args.pages.now c.read_pair.new.pages c.read_pair.ensures.reads.step)) (λ x. x) c.in_err-end_joined-in-Some-true.ensures.writes.cause;
@@ -47,9 +45,7 @@ returns-in_err-end_joined-in-Some-true-clause-writes g c =
 pub returns-in_ok-end_joined-in-Some-true-clause-writes : goal.returns-in_ok-end_joined-in-Some-true-clause-writes
 returns-in_ok-end_joined-in-Some-true-clause-writes g c =
     record {
-      few =
-          since ((g.P.Pages.shown.state c.args.pages.now).available) ((g.P.Pages.shown.state c.read_pair.new.pages).available) ((g.P.Pages.shown.state c.end_joined.new.pages).available)
-          (g.met.P.Pages.reads_available c.args.pages.now c.read_pair.new.pages c.read_pair.ensures.reads.step) c.end_joined.ensures.writes.few;
+      few = since _ _ _ (g.met.P.Pages.reads_available c.args.pages.now c.read_pair.new.pages c.read_pair.ensures.reads.step) c.end_joined.ensures.writes.few;
       cause = tt;
       asked = grind (arith, common_steps);
       step = g.met.P.Pages.writes_on c.args.pages.now c.read_pair.new.pages c.end_joined.new.pages (g.met.P.Pages.reads_writes c.args.pages.now c.read_pair.new.pages c.read_pair.ensures.reads.step) c.end_joined.ensures.writes.step;
@@ -58,9 +54,7 @@ returns-in_ok-end_joined-in-Some-true-clause-writes g c =
 pub returns-in_err-end_shared-in-Some-false-clause-writes : goal.returns-in_err-end_shared-in-Some-false-clause-writes
 returns-in_err-end_shared-in-Some-false-clause-writes g c =
     record {
-      few =
-          since ((g.P.Pages.shown.state c.args.pages.now).available) ((g.P.Pages.shown.state c.read_pair.new.pages).available) ((g.P.Pages.shown.state c.end_shared.new.pages).available)
-          (g.met.P.Pages.reads_available c.args.pages.now c.read_pair.new.pages c.read_pair.ensures.reads.step) c.end_shared.ensures.writes.few;
+      few = since _ _ _ (g.met.P.Pages.reads_available c.args.pages.now c.read_pair.new.pages c.read_pair.ensures.reads.step) c.end_shared.ensures.writes.few;
       cause =
           fails_since c.from_residual-in_err-end_shared-in-Some-false.result _ (g.P.Pages.shown.HasFailed c.read_pair.new.pages c.end_shared.new.pages) (g.P.Pages.shown.HasFailed c.args.pages.now c.end_shared.new.pages) ⊥ ⊥ c.from_residual-in_err-end_shared-in-Some-false.ensures.1
           (g.met.P.Pages.failed_after c.args.pages.now c.read_pair.new.pages c.end_shared.new.pages (g.met.P.Pages.reads_writes c.args.pages.now c.read_pair.new.pages c.read_pair.ensures.reads.step)) (λ x. x) c.in_err-end_shared-in-Some-false.ensures.writes.cause;
@@ -71,9 +65,7 @@ returns-in_err-end_shared-in-Some-false-clause-writes g c =
 pub returns-in_ok-end_shared-in-Some-false-clause-writes : goal.returns-in_ok-end_shared-in-Some-false-clause-writes
 returns-in_ok-end_shared-in-Some-false-clause-writes g c =
     record {
-      few =
-          since ((g.P.Pages.shown.state c.args.pages.now).available) ((g.P.Pages.shown.state c.read_pair.new.pages).available) ((g.P.Pages.shown.state c.end_shared.new.pages).available)
-          (g.met.P.Pages.reads_available c.args.pages.now c.read_pair.new.pages c.read_pair.ensures.reads.step) c.end_shared.ensures.writes.few;
+      few = since _ _ _ (g.met.P.Pages.reads_available c.args.pages.now c.read_pair.new.pages c.read_pair.ensures.reads.step) c.end_shared.ensures.writes.few;
       cause = tt;
       asked = grind (arith, common_steps);
       step = g.met.P.Pages.writes_on c.args.pages.now c.read_pair.new.pages c.end_shared.new.pages (g.met.P.Pages.reads_writes c.args.pages.now c.read_pair.new.pages c.read_pair.ensures.reads.step) c.end_shared.ensures.writes.step;
@@ -155,7 +147,7 @@ balance-requires g c = record { inner = c.in_ok-pair.ensures.inner.0; place = c.
 pub returns-in_err-pair-clause-writes : goal.returns-in_err-pair-clause-writes
 returns-in_err-pair-clause-writes g c =
     record {
-      few = as_many ((g.P.Pages.shown.state c.args.pages.now).available) ((g.P.Pages.shown.state c.read_pair.new.pages).available) (g.met.P.Pages.reads_available c.args.pages.now c.read_pair.new.pages c.read_pair.ensures.reads.step);
+      few = as_many _ _ (g.met.P.Pages.reads_available c.args.pages.now c.read_pair.new.pages c.read_pair.ensures.reads.step);
       cause = grind (arith, common_steps);
       asked = grind (arith, common_steps);
       step = g.met.P.Pages.reads_writes c.args.pages.now c.read_pair.new.pages c.read_pair.ensures.reads.step;
@@ -164,7 +156,7 @@ returns-in_err-pair-clause-writes g c =
 pub returns-in-None-clause-writes : goal.returns-in-None-clause-writes
 returns-in-None-clause-writes g c =
     record {
-      few = as_many ((g.P.Pages.shown.state c.args.pages.now).available) ((g.P.Pages.shown.state c.read_pair.new.pages).available) (g.met.P.Pages.reads_available c.args.pages.now c.read_pair.new.pages c.read_pair.ensures.reads.step);
+      few = as_many _ _ (g.met.P.Pages.reads_available c.args.pages.now c.read_pair.new.pages c.read_pair.ensures.reads.step);
       cause = grind (arith, common_steps);
       asked = grind (arith, common_steps);
       step = g.met.P.Pages.reads_writes c.args.pages.now c.read_pair.new.pages c.read_pair.ensures.reads.step;
