@@ -29,7 +29,7 @@ some_of None h = absurd (cc h)
 some_of (Some x) h = (x, refl)
 
 pub frees_ok : {X : Type 0} (x : X) (heap : Heap) (before after : PagesState) (place : Place)
-    → Rewriting heap.shape before after place (λ (u : X) slot. behind_in slot ≡ Some heap.free) (Ok x) → Sets before after heap (record heap { free = place }) place None (Ok x)
+    → Rewriting heap.shape place (λ (u : X) slot. behind_in slot ≡ Some heap.free) before after (Ok x) → Sets before after heap (record heap { free = place }) place None (Ok x)
 frees_ok x heap before after place linked honest sound slots own stands here =
     let b = some_of (slots place) here in
     let at = in_heap heap before.live slots own place b.0 stands b.1 in
@@ -37,7 +37,7 @@ frees_ok x heap before after place linked honest sound slots own stands here =
     record { answer = (heap_freed heap before.live after.live slots own place b.0 stands b.1 w.0, w.1); no_damage = tt }
 
 pub sets_ok : {X : Type 0} (x : X) (heap : Heap) (before after : PagesState) (place : Place) (bytes : List ℕ)
-    → Rewriting heap.shape before after place (λ (u : X) slot. used_in heap.shape slot ≡ Some bytes) (Ok x) → Sets before after heap heap place (Some bytes) (Ok x)
+    → Rewriting heap.shape place (λ (u : X) slot. used_in heap.shape slot ≡ Some bytes) before after (Ok x) → Sets before after heap heap place (Some bytes) (Ok x)
 sets_ok x heap before after place bytes filled honest sound slots own stands here =
     let b = some_of (slots place) here in
     let at = in_heap heap before.live slots own place b.0 stands b.1 in
@@ -46,18 +46,18 @@ sets_ok x heap before after place bytes filled honest sound slots own stands her
 
 -- a fault of a call that rewrites a slot in use
 pub rewriting_fails : {X Y : Type 0} (heap new : Heap) (before after : PagesState) (place : Place) (bytes : Option (List ℕ)) (P : X → List ℕ → Type 0) (fault : Fault) (out : Result Y Fault)
-    → Rewriting heap.shape before after place P (Err fault) → IsErrAnd out (λ e. e ≡ fault) → Sets before after heap new place bytes out
+    → Rewriting heap.shape place P before after (Err fault) → IsErrAnd out (λ e. e ≡ fault) → Sets before after heap new place bytes out
 rewriting_fails heap new before after place bytes P fault out rewriting was honest sound slots own stands here =
     let b = some_of (slots place) here in
     let at = in_heap heap before.live slots own place b.0 stands b.1 in
     fails out fault _ was (rewriting honest sound at.next at.at at.within).no_damage
 
-pub gets : (heap : Heap) (pages : PageMap) (place : Place) (old new : List ℕ) (result : Result ℕ Fault) → Gets heap.shape pages place old new result → Got heap pages place old new result
+pub gets : (heap : Heap) (pages : PageMap) (place : Place) (old new : List ℕ) (result : Result ℕ Fault) → Gets heap.shape place pages old new result → Got heap place pages old new result
 gets heap pages place old new result reads slots own bytes stands here =
     let at = in_heap heap pages slots own place bytes stands here in reads at.next at.at at.within bytes at.used
 
-pub gets_record : (heap : Heap) (pages : PageMap) (place : Place) (old new : List ℕ) (result : Result ℕ Fault) → GetsRecord heap.shape pages place old new result
-    → GotRecord heap pages place old new result
+pub gets_record : (heap : Heap) (pages : PageMap) (place : Place) (old new : List ℕ) (result : Result ℕ Fault) → GetsRecord heap.shape place pages old new result
+    → GotRecord heap place pages old new result
 gets_record heap pages place old new result reads slots own bytes stands here =
     let at = in_heap heap pages slots own place bytes stands here in reads at.next at.at at.within bytes at.used
 
@@ -99,7 +99,7 @@ has_front u old mid before middle slots own honest sound stands made =
     record { has = m.0; some = m.1; sound = m.2; front = f; next = p.0; page = p.1 }
 
 pub adds_ok : (u : ⊤) (old mid : Heap) (before middle after : PagesState) (bytes : List ℕ) (next : Place) → (IsTrue after.is_honest → IsTrue middle.is_honest)
-    → MakesRoom before middle old mid (Ok u) → Refilling mid.shape middle after mid.free bytes (Ok next) → Adds before after old (record mid { free = next }) bytes (Ok mid.free)
+    → MakesRoom before middle old mid (Ok u) → Refilling mid.shape mid.free bytes middle after (Ok next) → Adds before after old (record mid { free = next }) bytes (Ok mid.free)
 adds_ok u old mid before middle after bytes next back made filled honest sound slots own stands =
     let h = has_front u old mid before middle slots own (back honest) sound stands made in
     let w = (filled h.front.next h.front.linked honest h.sound h.next h.page h.front.of.slot).answer in
@@ -116,7 +116,7 @@ room_fails old mid new before middle bytes fault out made was honest sound slots
     fails out fault _ was (made honest sound slots own stands).no_damage
 
 pub refill_fails : (u : ⊤) (old mid new : Heap) (before middle after : PagesState) (bytes : List ℕ) (fault : Fault) (out : Result Place Fault) → (IsTrue after.is_honest → IsTrue middle.is_honest)
-    → MakesRoom before middle old mid (Ok u) → Refilling mid.shape middle after mid.free bytes (Err fault) → IsErrAnd out (λ e. e ≡ fault) → Adds before after old new bytes out
+    → MakesRoom before middle old mid (Ok u) → Refilling mid.shape mid.free bytes middle after (Err fault) → IsErrAnd out (λ e. e ≡ fault) → Adds before after old new bytes out
 refill_fails u old mid new before middle after bytes fault out back made filled was honest sound slots own stands =
     let h = has_front u old mid before middle slots own (back honest) sound stands made in
     fails out fault _ was (filled h.front.next h.front.linked honest h.sound h.next h.page h.front.of.slot).no_damage

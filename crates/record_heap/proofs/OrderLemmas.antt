@@ -29,7 +29,7 @@ chain_beside heap before after place first P free w apart chain =
     chain_still (behind_at heap.shape before) (behind_at heap.shape after) free first
     (each_weaker (λ q. q ≢ place) (λ q. behind_at heap.shape after q ≡ behind_at heap.shape before q) (λ q n. ap behind_in (w.others q n)) free apart) chain
 
-pub frees_in_order : {X : Type 0} (x : X) (heap : Heap) (before after : PagesState) (place : Place) → Rewriting heap.shape before after place (λ (u : X) slot. behind_in slot ≡ Some heap.free) (Ok x)
+pub frees_in_order : {X : Type 0} (x : X) (heap : Heap) (before after : PagesState) (place : Place) → Rewriting heap.shape place (λ (u : X) slot. behind_in slot ≡ Some heap.free) before after (Ok x)
     → SetsInOrder before after heap (record heap { free = place }) place (place ∷ []) (Ok x)
 frees_in_order x heap before after place linked honest sound slots own stands here =
     let b = some_of (slots place) here in
@@ -42,7 +42,7 @@ frees_in_order x heap before after place linked honest sound slots own stands he
       page_chain = chain_written before.live after.live heap.first own place.page w.heap w.pages stands.chain;
     }
 
-pub sets_in_order : {X : Type 0} (x : X) (heap : Heap) (before after : PagesState) (place : Place) (P : X → List ℕ → Type 0) → Rewriting heap.shape before after place P (Ok x)
+pub sets_in_order : {X : Type 0} (x : X) (heap : Heap) (before after : PagesState) (place : Place) (P : X → List ℕ → Type 0) → Rewriting heap.shape place P before after (Ok x)
     → SetsInOrder before after heap heap place [] (Ok x)
 sets_in_order x heap before after place P written honest sound slots own stands here =
     let b = some_of (slots place) here in
@@ -75,7 +75,7 @@ refilled_chains heap before after (p ∷ ps) own bytes next some chains writes =
     )
 
 pub adds_in_order : (u : ⊤) (old mid : Heap) (before middle after : PagesState) (bytes : List ℕ) (next : Place) → (IsTrue after.is_honest → IsTrue middle.is_honest)
-    → MakesRoom before middle old mid (Ok u) → MakesRoomInOrder before middle old mid (Ok u) → Refilling mid.shape middle after mid.free bytes (Ok next)
+    → MakesRoom before middle old mid (Ok u) → MakesRoomInOrder before middle old mid (Ok u) → Refilling mid.shape mid.free bytes middle after (Ok next)
     → AddsInOrder before after old (record mid { free = next }) (Ok mid.free)
 adds_in_order u old mid before middle after bytes next back made order filled honest sound slots own stands =
     let h = has_front u old mid before middle slots own (back honest) sound stands made in

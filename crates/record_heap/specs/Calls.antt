@@ -1,13 +1,15 @@
--- What the calls on one page ensure.
+-- What the calls on one page require and ensure.
 use Rattle.std.specs.Prelude.{◌≡◌, ◌≢◌, ℕ, ◌+◌, ◌≤◌, ◌<◌, List, [], ◌++◌, length, drop, Option, Some, IsTrue, Result, IfOk, OnErr}
 use Rattle.std.specs.Option.{option_map_or}
 use Rattle.pages.specs.PageMap.{PageMap}
 use Rattle.pages.specs.PagesState.{PagesState}
 use Rattle.pages.specs.Answer.{IsAnswer}
+use Rattle.pages.specs.ShownPages.{ShownPages}
+use Rattle.pages.specs.PageCalls.{ReadsPages, WritesPages}
 use Rattle.io_state.specs.declared.fault.Fault.{Fault}
 use Rattle.record_heap.specs.declared.shape.Shape.{Shape}
 use Rattle.record_heap.specs.declared.shape.Place.{Place}
-use Rattle.record_heap.specs.Slot.{room, used_in, behind_in}
+use Rattle.record_heap.specs.Slot.{room, used_in, behind_in, FitsSlot}
 use Rattle.record_heap.specs.Slots.{slot_at, IsHeapPage}
 
 -- the bytes of the slot at a place
@@ -36,16 +38,20 @@ pub record RewritesSlot (shape : Shape) (before after : PageMap) (place : Place)
   pub pages : (n : ℕ) → n ≢ place.page → after n ≡ before n
 
 -- a call that rewrites the slot at a place of a heap page
-abbrev pub Rewriting : {X : Type 0} → Shape → PagesState → PagesState → Place → (X → List ℕ → Type 0) → Result X Fault → Type 0
-Rewriting shape before after place P result =
+abbrev pub Rewriting : {X : Type 0} → Shape → Place → (X → List ℕ → Type 0) → PagesState → PagesState → Result X Fault → Type 0
+Rewriting shape place P before after result =
     IsTrue after.is_honest → IsTrue before.is_sound → (next : ℕ) → IsHeapAt before.live place.page next → place.slot < room shape
     → IsAnswer result (λ x. RewritesSlot shape before.live after.live place (P x) × IsTrue after.is_sound)
 
+-- a call that puts these bytes into a slot
+abbrev pub Filling : {X : Type 0} → Shape → Place → List ℕ → PagesState → PagesState → Result X Fault → Type 0
+Filling shape place bytes before after result = Rewriting shape place (λ x slot. used_in shape slot ≡ Some bytes) before after result
+
 -- a call that rewrites a free slot, and answers the place of the one behind it
-abbrev pub Refilling : Shape → PagesState → PagesState → Place → List ℕ → Result Place Fault → Type 0
-Refilling shape before after place bytes result =
+abbrev pub Refilling : Shape → Place → List ℕ → PagesState → PagesState → Result Place Fault → Type 0
+Refilling shape place bytes before after result =
     (behind : Place) → behind_at shape before.live place ≡ Some behind
-    → Rewriting shape before after place (λ x slot. (x ≡ behind) × (used_in shape slot ≡ Some bytes)) result
+    → Rewriting shape place (λ x slot. (x ≡ behind) × (used_in shape slot ≡ Some bytes)) before after result
 
 -- n bytes stand in the front of what was there
 pub record IsFront (n : ℕ) (bytes old new : List ℕ) : Type 0 where
@@ -53,14 +59,14 @@ pub record IsFront (n : ℕ) (bytes old new : List ℕ) : Type 0 where
   pub front : new ≡ bytes ++ drop (length bytes) old
 
 -- the answer of a call that reads a slot of a heap page: its length, and its bytes at the front of `to`
-abbrev pub Gets : Shape → PageMap → Place → List ℕ → List ℕ → Result ℕ Fault → Type 0
-Gets shape pages place old new result =
+abbrev pub Gets : Shape → Place → PageMap → List ℕ → List ℕ → Result ℕ Fault → Type 0
+Gets shape place pages old new result =
     (next : ℕ) → IsHeapAt pages place.page next → place.slot < room shape → (bytes : List ℕ) → used_at shape pages place ≡ Some bytes
     → IsAnswer result (λ n. (n ≡ length bytes) × (new ≡ bytes ++ drop (length bytes) old))
 
 -- the answer of a call that reads the record of a slot: its length, and its bytes at the front of `to`
-abbrev pub GetsRecord : Shape → PageMap → Place → List ℕ → List ℕ → Result ℕ Fault → Type 0
-GetsRecord shape pages place old new result =
+abbrev pub GetsRecord : Shape → Place → PageMap → List ℕ → List ℕ → Result ℕ Fault → Type 0
+GetsRecord shape place pages old new result =
     (next : ℕ) → IsHeapAt pages place.page next → place.slot < room shape → (bytes : List ℕ) → used_at shape pages place ≡ Some bytes
     → IsAnswer result (λ n. IsFront n (drop shape.stamps bytes) old new)
 
@@ -70,3 +76,33 @@ pub record FillsFront (shape : Shape) (old new : List ℕ) (result : Result ℕ 
   pub greatest : IfOk result (λ n. n ≤ shape.stamps + shape.greatest)
   pub long : length new ≡ length old
   pub kept : OnErr result (new ≡ old)
+
+-- calls may be made, and pages changed
+pub record MayChange {S : Type 0} (shown : ShownPages S) (pages : S) : Type 0 where
+  pub ready : shown.IsReady pages
+  pub gate : shown.CanChange pages
+
+-- pages may be changed, and a slot takes these stamps and this record
+pub record MayFill {S : Type 0} (shown : ShownPages S) (pages : S) (shape : Shape) (before behind : List ℕ) : Type 0 where
+  pub ready : shown.IsReady pages
+  pub gate : shown.CanChange pages
+  pub fits : FitsSlot shape before behind
+
+-- a call that reads the stamps and the record of a slot to the front of `to`; `Reads` is said of the pages in use where no wrong answer was taken
+pub record ReadsWithStamps {S : Type 0} (shown : ShownPages S) (before after : S) (shape : Shape) (old new : List ℕ) (result : Result ℕ Fault) (Reads : PageMap → List ℕ → List ℕ → Result ℕ Fault → Type 0) : Type 0 where
+  pub got : IsTrue (shown.state after).is_honest → Reads (shown.state before).live old new result
+  pub front : FillsFront shape old new result
+  pub reads : ReadsPages shown 1 before after result
+
+-- a call that reads the record of a slot, without its stamps
+pub record ReadsWithoutStamps {S : Type 0} (shown : ShownPages S) (before after : S) (shape : Shape) (old new : List ℕ) (result : Result ℕ Fault) (Reads : PageMap → List ℕ → List ℕ → Result ℕ Fault → Type 0) : Type 0 where
+  pub got : IsTrue (shown.state after).is_honest → Reads (shown.state before).live old new result
+  pub greatest : IfOk result (λ n. n ≤ shape.greatest)
+  pub kept : OnErr result (new ≡ old)
+  pub reads : ReadsPages shown 1 before after result
+
+-- a call that changes one slot, and takes no page
+pub record ChangesSlot {S X : Type 0} (shown : ShownPages S) (before after : S) (result : Result X Fault) (Changes : PagesState → PagesState → Result X Fault → Type 0) : Type 0 where
+  pub changed : Changes (shown.state before) (shown.state after) result
+  pub available : (shown.state after).available ≡ (shown.state before).available
+  pub writes : WritesPages shown 1 ⊥ before after result

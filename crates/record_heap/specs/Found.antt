@@ -18,14 +18,14 @@ pub record HeapHas (before after : PageMap) (new : Heap) (own : List ℕ) (slots
   pub changes : ChangesPages before after own own_now
 
 -- the stamps and the record at a place, read to the front of `to`
-abbrev pub Got : Heap → PageMap → Place → List ℕ → List ℕ → Result ℕ Fault → Type 0
-Got heap pages place old new result =
+abbrev pub Got : Heap → Place → PageMap → List ℕ → List ℕ → Result ℕ Fault → Type 0
+Got heap place pages old new result =
     (slots : Slots) (own : List ℕ) (bytes : List ℕ) → HeapStands heap pages slots own → slots place ≡ Some bytes
     → IsAnswer result (λ n. (n ≡ length bytes) × (new ≡ bytes ++ drop (length bytes) old))
 
 -- the record at a place, without its stamps, read to the front of `to`
-abbrev pub GotRecord : Heap → PageMap → Place → List ℕ → List ℕ → Result ℕ Fault → Type 0
-GotRecord heap pages place old new result =
+abbrev pub GotRecord : Heap → Place → PageMap → List ℕ → List ℕ → Result ℕ Fault → Type 0
+GotRecord heap place pages old new result =
     (slots : Slots) (own : List ℕ) (bytes : List ℕ) → HeapStands heap pages slots own → slots place ≡ Some bytes
     → IsAnswer result (λ n. IsFront n (drop heap.shape.stamps bytes) old new)
 

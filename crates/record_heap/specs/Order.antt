@@ -1,7 +1,9 @@
 -- The order of a heap's chains: which free slot is taken next, and where a new page stands.
-use Rattle.std.specs.Prelude.{◌≡◌, ℕ, zero, suc, List, [], ◌∷◌, ◌++◌, IsSome, IsTrue, Result, IfOk, OnOk, ⊤}
+use Rattle.std.specs.Prelude.{◌≡◌, ℕ, zero, suc, List, [], ◌∷◌, ◌++◌, IsSome, IsTrue, Option, Result, IfOk, OnOk, ⊤}
 use Rattle.pages.specs.PageMap.{PageMap}
 use Rattle.pages.specs.PagesState.{PagesState}
+use Rattle.pages.specs.ShownPages.{ShownPages}
+use Rattle.pages.specs.PageCalls.{WritesPages}
 use Rattle.io_state.specs.declared.fault.Fault.{Fault}
 use Rattle.record_heap.specs.declared.shape.Shape.{Shape}
 use Rattle.record_heap.specs.declared.shape.Place.{Place}
@@ -9,6 +11,7 @@ use Rattle.record_heap.specs.declared.heap.Heap.{Heap}
 use Rattle.record_heap.specs.Slot.{room}
 use Rattle.record_heap.specs.Chain.{Slots, AreOnce, IsFreeChain}
 use Rattle.record_heap.specs.Calls.{behind_at}
+use Rattle.record_heap.specs.Found.{Sets, MakesRoom, TakesFew, LacksSlot}
 use Rattle.record_heap.specs.Standing.{IsPageChain, HeapStands}
 
 -- so many places of page n in rising order, from slot i on
@@ -55,3 +58,19 @@ abbrev pub SetsInOrder : {X : Type 0} → PagesState → PagesState → Heap →
 SetsInOrder before after old new place freed result =
     IsTrue after.is_honest → IsTrue before.is_sound → (slots : Slots) (own : List ℕ) (stands : HeapStands old before.live slots own) → IsSome (slots place)
     → OnOk result (HasChains new after.live (freed ++ stands.keeps.free) own)
+
+-- a call at a place in use that leaves this in its slot, and puts these slots before the free ones; no page is taken
+pub record SetsSlot {S X : Type 0} (shown : ShownPages S) (before after : S) (old new : Heap) (place : Place) (bytes : Option (List ℕ)) (freed : List Place) (result : Result X Fault) : Type 0 where
+  pub set : Sets (shown.state before) (shown.state after) old new place bytes result
+  pub shape : new.shape ≡ old.shape
+  pub available : (shown.state after).available ≡ (shown.state before).available
+  pub writes : WritesPages shown 1 ⊥ before after result
+  pub order : SetsInOrder (shown.state before) (shown.state after) old new place freed result
+
+-- a call that takes a new page where no slot is free
+pub record MakesFreeSlot {S : Type 0} (shown : ShownPages S) (before after : S) (old new : Heap) (result : Result ⊤ Fault) : Type 0 where
+  pub room : MakesRoom (shown.state before) (shown.state after) old new result
+  pub shape : new.shape ≡ old.shape
+  pub few : TakesFew old (shown.state before) (shown.state after)
+  pub writes : WritesPages shown 2 (LacksSlot old (shown.state before)) before after result
+  pub order : MakesRoomInOrder (shown.state before) (shown.state after) old new result

@@ -1,5 +1,5 @@
 -- The bytes of one slot of a heap page.
-use Rattle.std.specs.Prelude.{ℕ, ◌+◌, ◌/◌, ◌==◌, ◌&&◌, nat_lt, nat_le, max, Bool, List, take, drop, length, ◌++◌, slice_index, Option, Some, None, option_map, if◌then◌else◌}
+use Rattle.std.specs.Prelude.{◌≡◌, ◌≤◌, ℕ, ◌+◌, ◌/◌, ◌==◌, ◌&&◌, nat_lt, nat_le, max, Bool, List, take, drop, length, ◌++◌, slice_index, Option, Some, None, option_map, if◌then◌else◌}
 use Rattle.byteorder.specs.Endian.{big_number}
 use Rattle.record_heap.specs.declared.shape.Shape.{Shape}
 use Rattle.record_heap.specs.declared.shape.Place.{Place}
@@ -44,3 +44,14 @@ behind_in slot = if slice_index slot 0 == 0 then Some (record { page = big_numbe
 abbrev pub over : Option (List ℕ) → List ℕ → List ℕ
 over None to = to
 over (Some bytes) to = bytes ++ drop (length bytes) to
+
+-- the stamps and the record are as long as a slot of the shape takes them
+pub record FitsSlot (shape : Shape) (before behind : List ℕ) : Type 0 where
+  pub stamps : length before ≡ shape.stamps
+  pub least : shape.least ≤ length behind
+  pub greatest : length behind ≤ shape.greatest
+
+-- the slot is in use with these bytes now, and as long as it was
+pub record HoldsNow (shape : Shape) (old new bytes : List ℕ) : Type 0 where
+  pub used : used_in shape new ≡ Some bytes
+  pub long : length new ≡ length old

@@ -1,9 +1,8 @@
 //! One call on one page.
 
-ghost use Rattle.std.specs.Prelude.{◌≡◌, ◌≤◌, ◌<◌, ◌+◌, ◌++◌, IsTrue, IfOk, OnErr, Some, length};
-ghost use Rattle.pages.specs.PageCalls.{ReadsPages, WritesPages};
-ghost use Rattle.record_heap.specs.Slot.{used_in, behind_in};
-ghost use Rattle.record_heap.specs.Calls.{Rewriting, Refilling, Gets, GetsRecord, FillsFront};
+ghost use Rattle.std.specs.Prelude.{◌≡◌, ◌≤◌, ◌+◌, ◌++◌, Some, length};
+ghost use Rattle.record_heap.specs.Slot.{behind_in};
+ghost use Rattle.record_heap.specs.Calls.{Rewriting, Filling, Refilling, Gets, GetsRecord, MayChange, MayFill, ReadsWithStamps, ReadsWithoutStamps, ChangesSlot};
 
 use crate::shape::{Place, Shape};
 use crate::slot::{behind, fetch, fetch_record};
@@ -20,10 +19,7 @@ pub fn read_used<P: Pages>(
 ) -> Result<usize, Fault>
     requires ready { P.shown.IsReady pages.old }
     requires room { shape.stamps + shape.greatest ≤ length to.old }
-    ensures got { IsTrue (P.shown.state pages.new).is_honest
-        → Gets shape (P.shown.state pages.old).live place to.old to.new result }
-    ensures front { FillsFront shape to.old to.new result }
-    ensures reads { ReadsPages P.shown 1 pages.old pages.new result }
+    ensures { ReadsWithStamps P.shown pages.old pages.new shape to.old to.new result (Gets shape place) }
 {
     let page = pages.page(place.page)?;
     if page[0] != b'H' || place.slot as usize >= shape.room() {
@@ -44,11 +40,7 @@ pub fn read_record<P: Pages>(
 ) -> Result<usize, Fault>
     requires ready { P.shown.IsReady pages.old }
     requires room { shape.greatest ≤ length to.old }
-    ensures got { IsTrue (P.shown.state pages.new).is_honest
-        → GetsRecord shape (P.shown.state pages.old).live place to.old to.new result }
-    ensures greatest { IfOk result (λ n. n ≤ shape.greatest) }
-    ensures kept { OnErr result (to.new ≡ to.old) }
-    ensures reads { ReadsPages P.shown 1 pages.old pages.new result }
+    ensures { ReadsWithoutStamps P.shown pages.old pages.new shape to.old to.new result (GetsRecord shape place) }
 {
     let page = pages.page(place.page)?;
     if page[0] != b'H' || place.slot as usize >= shape.room() {
@@ -62,12 +54,9 @@ pub fn read_record<P: Pages>(
 
 /// Makes the slot at a place free, with another behind it.
 pub fn link<P: Pages>(pages: &mut P, shape: Shape, place: Place, next: Place) -> Result<(), Fault>
-    requires ready { P.shown.IsReady pages.old }
-    requires open { P.shown.CanChange pages.old }
-    ensures linked { Rewriting shape (P.shown.state pages.old) (P.shown.state pages.new) place
-        (λ u slot. behind_in slot ≡ Some next) result }
-    ensures available { (P.shown.state pages.new).available ≡ (P.shown.state pages.old).available }
-    ensures writes { WritesPages P.shown 1 ⊥ pages.old pages.new result }
+    requires { MayChange P.shown pages.old }
+    ensures { ChangesSlot P.shown pages.old pages.new result
+        (Rewriting shape place (λ u slot. behind_in slot ≡ Some next)) }
 {
     let page = pages.page_mut(place.page)?;
     if page[0] != b'H' || place.slot as usize >= shape.room() {
@@ -85,15 +74,8 @@ pub fn fill<P: Pages>(
     stamps: &[u8],
     record: &[u8],
 ) -> Result<(), Fault>
-    requires ready { P.shown.IsReady pages.old }
-    requires open { P.shown.CanChange pages.old }
-    requires stamps { length stamps.now ≡ shape.stamps }
-    requires least { shape.least ≤ length «record».now }
-    requires greatest { length «record».now ≤ shape.greatest }
-    ensures filled { Rewriting shape (P.shown.state pages.old) (P.shown.state pages.new) place
-        (λ u slot. used_in shape slot ≡ Some (stamps.now ++ «record».now)) result }
-    ensures available { (P.shown.state pages.new).available ≡ (P.shown.state pages.old).available }
-    ensures writes { WritesPages P.shown 1 ⊥ pages.old pages.new result }
+    requires { MayFill P.shown pages.old shape stamps.now «record».now }
+    ensures { ChangesSlot P.shown pages.old pages.new result (Filling shape place (stamps.now ++ «record».now)) }
 {
     let page = pages.page_mut(place.page)?;
     if page[0] != b'H' || place.slot as usize >= shape.room() {
@@ -111,15 +93,8 @@ pub fn refill<P: Pages>(
     stamps: &[u8],
     record: &[u8],
 ) -> Result<Place, Fault>
-    requires ready { P.shown.IsReady pages.old }
-    requires open { P.shown.CanChange pages.old }
-    requires stamps { length stamps.now ≡ shape.stamps }
-    requires least { shape.least ≤ length «record».now }
-    requires greatest { length «record».now ≤ shape.greatest }
-    ensures refilled { Refilling shape (P.shown.state pages.old) (P.shown.state pages.new) place
-        (stamps.now ++ «record».now) result }
-    ensures available { (P.shown.state pages.new).available ≡ (P.shown.state pages.old).available }
-    ensures writes { WritesPages P.shown 1 ⊥ pages.old pages.new result }
+    requires { MayFill P.shown pages.old shape stamps.now «record».now }
+    ensures { ChangesSlot P.shown pages.old pages.new result (Refilling shape place (stamps.now ++ «record».now)) }
 {
     let page = pages.page_mut(place.page)?;
     if page[0] != b'H' || place.slot as usize >= shape.room() {

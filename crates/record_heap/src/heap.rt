@@ -16,15 +16,14 @@ pub struct Heap {
 }
 
 impl Heap {
-    ghost use Rattle.std.specs.Prelude.{◌≡◌, ◌≢◌, ◌≤◌, ◌+◌, ◌++◌, ℕ, [], ◌∷◌, None, Some, IsTrue, IfOk, IfErr, OnOk, OnErr, length};
+    ghost use Rattle.std.specs.Prelude.{◌≡◌, ◌≤◌, ◌+◌, ◌++◌, [], ◌∷◌, None, Some, length};
     ghost use Rattle.pages.specs.PageMap.{PageMap};
-    ghost use Rattle.pages.specs.Cause.{IsCaused};
-    ghost use Rattle.pages.specs.PageCalls.{ReadsPages, WritesPages};
+    ghost use Rattle.pages.specs.PageCalls.{WritesPages};
     ghost use Rattle.record_heap.specs.Chain.{no_slots};
-    ghost use Rattle.record_heap.specs.Calls.{FillsFront};
+    ghost use Rattle.record_heap.specs.Calls.{MayChange, MayFill, ReadsWithStamps, ReadsWithoutStamps};
     ghost use Rattle.record_heap.specs.Standing.{HeapStands};
-    ghost use Rattle.record_heap.specs.Order.{AddsInOrder, MakesRoomInOrder, SetsInOrder};
-    ghost use Rattle.record_heap.specs.Found.{Got, GotRecord, Adds, MakesRoom, Sets, TakesFew, LacksSlot};
+    ghost use Rattle.record_heap.specs.Order.{AddsInOrder, SetsSlot, MakesFreeSlot};
+    ghost use Rattle.record_heap.specs.Found.{Got, GotRecord, Adds, TakesFew, LacksSlot};
 
     /// A heap without records and without pages.
     pub fn new(shape: Shape) -> Heap
@@ -44,10 +43,8 @@ impl Heap {
     pub fn get<P: Pages>(&self, pages: &mut P, place: Place, to: &mut [u8]) -> Result<usize, Fault>
         requires ready { P.shown.IsReady pages.old }
         requires room { self.now.shape.stamps + self.now.shape.greatest ≤ length to.old }
-        ensures got { IsTrue (P.shown.state pages.new).is_honest
-            → Got self.now (P.shown.state pages.old).live place to.old to.new result }
-        ensures front { FillsFront self.now.shape to.old to.new result }
-        ensures reads { ReadsPages P.shown 1 pages.old pages.new result }
+        ensures { ReadsWithStamps P.shown pages.old pages.new self.now.shape to.old to.new result
+            (Got self.now place) }
     {
         read_used(pages, self.shape, place, to)
     }
@@ -63,11 +60,8 @@ impl Heap {
     ) -> Result<usize, Fault>
         requires ready { P.shown.IsReady pages.old }
         requires room { self.now.shape.greatest ≤ length to.old }
-        ensures got { IsTrue (P.shown.state pages.new).is_honest
-            → GotRecord self.now (P.shown.state pages.old).live place to.old to.new result }
-        ensures greatest { IfOk result (λ n. n ≤ self.now.shape.greatest) }
-        ensures kept { OnErr result (to.new ≡ to.old) }
-        ensures reads { ReadsPages P.shown 1 pages.old pages.new result }
+        ensures { ReadsWithoutStamps P.shown pages.old pages.new self.now.shape to.old to.new result
+            (GotRecord self.now place) }
     {
         let length = read_record(pages, self.shape, place, to);
         pages.demote(place.page);
@@ -83,11 +77,7 @@ impl Heap {
         stamps: &[u8],
         record: &[u8],
     ) -> Result<Place, Fault>
-        requires ready { P.shown.IsReady pages.old }
-        requires open { P.shown.CanChange pages.old }
-        requires stamps { length stamps.now ≡ self.old.shape.stamps }
-        requires least { self.old.shape.least ≤ length «record».now }
-        requires greatest { length «record».now ≤ self.old.shape.greatest }
+        requires { MayFill P.shown pages.old self.old.shape stamps.now «record».now }
         ensures added { Adds (P.shown.state pages.old) (P.shown.state pages.new) self.old self.new
             (stamps.now ++ «record».now) result }
         ensures shape { self.new.shape ≡ self.old.shape }
@@ -111,16 +101,8 @@ impl Heap {
         stamps: &[u8],
         record: &[u8],
     ) -> Result<(), Fault>
-        requires ready { P.shown.IsReady pages.old }
-        requires open { P.shown.CanChange pages.old }
-        requires stamps { length stamps.now ≡ self.now.shape.stamps }
-        requires least { self.now.shape.least ≤ length «record».now }
-        requires greatest { length «record».now ≤ self.now.shape.greatest }
-        ensures set { Sets (P.shown.state pages.old) (P.shown.state pages.new) self.now self.now place
-            (Some (stamps.now ++ «record».now)) result }
-        ensures available { (P.shown.state pages.new).available ≡ (P.shown.state pages.old).available }
-        ensures writes { WritesPages P.shown 1 ⊥ pages.old pages.new result }
-        ensures order { SetsInOrder (P.shown.state pages.old) (P.shown.state pages.new) self.now self.now place [] result }
+        requires { MayFill P.shown pages.old self.now.shape stamps.now «record».now }
+        ensures { SetsSlot P.shown pages.old pages.new self.now self.now place (Some (stamps.now ++ «record».now)) [] result }
     {
         fill(pages, self.shape, place, stamps, record)?;
         Ok(())
@@ -130,14 +112,8 @@ impl Heap {
     ///
     /// Device, Memory; Damage where the page is none of a heap.
     pub fn free<P: Pages>(&mut self, pages: &mut P, place: Place) -> Result<(), Fault>
-        requires ready { P.shown.IsReady pages.old }
-        requires open { P.shown.CanChange pages.old }
-        ensures freed { Sets (P.shown.state pages.old) (P.shown.state pages.new) self.old self.new place None result }
-        ensures shape { self.new.shape ≡ self.old.shape }
-        ensures available { (P.shown.state pages.new).available ≡ (P.shown.state pages.old).available }
-        ensures writes { WritesPages P.shown 1 ⊥ pages.old pages.new result }
-        ensures order { SetsInOrder (P.shown.state pages.old) (P.shown.state pages.new) self.old self.new place
-            (place ∷ []) result }
+        requires { MayChange P.shown pages.old }
+        ensures { SetsSlot P.shown pages.old pages.new self.old self.new place None (place ∷ []) result }
     {
         link(pages, self.shape, place, self.free)?;
         self.free = place;
@@ -146,13 +122,8 @@ impl Heap {
 
     /// Takes a new page where no slot is free.
     fn make_room<P: Pages>(&mut self, pages: &mut P) -> Result<(), Fault>
-        requires ready { P.shown.IsReady pages.old }
-        requires open { P.shown.CanChange pages.old }
-        ensures room { MakesRoom (P.shown.state pages.old) (P.shown.state pages.new) self.old self.new result }
-        ensures shape { self.new.shape ≡ self.old.shape }
-        ensures few { TakesFew self.old (P.shown.state pages.old) (P.shown.state pages.new) }
-        ensures writes { WritesPages P.shown 2 (LacksSlot self.old (P.shown.state pages.old)) pages.old pages.new result }
-        ensures order { MakesRoomInOrder (P.shown.state pages.old) (P.shown.state pages.new) self.old self.new result }
+        requires { MayChange P.shown pages.old }
+        ensures { MakesFreeSlot P.shown pages.old pages.new self.old self.new result }
     {
         if self.free.page != 0 {
             return Ok(());
@@ -162,14 +133,9 @@ impl Heap {
 
     /// Takes a new page, which goes to the front of the chain with all its slots free, in rising order.
     fn grow<P: Pages>(&mut self, pages: &mut P) -> Result<(), Fault>
-        requires ready { P.shown.IsReady pages.old }
-        requires open { P.shown.CanChange pages.old }
+        requires pages { MayChange P.shown pages.old }
         requires none { self.old.free.page ≡ 0 }
-        ensures room { MakesRoom (P.shown.state pages.old) (P.shown.state pages.new) self.old self.new result }
-        ensures shape { self.new.shape ≡ self.old.shape }
-        ensures few { (P.shown.state pages.old).available ≤ (P.shown.state pages.new).available + 1 }
-        ensures writes { WritesPages P.shown 2 ((P.shown.state pages.old).available ≡ 0) pages.old pages.new result }
-        ensures order { MakesRoomInOrder (P.shown.state pages.old) (P.shown.state pages.new) self.old self.new result }
+        ensures { MakesFreeSlot P.shown pages.old pages.new self.old self.new result }
     {
         let n = pages.take()?;
         let mut page = [0; PAGE_SIZE];

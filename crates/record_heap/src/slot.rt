@@ -18,7 +18,7 @@
 //! | 5 to 6 | slot of the next free slot |
 
 ghost use Rattle.std.specs.Prelude.{◌≡◌, ◌≤◌, ◌<◌, ◌+◌, ◌++◌, ℕ, Some, IfSome, length, option_map};
-ghost use Rattle.record_heap.specs.Slot.{head, size, record_length, is_used, used_in, record_in, behind_in, over};
+ghost use Rattle.record_heap.specs.Slot.{head, size, record_length, is_used, used_in, record_in, behind_in, over, FitsSlot, HoldsNow};
 
 use crate::shape::{Place, Shape};
 use byteorder::{BigEndian, ByteOrder};
@@ -141,11 +141,8 @@ pub fn write_free(slot: &mut [u8], next: Place)
 /// Puts stamps and a record into the slot.
 pub fn write_used(slot: &mut [u8], shape: Shape, stamps: &[u8], record: &[u8])
     requires slot { size shape ≤ length slot.old }
-    requires stamps { length stamps.now ≡ shape.stamps }
-    requires least { shape.least ≤ length «record».now }
-    requires greatest { length «record».now ≤ shape.greatest }
-    ensures used { used_in shape slot.new ≡ Some (stamps.now ++ «record».now) }
-    ensures long { length slot.new ≡ length slot.old }
+    requires fits { FitsSlot shape stamps.now «record».now }
+    ensures { HoldsNow shape slot.old slot.new (stamps.now ++ «record».now) }
 {
     if shape.least < shape.greatest {
         write_varying(slot, shape, stamps, record);
@@ -158,11 +155,8 @@ pub fn write_used(slot: &mut [u8], shape: Shape, stamps: &[u8], record: &[u8])
 fn write_varying(slot: &mut [u8], shape: Shape, stamps: &[u8], record: &[u8])
     requires slot { size shape ≤ length slot.old }
     requires varying { shape.least < shape.greatest }
-    requires stamps { length stamps.now ≡ shape.stamps }
-    requires least { shape.least ≤ length «record».now }
-    requires greatest { length «record».now ≤ shape.greatest }
-    ensures used { used_in shape slot.new ≡ Some (stamps.now ++ «record».now) }
-    ensures long { length slot.new ≡ length slot.old }
+    requires fits { FitsSlot shape stamps.now «record».now }
+    ensures { HoldsNow shape slot.old slot.new (stamps.now ++ «record».now) }
 {
     slot[0] = USED;
     BigEndian::write_u16(&mut slot[LENGTH..LENGTH_END], record.len() as u16);
@@ -174,10 +168,8 @@ fn write_varying(slot: &mut [u8], shape: Shape, stamps: &[u8], record: &[u8])
 fn write_fixed(slot: &mut [u8], shape: Shape, stamps: &[u8], record: &[u8])
     requires slot { size shape ≤ length slot.old }
     requires fixed { shape.least ≡ shape.greatest }
-    requires stamps { length stamps.now ≡ shape.stamps }
-    requires long { length «record».now ≡ shape.greatest }
-    ensures used { used_in shape slot.new ≡ Some (stamps.now ++ «record».now) }
-    ensures long { length slot.new ≡ length slot.old }
+    requires fits { FitsSlot shape stamps.now «record».now }
+    ensures { HoldsNow shape slot.old slot.new (stamps.now ++ «record».now) }
 {
     slot[0] = USED;
     let end = 1 + stamps.len() + record.len();

@@ -9,7 +9,7 @@
 //! | from 16 | as many slots of one size as fit |
 
 ghost use Rattle.std.specs.Prelude.{◌≡◌, ◌≤◌, ◌<◌, ◌+◌, ◌++◌, ℕ, Some, length, take};
-ghost use Rattle.record_heap.specs.Slot.{room, size, used_in, behind_in};
+ghost use Rattle.record_heap.specs.Slot.{room, size, used_in, behind_in, FitsSlot};
 ghost use Rattle.record_heap.specs.Slots.{slot_at, start_of, behind_new, AreLinked, Edits, IsHeapPage};
 
 use crate::shape::{Place, Shape};
@@ -49,9 +49,7 @@ pub fn put_free(page: &mut [u8; PAGE_SIZE], shape: Shape, i: usize, next: Place)
 /// Puts stamps and a record into slot `i`.
 pub fn put_used(page: &mut [u8; PAGE_SIZE], shape: Shape, i: usize, stamps: &[u8], record: &[u8])
     requires slot { i < room shape }
-    requires stamps { length stamps.now ≡ shape.stamps }
-    requires least { shape.least ≤ length «record».now }
-    requires greatest { length «record».now ≤ shape.greatest }
+    requires fits { FitsSlot shape stamps.now «record».now }
     ensures { Edits shape page.old page.new i (λ slot. used_in shape slot ≡ Some (stamps.now ++ «record».now)) }
 {
     let size = shape.size();

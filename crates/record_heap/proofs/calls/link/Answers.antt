@@ -3,19 +3,24 @@ use Rattle.record_heap.specs.Slot.{behind_in}
 use Rattle.record_heap.proofs.StandLemmas.{rewritten}
 use Rattle.record_heap.proofs.calls.link.Goals as goal
 
-pub returns-clause-linked : goal.returns-clause-linked
-returns-clause-linked g c honest sound next at within =
+pub returns : goal.returns
+returns g c =
     let ok : IsOk c.page_mut.result = rw c.in_ok-page.was refl in
     let w = c.page_mut.follows.holds c.put_free.new.page ok in
-    let before = (g.P.Pages.shown.state c.args.pages.now).live in
-    let after = (g.P.Pages.shown.state (c.page_mut.follows.lender c.put_free.new.page)).live in
-    let live : IsSome (before c.args.place.page) = rw at.there refl in
-    let shown : before c.args.place.page ≡ Some c.in_ok-page.page.now = (rw c.in_ok-page.was at (w.3 honest)) live in
-    let writes = w.0.live honest live in
     record {
-      answer = (
-        rewritten c.args.shape before after c.args.place c.in_ok-page.page.now c.put_free.new.page (λ slot. behind_in slot ≡ Some c.args.next) shown writes.page writes.others c.put_free.ensures within,
-        rw (w.0.sound honest live) sound,
-      );
-      no_damage = tt;
+      changed = λ honest sound next at within.
+          let before = (g.P.Pages.shown.state c.args.pages.now).live in
+          let after = (g.P.Pages.shown.state (c.page_mut.follows.lender c.put_free.new.page)).live in
+          let live : IsSome (before c.args.place.page) = rw at.there refl in
+          let shown : before c.args.place.page ≡ Some c.in_ok-page.page.now = (rw c.in_ok-page.was at (w.3 honest)) live in
+          let writes = w.0.live honest live in
+          record {
+            answer = (
+              rewritten c.args.shape before after c.args.place c.in_ok-page.page.now c.put_free.new.page (λ slot. behind_in slot ≡ Some c.args.next) shown writes.page writes.others c.put_free.ensures within,
+              rw (w.0.sound honest live) sound,
+            );
+            no_damage = tt;
+          };
+      available = w.0.available;
+      writes = record { cause = tt; asked = w.1; step = w.2 };
     }
