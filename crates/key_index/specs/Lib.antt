@@ -7,3 +7,4 @@ pub mod Cost
 pub mod Keys
 pub mod Laws
 pub mod Cursors
+pub mod Changes

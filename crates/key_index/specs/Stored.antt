@@ -1,5 +1,5 @@
 -- Entries as bytes: what a leaf of an index has of each. Numbers have their high byte first.
-use Rattle.std.specs.Prelude.{◌≡◌, ℕ, ◌+◌, ◌<◌, ◌^◌, List, ◌++◌, length, take, drop}
+use Rattle.std.specs.Prelude.{◌≡◌, ℕ, ◌+◌, ◌<◌, ◌≤◌, ◌^◌, List, ◌++◌, length, take, drop}
 use Rattle.byteorder.specs.Endian.{big_bytes, big_number}
 use Rattle.page_bytes.specs.Each.{Each}
 use Rattle.record_heap.specs.declared.shape.Place.{Place}
@@ -45,3 +45,21 @@ pub record IsAltEntry (width prime : ℕ) (e : AltEntry) : Type 0 where
   pub bytes : Each (λ b. b < 256) e.value.items
   pub stamp : e.stamp < 2 ^ 64
   pub prime_long : length e.prime.items ≡ prime
+
+-- a length of the values of an index
+pub record IsWidth (width : ℕ) : Type 0 where
+  pub some : 1 ≤ width
+  pub narrow : width ≤ 250
+
+-- a number of levels that an index may have
+pub record IsHeight (height : ℕ) : Type 0 where
+  pub levels : 1 ≤ height
+  pub low : height ≤ 20
+
+-- the entry of a value and a place
+abbrev pub entry_at : List ℕ → Place → PrimeEntry
+entry_at value place = record { value = record { items = value }; place = place }
+
+-- the entry of a value, a stamp and a prime value
+abbrev pub entry_to : List ℕ → ℕ → List ℕ → AltEntry
+entry_to value stamp prime = record { value = record { items = value }; stamp = stamp; prime = record { items = prime } }

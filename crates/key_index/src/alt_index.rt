@@ -1,8 +1,6 @@
 //! The index of an alternate key.
 
-ghost use Rattle.std.specs.Prelude.{◌≡◌, ◌+◌, ◌*◌, ◌<◌, ◌≤◌, [], find, length, Ok, Some, Option, option_map, IfSome, IsTrue, IfOk, IfErr, OnOk};
-ghost use Rattle.pages.specs.Cause.{IsCaused};
-ghost use Rattle.pages.specs.PageCalls.{ReadsPages};
+ghost use Rattle.std.specs.Prelude.{◌≡◌, ◌+◌, ◌*◌, ◌≤◌, find, length, option_map, IfErr};
 
 use crate::entry::{AltEntry, AltFirst};
 use crate::keys::{greatest_key, rank_key};
@@ -34,14 +32,14 @@ impl Default for AltIndex {
 }
 
 impl AltIndex {
-    ghost use Rattle.pages.specs.Answer.{IsAnswer};
-    ghost use Rattle.bplus_tree.specs.Depth.{IsPastAll, FindsDamage};
+    ghost use Rattle.record_heap.specs.Calls.{MayChange};
     ghost use Rattle.key_index.specs.Entries.{has_rank, from_value, after_rank, past_value};
     ghost use Rattle.tree_search.specs.Calls.{last_of};
-    ghost use Rattle.key_index.specs.Standing.{AltChanged, IsAltStored, CountsAlt, alt_height, alt_key};
-    ghost use Rattle.key_index.specs.Calls.{AltFinds, AltFindsFirst, AltAdds, AltRemoves};
-    ghost use Rattle.key_index.specs.Stored.{IsAltEntry, alt_bytes};
-    ghost use Rattle.key_index.specs.Cost.{Spends, AltGrows};
+    ghost use Rattle.key_index.specs.Standing.{IsAltStored, CountsAlt, alt_height, alt_key};
+    ghost use Rattle.key_index.specs.Calls.{LooksUp, AltFinds, AltFindsFirst, AltAdds, AltRemoves, TellsEntry, TellsFirst};
+    ghost use Rattle.key_index.specs.Stored.{IsAltEntry, IsWidth, IsHeight, alt_bytes, entry_to};
+    ghost use Rattle.key_index.specs.Cost.{AltGrows};
+    ghost use Rattle.key_index.specs.Changes.{MakesIndex, AddsEntry, TakesEntry, IsNewAlt, IsAltOf};
 
     /// An index without entries for values of `width` bytes and prime values of `prime` bytes. `key` is the number of the key. One page is taken for its root, which may be answered Full.
     pub fn empty<P: Pages>(
@@ -50,19 +48,10 @@ impl AltIndex {
         width: u16,
         prime: u16,
     ) -> Result<AltIndex, Fault>
-        requires ready { P.shown.IsReady pages.old }
-        requires open { P.shown.CanChange pages.old }
-        requires some { 1 ≤ width }
-        requires narrow { width ≤ 250 }
+        requires pages { MayChange P.shown pages.old }
+        requires width { IsWidth width }
         requires prime { prime ≤ 250 }
-        ensures made { IsTrue (P.shown.state pages.new).is_honest → IsTrue (P.shown.state pages.old).is_sound
-            → IsAnswer result (λ index. AltChanged (P.shown.state pages.old).live (P.shown.state pages.new).live index [] []
-            × IsTrue (P.shown.state pages.new).is_sound) }
-        ensures width { IfOk result (λ index. (index.width ≡ width) × (index.prime ≡ prime) × (alt_height index ≡ 1) × (alt_key index ≡ key)) }
-        ensures spends { Spends (P.shown.state pages.old) (P.shown.state pages.new) 1 2 }
-        ensures one { OnOk result ((P.shown.state pages.new).available + 1 ≡ (P.shown.state pages.old).available) }
-        ensures cause { IfErr result (IsCaused (P.shown.HasFailed pages.old pages.new) ((P.shown.state pages.old).available < 1)) }
-        ensures goes { P.shown.Writes pages.old pages.new }
+        ensures { MakesIndex P.shown pages.old pages.new result IsNewAlt (IsAltOf key width prime) }
     {
         let shape = Shape {
             key,
@@ -75,11 +64,9 @@ impl AltIndex {
 
     /// The index that a header tells of: the page of its root, how many levels it has, and how many entries.
     pub fn stored(key: u8, width: u16, prime: u16, root: u32, height: u8, count: u64) -> AltIndex
-        requires some { 1 ≤ width }
-        requires narrow { width ≤ 250 }
+        requires width { IsWidth width }
         requires prime { prime ≤ 250 }
-        requires levels { 1 ≤ height }
-        requires low { height ≤ 20 }
+        requires height { IsHeight height }
         ensures stored { IsAltStored result width prime root height count }
         ensures key { alt_key result ≡ key }
     {
@@ -120,9 +107,8 @@ impl AltIndex {
         stamp: u64,
     ) -> Result<Option<AltEntry>, Fault>
         requires ready { P.shown.IsReady pages.old }
-        ensures found { IsTrue (P.shown.state pages.new).is_honest
-            → AltFinds self.now (P.shown.state pages.old).live (find (has_rank value.now stamp)) result }
-        ensures reads { ReadsPages P.shown (alt_height self.now) pages.old pages.new result }
+        ensures { LooksUp P.shown (alt_height self.now) pages.old pages.new result
+            (λ live. AltFinds self.now live (find (has_rank value.now stamp)) result) }
     {
         if value.len() != usize::from(self.width) {
             return Ok(None);
@@ -139,9 +125,8 @@ impl AltIndex {
         value: &[u8],
     ) -> Result<Option<AltEntry>, Fault>
         requires ready { P.shown.IsReady pages.old }
-        ensures found { IsTrue (P.shown.state pages.new).is_honest
-            → AltFinds self.now (P.shown.state pages.old).live (find (from_value value.now)) result }
-        ensures reads { ReadsPages P.shown (2 * alt_height self.now) pages.old pages.new result }
+        ensures { LooksUp P.shown (2 * alt_height self.now) pages.old pages.new result
+            (λ live. AltFinds self.now live (find (from_value value.now)) result) }
     {
         if value.len() > usize::from(self.width) {
             return self.first_past(pages, value);
@@ -155,8 +140,8 @@ impl AltIndex {
     /// It asks one page a level, and more only where a leaf ends between two entries of the value or in front of its first entry; never more than twice the height.
     pub fn first_of<P: Pages>(&self, pages: &mut P, value: &[u8]) -> Result<Option<AltFirst>, Fault>
         requires ready { P.shown.IsReady pages.old }
-        ensures found { IsTrue (P.shown.state pages.new).is_honest → AltFindsFirst self.now (P.shown.state pages.old).live value.now result }
-        ensures reads { ReadsPages P.shown (2 * alt_height self.now) pages.old pages.new result }
+        ensures { LooksUp P.shown (2 * alt_height self.now) pages.old pages.new result
+            (λ live. AltFindsFirst self.now live value.now result) }
     {
         if value.len() != usize::from(self.width) {
             return Ok(None);
@@ -180,9 +165,8 @@ impl AltIndex {
         stamp: u64,
     ) -> Result<Option<AltEntry>, Fault>
         requires ready { P.shown.IsReady pages.old }
-        ensures found { IsTrue (P.shown.state pages.new).is_honest
-            → AltFinds self.now (P.shown.state pages.old).live (find (after_rank value.now stamp)) result }
-        ensures reads { ReadsPages P.shown (2 * alt_height self.now) pages.old pages.new result }
+        ensures { LooksUp P.shown (2 * alt_height self.now) pages.old pages.new result
+            (λ live. AltFinds self.now live (find (after_rank value.now stamp)) result) }
     {
         let width = usize::from(self.width);
         if value.len() > width {
@@ -203,9 +187,8 @@ impl AltIndex {
         value: &[u8],
     ) -> Result<Option<AltEntry>, Fault>
         requires ready { P.shown.IsReady pages.old }
-        ensures found { IsTrue (P.shown.state pages.new).is_honest
-            → AltFinds self.now (P.shown.state pages.old).live (find (past_value value.now)) result }
-        ensures reads { ReadsPages P.shown (2 * alt_height self.now) pages.old pages.new result }
+        ensures { LooksUp P.shown (2 * alt_height self.now) pages.old pages.new result
+            (λ live. AltFinds self.now live (find (past_value value.now)) result) }
     {
         let width = usize::from(self.width);
         let key = greatest_key(value, width, width + 8);
@@ -216,9 +199,8 @@ impl AltIndex {
     /// The entry of the greatest value, and of these the greatest stamp.
     pub fn last<P: Pages>(&self, pages: &mut P) -> Result<Option<AltEntry>, Fault>
         requires ready { P.shown.IsReady pages.old }
-        ensures found { IsTrue (P.shown.state pages.new).is_honest
-            → AltFinds self.now (P.shown.state pages.old).live last_of result }
-        ensures reads { ReadsPages P.shown (alt_height self.now) pages.old pages.new result }
+        ensures { LooksUp P.shown (alt_height self.now) pages.old pages.new result
+            (λ live. AltFinds self.now live last_of result) }
     {
         let found = self.tree.last(pages)?;
         self.told(found)
@@ -233,18 +215,11 @@ impl AltIndex {
         stamp: u64,
         prime: &[u8],
     ) -> Result<bool, Fault>
-        requires ready { P.shown.IsReady pages.old }
-        requires open { P.shown.CanChange pages.old }
+        requires pages { MayChange P.shown pages.old }
         requires value { length value.now ≡ self.old.width }
         requires prime { length prime.now ≡ self.old.prime }
-        ensures added { IsTrue (P.shown.state pages.new).is_honest → IsTrue (P.shown.state pages.old).is_sound
-            → AltAdds (P.shown.state pages.old).live (P.shown.state pages.new).live (IsTrue (P.shown.state pages.new).is_sound) self.old self.new
-            (record { value = record { items = value.now }; stamp = stamp; prime = record { items = prime.now } }) result }
-        ensures deep { IsPastAll self.old.tree → FindsDamage self.old self.new pages.old pages.new result }
-        ensures grows { AltGrows self.old self.new 1 }
-        ensures spends { Spends (P.shown.state pages.old) (P.shown.state pages.new) (alt_height self.old + 1) (8 * (alt_height self.old + 1)) }
-        ensures cause { IfErr result (IsCaused (P.shown.HasFailed pages.old pages.new) ((P.shown.state pages.old).available < alt_height self.old + 1)) }
-        ensures goes { P.shown.Writes pages.old pages.new }
+        ensures { AddsEntry P.shown pages.old pages.new self.old self.new self.old.tree result
+            (AltAdds (entry_to value.now stamp prime.now)) AltGrows }
     {
         let entry = AltEntry::bytes(value, stamp, prime);
         let mut tree = self.tree;
@@ -265,14 +240,9 @@ impl AltIndex {
         value: &[u8],
         stamp: u64,
     ) -> Result<bool, Fault>
-        requires ready { P.shown.IsReady pages.old }
-        requires open { P.shown.CanChange pages.old }
-        ensures removed { IsTrue (P.shown.state pages.new).is_honest → IsTrue (P.shown.state pages.old).is_sound
-            → AltRemoves (P.shown.state pages.old).live (P.shown.state pages.new).live (IsTrue (P.shown.state pages.new).is_sound) self.old self.new value.now stamp result }
-        ensures grows { AltGrows self.old self.new 0 }
-        ensures spends { Spends (P.shown.state pages.old) (P.shown.state pages.new) 0 (8 * (alt_height self.old + 1)) }
-        ensures cause { IfErr result (IsCaused (P.shown.HasFailed pages.old pages.new) ⊥) }
-        ensures goes { P.shown.Writes pages.old pages.new }
+        requires pages { MayChange P.shown pages.old }
+        ensures { TakesEntry P.shown pages.old pages.new self.old self.new self.old.tree result
+            (AltRemoves value.now stamp) AltGrows }
     {
         if value.len() != usize::from(self.width) {
             return Ok(false);
@@ -290,8 +260,7 @@ impl AltIndex {
 
     /// The first entry of a value, whose bytes the tree gave, and whether another one follows. Damage where they are not as many as an entry has.
     fn told_first(&self, bytes: Entry, followed: bool) -> Result<Option<AltFirst>, Fault>
-        ensures told { (e : AltEntry) → IsAltEntry self.now.width self.now.prime e → bytes.items ≡ alt_bytes e
-            → result ≡ Ok (Some (record { entry = e; followed = followed })) }
+        ensures told { TellsFirst self.now.width self.now.prime bytes.items followed result }
         ensures damage { IfErr result (λ fault. fault ≡ Fault.Damage) }
     {
         match self.told(Some(bytes))? {
@@ -302,8 +271,7 @@ impl AltIndex {
 
     /// The entry whose bytes the tree gave. Damage where they are not as many as an entry has.
     pub(crate) fn told(&self, found: Option<Entry>) -> Result<Option<AltEntry>, Fault>
-        ensures told { (e : Option AltEntry) → IfSome e (IsAltEntry self.now.width self.now.prime)
-            → option_map (λ bytes. bytes.items) found ≡ option_map alt_bytes e → result ≡ Ok e }
+        ensures told { TellsEntry alt_bytes (IsAltEntry self.now.width self.now.prime) (option_map (λ bytes. bytes.items) found) result }
         ensures damage { IfErr result (λ fault. fault ≡ Fault.Damage) }
     {
         let Some(bytes) = found else {

@@ -1,7 +1,6 @@
 //! The index of the prime key.
 
-ghost use Rattle.std.specs.Prelude.{◌≡◌, ◌+◌, ◌*◌, ◌<◌, ◌≤◌, [], find, length, Ok, Option, option_map, IfSome, IsTrue, IfOk, IfErr, OnOk};
-ghost use Rattle.pages.specs.Cause.{IsCaused};
+ghost use Rattle.std.specs.Prelude.{◌≡◌, ◌+◌, ◌*◌, ◌≤◌, find, length, option_map, IsTrue, IfErr};
 ghost use Rattle.pages.specs.PageCalls.{ReadsPages};
 
 use crate::entry::{PrimeEntry, place_in};
@@ -25,29 +24,20 @@ pub struct PrimeIndex {
 }
 
 impl PrimeIndex {
-    ghost use Rattle.pages.specs.Answer.{IsAnswer};
-    ghost use Rattle.bplus_tree.specs.Depth.{IsPastAll, FindsDamage};
+    ghost use Rattle.record_heap.specs.Calls.{MayChange};
     ghost use Rattle.key_index.specs.Entries.{has_prime, from_prime, after_prime, past_prime};
     ghost use Rattle.tree_search.specs.Calls.{last_of};
-    ghost use Rattle.key_index.specs.Standing.{PrimeChanged, IsPrimeStored, CountsPrime, prime_height};
-    ghost use Rattle.key_index.specs.Calls.{PrimeFinds, PrimeFindsPlace, PrimeTells, PrimeAdds, PrimeRemoves};
-    ghost use Rattle.key_index.specs.Stored.{IsPrimeEntry, prime_bytes};
-    ghost use Rattle.key_index.specs.Cost.{Spends, PrimeGrows};
+    ghost use Rattle.key_index.specs.Standing.{IsPrimeStored, CountsPrime, prime_height};
+    ghost use Rattle.key_index.specs.Calls.{LooksUp, PrimeFinds, PrimeFindsPlace, PrimeTells, PrimeAdds, PrimeRemoves, TellsEntry};
+    ghost use Rattle.key_index.specs.Stored.{IsPrimeEntry, IsWidth, IsHeight, prime_bytes, entry_at};
+    ghost use Rattle.key_index.specs.Cost.{PrimeGrows};
+    ghost use Rattle.key_index.specs.Changes.{MakesIndex, AddsEntry, TakesEntry, IsNewPrime, IsPrimeOf};
 
     /// An index without entries for values of `width` bytes. One page is taken for its root, which may be answered Full.
     pub fn empty<P: Pages>(pages: &mut P, width: u16) -> Result<PrimeIndex, Fault>
-        requires ready { P.shown.IsReady pages.old }
-        requires open { P.shown.CanChange pages.old }
-        requires some { 1 ≤ width }
-        requires narrow { width ≤ 250 }
-        ensures made { IsTrue (P.shown.state pages.new).is_honest → IsTrue (P.shown.state pages.old).is_sound
-            → IsAnswer result (λ index. PrimeChanged (P.shown.state pages.old).live (P.shown.state pages.new).live index [] []
-            × IsTrue (P.shown.state pages.new).is_sound) }
-        ensures width { IfOk result (λ index. (index.width ≡ width) × (prime_height index ≡ 1)) }
-        ensures spends { Spends (P.shown.state pages.old) (P.shown.state pages.new) 1 2 }
-        ensures one { OnOk result ((P.shown.state pages.new).available + 1 ≡ (P.shown.state pages.old).available) }
-        ensures cause { IfErr result (IsCaused (P.shown.HasFailed pages.old pages.new) ((P.shown.state pages.old).available < 1)) }
-        ensures goes { P.shown.Writes pages.old pages.new }
+        requires pages { MayChange P.shown pages.old }
+        requires width { IsWidth width }
+        ensures { MakesIndex P.shown pages.old pages.new result IsNewPrime (IsPrimeOf width) }
     {
         let shape = Shape {
             key: 0,
@@ -60,10 +50,8 @@ impl PrimeIndex {
 
     /// The index that a header tells of: the page of its root, how many levels it has, and how many entries.
     pub fn stored(width: u16, root: u32, height: u8, count: u64) -> PrimeIndex
-        requires some { 1 ≤ width }
-        requires narrow { width ≤ 250 }
-        requires levels { 1 ≤ height }
-        requires low { height ≤ 20 }
+        requires width { IsWidth width }
+        requires height { IsHeight height }
         ensures { IsPrimeStored result width root height count }
     {
         let shape = Shape {
@@ -98,9 +86,8 @@ impl PrimeIndex {
     /// The entry of a value of any length.
     pub fn find<P: Pages>(&self, pages: &mut P, value: &[u8]) -> Result<Option<PrimeEntry>, Fault>
         requires ready { P.shown.IsReady pages.old }
-        ensures found { IsTrue (P.shown.state pages.new).is_honest
-            → PrimeFinds self.now (P.shown.state pages.old).live (find (has_prime value.now)) result }
-        ensures reads { ReadsPages P.shown (prime_height self.now) pages.old pages.new result }
+        ensures { LooksUp P.shown (prime_height self.now) pages.old pages.new result
+            (λ live. PrimeFinds self.now live (find (has_prime value.now)) result) }
     {
         let found = self.tree.find(pages, value)?;
         self.told(found)
@@ -109,9 +96,8 @@ impl PrimeIndex {
     /// The place of the record of a value of any length, read from the leaf.
     pub fn place_of<P: Pages>(&self, pages: &mut P, value: &[u8]) -> Result<Option<Place>, Fault>
         requires ready { P.shown.IsReady pages.old }
-        ensures found { IsTrue (P.shown.state pages.new).is_honest
-            → PrimeFindsPlace self.now (P.shown.state pages.old).live value.now result }
-        ensures reads { ReadsPages P.shown (prime_height self.now) pages.old pages.new result }
+        ensures { LooksUp P.shown (prime_height self.now) pages.old pages.new result
+            (λ live. PrimeFindsPlace self.now live value.now result) }
     {
         let mut place = [0; 6];
         if self.tree.find_tail(pages, value, &mut place)? {
@@ -137,9 +123,8 @@ impl PrimeIndex {
         value: &[u8],
     ) -> Result<Option<PrimeEntry>, Fault>
         requires ready { P.shown.IsReady pages.old }
-        ensures found { IsTrue (P.shown.state pages.new).is_honest
-            → PrimeFinds self.now (P.shown.state pages.old).live (find (from_prime value.now)) result }
-        ensures reads { ReadsPages P.shown (2 * prime_height self.now) pages.old pages.new result }
+        ensures { LooksUp P.shown (2 * prime_height self.now) pages.old pages.new result
+            (λ live. PrimeFinds self.now live (find (from_prime value.now)) result) }
     {
         let found = self.tree.at_or_after(pages, value)?;
         self.told(found)
@@ -152,9 +137,8 @@ impl PrimeIndex {
         value: &[u8],
     ) -> Result<Option<PrimeEntry>, Fault>
         requires ready { P.shown.IsReady pages.old }
-        ensures found { IsTrue (P.shown.state pages.new).is_honest
-            → PrimeFinds self.now (P.shown.state pages.old).live (find (after_prime value.now)) result }
-        ensures reads { ReadsPages P.shown (2 * prime_height self.now) pages.old pages.new result }
+        ensures { LooksUp P.shown (2 * prime_height self.now) pages.old pages.new result
+            (λ live. PrimeFinds self.now live (find (after_prime value.now)) result) }
     {
         let found = self.tree.after(pages, value)?;
         self.told(found)
@@ -167,9 +151,8 @@ impl PrimeIndex {
         value: &[u8],
     ) -> Result<Option<PrimeEntry>, Fault>
         requires ready { P.shown.IsReady pages.old }
-        ensures found { IsTrue (P.shown.state pages.new).is_honest
-            → PrimeFinds self.now (P.shown.state pages.old).live (find (past_prime value.now)) result }
-        ensures reads { ReadsPages P.shown (2 * prime_height self.now) pages.old pages.new result }
+        ensures { LooksUp P.shown (2 * prime_height self.now) pages.old pages.new result
+            (λ live. PrimeFinds self.now live (find (past_prime value.now)) result) }
     {
         let width = usize::from(self.width);
         let key = greatest_key(value, width, width);
@@ -180,9 +163,8 @@ impl PrimeIndex {
     /// The entry of the greatest value.
     pub fn last<P: Pages>(&self, pages: &mut P) -> Result<Option<PrimeEntry>, Fault>
         requires ready { P.shown.IsReady pages.old }
-        ensures found { IsTrue (P.shown.state pages.new).is_honest
-            → PrimeFinds self.now (P.shown.state pages.old).live last_of result }
-        ensures reads { ReadsPages P.shown (prime_height self.now) pages.old pages.new result }
+        ensures { LooksUp P.shown (prime_height self.now) pages.old pages.new result
+            (λ live. PrimeFinds self.now live last_of result) }
     {
         let found = self.tree.last(pages)?;
         self.told(found)
@@ -196,17 +178,10 @@ impl PrimeIndex {
         value: &[u8],
         place: Place,
     ) -> Result<bool, Fault>
-        requires ready { P.shown.IsReady pages.old }
-        requires open { P.shown.CanChange pages.old }
+        requires pages { MayChange P.shown pages.old }
         requires value { length value.now ≡ self.old.width }
-        ensures added { IsTrue (P.shown.state pages.new).is_honest → IsTrue (P.shown.state pages.old).is_sound
-            → PrimeAdds (P.shown.state pages.old).live (P.shown.state pages.new).live (IsTrue (P.shown.state pages.new).is_sound) self.old self.new
-            (record { value = record { items = value.now }; place = place }) result }
-        ensures deep { IsPastAll self.old.tree → FindsDamage self.old self.new pages.old pages.new result }
-        ensures grows { PrimeGrows self.old self.new 1 }
-        ensures spends { Spends (P.shown.state pages.old) (P.shown.state pages.new) (prime_height self.old + 1) (8 * (prime_height self.old + 1)) }
-        ensures cause { IfErr result (IsCaused (P.shown.HasFailed pages.old pages.new) ((P.shown.state pages.old).available < prime_height self.old + 1)) }
-        ensures goes { P.shown.Writes pages.old pages.new }
+        ensures { AddsEntry P.shown pages.old pages.new self.old self.new self.old.tree result
+            (PrimeAdds (entry_at value.now place)) PrimeGrows }
     {
         let entry = PrimeEntry::bytes(value, place);
         let mut tree = self.tree;
@@ -222,14 +197,9 @@ impl PrimeIndex {
     /// Takes out the entry of a value, and answers whether it was there; where it was not, nothing is changed. No page is taken.
     /// After a fault nothing is said of the index.
     pub fn remove<P: Pages>(&mut self, pages: &mut P, value: &[u8]) -> Result<bool, Fault>
-        requires ready { P.shown.IsReady pages.old }
-        requires open { P.shown.CanChange pages.old }
-        ensures removed { IsTrue (P.shown.state pages.new).is_honest → IsTrue (P.shown.state pages.old).is_sound
-            → PrimeRemoves (P.shown.state pages.old).live (P.shown.state pages.new).live (IsTrue (P.shown.state pages.new).is_sound) self.old self.new value.now result }
-        ensures grows { PrimeGrows self.old self.new 0 }
-        ensures spends { Spends (P.shown.state pages.old) (P.shown.state pages.new) 0 (8 * (prime_height self.old + 1)) }
-        ensures cause { IfErr result (IsCaused (P.shown.HasFailed pages.old pages.new) ⊥) }
-        ensures goes { P.shown.Writes pages.old pages.new }
+        requires pages { MayChange P.shown pages.old }
+        ensures { TakesEntry P.shown pages.old pages.new self.old self.new self.old.tree result
+            (PrimeRemoves value.now) PrimeGrows }
     {
         let mut tree = self.tree;
         match tree.remove(pages, value)? {
@@ -243,8 +213,7 @@ impl PrimeIndex {
 
     /// The entry whose bytes the tree gave. Damage where they are not as many as an entry has.
     pub(crate) fn told(&self, found: Option<Entry>) -> Result<Option<PrimeEntry>, Fault>
-        ensures told { (e : Option PrimeEntry) → IfSome e (IsPrimeEntry self.now.width)
-            → option_map (λ bytes. bytes.items) found ≡ option_map prime_bytes e → result ≡ Ok e }
+        ensures told { TellsEntry prime_bytes (IsPrimeEntry self.now.width) (option_map (λ bytes. bytes.items) found) result }
         ensures damage { IfErr result (λ fault. fault ≡ Fault.Damage) }
     {
         let Some(bytes) = found else {

@@ -1,4 +1,4 @@
-use Rattle.std.proofs.Common.{◌≡◌, ◌<◌, ◌≤◌, Option, length, map, subst, arith}
+use Rattle.std.proofs.Common.{◌≡◌, ◌<◌, ◌≤◌, Option, length, map, subst, arith, rules}
 use Rattle.pages.specs.Answer.{IsAnswer}
 use Rattle.key_index.specs.Entries.{past_value, from_value}
 use Rattle.key_index.specs.declared.entry.AltEntry.{AltEntry}
@@ -8,21 +8,30 @@ use Rattle.key_index.specs.Stored.{alt_bytes, IsAltEntry}
 use Rattle.key_index.proofs.LookLemmas.{fails, finds, alt_from_at}
 use Rattle.key_index.proofs.alt_index.AltIndex.first_from.Goals as goal
 
-pub returns-in_err-found-clause-found : goal.returns-in_err-found-clause-found
-returns-in_err-found-clause-found g c honest entries own stands =
-    fails c.from_residual.result _ _ c.from_residual.ensures.1 (c.in_err-found.ensures.found honest (map alt_bytes entries) own stands.tree).no_damage
+pub returns-in_err-found : goal.returns-in_err-found
+returns-in_err-found g c = record {
+  found = λ honest entries own stands.
+      fails c.from_residual.result _ _ c.from_residual.ensures.1 (c.in_err-found.ensures.found honest (map alt_bytes entries) own stands.tree).no_damage;
+  reads = search rules;
+}
 
-pub returns-clause-found : goal.returns-clause-found
-returns-clause-found g c honest entries own stands =
-    let index = c.args.self.now in
-    let short : length c.args.value.now ≤ index.width = omega arith in
-    finds alt_bytes (IsAltEntry index.width index.prime) c.told.result c.in_ok-found.found c.told.ensures.told _ _ (alt_from_at index c.args.value.now short) entries stands.each
-    (c.in_ok-found.ensures.found honest (map alt_bytes entries) own stands.tree).answer
+pub returns : goal.returns
+returns g c = record {
+  found = λ honest entries own stands.
+      let index = c.args.self.now in
+      let short : length c.args.value.now ≤ index.width = omega arith in
+      finds alt_bytes (IsAltEntry index.width index.prime) c.told.result c.in_ok-found.found c.told.ensures.told _ _ (alt_from_at index c.args.value.now short) entries stands.each
+      (c.in_ok-found.ensures.found honest (map alt_bytes entries) own stands.tree).answer;
+  reads = search rules;
+}
 
-pub returns-then-value-from-clause-found : goal.returns-then-value-from-clause-found
-returns-then-value-from-clause-found g c honest entries own stands =
-    let index = c.args.self.now in
-    let long : index.width < length c.args.value.now = omega arith in
-    subst (λ (o : Option AltEntry). IsAnswer c.first_past.result (λ f. f ≡ o))
-    (found_alike alt_bytes (IsAltEntry index.width index.prime) (past_value c.args.value.now) (from_value c.args.value.now) (past_from index.width index.prime c.args.value.now long) entries stands.each)
-    (c.first_past.ensures.found honest entries own stands)
+pub returns-then-value-from : goal.returns-then-value-from
+returns-then-value-from g c = record {
+  found = λ honest entries own stands.
+      let index = c.args.self.now in
+      let long : index.width < length c.args.value.now = omega arith in
+      subst (λ (o : Option AltEntry). IsAnswer c.first_past.result (λ f. f ≡ o))
+      (found_alike alt_bytes (IsAltEntry index.width index.prime) (past_value c.args.value.now) (from_value c.args.value.now) (past_from index.width index.prime c.args.value.now long) entries stands.each)
+      (c.first_past.ensures.found honest entries own stands);
+  reads = search rules;
+}

@@ -1,4 +1,4 @@
-use Rattle.std.proofs.Common.{◌≡◌, ℕ, List, map, Option, Some, None, refl, subst, ◌∙◌}
+use Rattle.std.proofs.Common.{◌≡◌, ℕ, List, map, Option, Some, None, refl, subst, ◌∙◌, rules}
 use Rattle.arrayvec.specs.ArrayVec.{ArrayVec}
 use Rattle.bplus_tree.specs.Standing.{HasInserted}
 use Rattle.key_index.specs.Stored.{prime_bytes, IsPrimeEntry}
@@ -7,34 +7,55 @@ use Rattle.key_index.proofs.LookLemmas.{fails}
 use Rattle.key_index.proofs.EditLemmas.{each_byte, prime_added, prime_there}
 use Rattle.key_index.proofs.prime_index.PrimeIndex.add.Goals as goal
 
-pub returns-in_err-insert-clause-added : goal.returns-in_err-insert-clause-added
-returns-in_err-insert-clause-added g c honest sound entries own stands =
-    fails c.from_residual.result _ _ c.from_residual.ensures.1 (c.in_err-insert.ensures.inserted honest sound (map prime_bytes entries) own stands.tree).no_damage
+pub returns-in_err-insert : goal.returns-in_err-insert
+returns-in_err-insert g c = record {
+  added = λ honest sound entries own stands.
+      fails c.from_residual.result _ _ c.from_residual.ensures.1 (c.in_err-insert.ensures.inserted honest sound (map prime_bytes entries) own stands.tree).no_damage;
+  deep = search rules;
+  grows = search rules;
+  spends = search rules;
+  cause = search rules;
+  goes = search rules;
+}
 
-pub returns-in-None-clause-added : goal.returns-in-None-clause-added
-returns-in-None-clause-added g c honest sound entries own stands =
-    let before = (g.P.Pages.shown.state c.args.pages.now).live in
-    let after = (g.P.Pages.shown.state c.insert.new.pages).live in
-    let old = c.args.self.now in
-    let e : PrimeEntry = record { value = record { items = c.args.value.now }; place = c.args.place } in
-    let fits : IsPrimeEntry old.width e =
-    record { long = c.requires.value; bytes = each_byte c.args.value.now c.type_inv.value; page = c.bytes-entry.ensures.page; slot = c.bytes-entry.ensures.slot } in
-    let bytes : c.as_slice.result.now ≡ prime_bytes e = c.as_slice.ensures.value ∙ c.bytes-entry.ensures.bytes in
-    let a = (c.in_ok-insert.ensures.inserted honest sound (map prime_bytes entries) own stands.tree).answer in
-    let h = subst (λ (o : Option (ArrayVec ℕ)). HasInserted before after old.tree c.insert.new.self c.as_slice.result.now (map prime_bytes entries) own o) c.in-None.is a.0 in
-    let k = subst (λ (b : List ℕ). HasInserted before after old.tree c.insert.new.self b (map prime_bytes entries) own None) bytes h in
-    record { answer = (prime_added before after old entries own stands.each e fits _ refl k, a.1); no_damage = tt }
+pub returns-in-None : goal.returns-in-None
+returns-in-None g c = record {
+  added = λ honest sound entries own stands.
+      let before = (g.P.Pages.shown.state c.args.pages.now).live in
+      let after = (g.P.Pages.shown.state c.insert.new.pages).live in
+      let old = c.args.self.now in
+      let e : PrimeEntry = record { value = record { items = c.args.value.now }; place = c.args.place } in
+      let fits : IsPrimeEntry old.width e =
+      record { long = c.requires.value; bytes = each_byte c.args.value.now c.type_inv.value; page = c.bytes-entry.ensures.page; slot = c.bytes-entry.ensures.slot } in
+      let bytes : c.as_slice.result.now ≡ prime_bytes e = c.as_slice.ensures.value ∙ c.bytes-entry.ensures.bytes in
+      let a = (c.in_ok-insert.ensures.inserted honest sound (map prime_bytes entries) own stands.tree).answer in
+      let h = subst (λ (o : Option (ArrayVec ℕ)). HasInserted before after old.tree c.insert.new.self c.as_slice.result.now (map prime_bytes entries) own o) c.in-None.is a.0 in
+      let k = subst (λ (b : List ℕ). HasInserted before after old.tree c.insert.new.self b (map prime_bytes entries) own None) bytes h in
+      record { answer = (prime_added before after old entries own stands.each e fits _ refl k, a.1); no_damage = tt };
+  deep = search rules;
+  grows = search rules;
+  spends = search rules;
+  cause = search rules;
+  goes = search rules;
+}
 
-pub returns-in-Some-clause-added : goal.returns-in-Some-clause-added
-returns-in-Some-clause-added g c honest sound entries own stands =
-    let before = (g.P.Pages.shown.state c.args.pages.now).live in
-    let after = (g.P.Pages.shown.state c.insert.new.pages).live in
-    let old = c.args.self.now in
-    let e : PrimeEntry = record { value = record { items = c.args.value.now }; place = c.args.place } in
-    let fits : IsPrimeEntry old.width e =
-    record { long = c.requires.value; bytes = each_byte c.args.value.now c.type_inv.value; page = c.bytes-entry.ensures.page; slot = c.bytes-entry.ensures.slot } in
-    let bytes : c.as_slice.result.now ≡ prime_bytes e = c.as_slice.ensures.value ∙ c.bytes-entry.ensures.bytes in
-    let a = (c.in_ok-insert.ensures.inserted honest sound (map prime_bytes entries) own stands.tree).answer in
-    let h = subst (λ (o : Option (ArrayVec ℕ)). HasInserted before after old.tree c.insert.new.self c.as_slice.result.now (map prime_bytes entries) own o) c.in-Some.is a.0 in
-    let k = subst (λ (b : List ℕ). HasInserted before after old.tree c.insert.new.self b (map prime_bytes entries) own (Some c.in-Some.field-0)) bytes h in
-    record { answer = (prime_there before after old entries own stands.each e fits c.insert.new.self c.in-Some.field-0 k, a.1); no_damage = tt }
+pub returns-in-Some : goal.returns-in-Some
+returns-in-Some g c = record {
+  added = λ honest sound entries own stands.
+      let before = (g.P.Pages.shown.state c.args.pages.now).live in
+      let after = (g.P.Pages.shown.state c.insert.new.pages).live in
+      let old = c.args.self.now in
+      let e : PrimeEntry = record { value = record { items = c.args.value.now }; place = c.args.place } in
+      let fits : IsPrimeEntry old.width e =
+      record { long = c.requires.value; bytes = each_byte c.args.value.now c.type_inv.value; page = c.bytes-entry.ensures.page; slot = c.bytes-entry.ensures.slot } in
+      let bytes : c.as_slice.result.now ≡ prime_bytes e = c.as_slice.ensures.value ∙ c.bytes-entry.ensures.bytes in
+      let a = (c.in_ok-insert.ensures.inserted honest sound (map prime_bytes entries) own stands.tree).answer in
+      let h = subst (λ (o : Option (ArrayVec ℕ)). HasInserted before after old.tree c.insert.new.self c.as_slice.result.now (map prime_bytes entries) own o) c.in-Some.is a.0 in
+      let k = subst (λ (b : List ℕ). HasInserted before after old.tree c.insert.new.self b (map prime_bytes entries) own (Some c.in-Some.field-0)) bytes h in
+      record { answer = (prime_there before after old entries own stands.each e fits c.insert.new.self c.in-Some.field-0 k, a.1); no_damage = tt };
+  deep = search rules;
+  grows = search rules;
+  spends = search rules;
+  cause = search rules;
+  goes = search rules;
+}

@@ -1,14 +1,20 @@
-use Rattle.std.proofs.Common.{map}
+use Rattle.std.proofs.Common.{map, rules}
 use Rattle.key_index.specs.Stored.{prime_bytes, IsPrimeEntry}
 use Rattle.key_index.proofs.LookLemmas.{fails, finds, prime_has_at}
 use Rattle.key_index.proofs.prime_index.PrimeIndex.find.Goals as goal
 
-pub returns-in_err-found-clause-found : goal.returns-in_err-found-clause-found
-returns-in_err-found-clause-found g c honest entries own stands =
-    fails c.from_residual.result _ _ c.from_residual.ensures.1 (c.in_err-found.ensures.found honest (map prime_bytes entries) own stands.tree).no_damage
+pub returns-in_err-found : goal.returns-in_err-found
+returns-in_err-found g c = record {
+  found = λ honest entries own stands.
+      fails c.from_residual.result _ _ c.from_residual.ensures.1 (c.in_err-found.ensures.found honest (map prime_bytes entries) own stands.tree).no_damage;
+  reads = search rules;
+}
 
-pub returns-clause-found : goal.returns-clause-found
-returns-clause-found g c honest entries own stands =
-    let index = c.args.self.now in
-    finds prime_bytes (IsPrimeEntry index.width) c.told.result c.in_ok-found.found c.told.ensures.told _ _ (prime_has_at index c.args.value.now) entries stands.each
-    (c.in_ok-found.ensures.found honest (map prime_bytes entries) own stands.tree).answer
+pub returns : goal.returns
+returns g c = record {
+  found = λ honest entries own stands.
+      let index = c.args.self.now in
+      finds prime_bytes (IsPrimeEntry index.width) c.told.result c.in_ok-found.found c.told.ensures.told _ _ (prime_has_at index c.args.value.now) entries stands.each
+      (c.in_ok-found.ensures.found honest (map prime_bytes entries) own stands.tree).answer;
+  reads = search rules;
+}
