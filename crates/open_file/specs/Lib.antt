@@ -3,6 +3,8 @@ pub mod Stored
 pub mod Parts
 pub mod Stands
 pub mod ReadOff
+pub mod Lent
+pub mod Asked
 pub mod Faults
 pub mod Reading
 pub mod Paths

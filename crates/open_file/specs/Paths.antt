@@ -7,6 +7,7 @@ use Rattle.key_index.specs.declared.prime_index.PrimeIndex.{PrimeIndex}
 use Rattle.key_index.specs.declared.alt_index.AltIndex.{AltIndex}
 use Rattle.key_index.specs.Cursors.{PrimeBelongs, AltBelongs}
 use Rattle.page_marks.specs.Parted.{own_at}
+use Rattle.open_file.specs.declared.open_file.OpenFile.{OpenFile}
 use Rattle.open_file.specs.declared.path.Path.{Path}
 use Rattle.open_file.specs.declared.path.Path.TheVariants.{Prime, Alternate}
 
@@ -17,3 +18,9 @@ IsOnPath (Some (Prime cursor)) prime alternates pages primes entries owns = Prim
 IsOnPath (Some (Alternate j cursor)) prime alternates pages primes entries owns =
     (index : AltIndex) → j < length alternates → index ≡ slice_index_or alternates j index
     → AltBelongs cursor index pages (entries j) (own_at owns (j + 2))
+
+-- what is so of any entries and pages that the kept cursor is on
+abbrev pub WhereOnPath : OpenFile → (PageMap → List PrimeEntry → (ℕ → List AltEntry) → List (List ℕ) → Type 0) → Type 0
+WhereOnPath opened fact =
+    (pages : PageMap) (primes : List PrimeEntry) (entries : ℕ → List AltEntry) (owns : List (List ℕ))
+    → IsOnPath opened.path opened.prime opened.alternates.items pages primes entries owns → fact pages primes entries owns

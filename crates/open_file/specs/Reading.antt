@@ -1,9 +1,9 @@
 -- What the calls answer that look for a row.
 use Rattle.std.specs.Prelude.{◌≡◌, ℕ, ◌≤◌, Bool, List, length, drop, Option, None, Some, Result, Ok, OnOk, OnErr, IsTrue, option_map}
-use Rattle.record_layout.specs.Schema.{Schema}
+use Rattle.record_layout.specs.Schema.{Schema, key_at, value_of}
 use Rattle.indexed_file.specs.File.{Row, File}
-use Rattle.indexed_file.specs.Change.{row_of}
-use Rattle.indexed_file.specs.Rank.{least, satisfies}
+use Rattle.indexed_file.specs.Change.{row_of, is_there}
+use Rattle.indexed_file.specs.Rank.{least, satisfies, highest_of, is_repeated}
 use Rattle.indexed_file.specs.Answers.{found_of, key_of_row, area_after}
 use Rattle.indexed_file.specs.declared.answer.Found.{Found}
 use Rattle.io_state.specs.declared.fault.Fault.{Fault}
@@ -11,6 +11,8 @@ use Rattle.io_state.specs.declared.modes.Relation.{Relation}
 use Rattle.arrayvec.specs.ArrayVec.{ArrayVec}
 use Rattle.pages.specs.PageMap.{PageMap}
 use Rattle.pages.specs.Answer.{IsAnswer}
+use Rattle.pages.specs.ShownPages.{ShownPages}
+use Rattle.pages.specs.PageCalls.{ReadsPages}
 use Rattle.key_index.specs.declared.entry.AltEntry.{AltEntry}
 use Rattle.record_heap.specs.declared.shape.Place.{Place}
 use Rattle.record_heap.specs.declared.heap.Heap.{Heap}
@@ -40,6 +42,10 @@ pub record FindsFirst (is_honest : Bool) (opened : OpenFile) (pages : PageMap) (
   pub none : result ≡ Ok None → new ≡ old
   pub kept : OnErr result (new ≡ old)
 
+-- the same of pages before and after it
+abbrev pub FindsIn : {S : Type 0} → ShownPages S → S → S → OpenFile → ℕ → (Row → Bool) → List ℕ → List ℕ → Result (Option Found) Fault → Type 0
+FindsIn shown before after opened k test old new result = FindsFirst (shown.state after).is_honest opened (shown.state before).live k test old new result
+
 -- the full value of key k of the first row whose value begins so related to the operand
 abbrev pub Seeks : OpenFile → PageMap → ℕ → Relation → List ℕ → Result (Option (ArrayVec ℕ)) Fault → Type 0
 Seeks opened pages k relation operand result =
@@ -59,3 +65,48 @@ pub record IsRowAt (schema : Schema) (heap : Heap) (stamps : ℕ) (pages : PageM
 pub record IsEntryOfRow (schema : Schema) (k : ℕ) (file : File) (entry : AltEntry) (row : Row) : Type 0 where
   pub is_entry : entry ≡ alt_entry schema k row
   pub is_row : row_of schema entry.prime.items file ≡ Some row
+
+-- the row at this place of the heap is read: its length is the answer
+abbrev pub ReadsAtPlace : OpenFile → PageMap → Place → List ℕ → List ℕ → Result ℕ Fault → Type 0
+ReadsAtPlace opened pages place old new result =
+    (row : Row) → IsRowAt opened.schema opened.heap opened.heap.shape.stamps pages place row → ReadsRow result (length row.bytes) old new (Some row)
+
+-- the row of a prime value is read, where there is one
+abbrev pub ReadsByPrime : OpenFile → PageMap → List ℕ → List ℕ → List ℕ → Result (Option ℕ) Fault → Type 0
+ReadsByPrime opened pages prime old new result =
+    (file : File) → Stands opened pages file
+    → ReadsRow result (option_map (λ row. length row.bytes) (row_of opened.schema prime file)) old new (row_of opened.schema prime file)
+
+-- the row of an entry of alternate index k is told and read
+abbrev pub ReadsByEntry : OpenFile → PageMap → ℕ → AltEntry → List ℕ → List ℕ → Result Found Fault → Type 0
+ReadsByEntry opened pages k entry old new result =
+    (file : File) → Stands opened pages file → (row : Row) → IsEntryOfRow opened.schema k file entry row
+    → ReadsRow result (found_of opened.schema k file row) old new (Some row)
+
+-- the same, where it is known whether a later row has the entry's value
+abbrev pub TellsByEntry : OpenFile → PageMap → AltEntry → Bool → List ℕ → List ℕ → Result Found Fault → Type 0
+TellsByEntry opened pages entry repeated old new result =
+    (file : File) → Stands opened pages file → (k : ℕ) (row : Row) → IsEntryOfRow opened.schema k file entry row
+    → repeated ≡ is_repeated opened.schema k row file → ReadsRow result (found_of opened.schema k file row) old new (Some row)
+
+-- what a call keeps that reads a record into the area: why it gave up, how many pages it asked for at most, that it left them, and that the
+-- area stays at a fault
+pub record ReadsInto {S X : Type 0} (shown : ShownPages S) (most : ℕ) (before after : S) (old new : List ℕ) (result : Result X Fault) : Type 0 where
+  pub reads : ReadsPages shown most before after result
+  pub kept : OnErr result (new ≡ old)
+
+-- the greatest prime value
+abbrev pub TellsHighest : OpenFile → PageMap → Result (Option (ArrayVec ℕ)) Fault → Type 0
+TellsHighest opened pages result =
+    (file : File) → Stands opened pages file → IsAnswer result (λ key. option_map (λ key. key.items) key ≡ highest_of opened.schema file.rows)
+
+-- whether some row has the value of key k that this record has
+abbrev pub TellsThere : OpenFile → PageMap → ℕ → List ℕ → Result Bool Fault → Type 0
+TellsThere opened pages k bytes result =
+    (file : File) → Stands opened pages file → IsAnswer result (λ found. found ≡ is_there (key_at opened.schema k) bytes file.rows)
+
+-- the same, by the value alone
+abbrev pub TellsValueThere : OpenFile → PageMap → ℕ → List ℕ → Result Bool Fault → Type 0
+TellsValueThere opened pages k value result =
+    (file : File) (bytes : List ℕ) → Stands opened pages file → value ≡ value_of opened.schema k bytes
+    → IsAnswer result (λ found. found ≡ is_there (key_at opened.schema k) bytes file.rows)

@@ -1,5 +1,5 @@
 -- The entries that READ NEXT and START come to.
-use Rattle.std.specs.Prelude.{◌≡◌, ℕ, Bool, true, false, List, length, take, find, bytes_eq, Option, Result}
+use Rattle.std.specs.Prelude.{◌≡◌, ℕ, ◌*◌, Bool, true, false, List, length, take, find, bytes_eq, Option, Result}
 use Rattle.std.specs.Option.{option_map_or}
 use Rattle.io_state.specs.declared.fault.Fault.{Fault}
 use Rattle.io_state.specs.declared.position.Position.{Position}
@@ -9,11 +9,18 @@ use Rattle.io_state.specs.declared.modes.Relation.TheVariants.{Equal, Greater, N
 use Rattle.indexed_file.specs.File.{File}
 use Rattle.pages.specs.PageMap.{PageMap}
 use Rattle.pages.specs.Answer.{IsAnswer}
+use Rattle.pages.specs.ShownPages.{ShownPages}
+use Rattle.pages.specs.PageCalls.{ReadsPages}
+use Rattle.key_index.specs.declared.alt_index.AltIndex.{AltIndex}
+use Rattle.key_index.specs.Standing.{prime_height, alt_height}
 use Rattle.key_index.specs.declared.entry.PrimeEntry.{PrimeEntry}
 use Rattle.key_index.specs.declared.entry.AltEntry.{AltEntry}
+use Rattle.key_index.specs.declared.entry.AltFirst.{AltFirst}
+use Rattle.key_index.specs.Calls.{IsAltFirst}
 use Rattle.key_index.specs.Entries.{from_prime, after_prime, past_prime, entry_has_value, from_value, after_rank, past_value}
 use Rattle.open_file.specs.InOrder.{alt_entries, prime_entries}
 use Rattle.open_file.specs.Stands.{Stands}
+use Rattle.open_file.specs.Asked.{OfHonestPages}
 use Rattle.open_file.specs.declared.open_file.OpenFile.{OpenFile}
 
 -- the position admits the row of this entry of the prime index, whose stamp is 0
@@ -58,6 +65,11 @@ abbrev pub GivesAlt : OpenFile → PageMap → ℕ → (AltEntry → Bool) → R
 GivesAlt opened pages k test result =
     (file : File) → Stands opened pages file → IsAnswer result (λ found. found ≡ find test (alt_entries opened.schema k file.rows))
 
+-- the first entry of a value in the index of alternate key k, and whether the next entry has the value too
+abbrev pub GivesFirstOf : OpenFile → PageMap → ℕ → List ℕ → Result (Option AltFirst) Fault → Type 0
+GivesFirstOf opened pages k value result =
+    (file : File) → Stands opened pages file → IsAnswer result (IsAltFirst value (alt_entries opened.schema k file.rows))
+
 -- whether the first entry of the index of alternate key k that comes after a value and stamp has this value
 abbrev pub TellsNextOfKey : OpenFile → PageMap → ℕ → List ℕ → ℕ → Result Bool Fault → Type 0
 TellsNextOfKey opened pages k value stamp result =
@@ -67,3 +79,30 @@ TellsNextOfKey opened pages k value stamp result =
 -- what the pages stood for they stand for still
 abbrev pub StandsStill : OpenFile → OpenFile → PageMap → Type 0
 StandsStill old new pages = (file : File) → Stands old pages file → Stands new pages file
+
+-- only the path is another, and what any pages stood for they stand for still
+pub record MovesPath (old new : OpenFile) : Type 0 where
+  pub stands : (pages : PageMap) → StandsStill old new pages
+  pub rest : new ≡ record old { path = new.path }
+
+-- only the path is another, and the file stands as it did
+pub record MovesPathIn {S : Type 0} (shown : ShownPages S) (before after : S) (old new : OpenFile) : Type 0 where
+  pub stands : OfHonestPages shown before after (StandsStill old new)
+  pub rest : new ≡ record old { path = new.path }
+
+-- a step in the prime index: the first entry that passes a test is given where no wrong answer of the device was taken as true, the file
+-- stands as it did, and nothing else is changed but the path
+pub record StepsInPrime {S : Type 0} (shown : ShownPages S) (test : PrimeEntry → Bool) (old new : OpenFile) (before after : S)
+    (result : Result (Option PrimeEntry) Fault) : Type 0 where
+  pub found : OfHonestPages shown before after (λ live. GivesPrime old live test result)
+  pub stands : OfHonestPages shown before after (StandsStill old new)
+  pub rest : new ≡ record old { path = new.path }
+  pub reads : ReadsPages shown (2 * prime_height old.prime) before after result
+
+-- the same in the index of alternate key k
+pub record StepsInAlternate {S : Type 0} (shown : ShownPages S) (k : ℕ) (index : AltIndex) (test : AltEntry → Bool) (old new : OpenFile)
+    (before after : S) (result : Result (Option AltEntry) Fault) : Type 0 where
+  pub found : OfHonestPages shown before after (λ live. GivesAlt old live k test result)
+  pub stands : OfHonestPages shown before after (StandsStill old new)
+  pub rest : new ≡ record old { path = new.path }
+  pub reads : ReadsPages shown (2 * alt_height index) before after result

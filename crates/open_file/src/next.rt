@@ -1,14 +1,13 @@
 //! The record that comes next.
 
-ghost use Rattle.std.specs.Prelude.{◌≡◌, ◌≤◌, ◌<◌, length, None, Ok, Err, IsTrue, OnErr};
-ghost use Rattle.indexed_file.specs.File.{File};
+ghost use Rattle.std.specs.Prelude.{◌≡◌};
 ghost use Rattle.indexed_file.specs.Rank.{admits};
-ghost use Rattle.indexed_file.specs.Room.{most_to_read};
 ghost use Rattle.pages.specs.PageCalls.{ReadsPages};
-ghost use Rattle.open_file.specs.Stands.{Stands, IsShaped, room_of};
+ghost use Rattle.open_file.specs.Lent.{LendsArea, LendsAreaBy, IsAlternate};
+ghost use Rattle.open_file.specs.Asked.{OfHonestPages, pages_to_read};
 ghost use Rattle.open_file.specs.Faults.{ReadsFile};
-ghost use Rattle.open_file.specs.Reading.{Delivers, FindsFirst};
-ghost use Rattle.open_file.specs.Steps.{StandsStill};
+ghost use Rattle.open_file.specs.Reading.{FindsIn};
+ghost use Rattle.open_file.specs.Steps.{StandsStill, MovesPathIn};
 
 use crate::open_file::OpenFile;
 use indexed_file::Found;
@@ -28,17 +27,11 @@ impl OpenFile {
         position: &Position,
         area: &mut [u8],
     ) -> Result<Option<Found>, Fault>
-        requires ready { P.shown.IsReady pages.old }
-        requires shaped { IsShaped self.old }
-        requires key { k < length self.old.schema.keys }
-        requires area { length area.old ≡ self.old.schema.greatest }
-        ensures finds { FindsFirst (P.shown.state pages.new).is_honest self.old (P.shown.state pages.old).live k
-            (admits self.old.schema k position.now) area.old area.new result }
-        ensures stands { IsTrue (P.shown.state pages.new).is_honest → (file : File) → Stands self.old (P.shown.state pages.old).live file
-            → Stands self.new (P.shown.state pages.old).live file }
+        requires { LendsAreaBy P.shown pages.old self.old k area.old }
+        ensures finds { FindsIn P.shown pages.old pages.new self.old k (admits self.old.schema k position.now) area.old area.new result }
+        ensures stands { OfHonestPages P.shown pages.old pages.new (StandsStill self.old self.new) }
         ensures rest { self.new ≡ record self.old { path = self.new.path } }
-        ensures reads { ReadsFile P.shown self.old.broken
-            (most_to_read (room_of self.old (P.shown.state pages.old).available) k) pages.old pages.new result }
+        ensures reads { ReadsFile P.shown self.old.broken (pages_to_read P.shown self.old pages.old k) pages.old pages.new result }
     {
         if self.broken {
             return Err(Fault::Broken);
@@ -56,16 +49,10 @@ impl OpenFile {
         position: &Position,
         area: &mut [u8],
     ) -> Result<Option<Found>, Fault>
-        requires ready { P.shown.IsReady pages.old }
-        requires shaped { IsShaped self.old }
-        requires area { length area.old ≡ self.old.schema.greatest }
-        ensures found { IsTrue (P.shown.state pages.new).is_honest
-            → Delivers self.old (P.shown.state pages.old).live 0 (admits self.old.schema 0 position.now) area.old area.new result }
-        ensures stands { IsTrue (P.shown.state pages.new).is_honest → StandsStill self.old self.new (P.shown.state pages.old).live }
-        ensures rest { self.new ≡ record self.old { path = self.new.path } }
-        ensures none { result ≡ Ok None → area.new ≡ area.old }
-        ensures kept { OnErr result (area.new ≡ area.old) }
-        ensures reads { ReadsPages P.shown (most_to_read (room_of self.old (P.shown.state pages.old).available) 0) pages.old pages.new result }
+        requires { LendsArea P.shown pages.old self.old area.old }
+        ensures finds { FindsIn P.shown pages.old pages.new self.old 0 (admits self.old.schema 0 position.now) area.old area.new result }
+        ensures moves { MovesPathIn P.shown pages.old pages.new self.old self.new }
+        ensures reads { ReadsPages P.shown (pages_to_read P.shown self.old pages.old 0) pages.old pages.new result }
     {
         let Some(PrimeEntry { value, place }) = self.step_in_prime(pages, position)? else {
             return Ok(None);
@@ -87,18 +74,11 @@ impl OpenFile {
         position: &Position,
         area: &mut [u8],
     ) -> Result<Option<Found>, Fault>
-        requires ready { P.shown.IsReady pages.old }
-        requires shaped { IsShaped self.old }
-        requires some { 1 ≤ k }
-        requires within { k ≤ length self.old.alternates.items }
-        requires area { length area.old ≡ self.old.schema.greatest }
-        ensures found { IsTrue (P.shown.state pages.new).is_honest
-            → Delivers self.old (P.shown.state pages.old).live k (admits self.old.schema k position.now) area.old area.new result }
-        ensures stands { IsTrue (P.shown.state pages.new).is_honest → StandsStill self.old self.new (P.shown.state pages.old).live }
-        ensures rest { self.new ≡ record self.old { path = self.new.path } }
-        ensures none { result ≡ Ok None → area.new ≡ area.old }
-        ensures kept { OnErr result (area.new ≡ area.old) }
-        ensures reads { ReadsPages P.shown (most_to_read (room_of self.old (P.shown.state pages.old).available) k) pages.old pages.new result }
+        requires lent { LendsArea P.shown pages.old self.old area.old }
+        requires key { IsAlternate self.old k }
+        ensures finds { FindsIn P.shown pages.old pages.new self.old k (admits self.old.schema k position.now) area.old area.new result }
+        ensures moves { MovesPathIn P.shown pages.old pages.new self.old self.new }
+        ensures reads { ReadsPages P.shown (pages_to_read P.shown self.old pages.old k) pages.old pages.new result }
     {
         let index = self.alternate(k);
         let Some(entry) = self.step_in_alternate(pages, k, index, position)? else {

@@ -1,17 +1,16 @@
 //! The path of READ NEXT through an index.
 
-ghost use Rattle.std.specs.Prelude.{◌≡◌, ◌+◌, ◌-◌, ◌*◌, ◌≤◌, ◌++◌, ℕ, List, length, None, Some, IfSome, IsTrue, IsFalse, slice_index_or};
-ghost use Rattle.record_layout.specs.Schema.{key_at};
+ghost use Rattle.std.specs.Prelude.{◌≡◌, ◌+◌, ◌-◌, ◌*◌, ◌≤◌, ◌++◌, length, None, Some, IfSome};
 ghost use Rattle.byteorder.specs.Endian.{big_bytes};
-ghost use Rattle.pages.specs.PageMap.{PageMap};
 ghost use Rattle.pages.specs.PageCalls.{ReadsPages};
 ghost use Rattle.key_index.specs.Entries.{from_prime, after_prime, from_value, after_rank};
-ghost use Rattle.key_index.specs.Standing.{prime_height, alt_height};
+ghost use Rattle.key_index.specs.Standing.{alt_height};
 ghost use Rattle.key_index.specs.Cursors.{PrimeBelongs, AltBelongs};
 ghost use Rattle.page_marks.specs.Parted.{own_at};
-ghost use Rattle.open_file.specs.Stands.{IsShaped};
-ghost use Rattle.open_file.specs.Paths.{IsOnPath};
-ghost use Rattle.open_file.specs.Steps.{admits_prime, admits_alt, GivesPrime, GivesAlt, TellsNextOfKey, StandsStill};
+ghost use Rattle.open_file.specs.Lent.{LendsPages, IsAlternateBy};
+ghost use Rattle.open_file.specs.Asked.{OfHonestPages, AsksAlone};
+ghost use Rattle.open_file.specs.Paths.{WhereOnPath};
+ghost use Rattle.open_file.specs.Steps.{admits_prime, admits_alt, TellsNextOfKey, MovesPath, StepsInPrime, StepsInAlternate};
 
 use crate::open_file::OpenFile;
 use io_state::{Fault, Position};
@@ -33,10 +32,7 @@ impl OpenFile {
         position: &Position,
     ) -> Result<Option<PrimeEntry>, Fault>
         requires ready { P.shown.IsReady pages.old }
-        ensures found { IsTrue (P.shown.state pages.new).is_honest → GivesPrime self.old (P.shown.state pages.old).live (admits_prime position.now) result }
-        ensures stands { IsTrue (P.shown.state pages.new).is_honest → StandsStill self.old self.new (P.shown.state pages.old).live }
-        ensures rest { self.new ≡ record self.old { path = self.new.path } }
-        ensures reads { ReadsPages P.shown (2 * prime_height self.old.prime) pages.old pages.new result }
+        ensures { StepsInPrime P.shown (admits_prime position.now) self.old self.new pages.old pages.new result }
     {
         match position {
             Position::Invalid | Position::Missing => Ok(None),
@@ -54,13 +50,8 @@ impl OpenFile {
         position: &Position,
     ) -> Result<Option<AltEntry>, Fault>
         requires ready { P.shown.IsReady pages.old }
-        requires some { 1 ≤ k }
-        requires within { k ≤ length self.old.alternates.items }
-        requires index { index ≡ slice_index_or self.old.alternates.items (k - 1) index }
-        ensures found { IsTrue (P.shown.state pages.new).is_honest → GivesAlt self.old (P.shown.state pages.old).live k (admits_alt position.now) result }
-        ensures stands { IsTrue (P.shown.state pages.new).is_honest → StandsStill self.old self.new (P.shown.state pages.old).live }
-        ensures rest { self.new ≡ record self.old { path = self.new.path } }
-        ensures reads { ReadsPages P.shown (2 * alt_height index) pages.old pages.new result }
+        requires key { IsAlternateBy self.old k index }
+        ensures { StepsInAlternate P.shown k index (admits_alt position.now) self.old self.new pages.old pages.new result }
     {
         match position {
             Position::Invalid | Position::Missing => Ok(None),
@@ -85,14 +76,11 @@ impl OpenFile {
         value: &[u8],
         stamp: u64,
     ) -> Result<bool, Fault>
-        requires ready { P.shown.IsReady pages.old }
-        requires shaped { IsShaped self.now }
+        requires lent { LendsPages P.shown pages.old self.now }
+        requires key { IsAlternateBy self.now k index }
         requires short { length value.now ≤ 250 }
-        requires some { 1 ≤ k }
-        requires within { k ≤ length self.now.alternates.items }
-        requires index { index ≡ slice_index_or self.now.alternates.items (k - 1) index }
-        ensures told { IsTrue (P.shown.state pages.new).is_honest → TellsNextOfKey self.now (P.shown.state pages.old).live k value.now stamp result }
-        ensures alone { IsFalse (key_at self.now.schema k).duplicates → (P.shown.state pages.new).asked ≤ (P.shown.state pages.old).asked }
+        ensures told { OfHonestPages P.shown pages.old pages.new (λ live. TellsNextOfKey self.now live k value.now stamp result) }
+        ensures alone { AsksAlone P.shown self.now k 0 pages.old pages.new }
         ensures reads { ReadsPages P.shown (2 * alt_height index) pages.old pages.new result }
     {
         if !self.schema.part(k as u8).duplicates {
@@ -127,10 +115,7 @@ impl OpenFile {
         value: &[u8],
     ) -> Result<Option<PrimeEntry>, Fault>
         requires ready { P.shown.IsReady pages.old }
-        ensures found { IsTrue (P.shown.state pages.new).is_honest → GivesPrime self.old (P.shown.state pages.old).live (from_prime value.now) result }
-        ensures stands { IsTrue (P.shown.state pages.new).is_honest → StandsStill self.old self.new (P.shown.state pages.old).live }
-        ensures rest { self.new ≡ record self.old { path = self.new.path } }
-        ensures reads { ReadsPages P.shown (2 * prime_height self.old.prime) pages.old pages.new result }
+        ensures { StepsInPrime P.shown (from_prime value.now) self.old self.new pages.old pages.new result }
     {
         let found = self.prime.first_from(pages, value)?;
         if let Some(entry) = &found {
@@ -146,10 +131,7 @@ impl OpenFile {
         value: &[u8],
     ) -> Result<Option<PrimeEntry>, Fault>
         requires ready { P.shown.IsReady pages.old }
-        ensures found { IsTrue (P.shown.state pages.new).is_honest → GivesPrime self.old (P.shown.state pages.old).live (after_prime value.now) result }
-        ensures stands { IsTrue (P.shown.state pages.new).is_honest → StandsStill self.old self.new (P.shown.state pages.old).live }
-        ensures rest { self.new ≡ record self.old { path = self.new.path } }
-        ensures reads { ReadsPages P.shown (2 * prime_height self.old.prime) pages.old pages.new result }
+        ensures { StepsInPrime P.shown (after_prime value.now) self.old self.new pages.old pages.new result }
     {
         if value.len() != usize::from(self.prime.width) {
             return self.prime.first_after(pages, value);
@@ -169,13 +151,8 @@ impl OpenFile {
         value: &[u8],
     ) -> Result<Option<AltEntry>, Fault>
         requires ready { P.shown.IsReady pages.old }
-        requires some { 1 ≤ k }
-        requires within { k ≤ length self.old.alternates.items }
-        requires index { index ≡ slice_index_or self.old.alternates.items (k - 1) index }
-        ensures found { IsTrue (P.shown.state pages.new).is_honest → GivesAlt self.old (P.shown.state pages.old).live k (from_value value.now) result }
-        ensures stands { IsTrue (P.shown.state pages.new).is_honest → StandsStill self.old self.new (P.shown.state pages.old).live }
-        ensures rest { self.new ≡ record self.old { path = self.new.path } }
-        ensures reads { ReadsPages P.shown (2 * alt_height index) pages.old pages.new result }
+        requires key { IsAlternateBy self.old k index }
+        ensures { StepsInAlternate P.shown k index (from_value value.now) self.old self.new pages.old pages.new result }
     {
         let found = index.first_from(pages, value)?;
         if let Some(entry) = &found {
@@ -194,13 +171,8 @@ impl OpenFile {
         stamp: u64,
     ) -> Result<Option<AltEntry>, Fault>
         requires ready { P.shown.IsReady pages.old }
-        requires some { 1 ≤ k }
-        requires within { k ≤ length self.old.alternates.items }
-        requires index { index ≡ slice_index_or self.old.alternates.items (k - 1) index }
-        ensures found { IsTrue (P.shown.state pages.new).is_honest → GivesAlt self.old (P.shown.state pages.old).live k (after_rank value.now stamp) result }
-        ensures stands { IsTrue (P.shown.state pages.new).is_honest → StandsStill self.old self.new (P.shown.state pages.old).live }
-        ensures rest { self.new ≡ record self.old { path = self.new.path } }
-        ensures reads { ReadsPages P.shown (2 * alt_height index) pages.old pages.new result }
+        requires key { IsAlternateBy self.old k index }
+        ensures { StepsInAlternate P.shown k index (after_rank value.now stamp) self.old self.new pages.old pages.new result }
     {
         if value.len() != usize::from(index.width) {
             return index.first_after(pages, value, stamp);
@@ -215,9 +187,7 @@ impl OpenFile {
     fn prime_cursor(&mut self, value: &[u8]) -> PrimeCursor
         requires whole { length value.now ≡ self.old.prime.width }
         ensures after { result.cursor.key.items ≡ value.now }
-        ensures belongs { (pages : PageMap) (primes : List PrimeEntry) (entries : ℕ → List AltEntry) (owns : List (List ℕ))
-            → IsOnPath self.old.path self.old.prime self.old.alternates.items pages primes entries owns
-            → PrimeBelongs result self.old.prime pages primes (own_at owns 1) }
+        ensures belongs { WhereOnPath self.old (λ pages primes entries owns. PrimeBelongs result self.old.prime pages primes (own_at owns 1)) }
         ensures gone { self.new ≡ record self.old { path = None } }
     {
         if let Some(Path::Prime(cursor)) = self.path.take() {
@@ -230,14 +200,10 @@ impl OpenFile {
 
     /// A cursor of the index of an alternate key behind a value and stamp: that of the path, where it is there. The path is gone then.
     fn alternate_cursor(&mut self, k: usize, index: AltIndex, value: &[u8], stamp: u64) -> AltCursor
-        requires some { 1 ≤ k }
-        requires within { k ≤ length self.old.alternates.items }
-        requires index { index ≡ slice_index_or self.old.alternates.items (k - 1) index }
+        requires key { IsAlternateBy self.old k index }
         requires whole { length value.now ≡ index.width }
         ensures after { result.cursor.key.items ≡ value.now ++ big_bytes 8 stamp }
-        ensures belongs { (pages : PageMap) (primes : List PrimeEntry) (entries : ℕ → List AltEntry) (owns : List (List ℕ))
-            → IsOnPath self.old.path self.old.prime self.old.alternates.items pages primes entries owns
-            → AltBelongs result index pages (entries (k - 1)) (own_at owns (k - 1 + 2)) }
+        ensures belongs { WhereOnPath self.old (λ pages primes entries owns. AltBelongs result index pages (entries (k - 1)) (own_at owns (k - 1 + 2))) }
         ensures gone { self.new ≡ record self.old { path = None } }
     {
         if let Some(Path::Alternate(j, cursor)) = self.path.take() {
@@ -250,8 +216,7 @@ impl OpenFile {
 
     /// Has the path behind a value of the prime key.
     fn go_on_in_prime(&mut self, value: &[u8])
-        ensures path { (pages : PageMap) → StandsStill self.old self.new pages }
-        ensures rest { self.new ≡ record self.old { path = self.new.path } }
+        ensures { MovesPath self.old self.new }
     {
         if value.len() == usize::from(self.prime.width) {
             self.path = Some(Path::Prime(self.prime.cursor(value)));
@@ -260,11 +225,8 @@ impl OpenFile {
 
     /// Has the path behind a value and stamp of an alternate key.
     fn go_on_in_alternate(&mut self, k: usize, index: AltIndex, value: &[u8], stamp: u64)
-        requires some { 1 ≤ k }
-        requires within { k ≤ length self.old.alternates.items }
-        requires index { index ≡ slice_index_or self.old.alternates.items (k - 1) index }
-        ensures path { (pages : PageMap) → StandsStill self.old self.new pages }
-        ensures rest { self.new ≡ record self.old { path = self.new.path } }
+        requires { IsAlternateBy self.old k index }
+        ensures { MovesPath self.old self.new }
     {
         if value.len() == usize::from(index.width) {
             self.path = Some(Path::Alternate(k - 1, index.cursor(value, stamp)));

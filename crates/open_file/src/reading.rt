@@ -1,20 +1,15 @@
 //! The record that a key leads to.
 
-ghost use Rattle.std.specs.Prelude.{◌≡◌, ◌+◌, ◌-◌, ◌*◌, ◌≤◌, ◌<◌, ℕ, length, None, Some, Ok, Err, Option, option_map, IsTrue, IsFalse, OnErr, slice_index, slice_index_or};
-ghost use Rattle.record_layout.specs.Schema.{key_at};
-ghost use Rattle.indexed_file.specs.File.{Row, File};
-ghost use Rattle.indexed_file.specs.Change.{row_of};
-ghost use Rattle.indexed_file.specs.Rank.{has_value, is_repeated, highest_of};
-ghost use Rattle.indexed_file.specs.Answers.{found_of};
-ghost use Rattle.indexed_file.specs.Room.{most_to_read, most_to_seek};
-ghost use Rattle.pages.specs.Answer.{IsAnswer};
+ghost use Rattle.std.specs.Prelude.{◌≡◌, ◌+◌, ◌*◌, None, Ok, slice_index};
+ghost use Rattle.indexed_file.specs.Rank.{has_value};
 ghost use Rattle.pages.specs.PageCalls.{ReadsPages};
-ghost use Rattle.key_index.specs.Calls.{IsAltFirst};
 ghost use Rattle.key_index.specs.Standing.{prime_height, alt_height};
-ghost use Rattle.open_file.specs.Stands.{Stands, IsShaped, room_of, heights_of};
-ghost use Rattle.open_file.specs.InOrder.{alt_entries};
+ghost use Rattle.open_file.specs.Stands.{heights_of};
+ghost use Rattle.open_file.specs.Lent.{LendsPages, LendsArea, LendsAreaBy, IsAlternate, IsAlternateBy};
+ghost use Rattle.open_file.specs.Asked.{OfHonestPages, AsksFor, AsksAlone, pages_to_read, pages_to_seek};
 ghost use Rattle.open_file.specs.Faults.{ReadsFile};
-ghost use Rattle.open_file.specs.Reading.{ReadsRow, Delivers, FindsFirst, IsRowAt, IsEntryOfRow};
+ghost use Rattle.open_file.specs.Reading.{FindsIn, ReadsAtPlace, ReadsByPrime, ReadsByEntry, TellsByEntry, ReadsInto, TellsHighest};
+ghost use Rattle.open_file.specs.Steps.{GivesFirstOf};
 
 use crate::open_file::OpenFile;
 use indexed_file::Found;
@@ -37,17 +32,11 @@ impl OpenFile {
         key: &Key,
         area: &mut [u8],
     ) -> Result<Option<Found>, Fault>
-        requires ready { P.shown.IsReady pages.old }
-        requires shaped { IsShaped self.now }
-        requires key { k < length self.now.schema.keys }
-        requires area { length area.old ≡ self.now.schema.greatest }
-        ensures finds { FindsFirst (P.shown.state pages.new).is_honest self.now (P.shown.state pages.old).live k
-            (has_value self.now.schema k key.now.items) area.old area.new result }
-        ensures once { (P.shown.state pages.new).asked ≤ (P.shown.state pages.old).asked + 2 * slice_index (heights_of self.now) k + prime_height self.now.prime + 1 }
-        ensures alone { IsFalse (key_at self.now.schema k).duplicates
-            → (P.shown.state pages.new).asked ≤ (P.shown.state pages.old).asked + slice_index (heights_of self.now) k + prime_height self.now.prime + 1 }
-        ensures reads { ReadsFile P.shown self.now.broken
-            (most_to_read (room_of self.now (P.shown.state pages.old).available) k) pages.old pages.new result }
+        requires { LendsAreaBy P.shown pages.old self.now k area.old }
+        ensures finds { FindsIn P.shown pages.old pages.new self.now k (has_value self.now.schema k key.now.items) area.old area.new result }
+        ensures once { AsksFor P.shown (2 * slice_index (heights_of self.now) k + prime_height self.now.prime + 1) pages.old pages.new }
+        ensures alone { AsksAlone P.shown self.now k (slice_index (heights_of self.now) k + prime_height self.now.prime + 1) pages.old pages.new }
+        ensures reads { ReadsFile P.shown self.now.broken (pages_to_read P.shown self.now pages.old k) pages.old pages.new result }
     {
         if self.broken {
             return Err(Fault::Broken);
@@ -63,10 +52,8 @@ impl OpenFile {
     /// Device, Memory, Damage, Broken.
     pub fn highest<P: Pages>(&self, pages: &mut P) -> Result<Option<Key>, Fault>
         requires ready { P.shown.IsReady pages.old }
-        ensures found { IsTrue (P.shown.state pages.new).is_honest → (file : File) → Stands self.now (P.shown.state pages.old).live file
-            → IsAnswer result (λ key. option_map (λ key. key.items) key ≡ highest_of self.now.schema file.rows) }
-        ensures reads { ReadsFile P.shown self.now.broken
-            (most_to_seek (room_of self.now (P.shown.state pages.old).available) 0) pages.old pages.new result }
+        ensures found { OfHonestPages P.shown pages.old pages.new (λ live. TellsHighest self.now live result) }
+        ensures reads { ReadsFile P.shown self.now.broken (pages_to_seek P.shown self.now pages.old 0) pages.old pages.new result }
     {
         if self.broken {
             return Err(Fault::Broken);
@@ -84,13 +71,8 @@ impl OpenFile {
         key: &Key,
         area: &mut [u8],
     ) -> Result<Option<Found>, Fault>
-        requires ready { P.shown.IsReady pages.old }
-        requires shaped { IsShaped self.now }
-        requires area { length area.old ≡ self.now.schema.greatest }
-        ensures found { IsTrue (P.shown.state pages.new).is_honest
-            → Delivers self.now (P.shown.state pages.old).live 0 (has_value self.now.schema 0 key.now.items) area.old area.new result }
-        ensures none { result ≡ Ok None → area.new ≡ area.old }
-        ensures kept { OnErr result (area.new ≡ area.old) }
+        requires { LendsArea P.shown pages.old self.now area.old }
+        ensures finds { FindsIn P.shown pages.old pages.new self.now 0 (has_value self.now.schema 0 key.now.items) area.old area.new result }
         ensures reads { ReadsPages P.shown (prime_height self.now.prime + 1) pages.old pages.new result }
     {
         match self.fetch(pages, key.as_slice(), area)? {
@@ -112,17 +94,10 @@ impl OpenFile {
         key: &Key,
         area: &mut [u8],
     ) -> Result<Option<Found>, Fault>
-        requires ready { P.shown.IsReady pages.old }
-        requires shaped { IsShaped self.now }
-        requires some { 1 ≤ k }
-        requires within { k ≤ length self.now.alternates.items }
-        requires area { length area.old ≡ self.now.schema.greatest }
-        ensures found { IsTrue (P.shown.state pages.new).is_honest
-            → Delivers self.now (P.shown.state pages.old).live k (has_value self.now.schema k key.now.items) area.old area.new result }
-        ensures none { result ≡ Ok None → area.new ≡ area.old }
-        ensures kept { OnErr result (area.new ≡ area.old) }
-        ensures alone { IsFalse (key_at self.now.schema k).duplicates
-            → (P.shown.state pages.new).asked ≤ (P.shown.state pages.old).asked + slice_index (heights_of self.now) k + prime_height self.now.prime + 1 }
+        requires lent { LendsArea P.shown pages.old self.now area.old }
+        requires key { IsAlternate self.now k }
+        ensures finds { FindsIn P.shown pages.old pages.new self.now k (has_value self.now.schema k key.now.items) area.old area.new result }
+        ensures alone { AsksAlone P.shown self.now k (slice_index (heights_of self.now) k + prime_height self.now.prime + 1) pages.old pages.new }
         ensures reads { ReadsPages P.shown (2 * slice_index (heights_of self.now) k + prime_height self.now.prime + 1) pages.old pages.new result }
     {
         match self.first_of(pages, k, key.as_slice())? {
@@ -141,14 +116,10 @@ impl OpenFile {
         k: usize,
         value: &[u8],
     ) -> Result<Option<AltFirst>, Fault>
-        requires ready { P.shown.IsReady pages.old }
-        requires shaped { IsShaped self.now }
-        requires some { 1 ≤ k }
-        requires within { k ≤ length self.now.alternates.items }
-        ensures found { IsTrue (P.shown.state pages.new).is_honest → (file : File) → Stands self.now (P.shown.state pages.old).live file
-            → IsAnswer result (IsAltFirst value.now (alt_entries self.now.schema k file.rows)) }
-        ensures alone { IsFalse (key_at self.now.schema k).duplicates
-            → (P.shown.state pages.new).asked ≤ (P.shown.state pages.old).asked + slice_index (heights_of self.now) k }
+        requires lent { LendsPages P.shown pages.old self.now }
+        requires key { IsAlternate self.now k }
+        ensures found { OfHonestPages P.shown pages.old pages.new (λ live. GivesFirstOf self.now live k value.now result) }
+        ensures alone { AsksAlone P.shown self.now k (slice_index (heights_of self.now) k) pages.old pages.new }
         ensures reads { ReadsPages P.shown (2 * slice_index (heights_of self.now) k) pages.old pages.new result }
     {
         let index = self.alternate(k);
@@ -173,17 +144,10 @@ impl OpenFile {
         entry: AltEntry,
         area: &mut [u8],
     ) -> Result<Found, Fault>
-        requires ready { P.shown.IsReady pages.old }
-        requires shaped { IsShaped self.now }
-        requires some { 1 ≤ k }
-        requires within { k ≤ length self.now.alternates.items }
-        requires index { index ≡ slice_index_or self.now.alternates.items (k - 1) index }
-        requires area { length area.old ≡ self.now.schema.greatest }
-        ensures found { IsTrue (P.shown.state pages.new).is_honest → (file : File) → Stands self.now (P.shown.state pages.old).live file
-            → (row : Row) → IsEntryOfRow self.now.schema k file entry row
-            → ReadsRow result (found_of self.now.schema k file row) area.old area.new (Some row) }
-        ensures kept { OnErr result (area.new ≡ area.old) }
-        ensures reads { ReadsPages P.shown (2 * alt_height index + prime_height self.now.prime + 1) pages.old pages.new result }
+        requires lent { LendsArea P.shown pages.old self.now area.old }
+        requires key { IsAlternateBy self.now k index }
+        ensures found { OfHonestPages P.shown pages.old pages.new (λ live. ReadsByEntry self.now live k entry area.old area.new result) }
+        ensures keeps { ReadsInto P.shown (2 * alt_height index + prime_height self.now.prime + 1) pages.old pages.new area.old area.new result }
     {
         let repeated = self.is_followed(pages, k, index, entry.value.as_slice(), entry.stamp)?;
         self.tell(pages, entry, repeated, area)
@@ -197,14 +161,9 @@ impl OpenFile {
         repeated: bool,
         area: &mut [u8],
     ) -> Result<Found, Fault>
-        requires ready { P.shown.IsReady pages.old }
-        requires shaped { IsShaped self.now }
-        requires area { length area.old ≡ self.now.schema.greatest }
-        ensures found { IsTrue (P.shown.state pages.new).is_honest → (file : File) → Stands self.now (P.shown.state pages.old).live file
-            → (k : ℕ) (row : Row) → IsEntryOfRow self.now.schema k file entry row → repeated ≡ is_repeated self.now.schema k row file
-            → ReadsRow result (found_of self.now.schema k file row) area.old area.new (Some row) }
-        ensures kept { OnErr result (area.new ≡ area.old) }
-        ensures reads { ReadsPages P.shown (prime_height self.now.prime + 1) pages.old pages.new result }
+        requires { LendsArea P.shown pages.old self.now area.old }
+        ensures found { OfHonestPages P.shown pages.old pages.new (λ live. TellsByEntry self.now live entry repeated area.old area.new result) }
+        ensures keeps { ReadsInto P.shown (prime_height self.now.prime + 1) pages.old pages.new area.old area.new result }
     {
         let AltEntry {
             value,
@@ -229,14 +188,10 @@ impl OpenFile {
         prime: &[u8],
         area: &mut [u8],
     ) -> Result<Option<u16>, Fault>
-        requires ready { P.shown.IsReady pages.old }
-        requires shaped { IsShaped self.now }
-        requires area { length area.old ≡ self.now.schema.greatest }
-        ensures fetched { IsTrue (P.shown.state pages.new).is_honest → (file : File) → Stands self.now (P.shown.state pages.old).live file
-            → ReadsRow result (option_map (λ row. length row.bytes) (row_of self.now.schema prime.now file)) area.old area.new (row_of self.now.schema prime.now file) }
+        requires { LendsArea P.shown pages.old self.now area.old }
+        ensures fetched { OfHonestPages P.shown pages.old pages.new (λ live. ReadsByPrime self.now live prime.now area.old area.new result) }
         ensures none { result ≡ Ok None → area.new ≡ area.old }
-        ensures kept { OnErr result (area.new ≡ area.old) }
-        ensures reads { ReadsPages P.shown (prime_height self.now.prime + 1) pages.old pages.new result }
+        ensures keeps { ReadsInto P.shown (prime_height self.now.prime + 1) pages.old pages.new area.old area.new result }
     {
         match self.prime.place_of(pages, prime)? {
             None => Ok(None),
@@ -251,14 +206,9 @@ impl OpenFile {
         place: Place,
         area: &mut [u8],
     ) -> Result<u16, Fault>
-        requires ready { P.shown.IsReady pages.old }
-        requires shaped { IsShaped self.now }
-        requires area { length area.old ≡ self.now.schema.greatest }
-        ensures found { IsTrue (P.shown.state pages.new).is_honest → (row : Row)
-            → IsRowAt self.now.schema self.now.heap self.now.heap.shape.stamps (P.shown.state pages.old).live place row
-            → ReadsRow result (length row.bytes) area.old area.new (Some row) }
-        ensures kept { OnErr result (area.new ≡ area.old) }
-        ensures reads { ReadsPages P.shown 1 pages.old pages.new result }
+        requires { LendsArea P.shown pages.old self.now area.old }
+        ensures found { OfHonestPages P.shown pages.old pages.new (λ live. ReadsAtPlace self.now live place area.old area.new result) }
+        ensures keeps { ReadsInto P.shown 1 pages.old pages.new area.old area.new result }
     {
         let length = self.heap.get_record(pages, place, area)?;
         Ok(length as u16)

@@ -1,11 +1,12 @@
 //! The first value that is so related to an operand.
 
-ghost use Rattle.std.specs.Prelude.{◌≡◌, ◌*◌, ◌≤◌, ◌<◌, length, find, Some, None, Err, IsTrue, if◌then◌else◌};
-ghost use Rattle.indexed_file.specs.Room.{most_to_seek};
+ghost use Rattle.std.specs.Prelude.{◌≡◌, ◌*◌, ◌<◌, length, find, Some, None, Err, if◌then◌else◌};
 ghost use Rattle.pages.specs.PageCalls.{ReadsPages};
 ghost use Rattle.key_index.specs.Standing.{prime_height, alt_height};
 ghost use Rattle.key_index.specs.Calls.{PrimeFinds, AltFinds};
-ghost use Rattle.open_file.specs.Stands.{IsShaped, room_of};
+ghost use Rattle.open_file.specs.Stands.{IsShaped};
+ghost use Rattle.open_file.specs.Lent.{IsAlternate};
+ghost use Rattle.open_file.specs.Asked.{OfHonestPages, pages_to_seek};
 ghost use Rattle.open_file.specs.Faults.{ReadsFile};
 ghost use Rattle.open_file.specs.Reading.{Seeks};
 ghost use Rattle.open_file.specs.Steps.{leads_prime, leads_alt, is_wanted};
@@ -29,9 +30,8 @@ impl OpenFile {
         requires ready { P.shown.IsReady pages.old }
         requires shaped { IsShaped self.now }
         requires key { k < length self.now.schema.keys }
-        ensures found { IsTrue (P.shown.state pages.new).is_honest → Seeks self.now (P.shown.state pages.old).live k relation operand.now result }
-        ensures reads { ReadsFile P.shown self.now.broken
-            (most_to_seek (room_of self.now (P.shown.state pages.old).available) k) pages.old pages.new result }
+        ensures found { OfHonestPages P.shown pages.old pages.new (λ live. Seeks self.now live k relation operand.now result) }
+        ensures reads { ReadsFile P.shown self.now.broken (pages_to_seek P.shown self.now pages.old k) pages.old pages.new result }
     {
         if self.broken {
             return Err(Fault::Broken);
@@ -50,8 +50,8 @@ impl OpenFile {
         relation: Relation,
     ) -> Result<Option<Key>, Fault>
         requires ready { P.shown.IsReady pages.old }
-        ensures found { IsTrue (P.shown.state pages.new).is_honest → Seeks self.now (P.shown.state pages.old).live 0 relation operand.now result }
-        ensures reads { ReadsPages P.shown (most_to_seek (room_of self.now (P.shown.state pages.old).available) 0) pages.old pages.new result }
+        ensures found { OfHonestPages P.shown pages.old pages.new (λ live. Seeks self.now live 0 relation operand.now result) }
+        ensures reads { ReadsPages P.shown (pages_to_seek P.shown self.now pages.old 0) pages.old pages.new result }
     {
         match self.first_in_prime(pages, operand, relation)? {
             Some(entry) => Ok(wanted(entry.value, operand, relation)),
@@ -68,10 +68,9 @@ impl OpenFile {
         relation: Relation,
     ) -> Result<Option<Key>, Fault>
         requires ready { P.shown.IsReady pages.old }
-        requires some { 1 ≤ k }
-        requires within { k ≤ length self.now.alternates.items }
-        ensures found { IsTrue (P.shown.state pages.new).is_honest → Seeks self.now (P.shown.state pages.old).live k relation operand.now result }
-        ensures reads { ReadsPages P.shown (most_to_seek (room_of self.now (P.shown.state pages.old).available) k) pages.old pages.new result }
+        requires key { IsAlternate self.now k }
+        ensures found { OfHonestPages P.shown pages.old pages.new (λ live. Seeks self.now live k relation operand.now result) }
+        ensures reads { ReadsPages P.shown (pages_to_seek P.shown self.now pages.old k) pages.old pages.new result }
     {
         let index = self.alternate(k);
         match first_in_alternate(&index, pages, operand, relation)? {
@@ -88,8 +87,7 @@ impl OpenFile {
         relation: Relation,
     ) -> Result<Option<PrimeEntry>, Fault>
         requires ready { P.shown.IsReady pages.old }
-        ensures found { IsTrue (P.shown.state pages.new).is_honest
-            → PrimeFinds self.now.prime (P.shown.state pages.old).live (find (leads_prime relation operand.now)) result }
+        ensures found { OfHonestPages P.shown pages.old pages.new (λ live. PrimeFinds self.now.prime live (find (leads_prime relation operand.now)) result) }
         ensures reads { ReadsPages P.shown (2 * prime_height self.now.prime) pages.old pages.new result }
     {
         match relation {
@@ -107,8 +105,7 @@ fn first_in_alternate<P: Pages>(
     relation: Relation,
 ) -> Result<Option<AltEntry>, Fault>
     requires ready { P.shown.IsReady pages.old }
-    ensures found { IsTrue (P.shown.state pages.new).is_honest
-        → AltFinds index.now (P.shown.state pages.old).live (find (leads_alt relation operand.now)) result }
+    ensures found { OfHonestPages P.shown pages.old pages.new (λ live. AltFinds index.now live (find (leads_alt relation operand.now)) result) }
     ensures reads { ReadsPages P.shown (2 * alt_height index.now) pages.old pages.new result }
 {
     match relation {

@@ -1,4 +1,4 @@
-use Rattle.std.proofs.Common.{◌≡◌, ℕ, ◌+◌, ◌-◌, ◌≤◌, ◌<◌, Some, subst, ◌∙◌, arith}
+use Rattle.std.proofs.Common.{◌≡◌, ℕ, ◌+◌, ◌-◌, ◌≤◌, ◌<◌, Some, subst, ◌∙◌, arith, rules}
 use Rattle.std.specs.Prelude.{find}
 use Rattle.key_index.specs.Entries.{after_rank}
 use Rattle.open_file.specs.InOrder.{alt_entries}
@@ -12,21 +12,23 @@ below k n some within = omega arith
 again : (k : ℕ) → 1 ≤ k → k - 1 + 1 ≡ k
 again k some = omega arith
 
-pub returns-clause-found : goal.returns-clause-found
-returns-clause-found g c honest file stands =
+pub returns : goal.returns
+returns g c =
     let live = (g.P.Pages.shown.state c.args.pages.now).live in
     let k = c.args.k in
-    let standing = stands.parts.alternates_stand (k - 1) c.args.index (below k _ c.requires.some c.requires.within) c.requires.index in
-    let belongs = c.alternate_cursor-cursor.ensures.belongs live _ _ _ stands.on_path in
-    let moved = c.in_ok-found.ensures.moved honest c.args.value.now c.args.stamp _ _ standing belongs (c.if-value-from.false ∙ c.from.ensures) c.ranges.stamp.fits c.alternate_cursor-cursor.ensures.after in
-    record { answer = subst (λ (m : ℕ). c.in_ok-found.found ≡ find (after_rank c.args.value.now c.args.stamp) (alt_entries c.args.self.now.schema m file.rows)) (again k c.requires.some) moved.answer.found_is; no_damage = tt }
-
-pub returns-clause-stands : goal.returns-clause-stands
-returns-clause-stands g c honest file stands =
-    let live = (g.P.Pages.shown.state c.args.pages.now).live in
-    let k = c.args.k in
-    let standing = stands.parts.alternates_stand (k - 1) c.args.index (below k _ c.requires.some c.requires.within) c.requires.index in
-    let belongs = c.alternate_cursor-cursor.ensures.belongs live _ _ _ stands.on_path in
-    let moved = c.in_ok-found.ensures.moved honest c.args.value.now c.args.stamp _ _ standing belongs (c.if-value-from.false ∙ c.from.ensures) c.ranges.stamp.fits c.alternate_cursor-cursor.ensures.after in
-    put_path c.args.self.now c.alternate_cursor-cursor.new.self (Some (Alternate (k - 1) c.next.new.self)) live file c.alternate_cursor-cursor.ensures.gone stands
-    (on_alternate c.args.self.now live file stands (k - 1) c.args.index c.next.new.self c.requires.index moved.answer.belongs)
+    let key = c.requires.key in
+    record {
+      found = λ honest file stands.
+          let standing = stands.parts.alternates_stand (k - 1) c.args.index (below k _ key.some key.within) key.index_is in
+          let belongs = c.alternate_cursor-cursor.ensures.belongs live _ _ _ stands.on_path in
+          let moved = c.in_ok-found.ensures.moved honest c.args.value.now c.args.stamp _ _ standing belongs (c.if-value-from.false ∙ c.from.ensures) c.ranges.stamp.fits c.alternate_cursor-cursor.ensures.after in
+          record { answer = subst (λ (m : ℕ). c.in_ok-found.found ≡ find (after_rank c.args.value.now c.args.stamp) (alt_entries c.args.self.now.schema m file.rows)) (again k key.some) moved.answer.found_is; no_damage = tt };
+      stands = λ honest file stands.
+          let standing = stands.parts.alternates_stand (k - 1) c.args.index (below k _ key.some key.within) key.index_is in
+          let belongs = c.alternate_cursor-cursor.ensures.belongs live _ _ _ stands.on_path in
+          let moved = c.in_ok-found.ensures.moved honest c.args.value.now c.args.stamp _ _ standing belongs (c.if-value-from.false ∙ c.from.ensures) c.ranges.stamp.fits c.alternate_cursor-cursor.ensures.after in
+          put_path c.args.self.now c.alternate_cursor-cursor.new.self (Some (Alternate (k - 1) c.next.new.self)) live file c.alternate_cursor-cursor.ensures.gone stands
+          (on_alternate c.args.self.now live file stands (k - 1) c.args.index c.next.new.self key.index_is moved.answer.belongs);
+      rest = search rules;
+      reads = search rules;
+    }

@@ -13,8 +13,8 @@ pub returns-in-Some-clause-found : goal.returns-in-Some-clause-found
 returns-in-Some-clause-found g c honest file stands =
     let schema = c.args.self.now.schema in
     let v = c.args.value.now in
-    let at = index_at c.args.self.now c.args.k c.requires.some c.requires.within in
-    let keys = c.requires.shaped.keys in
+    let at = index_at c.args.self.now c.args.k c.requires.key.some c.requires.key.within in
+    let keys = c.requires.lent.shaped.keys in
     let lt : c.args.k - 1 + 1 < length schema.keys = omega (arith, keys, at.0) in
     let one : (key_at schema (c.args.k - 1 + 1)).duplicates ≡ false = ap (λ (m : ℕ). (key_at schema m).duplicates) at.1 ∙ sym (ap (λ (part : KeyPart). part.duplicates) c.part.ensures.part) ∙ c.if-part.false in
     let found = rw c.in-Some.is at (c.in_ok-entry.ensures.found honest _ _ (stands.parts.alternates_stand (c.args.k - 1) c.alternate-index.result at.0 c.alternate-index.ensures)).answer in
@@ -30,7 +30,7 @@ returns-in-Some-clause-reads g c =
     record {
       cause = tt;
       asked =
-          let h = height_by_key c.args.self.now.prime c.args.self.now.alternates.items c.args.k c.alternate-index.result c.requires.some c.requires.within c.alternate-index.ensures in
+          let h = height_by_key c.args.self.now.prime c.args.self.now.alternates.items c.args.k c.alternate-index.result c.requires.key.some c.requires.key.within c.alternate-index.ensures in
           rw h (omega (arith, c.find.ensures.reads.asked));
       step = grind (arith, common_steps);
     }
@@ -39,8 +39,8 @@ pub returns-in-None-clause-found : goal.returns-in-None-clause-found
 returns-in-None-clause-found g c honest file stands =
     let schema = c.args.self.now.schema in
     let v = c.args.value.now in
-    let at = index_at c.args.self.now c.args.k c.requires.some c.requires.within in
-    let keys = c.requires.shaped.keys in
+    let at = index_at c.args.self.now c.args.k c.requires.key.some c.requires.key.within in
+    let keys = c.requires.lent.shaped.keys in
     let lt : c.args.k - 1 + 1 < length schema.keys = omega (arith, keys, at.0) in
     let one : (key_at schema (c.args.k - 1 + 1)).duplicates ≡ false = ap (λ (m : ℕ). (key_at schema m).duplicates) at.1 ∙ sym (ap (λ (part : KeyPart). part.duplicates) c.part.ensures.part) ∙ c.if-part.false in
     let found = rw c.in-None.is at (c.in_ok-entry.ensures.found honest _ _ (stands.parts.alternates_stand (c.args.k - 1) c.alternate-index.result at.0 c.alternate-index.ensures)).answer in
@@ -55,12 +55,12 @@ returns-in-None-clause-reads g c =
     record {
       cause = tt;
       asked =
-          let h = height_by_key c.args.self.now.prime c.args.self.now.alternates.items c.args.k c.alternate-index.result c.requires.some c.requires.within c.alternate-index.ensures in
+          let h = height_by_key c.args.self.now.prime c.args.self.now.alternates.items c.args.k c.alternate-index.result c.requires.key.some c.requires.key.within c.alternate-index.ensures in
           rw h (omega (arith, c.find.ensures.reads.asked));
       step = grind (arith, common_steps);
     }
 
 pub returns-in-None-clause-alone : goal.returns-in-None-clause-alone
 returns-in-None-clause-alone g c one =
-    let h = height_by_key c.args.self.now.prime c.args.self.now.alternates.items c.args.k c.alternate-index.result c.requires.some c.requires.within c.alternate-index.ensures in
+    let h = height_by_key c.args.self.now.prime c.args.self.now.alternates.items c.args.k c.alternate-index.result c.requires.key.some c.requires.key.within c.alternate-index.ensures in
     rw h (c.find.ensures.reads.asked)

@@ -1,9 +1,19 @@
+use Rattle.std.proofs.Common.{rules}
 use Rattle.open_file.proofs.ExitLemmas.{fails}
 use Rattle.open_file.proofs.open_file.OpenFile.prime_from.Goals as goal
 
-pub returns-in_err-found-clause-found : goal.returns-in_err-found-clause-found
-returns-in_err-found-clause-found g c honest file stands =
-    fails c.from_residual.result _ c.from_residual.ensures.1 (c.in_err-found.ensures.found honest _ _ stands.parts.prime_stands).no_damage _
+pub returns-in_err-found : goal.returns-in_err-found
+returns-in_err-found g c = record {
+  found = λ honest file stands. fails c.from_residual.result _ c.from_residual.ensures.1 (c.in_err-found.ensures.found honest _ _ stands.parts.prime_stands).no_damage _;
+  stands = search rules;
+  rest = search rules;
+  reads = search rules;
+}
 
-pub returns-clause-found : goal.returns-clause-found
-returns-clause-found g c honest file stands = c.in_ok-found.ensures.found honest _ _ stands.parts.prime_stands
+pub returns : goal.returns
+returns g c = record {
+  found = λ honest file stands. c.in_ok-found.ensures.found honest _ _ stands.parts.prime_stands;
+  stands = search rules;
+  rest = search rules;
+  reads = search rules;
+}
