@@ -1,5 +1,5 @@
 -- How a change of an open file ends: it failed, it was not made, or it was made.
-use Rattle.std.proofs.Common.{◌≡◌, ◌≢◌, Bool, true, false, Result, Ok, Err, IsTrue, IsFalse, IfErr, IfOk, refl, sym, ◌∙◌}
+use Rattle.std.proofs.Common.{◌≡◌, ◌≢◌, ℕ, List, Bool, true, false, Result, Ok, Err, IsTrue, IsFalse, IfErr, refl, sym, ◌∙◌}
 use Rattle.std.specs.Prelude.{IsErrAnd, not, ◌||◌}
 use Rattle.std.proofs.lemmas.Result.{err_from_is_err_and}
 use Rattle.io_state.specs.declared.fault.Fault.{Fault}
@@ -7,14 +7,17 @@ use Rattle.io_state.specs.declared.fault.Fault.TheVariants.{Device, Memory, Full
 use Rattle.indexed_file.specs.Calls.{is_answered}
 use Rattle.indexed_file.specs.File.{File}
 use Rattle.indexed_file.specs.declared.answer.Replaced.{Replaced}
-use Rattle.indexed_file.specs.declared.answer.Replaced.TheVariants.{Done, Clash, Gone}
+use Rattle.record_layout.specs.Schema.{prime_of}
 use Rattle.pages.specs.Cause.{IsCaused}
 use Rattle.pages.specs.ShownPages.{ShownPages}
 use Rattle.open_file.specs.Stands.{Stands}
 use Rattle.open_file.specs.declared.open_file.OpenFile.{OpenFile}
-use Rattle.indexed_file.specs.FileChange.{FileChange, is_replaced}
+use Rattle.indexed_file.specs.FileChange.{FileChange}
 use Rattle.file_changes.specs.Changes.{HasChanged, KeepsFile, Changes, MayBreak}
 use Rattle.file_changes.specs.InPages.{FileInPages, in_pages, shown_in}
+use Rattle.file_changes.specs.Old.{IsFoundIn}
+use Rattle.file_changes.specs.Replacing.{KeepsFound, ReplacesFound}
+use Rattle.file_changes.specs.declared.old_record.OldRecord.{OldRecord}
 use Rattle.file_changes.proofs.AddedLemmas.{broken_or_not}
 
 both : (b : Bool) → b ≡ false → b ≡ true → ⊥
@@ -169,16 +172,22 @@ broken_breaks shown held broken takes reads = record {
   cause = record { device = λ same. absurd (cc); full = λ same. absurd (cc); broken = λ same. broken };
 }
 
--- ---- whether a record was replaced, by the answer
+-- ---- a record whose row was found
 
-pub replaced_begun : (P : Type 0) (r : Result Replaced Fault) → IfOk r (λ x. x ≢ Clash → P) → IfOk r (λ x. x ≢ Gone) → IfOk r (λ x. is_replaced x ≡ true → P)
-replaced_begun P (Ok (Done repeated)) begun some = λ is. begun (λ same. cc)
-replaced_begun P (Ok Clash) begun some = λ is. absurd (cc)
-replaced_begun P (Ok Gone) begun some = λ is. absurd (cc)
-replaced_begun P (Err fault) begun some = tt
-
-pub replaced_rests : (P : Type 0) (r : Result Replaced Fault) → (r ≡ Ok Clash → P) → IfOk r (λ x. x ≢ Gone) → IfOk r (λ x. is_replaced x ≡ false → P)
-replaced_rests P (Ok (Done repeated)) clash some = λ none. absurd (cc)
-replaced_rests P (Ok Clash) clash some = λ none. clash refl
-replaced_rests P (Ok Gone) clash some = λ none. absurd (some refl)
-replaced_rests P (Err fault) clash some = tt
+module _ {S : Type 0} (shown : ShownPages S) (old : OldRecord) (was bytes : List ℕ) (before after : FileInPages S) where
+  -- a fault other than Full
+  pub found_stopped : (r : Result Replaced Fault) (fault : Fault) → IsErrAnd r (λ e. e ≡ fault) → fault ≢ Full
+      → (IsTrue (shown.state after.pages).is_honest → IsTrue (shown.state before.pages).is_sound → (file : File) (stands : Stands before.file (shown.state before.pages).live file)
+      → IsFoundIn stands (prime_of before.file.schema bytes) old was → fault ≢ Damage)
+      → KeepsFound shown before after → ReplacesFound shown old was bytes before after r
+  found_stopped r fault is other undamaged keeps =
+      let p = err_from_is_err_and r is in
+      rw (p.1, p.2) (record {
+        done = λ honest sound file stands at. record { answer = tt; no_damage = undamaged honest sound file stands at };
+        unmade = tt;
+        begun = tt;
+        room = λ honest file stands row. tt;
+        full = λ same. absurd (not_full fault other same);
+        lacks = λ same. absurd (not_full fault other same);
+        keeps = keeps;
+      })

@@ -13,15 +13,10 @@ use Rattle.key_index.specs.declared.alt_index.AltIndex.{AltIndex}
 use Rattle.key_index.specs.Standing.{prime_height, alt_height}
 use Rattle.file_changes.specs.Adding.{levels_in}
 use Rattle.open_file.specs.Stands.{Stands, IsShaped, room_of}
-use Rattle.file_changes.specs.Replacing.{need_in_indexes}
+use Rattle.file_changes.specs.Replacing.{need_in_indexes, is_full_for}
 use Rattle.open_file.specs.declared.open_file.OpenFile.{OpenFile}
 use Rattle.open_file.proofs.OrderLemmas.{either}
 use Rattle.file_changes.proofs.RemovedLemmas.{is_one}
-
--- the test of the code, in numbers
-abbrev pub is_full_for : OpenFile → ℕ → List ℕ → List ℕ → Bool
-is_full_for u available old new =
-    nat_lt available (need_in_indexes u.schema old new u.alternates.items) || (takes_stamp u.schema old new && nat_le (2 ^ 63) u.next_stamp)
 
 -- where the prime value stays, no page is needed for its index
 need_but_prime : (keys : List KeyPart) (d : KeyPart) (old new : List ℕ) (height : ℕ) (heights : List ℕ) → 0 < length keys → bytes_eq (part_of (slice_index_or keys 0 d) old) (part_of (slice_index_or keys 0 d) new) ≡ true

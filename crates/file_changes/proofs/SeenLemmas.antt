@@ -12,6 +12,7 @@ use Rattle.indexed_file.specs.Sound.{is_row, are_rows}
 use Rattle.indexed_file.specs.Answers.{replaced_answer_at}
 use Rattle.indexed_file.specs.declared.answer.Replaced.TheVariants.{Done, Clash}
 use Rattle.page_bytes.specs.Each.{Each}
+use Rattle.file_changes.specs.Replacing.{new_there}
 use Rattle.open_file.proofs.OrderLemmas.{either}
 use Rattle.open_file.proofs.PartsLemmas.{each_map, each_both}
 use Rattle.open_file.proofs.LookLemmas.{all_dropped}
@@ -33,10 +34,6 @@ repeats_at schema old bytes rows part = is_changed old bytes part && is_there pa
 pub record SeenOn (schema : Schema) (old bytes : List ℕ) (rows : List Row) (k : ℕ) (repeated : Bool) : Type 0 where
   pub clash : NoneSo (clashes_at schema bytes rows) schema.keys k
   pub repeat : list_any (repeats_at schema old bytes rows) schema.keys ≡ (repeated || list_any (repeats_at schema old bytes rows) (drop k schema.keys))
-
--- what is told of a key: whether its value changes, and its new one is there
-abbrev pub new_there : Schema → List ℕ → List ℕ → List Row → ℕ → Bool
-new_there schema old bytes rows k = not (bytes_eq (value_of schema k old) (value_of schema k bytes)) && is_there (key_at schema k) bytes rows
 
 -- where the row of the prime value does not have a value of key k, it is there if another row has it
 there_beside : (schema : Schema) (k : ℕ) (prime bytes : List ℕ) (rows : List Row) → Each (λ row. has_value schema 0 prime row ≡ true → has_value schema k (value_of schema k bytes) row ≡ false) rows

@@ -1,22 +1,27 @@
 -- What adding a record makes of an open file.
-use Rattle.std.specs.Prelude.{◌≡◌, ℕ, ◌+◌, ◌<◌, List, sum_by, None, Some, find, nat_lt, IsTrue, Result, if◌then◌else◌}
+use Rattle.std.specs.Prelude.{◌≡◌, ℕ, ◌+◌, ◌<◌, List, length, false, sum_by, None, Some, find, nat_lt, IsTrue, Result, if◌then◌else◌}
 use Rattle.io_state.specs.declared.fault.Fault.{Fault}
 use Rattle.pages.specs.Answer.{IsAnswer}
 use Rattle.pages.specs.ShownPages.{ShownPages}
 use Rattle.file_changes.specs.InPages.{FileInPages}
-use Rattle.file_changes.specs.Contents.{Holds}
+use Rattle.file_changes.specs.Contents.{Holds, PartsStep}
 use Rattle.record_layout.specs.Schema.{Schema, key_at, value_of, prime_of}
+use Rattle.indexed_file.specs.File.{File}
+use Rattle.indexed_file.specs.Change.{clashes, added, new_row}
 use Rattle.pages.specs.PageMap.{PageMap}
 use Rattle.key_index.specs.declared.entry.AltEntry.{AltEntry}
 use Rattle.key_index.specs.declared.entry.PrimeEntry.{PrimeEntry}
 use Rattle.key_index.specs.declared.alt_index.AltIndex.{AltIndex}
 use Rattle.key_index.specs.declared.prime_index.PrimeIndex.{PrimeIndex}
-use Rattle.key_index.specs.Entries.{with_alt, has_rank}
+use Rattle.key_index.specs.Entries.{with_alt, with_prime, has_rank, has_prime}
 use Rattle.key_index.specs.Standing.{alt_height}
 use Rattle.record_heap.specs.declared.heap.Heap.{Heap}
 use Rattle.record_heap.specs.declared.shape.Place.{Place}
 use Rattle.record_heap.specs.Chain.{Slots, put}
-use Rattle.open_file.specs.Parts.{Parts}
+use Rattle.open_file.specs.Parts.{Parts, but_at}
+use Rattle.open_file.specs.Stored.{stored}
+use Rattle.open_file.specs.Stands.{Stands}
+use Rattle.open_file.specs.declared.open_file.OpenFile.{OpenFile}
 
 -- the stamp of a new record in alternate key j
 abbrev pub stamp_in : Schema → ℕ → ℕ → ℕ
@@ -51,3 +56,35 @@ PutsRow shown before after bytes result =
     → Holds shown before (record { slots = slots; primes = primes; entries = entries })
     → IsAnswer result (λ place. RowPut after.file.heap after.file.prime after.file.alternates.items (shown.state after.pages).live slots primes entries place bytes
     × IsTrue (shown.state after.pages).is_sound)
+
+-- the slot of a new record: its stamps, and its bytes
+abbrev pub new_slot : OpenFile → List ℕ → List ℕ
+new_slot file bytes = stored file.schema (new_row file.schema file.next_stamp bytes)
+
+-- the prime index gets the entry of a record at this place, whose value it did not have
+abbrev pub prime_added : Schema → List ℕ → Place → PartsStep
+prime_added schema bytes place = record {
+  Asks = λ held. find (has_prime (prime_of schema bytes)) held.primes ≡ None;
+  leaves = λ held. record held { primes = with_prime (record { value = record { items = prime_of schema bytes }; place = place }) held.primes };
+}
+
+-- alternate index j gets the entry of a record, whose value and stamp it did not have
+abbrev pub entry_added : OpenFile → List ℕ → ℕ → PartsStep
+entry_added file bytes j = record {
+  Asks = λ held. find (has_rank (value_of file.schema (j + 1) bytes) (stamp_in file.schema file.next_stamp j)) (held.entries j) ≡ None;
+  leaves = λ held. record held { entries = but_at j (with_alt (entry_of file.schema file.next_stamp bytes j) (held.entries j)) held.entries };
+}
+
+-- so does each of them
+abbrev pub entries_added : OpenFile → List ℕ → PartsStep
+entries_added file bytes = record {
+  Asks = λ held. AreFree file.schema file.next_stamp bytes (length file.alternates.items) held.entries;
+  leaves = λ held. record held { entries = added_below file.schema file.next_stamp bytes (length file.alternates.items) held.entries };
+}
+
+-- where the record clashes with none, the pages stand for the file with it
+abbrev pub AddsRecord : {S : Type 0} → ShownPages S → (before after : FileInPages S) → List ℕ → Result Unit Fault → Type 0
+AddsRecord shown before after bytes result =
+    IsTrue (shown.state after.pages).is_honest → IsTrue (shown.state before.pages).is_sound → (file : File)
+    → Stands before.file (shown.state before.pages).live file → clashes before.file.schema bytes file.rows ≡ false
+    → IsAnswer result (λ u. Stands after.file (shown.state after.pages).live (added before.file.schema bytes file) × IsTrue (shown.state after.pages).is_sound)

@@ -19,9 +19,14 @@ pub record Contents : Type 0 where
 abbrev pub Holds : {S : Type 0} → ShownPages S → FileInPages S → Contents → Type 0
 Holds shown held what = Parts held.file.heap held.file.prime held.file.alternates.items (shown.state held.pages).live what.slots what.primes what.entries
 
--- where the parts held what the step asks for, they hold what it leaves
-abbrev pub ChangesParts : {S : Type 0} → ShownPages S → (before after : FileInPages S) → (Asks : Contents → Type 0) → (leaves : Contents → Contents) → Result Unit Fault → Type 0
-ChangesParts shown before after Asks leaves result =
+-- a step of a change: what it asks of what they hold, and what they hold after it
+pub record PartsStep : Type 1 where
+  pub Asks : Contents → Type 0
+  pub leaves : Contents → Contents
+
+-- where the parts held what the change asks for, they hold what it leaves
+abbrev pub TakesStep : {S : Type 0} → ShownPages S → PartsStep → (before after : FileInPages S) → Result Unit Fault → Type 0
+TakesStep shown change before after result =
     IsTrue (shown.state after.pages).is_honest → IsTrue (shown.state before.pages).is_sound → (slots : Slots) (primes : List PrimeEntry) (entries : ℕ → List AltEntry)
-    → Holds shown before (record { slots = slots; primes = primes; entries = entries }) → Asks (record { slots = slots; primes = primes; entries = entries })
-    → IsAnswer result (λ u. Holds shown after (leaves (record { slots = slots; primes = primes; entries = entries })) × IsTrue (shown.state after.pages).is_sound)
+    → Holds shown before (record { slots = slots; primes = primes; entries = entries }) → change.Asks (record { slots = slots; primes = primes; entries = entries })
+    → IsAnswer result (λ u. Holds shown after (change.leaves (record { slots = slots; primes = primes; entries = entries })) × IsTrue (shown.state after.pages).is_sound)

@@ -9,7 +9,11 @@ use Rattle.key_index.specs.Entries.{has_prime}
 use Rattle.record_heap.specs.declared.shape.Shape.{Shape}
 use Rattle.record_heap.specs.declared.shape.Place.{Place}
 use Rattle.record_heap.specs.Chain.{Slots}
+use Rattle.pages.specs.PageMap.{PageMap}
+use Rattle.open_file.specs.InOrder.{prime_entries}
+use Rattle.open_file.specs.Stands.{Stands}
 use Rattle.open_file.specs.Stored.{stored, stamps_length}
+use Rattle.open_file.specs.declared.open_file.OpenFile.{OpenFile}
 use Rattle.file_changes.specs.declared.old_record.OldRecord.{OldRecord}
 
 -- a row of these bytes and stamps
@@ -33,6 +37,15 @@ pub record IsOld (schema : Schema) (slots : Slots) (primes : List PrimeEntry) (f
 abbrev pub HasFound : Schema → Slots → List PrimeEntry → File → List ℕ → List ℕ → Option OldRecord → Type 0
 HasFound schema slots primes file prime slot None = row_of schema prime file ≡ None
 HasFound schema slots primes file prime slot (Some old) = IsOld schema slots primes file prime slot old
+
+-- of a file that the pages stand for
+abbrev pub HasFoundIn : {opened : OpenFile} {pages : PageMap} {file : File} → Stands opened pages file → List ℕ → List ℕ → Option OldRecord → Type 0
+HasFoundIn {opened} {pages} {file} stands prime slot = HasFound opened.schema stands.slots (prime_entries opened.schema stands.places file.rows) file prime slot
+
+-- and the row of these bytes is the one that was found
+abbrev pub IsFoundIn : {opened : OpenFile} {pages : PageMap} {file : File} → Stands opened pages file → List ℕ → OldRecord → List ℕ → Type 0
+IsFoundIn {opened} {pages} {file} stands prime old bytes =
+    IsOldAt opened.schema stands.slots (prime_entries opened.schema stands.places file.rows) file prime old.place (row_with bytes old.stamps.items)
 
 -- it is as long as a record, and has a stamp for each alternate key
 pub record HasRecordLength (shape : Shape) (alternates : List AltIndex) (old : OldRecord) : Type 0 where

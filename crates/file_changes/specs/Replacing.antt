@@ -1,19 +1,33 @@
 -- What replacing a record makes of an open file.
-use Rattle.std.specs.Prelude.{◌≡◌, ℕ, ◌+◌, ◌<◌, Bool, List, map, drop, find, bytes_eq, nat_lt, IsSome, IsFalse, None, Some, if◌then◌else◌}
-use Rattle.record_layout.specs.Schema.{Schema, value_of}
-use Rattle.indexed_file.specs.File.{Row, stamp_of}
-use Rattle.indexed_file.specs.Change.{takes_stamp, changed_row}
+use Rattle.std.specs.Prelude.{◌≡◌, ℕ, ◌+◌, ◌*◌, ◌<◌, ◌≤◌, ◌^◌, ◌||◌, ◌&&◌, Bool, true, false, not, List, length, map, drop, find, bytes_eq, nat_lt, nat_le, sum_by, IsSome, IsTrue, IsFalse, None, Some, Result, Err, IfOk, OnOk, if◌then◌else◌}
+use Rattle.io_state.specs.declared.fault.Fault.{Fault}
+use Rattle.io_state.specs.declared.fault.Fault.TheVariants.{Full}
+use Rattle.record_layout.specs.Schema.{Schema, key_at, value_of, prime_of}
+use Rattle.indexed_file.specs.File.{Row, File, stamp_of}
+use Rattle.indexed_file.specs.Change.{takes_stamp, changed_row, is_there, row_of}
+use Rattle.indexed_file.specs.Answers.{replaced_answer_at}
+use Rattle.indexed_file.specs.declared.answer.Replaced.{Replaced}
+use Rattle.indexed_file.specs.FileChange.{replacement, is_replaced, has_room_for, LacksRoomFor}
+use Rattle.pages.specs.Answer.{IsAnswer}
+use Rattle.pages.specs.ShownPages.{ShownPages}
 use Rattle.indexed_file.specs.Room.{need_of_changed}
 use Rattle.key_index.specs.declared.entry.AltEntry.{AltEntry}
 use Rattle.key_index.specs.declared.alt_index.AltIndex.{AltIndex}
 use Rattle.key_index.specs.Entries.{has_rank, with_alt, without_rank}
 use Rattle.key_index.specs.Standing.{alt_height}
-use Rattle.file_changes.specs.Adding.{stamp_in, entry_of}
+use Rattle.file_changes.specs.Adding.{stamp_in, entry_of, levels_in}
 use Rattle.record_heap.specs.declared.shape.Place.{Place}
 use Rattle.record_heap.specs.Chain.{Slots, put}
 use Rattle.open_file.specs.Stored.{stored}
-use Rattle.file_changes.specs.Contents.{Contents}
+use Rattle.open_file.specs.Parts.{but_at}
+use Rattle.open_file.specs.Stands.{Stands, IsShaped, heights_of, room_of}
+use Rattle.open_file.specs.declared.open_file.OpenFile.{OpenFile}
+use Rattle.file_changes.specs.Changes.{HasChanged}
+use Rattle.file_changes.specs.Contents.{Contents, PartsStep}
+use Rattle.file_changes.specs.InPages.{FileInPages, shown_in}
+use Rattle.file_changes.specs.Old.{row_with, IsFoundIn}
 use Rattle.file_changes.specs.Removing.{AreThere}
+use Rattle.file_changes.specs.declared.old_record.OldRecord.{OldRecord}
 
 -- the value of alternate key j stays
 abbrev pub stays : Schema → List ℕ → List ℕ → ℕ → Bool
@@ -75,3 +89,90 @@ pub record CanPutOver (schema : Schema) (stamp : ℕ) (old : Row) (bytes : List 
 -- the next stamp after a change
 abbrev pub next_after : Schema → ℕ → List ℕ → List ℕ → ℕ
 next_after schema stamp old new = if takes_stamp schema old new then stamp + 1 else stamp
+
+-- ---- what each step changes
+
+-- the slot of the record that was found gets the new record
+abbrev pub slot_put : OpenFile → OldRecord → (was bytes : List ℕ) → PartsStep
+slot_put file old was bytes = record {
+  Asks = λ held. IsSome (held.slots old.place);
+  leaves = λ held. record held { slots = put held.slots old.place (Some (slot_after file.schema file.next_stamp (row_with was old.stamps.items) bytes)) };
+}
+
+-- alternate index j gets the new record's entry in the place of the old one's, of this stamp
+abbrev pub entry_put : OpenFile → (was : List ℕ) → ℕ → (bytes : List ℕ) → ℕ → PartsStep
+entry_put file was stamp bytes j = record {
+  Asks = λ held. CanChangeEntry file.schema file.next_stamp was stamp bytes j (held.entries j);
+  leaves = λ held. record held { entries = but_at j (changed_entries file.schema file.next_stamp was stamp bytes j (held.entries j)) held.entries };
+}
+
+-- so does each whose value changes
+abbrev pub entries_put : OpenFile → (was stamps bytes : List ℕ) → PartsStep
+entries_put file was stamps bytes = record {
+  Asks = λ held. AreThere file.schema (row_with was stamps) (length file.alternates.items) held.entries × AreFreed file.schema file.next_stamp (row_with was stamps) bytes (length file.alternates.items) held.entries;
+  leaves = λ held. record held { entries = changed_below file.schema file.next_stamp (row_with was stamps) bytes (length file.alternates.items) held.entries };
+}
+
+-- the parts get the new record in the place of the one that was found
+abbrev pub row_put : OpenFile → OldRecord → (was bytes : List ℕ) → PartsStep
+row_put file old was bytes = record {
+  Asks = λ held. CanPutOver file.schema file.next_stamp (row_with was old.stamps.items) bytes old.place (length file.alternates.items) held.slots held.entries;
+  leaves = with_row file.schema file.next_stamp (row_with was old.stamps.items) bytes old.place (length file.alternates.items);
+}
+
+-- ---- what is needed, answered and left
+
+-- the pages that may be taken for the values that change
+abbrev pub need_to_put : OpenFile → List ℕ → List ℕ → ℕ
+need_to_put file old new = need_in_indexes file.schema old new file.alternates.items
+
+-- there are fewer pages, or no stamp for a record that takes one
+abbrev pub is_full_for : OpenFile → ℕ → List ℕ → List ℕ → Bool
+is_full_for file available old new = nat_lt available (need_to_put file old new) || (takes_stamp file.schema old new && nat_le (2 ^ 63) file.next_stamp)
+
+-- the value of key k changes, and a row has the new one
+abbrev pub new_there : Schema → List ℕ → List ℕ → List Row → ℕ → Bool
+new_there schema old bytes rows k = not (bytes_eq (value_of schema k old) (value_of schema k bytes)) && is_there (key_at schema k) bytes rows
+
+-- where the row of the new record's prime value has these bytes, the answer is the one of the definitions
+abbrev pub AnswersReplacing : {S : Type 0} → ShownPages S → (before : FileInPages S) → S → (was bytes : List ℕ) → Result Replaced Fault → Type 0
+AnswersReplacing shown before after was bytes result =
+    IsTrue (shown.state after).is_honest → (file : File) → Stands before.file (shown.state before.pages).live file
+    → (row : Row) → row_of before.file.schema (prime_of before.file.schema bytes) file ≡ Some row → row.bytes ≡ was
+    → IsAnswer result (λ answer. answer ≡ replaced_answer_at before.file.schema bytes file (Some row))
+
+-- the path is forgotten, and a stamp was taken where the new record takes one
+pub record LeavesPutOver (old new : OpenFile) (was bytes : List ℕ) (result : Result Unit Fault) : Type 0 where
+  pub rest : OnOk result (new ≡ record old {
+    alternates = new.alternates;
+    path = None;
+    next_stamp = next_after old.schema old.next_stamp was bytes;
+  })
+  pub schema : new.schema ≡ old.schema
+  pub broken : new.broken ≡ old.broken
+  pub shaped : IsShaped new
+
+-- what is kept after the row was found, and how many pages are asked for
+pub record KeepsFound {S : Type 0} (shown : ShownPages S) (before after : FileInPages S) : Type 0 where
+  pub schema : after.file.schema ≡ before.file.schema
+  pub broken : after.file.broken ≡ before.file.broken
+  pub shaped : IsShaped after.file
+  pub begins : shown.Begins before.pages after.pages
+  pub asked : (shown.state after.pages).asked
+      ≤ (shown.state before.pages).asked + 2 * sum_by (λ height. height) (heights_of before.file) + 1 + 16 * levels_in before.file.alternates.items
+
+-- what `Changes` says of a replacement, where its row was found before: it had these bytes
+pub record ReplacesFound {S : Type 0} (shown : ShownPages S) (old : OldRecord) (was bytes : List ℕ) (before after : FileInPages S) (result : Result Replaced Fault) : Type 0 where
+  pub done : IsTrue (shown.state after.pages).is_honest → IsTrue (shown.state before.pages).is_sound → (file : File)
+      → (stands : Stands before.file (shown.state before.pages).live file) → IsFoundIn stands (prime_of before.file.schema bytes) old was
+      → IsAnswer result (HasChanged (Stands after.file (shown.state after.pages).live) (IsTrue (shown.state after.pages).is_sound) (replacement before.file.schema bytes) file)
+  pub unmade : IfOk result (λ x. is_replaced x ≡ false → (shown_in shown).Reads before after)
+  pub begun : IfOk result (λ x. is_replaced x ≡ true → shown.CanChange after.pages)
+  pub room : IsTrue (shown.state after.pages).is_honest → (file : File) → Stands before.file (shown.state before.pages).live file
+      → row_of before.file.schema (prime_of before.file.schema bytes) file ≡ Some (row_with was old.stamps.items)
+      → OnOk result (IsTrue (has_room_for (room_of before.file (shown.state before.pages).available) (replacement before.file.schema bytes) file))
+  pub full : result ≡ Err Full → (shown_in shown).Reads before after
+  pub lacks : result ≡ Err Full → IsTrue (shown.state after.pages).is_honest → (file : File) → Stands before.file (shown.state before.pages).live file
+      → row_of before.file.schema (prime_of before.file.schema bytes) file ≡ Some (row_with was old.stamps.items)
+      → LacksRoomFor (room_of before.file (shown.state before.pages).available) (replacement before.file.schema bytes) file
+  pub keeps : KeepsFound shown before after

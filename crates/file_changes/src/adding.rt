@@ -1,24 +1,18 @@
 //! Adding a record.
 
-ghost use Rattle.std.specs.Prelude.{⊤, true, false, ◌≡◌, ◌+◌, ◌*◌, ◌-◌, ◌≤◌, ◌<◌, ◌^◌, length, drop, None, Ok, Err, not, sum_by, IsTrue, IfErr, slice_index_or, slice_set, find};
-ghost use Rattle.record_layout.specs.Schema.{value_of, prime_of};
-ghost use Rattle.indexed_file.specs.File.{File};
-ghost use Rattle.indexed_file.specs.Change.{clashes, added, new_row};
+ghost use Rattle.std.specs.Prelude.{⊤, true, false, ◌≡◌, ◌+◌, ◌*◌, ◌≤◌, ◌<◌, length, not, sum_by, IfErr, slice_set};
 ghost use Rattle.indexed_file.specs.Answers.{added_answer};
 ghost use Rattle.indexed_file.specs.Room.{need_of_add};
-ghost use Rattle.pages.specs.Answer.{IsAnswer};
 ghost use Rattle.pages.specs.Cause.{IsCaused};
 ghost use Rattle.pages.specs.PageCalls.{ReadsPages, WritesPages};
-ghost use Rattle.key_index.specs.Entries.{with_alt, with_prime, has_rank, has_prime};
-ghost use Rattle.key_index.specs.Standing.{prime_height, alt_height};
-ghost use Rattle.open_file.specs.Stored.{stored};
-ghost use Rattle.open_file.specs.Parts.{but_at};
-ghost use Rattle.open_file.specs.Stands.{Stands, IsShaped, heights_of};
+ghost use Rattle.key_index.specs.Standing.{prime_height};
+ghost use Rattle.open_file.specs.Stands.{heights_of};
 ghost use Rattle.indexed_file.specs.FileChange.{addition};
 ghost use Rattle.file_changes.specs.Changes.{Changes, MayBreak};
-ghost use Rattle.file_changes.specs.Contents.{ChangesParts};
+ghost use Rattle.file_changes.specs.Contents.{TakesStep};
 ghost use Rattle.file_changes.specs.InPages.{in_pages, shown_in, IsReadyIn};
-ghost use Rattle.file_changes.specs.Adding.{stamp_in, entry_of, added_below, AreFree, levels_in, PutsRow};
+ghost use Rattle.file_changes.specs.Adding.{levels_in, PutsRow, AddsRecord, new_slot, prime_added, entry_added, entries_added};
+ghost use Rattle.file_changes.specs.Steps.{CanLookFor, CanChangeWith, CanStore, HasRoomFor, AnswersFor, KeepsMade, ChangesHeap, ChangesPrime, ChangesAlternates, ChangesAlternate, TakesPages};
 
 use crate::ending::breaks;
 use crate::room::is_full;
@@ -72,11 +66,8 @@ fn try_add<P: Pages>(opened: &mut OpenFile, pages: &mut P, bytes: &[u8]) -> Resu
 
 /// What adding a record answers, if there is room for it.
 fn adding<P: Pages>(opened: &OpenFile, pages: &mut P, bytes: &[u8]) -> Result<Added, Fault>
-    requires ready { P.shown.IsReady pages.old }
-    requires shaped { IsShaped opened.now }
-    requires least { opened.now.schema.least ≤ length bytes.now }
-    ensures found { IsTrue (P.shown.state pages.new).is_honest → (file : File) → Stands opened.now (P.shown.state pages.old).live file
-        → IsAnswer result (λ answer. answer ≡ added_answer opened.now.schema bytes.now file) }
+    requires { CanLookFor P.shown opened.now pages.old bytes.now }
+    ensures found { AnswersFor P.shown opened.now pages.old pages.new (λ file stands x. x ≡ added_answer opened.now.schema bytes.now file) result }
     ensures reads { ReadsPages P.shown (2 * sum_by (λ height. height) (heights_of opened.now)) pages.old pages.new result }
 {
     let mut repeated = false;
@@ -93,19 +84,10 @@ fn adding<P: Pages>(opened: &OpenFile, pages: &mut P, bytes: &[u8]) -> Result<Ad
 
 /// Puts in a record that does not clash, and for which there is room.
 fn put_in<P: Pages>(opened: &mut OpenFile, pages: &mut P, bytes: &[u8]) -> Result<(), Fault>
-    requires ready { P.shown.IsReady pages.old }
-    requires open { P.shown.CanChange pages.old }
-    requires shaped { IsShaped opened.old }
-    requires least { opened.old.schema.least ≤ length bytes.now }
-    requires greatest { length bytes.now ≤ opened.old.schema.greatest }
-    requires room { need_of_add (heights_of opened.old) ≤ (P.shown.state pages.old).available }
-    requires stamps { opened.old.next_stamp < 2 ^ 63 }
-    ensures done { IsTrue (P.shown.state pages.new).is_honest → IsTrue (P.shown.state pages.old).is_sound → (file : File)
-        → Stands opened.old (P.shown.state pages.old).live file → clashes opened.old.schema bytes.now file.rows ≡ false
-        → IsAnswer result (λ u. Stands opened.new (P.shown.state pages.new).live (added opened.old.schema bytes.now file) × IsTrue (P.shown.state pages.new).is_sound) }
-    ensures schema { opened.new.schema ≡ opened.old.schema }
-    ensures broken { opened.new.broken ≡ opened.old.broken }
-    ensures shaped { IsShaped opened.new }
+    requires can { CanStore P.shown opened.old pages.old bytes.now }
+    requires room { HasRoomFor P.shown opened.old pages.old (need_of_add (heights_of opened.old)) true }
+    ensures done { AddsRecord P.shown (in_pages opened.old pages.old) (in_pages opened.new pages.new) bytes.now result }
+    ensures keeps { KeepsMade opened.old opened.new }
     ensures writes { WritesPages P.shown (8 * need_of_add (heights_of opened.old)) ⊥ pages.old pages.new result }
 {
     opened.path = None;
@@ -118,17 +100,10 @@ fn put_in<P: Pages>(opened: &mut OpenFile, pages: &mut P, bytes: &[u8]) -> Resul
 
 /// Puts a new record into the heap.
 fn store<P: Pages>(opened: &mut OpenFile, pages: &mut P, bytes: &[u8]) -> Result<Place, Fault>
-    requires ready { P.shown.IsReady pages.old }
-    requires open { P.shown.CanChange pages.old }
-    requires shaped { IsShaped opened.old }
-    requires least { opened.old.schema.least ≤ length bytes.now }
-    requires greatest { length bytes.now ≤ opened.old.schema.greatest }
-    ensures put { PutsRow P.shown (in_pages opened.old pages.old) (in_pages opened.new pages.new)
-        (stored opened.old.schema (new_row opened.old.schema opened.old.next_stamp bytes.now)) result }
-    ensures rest { opened.new ≡ record opened.old { heap = opened.new.heap } }
-    ensures shape { opened.new.heap.shape ≡ opened.old.heap.shape }
-    ensures few { (P.shown.state pages.old).available ≤ (P.shown.state pages.new).available + 1 }
-    ensures writes { WritesPages P.shown 4 ((P.shown.state pages.old).available < 1) pages.old pages.new result }
+    requires { CanStore P.shown opened.old pages.old bytes.now }
+    ensures put { PutsRow P.shown (in_pages opened.old pages.old) (in_pages opened.new pages.new) (new_slot opened.old bytes.now) result }
+    ensures file { ChangesHeap opened.old opened.new }
+    ensures pages { TakesPages P.shown 1 4 pages.old pages.new result }
 {
     let stamps = new_stamps(opened);
     opened.heap.add(pages, stamps.as_slice(), bytes)
@@ -141,17 +116,10 @@ fn add_to_prime<P: Pages>(
     place: Place,
     bytes: &[u8],
 ) -> Result<(), Fault>
-    requires ready { P.shown.IsReady pages.old }
-    requires open { P.shown.CanChange pages.old }
-    requires shaped { IsShaped opened.old }
-    requires least { opened.old.schema.least ≤ length bytes.now }
-    ensures added { ChangesParts P.shown (in_pages opened.old pages.old) (in_pages opened.new pages.new)
-        (λ held. find (has_prime (prime_of opened.old.schema bytes.now)) held.primes ≡ None)
-        (λ held. record held { primes = with_prime (record { value = record { items = prime_of opened.old.schema bytes.now }; place = place }) held.primes }) result }
-    ensures rest { opened.new ≡ record opened.old { prime = opened.new.prime } }
-    ensures width { opened.new.prime.width ≡ opened.old.prime.width }
-    ensures few { (P.shown.state pages.old).available ≤ (P.shown.state pages.new).available + (prime_height opened.old.prime + 1) }
-    ensures writes { WritesPages P.shown (8 * (prime_height opened.old.prime + 1)) ((P.shown.state pages.old).available < prime_height opened.old.prime + 1) pages.old pages.new result }
+    requires { CanChangeWith P.shown opened.old pages.old bytes.now }
+    ensures added { TakesStep P.shown (prime_added opened.old.schema bytes.now place) (in_pages opened.old pages.old) (in_pages opened.new pages.new) result }
+    ensures file { ChangesPrime opened.old opened.new }
+    ensures pages { TakesPages P.shown (prime_height opened.old.prime + 1) (8 * (prime_height opened.old.prime + 1)) pages.old pages.new result }
 {
     let value = opened.schema.value(bytes, 0);
     match opened.prime.add(pages, value, place)? {
@@ -166,16 +134,10 @@ fn add_to_alternates<P: Pages>(
     pages: &mut P,
     bytes: &[u8],
 ) -> Result<(), Fault>
-    requires ready { P.shown.IsReady pages.old }
-    requires open { P.shown.CanChange pages.old }
-    requires shaped { IsShaped opened.old }
-    requires least { opened.old.schema.least ≤ length bytes.now }
+    requires can { CanChangeWith P.shown opened.old pages.old bytes.now }
     requires room { levels_in opened.old.alternates.items ≤ (P.shown.state pages.old).available }
-    ensures added { ChangesParts P.shown (in_pages opened.old pages.old) (in_pages opened.new pages.new)
-        (λ held. AreFree opened.old.schema opened.old.next_stamp bytes.now (length opened.old.alternates.items) held.entries)
-        (λ held. record held { entries = added_below opened.old.schema opened.old.next_stamp bytes.now (length opened.old.alternates.items) held.entries }) result }
-    ensures rest { opened.new ≡ record opened.old { alternates = opened.new.alternates } }
-    ensures shaped { IsShaped opened.new }
+    ensures added { TakesStep P.shown (entries_added opened.old bytes.now) (in_pages opened.old pages.old) (in_pages opened.new pages.new) result }
+    ensures file { ChangesAlternates opened.old opened.new }
     ensures writes { WritesPages P.shown (8 * levels_in opened.old.alternates.items) ⊥ pages.old pages.new result }
 {
     for j in 0..opened.alternates.len() {
@@ -191,25 +153,10 @@ pub(crate) fn add_to_alternate<P: Pages>(
     j: usize,
     bytes: &[u8],
 ) -> Result<(), Fault>
-    requires ready { P.shown.IsReady pages.old }
-    requires open { P.shown.CanChange pages.old }
-    requires shaped { IsShaped opened.old }
+    requires can { CanChangeWith P.shown opened.old pages.old bytes.now }
     requires index { j < length opened.old.alternates.items }
-    requires least { opened.old.schema.least ≤ length bytes.now }
-    ensures added { ChangesParts P.shown (in_pages opened.old pages.old) (in_pages opened.new pages.new)
-        (λ held. find (has_rank (value_of opened.old.schema (j + 1) bytes.now) (stamp_in opened.old.schema opened.old.next_stamp j)) (held.entries j) ≡ None)
-        (λ held. record held { entries = but_at j (with_alt (entry_of opened.old.schema opened.old.next_stamp bytes.now j) (held.entries j)) held.entries }) result }
-    ensures rest { opened.new ≡ record opened.old { alternates = opened.new.alternates } }
-    ensures shaped { IsShaped opened.new }
-    ensures later { drop (j + 1) opened.new.alternates.items ≡ drop (j + 1) opened.old.alternates.items }
-    ensures many { length opened.new.alternates.items ≡ length opened.old.alternates.items }
-    ensures few { (index : AltIndex) → index ≡ slice_index_or opened.old.alternates.items j index
-        → (P.shown.state pages.old).available ≤ (P.shown.state pages.new).available + (alt_height index + 1) }
-    ensures cause { (index : AltIndex) → index ≡ slice_index_or opened.old.alternates.items j index
-        → IfErr result (IsCaused (P.shown.HasFailed pages.old pages.new) ((P.shown.state pages.old).available < alt_height index + 1)) }
-    ensures asked { (index : AltIndex) → index ≡ slice_index_or opened.old.alternates.items j index
-        → (P.shown.state pages.new).asked ≤ (P.shown.state pages.old).asked + 8 * (alt_height index + 1) }
-    ensures goes { P.shown.Writes pages.old pages.new }
+    ensures added { TakesStep P.shown (entry_added opened.old bytes.now j) (in_pages opened.old pages.old) (in_pages opened.new pages.new) result }
+    ensures alternate { ChangesAlternate P.shown j true 8 (in_pages opened.old pages.old) (in_pages opened.new pages.new) result }
 {
     let part = opened.schema.part(j as u8 + 1);
     let value = opened.schema.value(bytes, j as u8 + 1);

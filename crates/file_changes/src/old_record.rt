@@ -1,15 +1,14 @@
 //! The record of a prime value, as it is before a change.
 
-ghost use Rattle.std.specs.Prelude.{◌≡◌, ◌+◌, ◌≤◌, length, drop, slice_range, IsTrue, IfOk, IfSome};
-ghost use Rattle.indexed_file.specs.File.{File};
-ghost use Rattle.pages.specs.Answer.{IsAnswer};
+ghost use Rattle.std.specs.Prelude.{◌≡◌, ◌+◌, ◌≤◌, length, drop, slice_range, IfOk, IfSome};
 ghost use Rattle.pages.specs.PageCalls.{ReadsPages};
 ghost use Rattle.key_index.specs.Standing.{prime_height};
-ghost use Rattle.open_file.specs.InOrder.{prime_entries};
 ghost use Rattle.open_file.specs.Stored.{stamps_length};
 ghost use Rattle.open_file.specs.ReadOff.{stamps_off};
-ghost use Rattle.open_file.specs.Stands.{Stands, IsShaped};
-ghost use Rattle.file_changes.specs.Old.{HasFound, HasRecordLength};
+ghost use Rattle.open_file.specs.Stands.{IsShaped};
+ghost use Rattle.file_changes.specs.InPages.{in_pages, IsReadyIn};
+ghost use Rattle.file_changes.specs.Old.{HasFoundIn, HasRecordLength};
+ghost use Rattle.file_changes.specs.Steps.{AnswersFor};
 
 use arrayvec::ArrayVec;
 use byteorder::{BigEndian, ByteOrder};
@@ -33,10 +32,8 @@ pub(crate) fn find_old<P: Pages>(
     prime: &[u8],
     slot: &mut [u8; 4064],
 ) -> Result<Option<OldRecord>, Fault>
-    requires ready { P.shown.IsReady pages.old }
-    requires shaped { IsShaped opened.now }
-    ensures found { IsTrue (P.shown.state pages.new).is_honest → (file : File) (stands : Stands opened.now (P.shown.state pages.old).live file)
-        → IsAnswer result (HasFound opened.now.schema stands.slots (prime_entries opened.now.schema stands.places file.rows) file prime.now slot.new) }
+    requires { IsReadyIn P.shown (in_pages opened.now pages.old) }
+    ensures found { AnswersFor P.shown opened.now pages.old pages.new (λ file stands. HasFoundIn stands prime.now slot.new) result }
     ensures within { IfOk result (λ found. IfSome found (HasRecordLength opened.now.heap.shape opened.now.alternates.items)) }
     ensures reads { ReadsPages P.shown (prime_height opened.now.prime + 1) pages.old pages.new result }
 {

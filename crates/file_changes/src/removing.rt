@@ -1,21 +1,17 @@
 //! Removing a record.
 
-ghost use Rattle.std.specs.Prelude.{◌≡◌, ◌≢◌, ℕ, ◌+◌, ◌-◌, ◌*◌, ◌≤◌, ◌<◌, true, false, length, drop, find, slice_index_or, None, Ok, Err, IsSome, IfErr, OnOk};
-ghost use Rattle.record_layout.specs.Schema.{value_of, prime_of};
+ghost use Rattle.std.specs.Prelude.{◌≡◌, ◌≢◌, ℕ, ◌+◌, ◌*◌, ◌≤◌, ◌<◌, true, false, length, slice_index_or, None, IfErr, OnOk};
 ghost use Rattle.pages.specs.Cause.{IsCaused};
 ghost use Rattle.pages.specs.PageCalls.{WritesPages};
-ghost use Rattle.key_index.specs.Entries.{has_prime, has_rank, without_prime, without_rank};
-ghost use Rattle.key_index.specs.Standing.{prime_height, alt_height};
-ghost use Rattle.record_heap.specs.Chain.{put};
-ghost use Rattle.open_file.specs.Parts.{but_at};
+ghost use Rattle.key_index.specs.Standing.{prime_height};
 ghost use Rattle.open_file.specs.Stands.{IsShaped};
 ghost use Rattle.file_changes.specs.Adding.{levels_in};
-ghost use Rattle.file_changes.specs.Old.{row_with};
 ghost use Rattle.indexed_file.specs.FileChange.{removal};
 ghost use Rattle.file_changes.specs.Changes.{Changes, MayBreak};
-ghost use Rattle.file_changes.specs.Contents.{ChangesParts};
+ghost use Rattle.file_changes.specs.Contents.{TakesStep};
 ghost use Rattle.file_changes.specs.InPages.{in_pages, shown_in, IsReadyIn};
-ghost use Rattle.file_changes.specs.Removing.{HasRowAndEntries, AreThere, without_below, without_row};
+ghost use Rattle.file_changes.specs.Removing.{prime_lost, slot_freed, entry_lost, entries_lost, row_lost};
+ghost use Rattle.file_changes.specs.Steps.{CanChangeWith, ChangesHeap, ChangesPrime, ChangesAlternates, ChangesAlternate, IsNoHigher};
 
 use crate::adding::put_at;
 use crate::ending::breaks;
@@ -65,14 +61,9 @@ fn take_out<P: Pages>(
     old: &OldRecord,
     bytes: &[u8],
 ) -> Result<(), Fault>
-    requires ready { P.shown.IsReady pages.old }
-    requires open { P.shown.CanChange pages.old }
-    requires shaped { IsShaped opened.old }
-    requires least { opened.old.schema.least ≤ length bytes.now }
+    requires can { CanChangeWith P.shown opened.old pages.old bytes.now }
     requires stamps { length old.now.stamps.items ≡ length opened.old.alternates.items }
-    ensures out { ChangesParts P.shown (in_pages opened.old pages.old) (in_pages opened.new pages.new)
-        (λ held. HasRowAndEntries opened.old.schema (row_with bytes.now old.now.stamps.items) old.now.place (length opened.old.alternates.items) held.slots held.primes held.entries)
-        (without_row opened.old.schema (row_with bytes.now old.now.stamps.items) old.now.place (length opened.old.alternates.items)) result }
+    ensures out { TakesStep P.shown (row_lost opened.old old.now bytes.now) (in_pages opened.old pages.old) (in_pages opened.new pages.new) result }
     ensures rest { opened.new ≡ record opened.old { heap = opened.new.heap; prime = opened.new.prime; alternates = opened.new.alternates; path = None } }
     ensures shaped { IsShaped opened.new }
     ensures writes { WritesPages P.shown (8 * ((prime_height opened.old.prime + 1) + levels_in opened.old.alternates.items) + 1) ⊥ pages.old pages.new result }
@@ -87,11 +78,8 @@ fn take_out<P: Pages>(
 fn free_slot<P: Pages>(opened: &mut OpenFile, pages: &mut P, place: Place) -> Result<(), Fault>
     requires ready { P.shown.IsReady pages.old }
     requires open { P.shown.CanChange pages.old }
-    ensures freed { ChangesParts P.shown (in_pages opened.old pages.old) (in_pages opened.new pages.new)
-        (λ held. IsSome (held.slots place))
-        (λ held. record held { slots = put held.slots place None }) result }
-    ensures rest { opened.new ≡ record opened.old { heap = opened.new.heap } }
-    ensures shape { opened.new.heap.shape ≡ opened.old.heap.shape }
+    ensures freed { TakesStep P.shown (slot_freed place) (in_pages opened.old pages.old) (in_pages opened.new pages.new) result }
+    ensures file { ChangesHeap opened.old opened.new }
     ensures writes { WritesPages P.shown 1 ⊥ pages.old pages.new result }
 {
     opened.heap.free(pages, place)
@@ -103,15 +91,9 @@ fn remove_from_prime<P: Pages>(
     pages: &mut P,
     bytes: &[u8],
 ) -> Result<(), Fault>
-    requires ready { P.shown.IsReady pages.old }
-    requires open { P.shown.CanChange pages.old }
-    requires shaped { IsShaped opened.old }
-    requires least { opened.old.schema.least ≤ length bytes.now }
-    ensures removed { ChangesParts P.shown (in_pages opened.old pages.old) (in_pages opened.new pages.new)
-        (λ held. IsSome (find (has_prime (prime_of opened.old.schema bytes.now)) held.primes))
-        (λ held. record held { primes = without_prime (prime_of opened.old.schema bytes.now) held.primes }) result }
-    ensures rest { opened.new ≡ record opened.old { prime = opened.new.prime } }
-    ensures width { opened.new.prime.width ≡ opened.old.prime.width }
+    requires { CanChangeWith P.shown opened.old pages.old bytes.now }
+    ensures removed { TakesStep P.shown (prime_lost opened.old.schema bytes.now) (in_pages opened.old pages.old) (in_pages opened.new pages.new) result }
+    ensures file { ChangesPrime opened.old opened.new }
     ensures writes { WritesPages P.shown (8 * (prime_height opened.old.prime + 1)) ⊥ pages.old pages.new result }
 {
     let value = opened.schema.value(bytes, 0);
@@ -128,16 +110,10 @@ fn remove_from_alternates<P: Pages>(
     bytes: &[u8],
     stamps: &[u64],
 ) -> Result<(), Fault>
-    requires ready { P.shown.IsReady pages.old }
-    requires open { P.shown.CanChange pages.old }
-    requires shaped { IsShaped opened.old }
-    requires least { opened.old.schema.least ≤ length bytes.now }
+    requires can { CanChangeWith P.shown opened.old pages.old bytes.now }
     requires stamps { length stamps.now ≡ length opened.old.alternates.items }
-    ensures removed { ChangesParts P.shown (in_pages opened.old pages.old) (in_pages opened.new pages.new)
-        (λ held. AreThere opened.old.schema (row_with bytes.now stamps.now) (length opened.old.alternates.items) held.entries)
-        (λ held. record held { entries = without_below opened.old.schema (row_with bytes.now stamps.now) (length opened.old.alternates.items) held.entries }) result }
-    ensures rest { opened.new ≡ record opened.old { alternates = opened.new.alternates } }
-    ensures shaped { IsShaped opened.new }
+    ensures removed { TakesStep P.shown (entries_lost opened.old bytes.now stamps.now) (in_pages opened.old pages.old) (in_pages opened.new pages.new) result }
+    ensures file { ChangesAlternates opened.old opened.new }
     ensures writes { WritesPages P.shown (8 * levels_in opened.old.alternates.items) ⊥ pages.old pages.new result }
 {
     for j in 0..opened.alternates.len() {
@@ -154,27 +130,12 @@ pub(crate) fn remove_from_alternate<P: Pages>(
     bytes: &[u8],
     stamp: u64,
 ) -> Result<(), Fault>
-    requires ready { P.shown.IsReady pages.old }
-    requires open { P.shown.CanChange pages.old }
-    requires shaped { IsShaped opened.old }
+    requires can { CanChangeWith P.shown opened.old pages.old bytes.now }
     requires index { j < length opened.old.alternates.items }
-    requires least { opened.old.schema.least ≤ length bytes.now }
-    ensures removed { ChangesParts P.shown (in_pages opened.old pages.old) (in_pages opened.new pages.new)
-        (λ held. IsSome (find (has_rank (value_of opened.old.schema (j + 1) bytes.now) stamp) (held.entries j)))
-        (λ held. record held { entries = but_at j (without_rank (value_of opened.old.schema (j + 1) bytes.now) stamp (held.entries j)) held.entries }) result }
-    ensures rest { opened.new ≡ record opened.old { alternates = opened.new.alternates } }
-    ensures shaped { IsShaped opened.new }
-    ensures others { (i : ℕ) (index : AltIndex) → i ≢ j
-        → slice_index_or opened.new.alternates.items i index ≡ slice_index_or opened.old.alternates.items i index }
-    ensures later { drop (j + 1) opened.new.alternates.items ≡ drop (j + 1) opened.old.alternates.items }
-    ensures many { length opened.new.alternates.items ≡ length opened.old.alternates.items }
-    ensures few { (P.shown.state pages.old).available ≤ (P.shown.state pages.new).available }
-    ensures height { OnOk result ((old new : AltIndex) → old ≡ slice_index_or opened.old.alternates.items j old
-        → new ≡ slice_index_or opened.new.alternates.items j new → alt_height new ≤ alt_height old) }
-    ensures cause { IfErr result (IsCaused (P.shown.HasFailed pages.old pages.new) ⊥) }
-    ensures asked { (index : AltIndex) → index ≡ slice_index_or opened.old.alternates.items j index
-        → (P.shown.state pages.new).asked ≤ (P.shown.state pages.old).asked + 8 * (alt_height index + 1) }
-    ensures goes { P.shown.Writes pages.old pages.new }
+    ensures removed { TakesStep P.shown (entry_lost opened.old bytes.now stamp j) (in_pages opened.old pages.old) (in_pages opened.new pages.new) result }
+    ensures alternate { ChangesAlternate P.shown j false 8 (in_pages opened.old pages.old) (in_pages opened.new pages.new) result }
+    ensures others { (i : ℕ) (index : AltIndex) → i ≢ j → slice_index_or opened.new.alternates.items i index ≡ slice_index_or opened.old.alternates.items i index }
+    ensures height { OnOk result (IsNoHigher j opened.old opened.new) }
 {
     let value = opened.schema.value(bytes, j as u8 + 1);
     let mut index = opened.alternate(j + 1);

@@ -16,7 +16,7 @@ loop-j-init g c = (
     sound,
   )),
   refl,
-  c.requires.shaped,
+  c.requires.can.shaped,
   refl,
   c.requires.room,
   omega arith,
@@ -30,7 +30,7 @@ loop-j-preserved g c =
     let opened = c.loop-j.opened in
     let new = c.add_to_alternate.new.opened in
     let inv = c.loop-j.invariant in
-    let step = c.add_to_alternate.ensures in
+    let step = c.add_to_alternate.ensures.alternate in
     let lt : c.loop-j.j < length opened.alternates.items = omega (arith, c.loop-j-test.true, c.len-j-end.ensures.value, inv.4) in
     let index = found_at opened.alternates.items c.loop-j.j lt in
     let levels = levels_dropped opened.alternates.items c.loop-j.j index.0 lt index.1 in
@@ -63,7 +63,7 @@ returns-in_err-add_to_alternate-clause-added g c honest sound slots primes entri
     let opened = c.loop-j.opened in
     let inv = c.loop-j.invariant in
     let lt : c.loop-j.j < length c.args.opened.now.alternates.items = omega (arith, c.loop-j-test.true, c.len-j-end.ensures.value, inv.4) in
-    let before = g.met.P.Pages.writes_honestly now later c.add_to_alternate.ensures.goes honest in
+    let before = g.met.P.Pages.writes_honestly now later c.add_to_alternate.ensures.alternate.goes honest in
     let had = inv.1 before sound slots primes entries p free in
     let schema = ap (λ (u : OpenFile). u.schema) inv.2 in
     let stamp = ap (λ (u : OpenFile). u.next_stamp) inv.2 in
@@ -83,9 +83,9 @@ returns-in_err-add_to_alternate-clause-writes g c =
     let levels = levels_dropped opened.alternates.items c.loop-j.j index.0 lt index.1 in
     record {
       cause = fails_since c.from_residual.result _ _ _ _ _ c.from_residual.ensures.1 (λ failed. g.met.P.Pages.failed_after start now later inv.0 failed) (λ full. omega (arith, full, levels, inv.5))
-          (c.in_err-add_to_alternate.ensures.cause index.0 index.1);
-      asked = omega (arith, levels, inv.6, c.add_to_alternate.ensures.asked index.0 index.1);
-      step = g.met.P.Pages.writes_on start now later inv.0 c.add_to_alternate.ensures.goes;
+          (c.in_err-add_to_alternate.ensures.alternate.cause index.0 index.1);
+      asked = omega (arith, levels, inv.6, c.add_to_alternate.ensures.alternate.asked index.0 index.1);
+      step = g.met.P.Pages.writes_on start now later inv.0 c.add_to_alternate.ensures.alternate.goes;
     }
 
 pub returns-clause-added : goal.returns-clause-added

@@ -1,4 +1,4 @@
-use Rattle.std.proofs.Common.{◌≡◌, ◌+◌, length, ap, sym, subst, ◌∙◌, arith, None}
+use Rattle.std.proofs.Common.{◌≡◌, ◌+◌, length, refl, ap, sym, subst, ◌∙◌, arith, None}
 use Rattle.record_layout.specs.Schema.{Schema}
 use Rattle.open_file.specs.declared.open_file.OpenFile.{OpenFile}
 use Rattle.key_index.specs.Standing.{prime_height}
@@ -16,28 +16,28 @@ returns-in_err-place-clause-done g c honest sound file stands clash =
 
 pub returns-in_err-add_to_prime-clause-done : goal.returns-in_err-add_to_prime-clause-done
 returns-in_err-add_to_prime-clause-done g c honest sound file stands clash =
-    let before = g.met.P.Pages.writes_honestly c.store.new.pages c.add_to_prime.new.pages c.add_to_prime.ensures.writes.step honest in
+    let before = g.met.P.Pages.writes_honestly c.store.new.pages c.add_to_prime.new.pages c.add_to_prime.ensures.pages.writes.step honest in
     let put = (c.in_ok-place.ensures.put before sound stands.slots _ _ stands.parts).answer in
     let begun : OpenFile = record c.args.opened.now { path = None } in
-    let one = but_heap begun c.store.new.opened c.store.ensures.rest in
-    let free = free_prime c.args.opened.now (g.P.Pages.shown.state c.args.pages.now).live file c.args.bytes.now stands c.requires.shaped.is_schema clash in
+    let one = but_heap begun c.store.new.opened c.store.ensures.file.rest in
+    let free = free_prime c.args.opened.now (g.P.Pages.shown.state c.args.pages.now).live file c.args.bytes.now stands c.requires.can.shaped.is_schema clash in
     fails c.from_residual-in_err-add_to_prime.result _ c.from_residual-in_err-add_to_prime.ensures.1 ((rw one.0.schema at c.in_err-add_to_prime.ensures.added) honest put.1 _ _ _ put.0.parts free).no_damage _
 
 pub returns-in_err-add_to_alternates-clause-done : goal.returns-in_err-add_to_alternates-clause-done
 returns-in_err-add_to_alternates-clause-done g c honest sound file stands clash =
     let u = c.args.opened.now in
     let h2 = g.met.P.Pages.writes_honestly c.add_to_prime.new.pages c.add_to_alternates.new.pages c.add_to_alternates.ensures.writes.step honest in
-    let h1 = g.met.P.Pages.writes_honestly c.store.new.pages c.add_to_prime.new.pages c.add_to_prime.ensures.writes.step h2 in
+    let h1 = g.met.P.Pages.writes_honestly c.store.new.pages c.add_to_prime.new.pages c.add_to_prime.ensures.pages.writes.step h2 in
     let put = (c.in_ok-place.ensures.put h1 sound stands.slots _ _ stands.parts).answer in
     let begun : OpenFile = record u { path = None } in
-    let one = but_heap begun c.store.new.opened c.store.ensures.rest in
-    let two = but_prime c.store.new.opened c.add_to_prime.new.opened c.add_to_prime.ensures.rest in
+    let one = but_heap begun c.store.new.opened c.store.ensures.file.rest in
+    let two = but_prime c.store.new.opened c.add_to_prime.new.opened c.add_to_prime.ensures.file.rest in
     let keeps = keeps_on begun c.store.new.opened c.add_to_prime.new.opened one.0 two.0 in
     let alternates = two.1 ∙ one.2 in
-    let free = free_prime u (g.P.Pages.shown.state c.args.pages.now).live file c.args.bytes.now stands c.requires.shaped.is_schema clash in
+    let free = free_prime u (g.P.Pages.shown.state c.args.pages.now).live file c.args.bytes.now stands c.requires.can.shaped.is_schema clash in
     let prime = ((rw one.0.schema at c.in_ok-add_to_prime.ensures.added) h2 put.1 _ _ _ put.0.parts free).answer in
     let rank = subst (λ s. AreFree u.schema s c.args.bytes.now (length u.alternates.items) (λ j. alt_entries u.schema (j + 1) file.rows)) (sym stands.stamp)
-    (free_rank u.schema file c.args.bytes.now (length u.alternates.items) c.requires.shaped.is_schema stands.sound clash c.requires.shaped.keys) in
+    (free_rank u.schema file c.args.bytes.now (length u.alternates.items) c.requires.can.shaped.is_schema stands.sound clash c.requires.can.shaped.keys) in
     let failed = (rw (keeps.schema, keeps.stamp, alternates) at c.in_err-add_to_alternates.ensures.added) honest prime.1 _ _ _ (rw alternates at prime.0) rank in
     fails c.from_residual-in_err-add_to_alternates.result _ c.from_residual-in_err-add_to_alternates.ensures.1 failed.no_damage _
 
@@ -45,25 +45,25 @@ pub returns-clause-done : goal.returns-clause-done
 returns-clause-done g c honest sound file stands clash =
     let u = c.args.opened.now in
     let h2 = g.met.P.Pages.writes_honestly c.add_to_prime.new.pages c.add_to_alternates.new.pages c.add_to_alternates.ensures.writes.step honest in
-    let h1 = g.met.P.Pages.writes_honestly c.store.new.pages c.add_to_prime.new.pages c.add_to_prime.ensures.writes.step h2 in
+    let h1 = g.met.P.Pages.writes_honestly c.store.new.pages c.add_to_prime.new.pages c.add_to_prime.ensures.pages.writes.step h2 in
     let put = (c.in_ok-place.ensures.put h1 sound stands.slots _ _ stands.parts).answer in
     let begun : OpenFile = record u { path = None } in
-    let one = but_heap begun c.store.new.opened c.store.ensures.rest in
-    let two = but_prime c.store.new.opened c.add_to_prime.new.opened c.add_to_prime.ensures.rest in
+    let one = but_heap begun c.store.new.opened c.store.ensures.file.rest in
+    let two = but_prime c.store.new.opened c.add_to_prime.new.opened c.add_to_prime.ensures.file.rest in
     let keeps = keeps_on begun c.store.new.opened c.add_to_prime.new.opened one.0 two.0 in
     let alternates = two.1 ∙ one.2 in
-    let all = keeps_on begun c.add_to_prime.new.opened c.add_to_alternates.new.opened keeps (but_alternates c.add_to_prime.new.opened c.add_to_alternates.new.opened c.add_to_alternates.ensures.rest) in
-    let free = free_prime u (g.P.Pages.shown.state c.args.pages.now).live file c.args.bytes.now stands c.requires.shaped.is_schema clash in
+    let all = keeps_on begun c.add_to_prime.new.opened c.add_to_alternates.new.opened keeps (but_alternates c.add_to_prime.new.opened c.add_to_alternates.new.opened c.add_to_alternates.ensures.file.rest) in
+    let free = free_prime u (g.P.Pages.shown.state c.args.pages.now).live file c.args.bytes.now stands c.requires.can.shaped.is_schema clash in
     let prime = ((rw one.0.schema at c.in_ok-add_to_prime.ensures.added) h2 put.1 _ _ _ put.0.parts free).answer in
     let rank = subst (λ s. AreFree u.schema s c.args.bytes.now (length u.alternates.items) (λ j. alt_entries u.schema (j + 1) file.rows)) (sym stands.stamp)
-    (free_rank u.schema file c.args.bytes.now (length u.alternates.items) c.requires.shaped.is_schema stands.sound clash c.requires.shaped.keys) in
+    (free_rank u.schema file c.args.bytes.now (length u.alternates.items) c.requires.can.shaped.is_schema stands.sound clash c.requires.can.shaped.keys) in
     let last = ((rw (keeps.schema, keeps.stamp, alternates) at c.in_ok-add_to_alternates.ensures.added) honest prime.1 _ _ _ (rw alternates at prime.0) rank).answer in
     let many : length c.add_to_alternates.new.opened.alternates.items ≡ length u.alternates.items =
-    (let l = ap (λ (s : Schema). length s.keys) all.schema in omega (arith, l, c.add_to_alternates.ensures.shaped.keys, c.requires.shaped.keys)) in
+    (let l = ap (λ (s : Schema). length s.keys) all.schema in omega (arith, l, c.add_to_alternates.ensures.file.shaped.keys, c.requires.can.shaped.keys)) in
     record {
       answer = (
-        added_stands u _ (g.P.Pages.shown.state c.args.pages.now).live (g.P.Pages.shown.state c.add_to_alternates.new.pages).live file c.args.bytes.now c.in_ok-place.place stands c.requires.shaped c.requires.least c.requires.greatest
-            clash all.schema (ap (λ n. n + 1) all.stamp) c.requires.stamps all.path many put.0.free last.0,
+        added_stands u _ (g.P.Pages.shown.state c.args.pages.now).live (g.P.Pages.shown.state c.add_to_alternates.new.pages).live file c.args.bytes.now c.in_ok-place.place stands c.requires.can.shaped c.requires.can.least c.requires.can.greatest
+            clash all.schema (ap (λ n. n + 1) all.stamp) (c.requires.room.stamps refl) all.path many put.0.free last.0,
         last.1,
       );
       no_damage = tt;
@@ -73,17 +73,17 @@ pub returns-in_err-add_to_alternates-clause-writes : goal.returns-in_err-add_to_
 returns-in_err-add_to_alternates-clause-writes g c =
     record {
       cause =
-          let since = g.met.P.Pages.writes_on c.args.pages.now c.store.new.pages c.add_to_prime.new.pages c.store.ensures.writes.step c.add_to_prime.ensures.writes.step in
+          let since = g.met.P.Pages.writes_on c.args.pages.now c.store.new.pages c.add_to_prime.new.pages c.store.ensures.pages.writes.step c.add_to_prime.ensures.pages.writes.step in
           fails_since c.from_residual-in_err-add_to_alternates.result _ _ _ _ _ c.from_residual-in_err-add_to_alternates.ensures.1 (λ failed. g.met.P.Pages.failed_after c.args.pages.now c.add_to_prime.new.pages c.add_to_alternates.new.pages since failed) (λ none. none) c.in_err-add_to_alternates.ensures.writes.cause;
       asked =
           let begun : OpenFile = record c.args.opened.now { path = None } in
-          let one = but_heap begun c.store.new.opened c.store.ensures.rest in
-          let two = but_prime c.store.new.opened c.add_to_prime.new.opened c.add_to_prime.ensures.rest in
+          let one = but_heap begun c.store.new.opened c.store.ensures.file.rest in
+          let two = but_prime c.store.new.opened c.add_to_prime.new.opened c.add_to_prime.ensures.file.rest in
           let levels = ap levels_in (two.1 ∙ one.2) in
           let height = ap prime_height one.1 in
-          omega (arith, need_in c.args.opened.now.prime c.args.opened.now.alternates.items, levels, height, c.store.ensures.writes.asked, c.add_to_prime.ensures.writes.asked, c.add_to_alternates.ensures.writes.asked);
+          omega (arith, need_in c.args.opened.now.prime c.args.opened.now.alternates.items, levels, height, c.store.ensures.pages.writes.asked, c.add_to_prime.ensures.pages.writes.asked, c.add_to_alternates.ensures.writes.asked);
       step =
-          let since = g.met.P.Pages.writes_on c.args.pages.now c.store.new.pages c.add_to_prime.new.pages c.store.ensures.writes.step c.add_to_prime.ensures.writes.step in
+          let since = g.met.P.Pages.writes_on c.args.pages.now c.store.new.pages c.add_to_prime.new.pages c.store.ensures.pages.writes.step c.add_to_prime.ensures.pages.writes.step in
           g.met.P.Pages.writes_on c.args.pages.now c.add_to_prime.new.pages c.add_to_alternates.new.pages since c.add_to_alternates.ensures.writes.step;
     }
 
@@ -93,12 +93,12 @@ returns-clause-writes g c =
       cause = tt;
       asked =
           let begun : OpenFile = record c.args.opened.now { path = None } in
-          let one = but_heap begun c.store.new.opened c.store.ensures.rest in
-          let two = but_prime c.store.new.opened c.add_to_prime.new.opened c.add_to_prime.ensures.rest in
+          let one = but_heap begun c.store.new.opened c.store.ensures.file.rest in
+          let two = but_prime c.store.new.opened c.add_to_prime.new.opened c.add_to_prime.ensures.file.rest in
           let levels = ap levels_in (two.1 ∙ one.2) in
           let height = ap prime_height one.1 in
-          omega (arith, need_in c.args.opened.now.prime c.args.opened.now.alternates.items, levels, height, c.store.ensures.writes.asked, c.add_to_prime.ensures.writes.asked, c.add_to_alternates.ensures.writes.asked);
+          omega (arith, need_in c.args.opened.now.prime c.args.opened.now.alternates.items, levels, height, c.store.ensures.pages.writes.asked, c.add_to_prime.ensures.pages.writes.asked, c.add_to_alternates.ensures.writes.asked);
       step =
-          let since = g.met.P.Pages.writes_on c.args.pages.now c.store.new.pages c.add_to_prime.new.pages c.store.ensures.writes.step c.add_to_prime.ensures.writes.step in
+          let since = g.met.P.Pages.writes_on c.args.pages.now c.store.new.pages c.add_to_prime.new.pages c.store.ensures.pages.writes.step c.add_to_prime.ensures.pages.writes.step in
           g.met.P.Pages.writes_on c.args.pages.now c.add_to_prime.new.pages c.add_to_alternates.new.pages since c.add_to_alternates.ensures.writes.step;
     }

@@ -107,8 +107,8 @@ returns-in_err-put_in-clause-adds g c =
     let free = done_is u.schema c.args.bytes.now file c.in-Done.repeated told in
     (c.in_err-put_in.ensures.done honest kept file still free).no_damage)
     (record {
-      schema = c.put_in.ensures.schema;
-      ready = record { pages = g.met.P.Pages.begins_ready start last begins c.requires.ready.pages; shaped = c.put_in.ensures.shaped };
+      schema = c.put_in.ensures.keeps.schema;
+      ready = record { pages = g.met.P.Pages.begins_ready start last begins c.requires.ready.pages; shaped = c.put_in.ensures.keeps.shaped };
       begins = begins;
       asked = omega (arith, c.adding.ensures.reads.asked, c.begin.ensures.asked, c.put_in.ensures.writes.asked, need_in u.prime u.alternates.items, heights_few u.prime u.alternates.items, levels_of_all u.prime u.alternates.items);
     })
@@ -147,8 +147,8 @@ returns-clause-adds g c =
     let room = ap (λ n. nat_lt n (need_of_add (heights_of u)) || nat_le (2 ^ 63) u.next_stamp) (sym left) ∙ sym c.is_full.ensures ∙ c.if-is_full.false in
     has_room (heights_of u) (g.P.Pages.shown.state start).available u.next_stamp (clashes u.schema c.args.bytes.now file.rows) file stands.stamp room)
     (record {
-      schema = c.put_in.ensures.schema;
-      ready = record { pages = g.met.P.Pages.begins_ready start last begins c.requires.ready.pages; shaped = c.put_in.ensures.shaped };
+      schema = c.put_in.ensures.keeps.schema;
+      ready = record { pages = g.met.P.Pages.begins_ready start last begins c.requires.ready.pages; shaped = c.put_in.ensures.keeps.shaped };
       begins = begins;
       asked = omega (arith, c.adding.ensures.reads.asked, c.begin.ensures.asked, c.put_in.ensures.writes.asked, need_in u.prime u.alternates.items, heights_few u.prime u.alternates.items, levels_of_all u.prime u.alternates.items);
     })

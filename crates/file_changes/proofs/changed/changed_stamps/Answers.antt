@@ -15,10 +15,10 @@ push_stamp-requires c =
     let u = c.args.opened.now in
     let keys = u.schema.keys in
     let d : KeyPart = record { offset = 0; length = 0; duplicates = false } in
-    let lt : c.loop-j.j + 1 < length keys = omega (arith, c.loop-j-test.true, c.len-j-end.ensures.value, c.requires.shaped.keys) in
+    let lt : c.loop-j.j + 1 < length keys = omega (arith, c.loop-j-test.true, c.len-j-end.ensures.value, c.requires.records.shaped.keys) in
     let many = ap (λ (part : KeyPart). part.duplicates) (sym c.part.ensures.part) ∙ c.if-part.true in
     let stamps = stamps_after u.next_stamp c.args.old.now c.args.new.now (drop 1 keys) c.args.stamps.now in
-    omega (arith, write_room keys d stamps c.loop-j.j c.loop-j.changed.items c.requires.shaped.is_schema.few lt many c.loop-j.invariant)
+    omega (arith, write_room keys d stamps c.loop-j.j c.loop-j.changed.items c.requires.records.shaped.is_schema.few lt many c.loop-j.invariant)
 
 pub loop-j-preserved : goal.loop-j-preserved
 loop-j-preserved c =
@@ -26,8 +26,8 @@ loop-j-preserved c =
     let keys = u.schema.keys in
     let j = c.loop-j.j in
     let d : KeyPart = record { offset = 0; length = 0; duplicates = false } in
-    let lt : j + 1 < length keys = omega (arith, c.loop-j-test.true, c.len-j-end.ensures.value, c.requires.shaped.keys) in
-    let count : length c.args.stamps.now + 1 ≡ length keys = omega (arith, c.requires.stamps, c.requires.shaped.keys) in
+    let lt : j + 1 < length keys = omega (arith, c.loop-j-test.true, c.len-j-end.ensures.value, c.requires.records.shaped.keys) in
+    let count : length c.args.stamps.now + 1 ≡ length keys = omega (arith, c.requires.stamps, c.requires.records.shaped.keys) in
     let stamps = stamps_after u.next_stamp c.args.old.now c.args.new.now (drop 1 keys) c.args.stamps.now in
     let whole = after_many u.next_stamp c.args.old.now c.args.new.now (drop 1 keys) c.args.stamps.now (omega (arith, count, length-drop 1 keys)) in
     let within : j < length stamps = omega (arith, lt, whole, length-drop 1 keys) in
@@ -46,7 +46,7 @@ returns-clause-stored c =
     let u = c.args.opened.now in
     let keys = u.schema.keys in
     let stamps = stamps_after u.next_stamp c.args.old.now c.args.new.now (drop 1 keys) c.args.stamps.now in
-    let all : length keys ≤ c.loop-j.j + 1 = omega (arith, c.loop-j-test.false, c.len-j-end.ensures.value, c.requires.shaped.keys) in
+    let all : length keys ≤ c.loop-j.j + 1 = omega (arith, c.loop-j-test.false, c.len-j-end.ensures.value, c.requires.records.shaped.keys) in
     let whole = write_whole keys stamps c.loop-j.j c.loop-j.changed.items all c.loop-j.invariant in
     ap (λ bs. bs ++ c.args.new.now) whole.0
 
@@ -55,6 +55,6 @@ returns-clause-length c =
     let u = c.args.opened.now in
     let keys = u.schema.keys in
     let stamps = stamps_after u.next_stamp c.args.old.now c.args.new.now (drop 1 keys) c.args.stamps.now in
-    let all : length keys ≤ c.loop-j.j + 1 = omega (arith, c.loop-j-test.false, c.len-j-end.ensures.value, c.requires.shaped.keys) in
+    let all : length keys ≤ c.loop-j.j + 1 = omega (arith, c.loop-j-test.false, c.len-j-end.ensures.value, c.requires.records.shaped.keys) in
     let whole = write_whole keys stamps c.loop-j.j c.loop-j.changed.items all c.loop-j.invariant in
-    whole.1 ∙ sym c.requires.shaped.stamps
+    whole.1 ∙ sym c.requires.records.shaped.stamps

@@ -22,7 +22,7 @@ loop-j-init g c =
         sound,
       );
       rest = refl;
-      shaped = c.requires.shaped;
+      shaped = c.requires.can.shaped;
       many = refl;
       asked = omega arith;
     }
@@ -36,7 +36,7 @@ loop-j-preserved g c =
     let u = c.loop-j.opened in
     let new = c.remove_from_alternate.new.opened in
     let inv = c.loop-j.invariant in
-    let step = c.remove_from_alternate.ensures in
+    let step = c.remove_from_alternate.ensures.alternate in
     let row = row_with c.args.bytes.now c.args.stamps.now in
     let lt : j < length u.alternates.items = omega (arith, c.loop-j-test.true, c.len-j-end.ensures.value, inv.many) in
     let index = found_at u.alternates.items j lt in
@@ -69,7 +69,7 @@ returns-in_err-remove_from_alternate-clause-removed g c honest sound slots prime
     let inv = c.loop-j.invariant in
     let row = row_with c.args.bytes.now c.args.stamps.now in
     let within : j < length c.args.opened.now.alternates.items = omega (arith, c.loop-j-test.true, c.len-j-end.ensures.value) in
-    let before = g.met.P.Pages.writes_honestly now later c.remove_from_alternate.ensures.goes honest in
+    let before = g.met.P.Pages.writes_honestly now later c.remove_from_alternate.ensures.alternate.goes honest in
     let had = inv.removed before sound slots primes entries p there in
     let schema = ap (λ (o : OpenFile). o.schema) inv.rest in
     let here = without_here c.args.opened.now.schema row j entries in
@@ -87,10 +87,10 @@ returns-in_err-remove_from_alternate-clause-writes g c =
     let index = found_at opened.alternates.items c.loop-j.j lt in
     let levels = levels_dropped opened.alternates.items c.loop-j.j index.0 lt index.1 in
     record {
-      cause = fails_since c.from_residual.result _ _ _ _ _ c.from_residual.ensures.1 (λ failed. g.met.P.Pages.failed_after start now later inv.goes failed) (λ none. none)
-          c.in_err-remove_from_alternate.ensures.cause;
-      asked = omega (arith, levels, inv.asked, c.remove_from_alternate.ensures.asked index.0 index.1);
-      step = g.met.P.Pages.writes_on start now later inv.goes c.remove_from_alternate.ensures.goes;
+      cause = fails_since c.from_residual.result _ _ _ _ _ c.from_residual.ensures.1 (λ failed. g.met.P.Pages.failed_after start now later inv.goes failed) (λ none. omega (arith, none))
+          (c.in_err-remove_from_alternate.ensures.alternate.cause index.0 index.1);
+      asked = omega (arith, levels, inv.asked, c.remove_from_alternate.ensures.alternate.asked index.0 index.1);
+      step = g.met.P.Pages.writes_on start now later inv.goes c.remove_from_alternate.ensures.alternate.goes;
     }
 
 pub returns-clause-removed : goal.returns-clause-removed

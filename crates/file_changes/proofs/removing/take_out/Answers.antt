@@ -13,8 +13,8 @@ pub returns-in_err-remove_from_alternates-clause-out : goal.returns-in_err-remov
 returns-in_err-remove_from_alternates-clause-out g c honest sound slots primes entries p has =
     let before = g.met.P.Pages.writes_honestly c.remove_from_prime.new.pages c.remove_from_alternates.new.pages c.remove_from_alternates.ensures.writes.step honest in
     let prime = (c.in_ok-remove_from_prime.ensures.removed before sound slots primes entries p has.in_prime).answer in
-    let schema = ap (λ (o : OpenFile). o.schema) c.remove_from_prime.ensures.rest in
-    let alternates = ap (λ (o : OpenFile). o.alternates.items) c.remove_from_prime.ensures.rest in
+    let schema = ap (λ (o : OpenFile). o.schema) c.remove_from_prime.ensures.file.rest in
+    let alternates = ap (λ (o : OpenFile). o.alternates.items) c.remove_from_prime.ensures.file.rest in
     let failed = (rw (schema, alternates, c.as_slice.ensures.value) at c.in_err-remove_from_alternates.ensures.removed) honest prime.1 slots _ entries (rw alternates at prime.0) has.in_alternates in
     fails c.from_residual-in_err-remove_from_alternates.result _ c.from_residual-in_err-remove_from_alternates.ensures.1 failed.no_damage _
 
@@ -26,8 +26,8 @@ returns-clause-out g c honest sound slots primes entries p has =
     let h2 = g.met.P.Pages.writes_honestly second last c.free_slot.ensures.writes.step honest in
     let h1 = g.met.P.Pages.writes_honestly first second c.remove_from_alternates.ensures.writes.step h2 in
     let prime = (c.in_ok-remove_from_prime.ensures.removed h1 sound slots primes entries p has.in_prime).answer in
-    let schema = ap (λ (o : OpenFile). o.schema) c.remove_from_prime.ensures.rest in
-    let alternates = ap (λ (o : OpenFile). o.alternates.items) c.remove_from_prime.ensures.rest in
+    let schema = ap (λ (o : OpenFile). o.schema) c.remove_from_prime.ensures.file.rest in
+    let alternates = ap (λ (o : OpenFile). o.alternates.items) c.remove_from_prime.ensures.file.rest in
     let rest = ((rw (schema, alternates, c.as_slice.ensures.value) at c.in_ok-remove_from_alternates.ensures.removed) h2 prime.1 slots _ entries (rw alternates at prime.0) has.in_alternates).answer in
     c.free_slot.ensures.freed honest rest.1 slots _ _ rest.0 has.in_heap
 

@@ -1,13 +1,12 @@
-use Rattle.std.proofs.Common.{ℕ, ◌+◌, ◌≤◌, ◌<◌, length, refl, ap, sym, ◌∙◌, arith}
+use Rattle.std.proofs.Common.{◌+◌, ◌<◌, length, refl, ap, sym, ◌∙◌, arith}
 use Rattle.record_layout.specs.Schema.{value_of}
 use Rattle.key_index.specs.Entries.{with_alt, without_rank}
-use Rattle.key_index.specs.Standing.{alt_height}
 use Rattle.file_changes.specs.Adding.{entry_of}
 use Rattle.open_file.specs.Parts.{but_at}
 use Rattle.open_file.specs.declared.open_file.OpenFile.{OpenFile}
 use Rattle.open_file.proofs.ExitLemmas.{fails, if_ok}
 use Rattle.open_file.proofs.PartsLemmas.{said_so, found_at}
-use Rattle.pages.proofs.CauseLemmas.{caused_since}
+use Rattle.pages.proofs.CauseLemmas.{caused_since, fails_since}
 use Rattle.file_changes.proofs.ChangingLemmas.{but_here, but_twice}
 use Rattle.file_changes.proofs.replacing.change_alternate.Goals as goal
 
@@ -22,12 +21,12 @@ returns-clause-changed g c honest sound slots primes entries p can =
     let now = c.remove_from_alternate.new.pages in
     let last = c.add_to_alternate.new.pages in
     let new = c.add_to_alternate.new.opened in
-    let before = g.met.P.Pages.writes_honestly now last c.add_to_alternate.ensures.goes honest in
+    let before = g.met.P.Pages.writes_honestly now last c.add_to_alternate.ensures.alternate.goes honest in
     let left = without_rank (value_of u.schema (j + 1) c.args.old.now) c.args.stamp (entries j) in
     let entry = entry_of u.schema u.next_stamp c.args.bytes.now j in
     let out = (c.in_ok-remove_from_alternate.ensures.removed before sound slots primes entries p can.there).answer in
-    let schema = ap (λ (o : OpenFile). o.schema) c.remove_from_alternate.ensures.rest in
-    let next = ap (λ (o : OpenFile). o.next_stamp) c.remove_from_alternate.ensures.rest in
+    let schema = ap (λ (o : OpenFile). o.schema) c.remove_from_alternate.ensures.alternate.rest in
+    let next = ap (λ (o : OpenFile). o.next_stamp) c.remove_from_alternate.ensures.alternate.rest in
     let added = (rw (schema, next) at c.add_to_alternate.ensures.added) honest out.1 slots primes (but_at j left entries) out.0 (rw (but_here j left entries) can.freed) in
     record {
       answer = if_ok c.add_to_alternate.result _ _ (λ x done. (
@@ -38,34 +37,44 @@ returns-clause-changed g c honest sound slots primes entries p can =
       no_damage = added.no_damage;
     }
 
-lower : (a b : ℕ) → a ≤ b → (old now : ℕ) → old ≤ now → now < a + 1 → old < b + 1
-lower a b less old now few lacks = omega (arith, less, few, lacks)
+pub returns-in_err-remove_from_alternate-clause-alternate : goal.returns-in_err-remove_from_alternate-clause-alternate
+returns-in_err-remove_from_alternate-clause-alternate g c =
+    let out = c.remove_from_alternate.ensures.alternate in
+    record {
+      rest = out.rest;
+      shaped = out.shaped;
+      later = out.later;
+      many = out.many;
+      few = λ index is. omega (arith, out.few index is);
+      cause = λ index is. fails_since c.from_residual.result _ _ _ _ _ c.from_residual.ensures.1 (λ failed. failed) (λ none. omega (arith, none)) (c.in_err-remove_from_alternate.ensures.alternate.cause index is);
+      asked = λ index is. omega (arith, out.asked index is);
+      goes = out.goes;
+    }
 
-pub returns-clause-few : goal.returns-clause-few
-returns-clause-few g c index is =
-    let mid = c.remove_from_alternate.new.opened in
-    let lt : c.args.j < length mid.alternates.items = omega (arith, c.requires.index, c.remove_from_alternate.ensures.many) in
-    let later = found_at mid.alternates.items c.args.j lt in
-    let less = c.in_ok-remove_from_alternate.ensures.height index later.0 is later.1 in
-    omega (arith, less, c.remove_from_alternate.ensures.few, c.add_to_alternate.ensures.few later.0 later.1)
-
-pub returns-clause-asked : goal.returns-clause-asked
-returns-clause-asked g c index is =
-    let mid = c.remove_from_alternate.new.opened in
-    let lt : c.args.j < length mid.alternates.items = omega (arith, c.requires.index, c.remove_from_alternate.ensures.many) in
-    let later = found_at mid.alternates.items c.args.j lt in
-    let less = c.in_ok-remove_from_alternate.ensures.height index later.0 is later.1 in
-    omega (arith, less, c.remove_from_alternate.ensures.asked index is, c.add_to_alternate.ensures.asked later.0 later.1)
-
-pub returns-clause-cause : goal.returns-clause-cause
-returns-clause-cause g c index is =
-    let mid = c.remove_from_alternate.new.opened in
+pub returns-clause-alternate : goal.returns-clause-alternate
+returns-clause-alternate g c =
     let start = c.args.pages.now in
     let now = c.remove_from_alternate.new.pages in
     let last = c.add_to_alternate.new.pages in
-    let lt : c.args.j < length mid.alternates.items = omega (arith, c.requires.index, c.remove_from_alternate.ensures.many) in
+    let mid = c.remove_from_alternate.new.opened in
+    let new = c.add_to_alternate.new.opened in
+    let out = c.remove_from_alternate.ensures.alternate in
+    let put = c.add_to_alternate.ensures.alternate in
+    let lt : c.args.j < length mid.alternates.items = omega (arith, c.requires.index, out.many) in
     let later = found_at mid.alternates.items c.args.j lt in
-    let less = c.in_ok-remove_from_alternate.ensures.height index later.0 is later.1 in
-    caused_since c.add_to_alternate.result _ _ _ _ (λ failed. g.met.P.Pages.failed_after start now last c.remove_from_alternate.ensures.goes failed)
-    (λ lacks. lower (alt_height later.0) (alt_height index) less (g.P.Pages.shown.state start).available (g.P.Pages.shown.state now).available c.remove_from_alternate.ensures.few lacks)
-    (c.add_to_alternate.ensures.cause later.0 later.1)
+    record {
+      rest = put.rest ∙ ap (λ (o : OpenFile). record o { alternates = new.alternates }) out.rest;
+      shaped = put.shaped;
+      later = put.later ∙ out.later;
+      many = put.many ∙ out.many;
+      few = λ index is.
+          let less = c.in_ok-remove_from_alternate.ensures.height index later.0 is later.1 in
+          omega (arith, less, out.few index is, put.few later.0 later.1);
+      cause = λ index is.
+          let less = c.in_ok-remove_from_alternate.ensures.height index later.0 is later.1 in
+          caused_since c.add_to_alternate.result _ _ _ _ (λ failed. g.met.P.Pages.failed_after start now last out.goes failed) (λ lacks. omega (arith, lacks, less, out.few index is)) (put.cause later.0 later.1);
+      asked = λ index is.
+          let less = c.in_ok-remove_from_alternate.ensures.height index later.0 is later.1 in
+          omega (arith, less, out.asked index is, put.asked later.0 later.1);
+      goes = g.met.P.Pages.writes_on start now last out.goes put.goes;
+    }

@@ -28,7 +28,7 @@ loop-j-init g c =
         sound,
       );
       rest = refl;
-      shaped = c.requires.shaped;
+      shaped = c.requires.can.shaped;
       many = refl;
       room = c.requires.room;
       asked = omega arith;
@@ -49,14 +49,14 @@ loop-j-preserved g c =
     let next = ap (λ (o : OpenFile). o.next_stamp) inv.rest in
     let lt : j < length unit.alternates.items = omega (arith, c.loop-j-test.true, c.len-j-end.ensures.value, inv.many) in
     let within : j < length u.alternates.items = omega (arith, lt, inv.many) in
-    let keys : length u.schema.keys ≡ length unit.alternates.items + 1 = omega (arith, c.requires.shaped.keys, inv.many) in
+    let keys : length u.schema.keys ≡ length unit.alternates.items + 1 = omega (arith, c.requires.can.shaped.keys, inv.many) in
     let index = found_at unit.alternates.items j lt in
     let need = need_step u.schema old bytes unit.alternates.items j index.0 keys lt index.1 in
     elim c.if-differs.branch [
       | then-differs+in_ok-change_alternate w ↦
           let later = w.change_alternate.new.pages in
           let new = w.change_alternate.new.opened in
-          let step = w.change_alternate.ensures in
+          let step = w.change_alternate.ensures.alternate in
           let moves : stays u.schema old bytes j ≡ false = was_false _ (sym (rw schema at c.differs.ensures) ∙ w.if-differs.true) in
           let here = ap (λ b. if b then 0 else alt_height index.0 + 1) moves in
           let left : need_from u.schema old bytes new.alternates.items (j + 1) ≡ need_from u.schema old bytes unit.alternates.items (j + 1) =
@@ -98,8 +98,8 @@ loop-j-preserved g c =
           })
     ]
 
-pub returns-in_err-change_alternate-clause-changed : goal.returns-in_err-change_alternate-clause-changed
-returns-in_err-change_alternate-clause-changed g c honest sound slots primes entries p asked =
+pub returns-in_err-change_alternate-clause-put : goal.returns-in_err-change_alternate-clause-put
+returns-in_err-change_alternate-clause-put g c honest sound slots primes entries p asked =
     let there = asked.0 in
     let free = asked.1 in
     let u = c.args.opened.now in
@@ -112,7 +112,7 @@ returns-in_err-change_alternate-clause-changed g c honest sound slots primes ent
     let next = ap (λ (o : OpenFile). o.next_stamp) inv.rest in
     let within : j < length u.alternates.items = omega (arith, c.loop-j-test.true, c.len-j-end.ensures.value) in
     let moves : stays u.schema c.args.old.now c.args.bytes.now j ≡ false = was_false _ (sym (rw schema at c.differs.ensures) ∙ c.if-differs.true) in
-    let before = g.met.P.Pages.writes_honestly now later c.change_alternate.ensures.goes honest in
+    let before = g.met.P.Pages.writes_honestly now later c.change_alternate.ensures.alternate.goes honest in
     let had = inv.changed before sound slots primes entries p there free in
     let was = changed_here u.schema u.next_stamp row c.args.bytes.now j entries in
     let failed = (rw (schema, next, sym (stamp_in_key j row)) at c.in_err-change_alternate.ensures.changed) honest had.1 slots primes (changed_below u.schema u.next_stamp row c.args.bytes.now j entries) had.0
@@ -127,19 +127,19 @@ returns-in_err-change_alternate-clause-writes g c =
     let inv = c.loop-j.invariant in
     let schema = ap (λ (o : OpenFile). o.schema) inv.rest in
     let lt : j < length unit.alternates.items = omega (arith, c.loop-j-test.true, c.len-j-end.ensures.value, inv.many) in
-    let keys : length u.schema.keys ≡ length unit.alternates.items + 1 = omega (arith, c.requires.shaped.keys, inv.many) in
+    let keys : length u.schema.keys ≡ length unit.alternates.items + 1 = omega (arith, c.requires.can.shaped.keys, inv.many) in
     let index = found_at unit.alternates.items j lt in
     let need = need_step u.schema c.args.old.now c.args.bytes.now unit.alternates.items j index.0 keys lt index.1 in
     let moves : stays u.schema c.args.old.now c.args.bytes.now j ≡ false = was_false _ (sym (rw schema at c.differs.ensures) ∙ c.if-differs.true) in
     let here = ap (λ b. if b then 0 else alt_height index.0 + 1) moves in
     record {
       cause = fails_since c.from_residual.result _ _ _ _ _ c.from_residual.ensures.1 (λ failed. g.met.P.Pages.failed_after c.args.pages.now c.loop-j.pages c.change_alternate.new.pages inv.goes failed)
-          (λ lacks. omega (arith, lacks, need, here, inv.room)) (c.in_err-change_alternate.ensures.cause index.0 index.1);
-      asked = omega (arith, need, here, inv.asked, c.change_alternate.ensures.asked index.0 index.1);
-      step = g.met.P.Pages.writes_on c.args.pages.now c.loop-j.pages c.change_alternate.new.pages inv.goes c.change_alternate.ensures.goes;
+          (λ lacks. omega (arith, lacks, need, here, inv.room)) (c.in_err-change_alternate.ensures.alternate.cause index.0 index.1);
+      asked = omega (arith, need, here, inv.asked, c.change_alternate.ensures.alternate.asked index.0 index.1);
+      step = g.met.P.Pages.writes_on c.args.pages.now c.loop-j.pages c.change_alternate.new.pages inv.goes c.change_alternate.ensures.alternate.goes;
     }
 
-pub returns-clause-changed : goal.returns-clause-changed
-returns-clause-changed g c honest sound slots primes entries p asked =
+pub returns-clause-put : goal.returns-clause-put
+returns-clause-put g c honest sound slots primes entries p asked =
     let e : c.loop-j.j ≡ length c.args.opened.now.alternates.items = omega (arith, c.loop-j-test.false, c.loop-j.auto.j-end, c.len-j-end.ensures.value) in
     record { answer = rw e at (c.loop-j.invariant.changed honest sound slots primes entries p asked.0 asked.1); no_damage = tt }

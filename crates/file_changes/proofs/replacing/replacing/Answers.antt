@@ -19,13 +19,18 @@ loop-k-init g c =
       reads = g.met.P.Pages.reads_nothing start;
       seen = λ honest file stands row is same.
           let one = is_one u.schema file (prime_of u.schema c.args.bytes.now) row stands.sound is in
-          let some : 0 < length u.schema.keys = omega (arith, c.requires.shaped.keys) in
-          rw same at (seen_start u.schema file.next_stamp c.args.bytes.now row file.rows some c.requires.shaped.is_schema.keys (file_rows u.schema file stands.sound) one.fit one.first one.has);
+          let some : 0 < length u.schema.keys = omega (arith, c.requires.can.shaped.keys) in
+          rw same at (seen_start u.schema file.next_stamp c.args.bytes.now row file.rows some c.requires.can.shaped.is_schema.keys (file_rows u.schema file stands.sound) one.fit one.first one.has);
       asked = asked_more asked asked asked (heights_of u) 0 (omega (arith, heights_many u.prime u.alternates.items)) (omega arith) (asked_start asked (heights_of u));
     }
 
-pub is_new_there-requires-clause-ready : goal.is_new_there-requires-clause-ready
-is_new_there-requires-clause-ready g c = g.met.P.Pages.writes_ready c.args.pages.now c.loop-k.pages (g.met.P.Pages.reads_writes c.args.pages.now c.loop-k.pages c.loop-k.invariant.reads) c.requires.ready
+pub is_new_there-requires-clause-can : goal.is_new_there-requires-clause-can
+is_new_there-requires-clause-can g c =
+    record {
+      ready = g.met.P.Pages.writes_ready c.args.pages.now c.loop-k.pages (g.met.P.Pages.reads_writes c.args.pages.now c.loop-k.pages c.loop-k.invariant.reads) c.requires.can.ready;
+      shaped = c.requires.can.shaped;
+      least = c.requires.can.least;
+    }
 
 pub loop-k-preserved : goal.loop-k-preserved
 loop-k-preserved g c =
@@ -50,7 +55,7 @@ loop-k-preserved g c =
             | else-branch w ↦ rw w.repeated-is (seen_none u.schema c.args.old.now c.args.bytes.now file.rows k c.loop-k.repeated lt told (sym there ∙ w.if-branch.false) on)
           ];
       asked = asked_more (g.P.Pages.shown.state start).asked (g.P.Pages.shown.state now).asked (g.P.Pages.shown.state later).asked (heights_of u) k
-          (omega (arith, lt, c.requires.shaped.keys, heights_many u.prime u.alternates.items)) c.is_new_there.ensures.reads.asked c.loop-k.invariant.asked;
+          (omega (arith, lt, c.requires.can.shaped.keys, heights_many u.prime u.alternates.items)) c.is_new_there.ensures.reads.asked c.loop-k.invariant.asked;
     }
 
 pub returns-in_err-is_new_there-clause-found : goal.returns-in_err-is_new_there-clause-found
@@ -84,7 +89,7 @@ returns-then-not-part-clause-reads g c =
           let lt : c.loop-k.k < length u.schema.keys = omega (arith, c.loop-k-test.true, c.key_count-k-end.ensures.count) in
           asked_in_all (g.P.Pages.shown.state c.args.pages.now).asked (g.P.Pages.shown.state c.is_new_there.new.pages).asked (heights_of u) (c.loop-k.k + 1)
           (asked_more (g.P.Pages.shown.state c.args.pages.now).asked (g.P.Pages.shown.state c.loop-k.pages).asked (g.P.Pages.shown.state c.is_new_there.new.pages).asked (heights_of u) c.loop-k.k
-          (omega (arith, lt, c.requires.shaped.keys, heights_many u.prime u.alternates.items)) c.is_new_there.ensures.reads.asked c.loop-k.invariant.asked);
+          (omega (arith, lt, c.requires.can.shaped.keys, heights_many u.prime u.alternates.items)) c.is_new_there.ensures.reads.asked c.loop-k.invariant.asked);
       step = grind (arith, common_steps);
     }
 

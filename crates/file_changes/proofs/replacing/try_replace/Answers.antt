@@ -5,8 +5,9 @@ use Rattle.indexed_file.specs.Room.{is_full_at}
 use Rattle.open_file.specs.InOrder.{prime_entries}
 use Rattle.file_changes.specs.Old.{IsOldAt, row_with}
 use Rattle.open_file.specs.Stands.{Stands, room_of}
+use Rattle.open_file.proofs.ExitLemmas.{if_ok}
 use Rattle.open_file.proofs.StampedLemmas.{few_stamps}
-use Rattle.file_changes.proofs.EndingLemmas.{stopped, not_made, replaced_begun, replaced_rests}
+use Rattle.file_changes.proofs.EndingLemmas.{stopped, not_made}
 use Rattle.file_changes.proofs.LevelLemmas.{heights_few, levels_of_all}
 use Rattle.file_changes.proofs.FoundLemmas.{old_at}
 use Rattle.pages.proofs.CauseLemmas.{caused_since}
@@ -76,36 +77,37 @@ returns-clause-replaces g c =
     let last = c.replace_old.new.pages in
     let prime = prime_of u.schema c.args.bytes.now in
     let row = row_with c.record_in-before.result.now c.in-Some.old.stamps.items in
-    let begins = g.met.P.Pages.begins_on start looked last (g.met.P.Pages.writes_begins start looked (g.met.P.Pages.reads_writes start looked step)) c.replace_old.ensures.begins in
+    let found = c.replace_old.ensures.replaces in
+    let begins = g.met.P.Pages.begins_on start looked last (g.met.P.Pages.writes_begins start looked (g.met.P.Pages.reads_writes start looked step)) found.keeps.begins in
     let reads = g.met.P.Pages.reads_on start looked last step in
     record {
       done = λ honest sound file stands.
-          let h1 = g.met.P.Pages.begins_honestly looked last c.replace_old.ensures.begins honest in
+          let h1 = g.met.P.Pages.begins_honestly looked last found.keeps.begins honest in
           let live = g.met.P.Pages.reads_live start looked step h1 in
           let kept = g.met.P.Pages.reads_sound start looked step h1 ∙ sound in
           let is = (rw (c.value-prime.ensures.value, c.in-Some.is) at c.in_ok-old.ensures.found h1 file stands).answer in
           let at = old_at u.schema stands.slots (prime_entries u.schema stands.places file.rows) file prime c.find_old.new.slot c.record_in-before.result.now c.in-Some.old is c.record_in-before.ensures.bytes in
           let moved = subst (λ p. (s : Stands u p file) × IsOldAt u.schema s.slots (prime_entries u.schema s.places file.rows) file prime c.in-Some.old.place row) (sym live) (stands, at) in
-          c.replace_old.ensures.replaced honest kept file moved.0 moved.1;
-      unmade = replaced_rests _ c.replace_old.result (λ is. let clash = c.replace_old.ensures.clash is in (clash.0, reads clash.1)) c.replace_old.ensures.some;
-      begun = replaced_begun _ c.replace_old.result c.replace_old.ensures.gate c.replace_old.ensures.some;
+          found.done honest kept file moved.0 moved.1;
+      unmade = if_ok c.replace_old.result _ _ (λ x unmade none. let same = unmade none in (same.0, reads same.1)) found.unmade;
+      begun = found.begun;
       room = λ honest file stands.
-          let h1 = g.met.P.Pages.begins_honestly looked last c.replace_old.ensures.begins honest in
+          let h1 = g.met.P.Pages.begins_honestly looked last found.keeps.begins honest in
           let still = subst (λ p. Stands u p file) (sym (g.met.P.Pages.reads_live start looked step h1)) stands in
           let is = (rw (c.value-prime.ensures.value, c.in-Some.is) at c.in_ok-old.ensures.found h1 file stands).answer in
           let at = old_at u.schema stands.slots (prime_entries u.schema stands.places file.rows) file prime c.find_old.new.slot c.record_in-before.result.now c.in-Some.old is c.record_in-before.ensures.bytes in
-          rw (g.met.P.Pages.reads_available start looked step) at (c.replace_old.ensures.room honest file still at.is_row);
-      full = λ is. let full = c.replace_old.ensures.full is in (full.0, reads full.1);
+          rw (g.met.P.Pages.reads_available start looked step) at (found.room honest file still at.is_row);
+      full = λ is. let full = found.full is in (full.0, reads full.1);
       lacks = λ is honest file stands.
-          let h1 = g.met.P.Pages.begins_honestly looked last c.replace_old.ensures.begins honest in
+          let h1 = g.met.P.Pages.begins_honestly looked last found.keeps.begins honest in
           let still = subst (λ p. Stands u p file) (sym (g.met.P.Pages.reads_live start looked step h1)) stands in
-          let found = (rw (c.value-prime.ensures.value, c.in-Some.is) at c.in_ok-old.ensures.found h1 file stands).answer in
-          let at = old_at u.schema stands.slots (prime_entries u.schema stands.places file.rows) file prime c.find_old.new.slot c.record_in-before.result.now c.in-Some.old found c.record_in-before.ensures.bytes in
-          rw (g.met.P.Pages.reads_available start looked step) at ((c.replace_old.ensures.full is).2 honest file still at.is_row);
+          let told = (rw (c.value-prime.ensures.value, c.in-Some.is) at c.in_ok-old.ensures.found h1 file stands).answer in
+          let at = old_at u.schema stands.slots (prime_entries u.schema stands.places file.rows) file prime c.find_old.new.slot c.record_in-before.result.now c.in-Some.old told c.record_in-before.ensures.bytes in
+          rw (g.met.P.Pages.reads_available start looked step) at (found.lacks is honest file still at.is_row);
       keeps = record {
-        schema = c.replace_old.ensures.schema;
-        ready = record { pages = g.met.P.Pages.begins_ready start last begins c.requires.ready.pages; shaped = c.replace_old.ensures.shaped };
+        schema = found.keeps.schema;
+        ready = record { pages = g.met.P.Pages.begins_ready start last begins c.requires.ready.pages; shaped = found.keeps.shaped };
         begins = begins;
-        asked = omega (arith, c.find_old.ensures.reads.asked, c.replace_old.ensures.asked, heights_few u.prime u.alternates.items, levels_of_all u.prime u.alternates.items);
+        asked = omega (arith, c.find_old.ensures.reads.asked, found.keeps.asked, heights_few u.prime u.alternates.items, levels_of_all u.prime u.alternates.items);
       };
     }
