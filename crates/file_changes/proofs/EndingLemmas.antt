@@ -1,6 +1,6 @@
 -- How a change of an open file ends: it failed, it was not made, or it was made.
-use Rattle.std.proofs.Common.{◌≡◌, ◌≢◌, ℕ, List, Bool, true, false, Result, Ok, Err, IsTrue, IsFalse, IfErr, refl, sym, ◌∙◌}
-use Rattle.std.specs.Prelude.{IsErrAnd, not, ◌||◌}
+use Rattle.std.proofs.Common.{◌≡◌, ◌≢◌, ◌+◌, ◌*◌, ◌≤◌, ℕ, List, Bool, true, false, Result, Ok, Err, IsTrue, IsFalse, IfErr, refl, sym, ◌∙◌}
+use Rattle.std.specs.Prelude.{sum_by, IsErrAnd, not, ◌||◌}
 use Rattle.std.proofs.lemmas.Result.{err_from_is_err_and}
 use Rattle.io_state.specs.declared.fault.Fault.{Fault}
 use Rattle.io_state.specs.declared.fault.Fault.TheVariants.{Device, Memory, Full, Damage, Broken}
@@ -10,7 +10,9 @@ use Rattle.indexed_file.specs.declared.answer.Replaced.{Replaced}
 use Rattle.record_layout.specs.Schema.{prime_of}
 use Rattle.pages.specs.Cause.{IsCaused}
 use Rattle.pages.specs.ShownPages.{ShownPages}
-use Rattle.open_file.specs.Stands.{Stands}
+use Rattle.open_file.specs.Stands.{Stands, IsShaped, heights_of, room_of}
+use Rattle.indexed_file.specs.Room.{most_to_change}
+use Rattle.file_changes.specs.Adding.{levels_in}
 use Rattle.open_file.specs.declared.open_file.OpenFile.{OpenFile}
 use Rattle.indexed_file.specs.FileChange.{FileChange}
 use Rattle.file_changes.specs.Changes.{HasChanged, KeepsFile, Changes, MayBreak}
@@ -28,6 +30,11 @@ not_full fault other is = other (cc)
 
 no_fault : {X : Type 0} (x : X) → ◌≡◌ {A = Result X Fault} (Ok x) (Err Full) → ⊥
 no_fault x is = cc
+
+-- what is kept, of the parts that were left
+pub kept : {S : Type 0} (shown : ShownPages S) (before after : FileInPages S) → after.file.schema ≡ before.file.schema → shown.IsReady after.pages → IsShaped after.file → shown.Begins before.pages after.pages
+    → (shown.state after.pages).asked ≤ (shown.state before.pages).asked + most_to_change (room_of before.file (shown.state before.pages).available) → KeepsFile (shown_in shown) before after
+kept shown before after schema ready shaped begins asked = record { schema = schema; ready = record { pages = ready; shaped = shaped }; begins = begins; asked = asked }
 
 module _ {S X : Type 0} (shown : ShownPages S) (change : FileChange X) (before after : FileInPages S) where
   -- what is said of the answer, and of room, where the file stood for something
@@ -173,6 +180,12 @@ broken_breaks shown held broken takes reads = record {
 }
 
 -- ---- a record whose row was found
+
+pub found_kept : {S : Type 0} (shown : ShownPages S) (before after : FileInPages S) → after.file.schema ≡ before.file.schema → after.file.broken ≡ before.file.broken → IsShaped after.file
+    → shown.Begins before.pages after.pages
+    → (shown.state after.pages).asked ≤ (shown.state before.pages).asked + 2 * sum_by (λ height. height) (heights_of before.file) + 1 + 16 * levels_in before.file.alternates.items
+    → KeepsFound shown before after
+found_kept shown before after schema broken shaped begins asked = record { schema = schema; broken = broken; shaped = shaped; begins = begins; asked = asked }
 
 module _ {S : Type 0} (shown : ShownPages S) (old : OldRecord) (was bytes : List ℕ) (before after : FileInPages S) where
   -- a fault other than Full

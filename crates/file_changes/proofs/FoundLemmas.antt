@@ -11,7 +11,8 @@ use Rattle.pages.specs.PageMap.{PageMap}
 use Rattle.key_index.specs.declared.entry.PrimeEntry.{PrimeEntry}
 use Rattle.key_index.specs.Entries.{has_prime}
 use Rattle.record_heap.specs.Chain.{Slots}
-use Rattle.open_file.specs.InOrder.{prime_entries}
+use Rattle.open_file.specs.InOrder.{alt_entries, prime_entries}
+use Rattle.open_file.specs.Parts.{Parts}
 use Rattle.open_file.specs.Stored.{stored, stamp_bytes, stamps_length}
 use Rattle.open_file.specs.ReadOff.{stamps_off}
 use Rattle.open_file.specs.Stands.{Stands}
@@ -25,6 +26,12 @@ use Rattle.open_file.proofs.ReadLemmas.{record_part, stored_length}
 use Rattle.open_file.proofs.ReadOffLemmas.{stamps_back}
 use Rattle.open_file.proofs.RowLemmas.{row_is_first, each_row}
 use Rattle.file_changes.proofs.RemovedLemmas.{file_rows}
+
+-- the parts, at a later moment at which the pages show the same
+pub parts_later : {u : OpenFile} {before after : PageMap} {file : File} (stands : Stands u before file) → after ≡ before
+    → Parts u.heap u.prime u.alternates.items after stands.slots (prime_entries u.schema stands.places file.rows) (λ j. alt_entries u.schema (j + 1) file.rows)
+parts_later {u} {before} {after} {file} stands same =
+    subst (λ p. Parts u.heap u.prime u.alternates.items p stands.slots (prime_entries u.schema stands.places file.rows) (λ j. alt_entries u.schema (j + 1) file.rows)) (sym same) stands.parts
 
 -- the row to which the entry leads
 pub leads_to : (u : OpenFile) (pages : PageMap) (file : File) (stands : Stands u pages file) (prime : List ℕ) (entry : PrimeEntry) → find (has_prime prime) (prime_entries u.schema stands.places file.rows) ≡ Some entry

@@ -5,7 +5,7 @@ use Rattle.indexed_file.specs.Change.{clashes}
 use Rattle.open_file.specs.Stands.{Stands, heights_of}
 use Rattle.pages.proofs.CauseLemmas.{fails_since}
 use Rattle.open_file.proofs.LookLemmas.{done_is, clash_is, has_room}
-use Rattle.file_changes.proofs.EndingLemmas.{stopped, lacking, not_made, made}
+use Rattle.file_changes.proofs.EndingLemmas.{kept, stopped, lacking, not_made, made}
 use Rattle.file_changes.proofs.LevelLemmas.{need_in, heights_few, levels_of_all}
 use Rattle.file_changes.proofs.adding.try_add.Goals as goal
 
@@ -16,12 +16,7 @@ returns-in_err-repeated-clause-adds g c =
     let begins = g.met.P.Pages.writes_begins start looked (g.met.P.Pages.reads_writes start looked c.adding.ensures.reads.step) in
     stopped _ _ _ _ c.from_residual.result _ c.from_residual.ensures.1 c.in_err-repeated.ensures.reads.cause.full
     (λ honest sound file stands. (c.in_err-repeated.ensures.found honest file stands).no_damage)
-    (record {
-      schema = refl;
-      ready = record { pages = g.met.P.Pages.begins_ready start looked begins c.requires.ready.pages; shaped = c.requires.ready.shaped };
-      begins = begins;
-      asked = omega (arith, c.adding.ensures.reads.asked, heights_few c.args.opened.now.prime c.args.opened.now.alternates.items, levels_of_all c.args.opened.now.prime c.args.opened.now.alternates.items);
-    })
+    (kept _ _ _ refl (g.met.P.Pages.begins_ready start looked begins c.requires.ready.pages) c.requires.ready.shaped begins (omega (arith, c.adding.ensures.reads.asked, heights_few c.args.opened.now.prime c.args.opened.now.alternates.items, levels_of_all c.args.opened.now.prime c.args.opened.now.alternates.items)))
 
 pub returns-in_default-clause-adds : goal.returns-in_default-clause-adds
 returns-in_default-clause-adds g c =
@@ -40,12 +35,7 @@ returns-in_default-clause-adds g c =
     let told = (rw c.in_default.is at c.in_ok-repeated.ensures.found honest file stands).answer in
     let clash = clash_is u.schema c.args.bytes.now file told in
     rw clash refl)
-    (record {
-      schema = refl;
-      ready = record { pages = g.met.P.Pages.begins_ready start looked begins c.requires.ready.pages; shaped = c.requires.ready.shaped };
-      begins = begins;
-      asked = omega (arith, c.adding.ensures.reads.asked, heights_few u.prime u.alternates.items, levels_of_all u.prime u.alternates.items);
-    })
+    (kept _ _ _ refl (g.met.P.Pages.begins_ready start looked begins c.requires.ready.pages) c.requires.ready.shaped begins (omega (arith, c.adding.ensures.reads.asked, heights_few u.prime u.alternates.items, levels_of_all u.prime u.alternates.items)))
 
 pub returns-then-is_full-clause-adds : goal.returns-then-is_full-clause-adds
 returns-then-is_full-clause-adds g c =
@@ -62,12 +52,7 @@ returns-then-is_full-clause-adds g c =
       done_is u.schema c.args.bytes.now file c.in-Done.repeated told,
       ap (λ n. nat_lt (g.P.Pages.shown.state start).available (need_of_add (heights_of u)) || nat_le (2 ^ 63) n) (sym stands.stamp) ∙ full,
     ))
-    (record {
-      schema = refl;
-      ready = record { pages = g.met.P.Pages.begins_ready start looked begins c.requires.ready.pages; shaped = c.requires.ready.shaped };
-      begins = begins;
-      asked = omega (arith, c.adding.ensures.reads.asked, heights_few u.prime u.alternates.items, levels_of_all u.prime u.alternates.items);
-    })
+    (kept _ _ _ refl (g.met.P.Pages.begins_ready start looked begins c.requires.ready.pages) c.requires.ready.shaped begins (omega (arith, c.adding.ensures.reads.asked, heights_few u.prime u.alternates.items, levels_of_all u.prime u.alternates.items)))
 
 pub returns-in_err-begin-clause-adds : goal.returns-in_err-begin-clause-adds
 returns-in_err-begin-clause-adds g c =
@@ -78,12 +63,7 @@ returns-in_err-begin-clause-adds g c =
     let begins = g.met.P.Pages.begins_on start looked begun (g.met.P.Pages.writes_begins start looked (g.met.P.Pages.reads_writes start looked c.adding.ensures.reads.step)) c.begin.ensures.begins in
     stopped _ _ _ _ c.from_residual-in_err-begin.result _ c.from_residual-in_err-begin.ensures.1 c.in_err-begin.ensures.cause.full
     (λ honest sound file stands. c.in_err-begin.ensures.damage)
-    (record {
-      schema = refl;
-      ready = record { pages = g.met.P.Pages.begins_ready start begun begins c.requires.ready.pages; shaped = c.requires.ready.shaped };
-      begins = begins;
-      asked = omega (arith, c.adding.ensures.reads.asked, c.begin.ensures.asked, heights_few u.prime u.alternates.items, levels_of_all u.prime u.alternates.items);
-    })
+    (kept _ _ _ refl (g.met.P.Pages.begins_ready start begun begins c.requires.ready.pages) c.requires.ready.shaped begins (omega (arith, c.adding.ensures.reads.asked, c.begin.ensures.asked, heights_few u.prime u.alternates.items, levels_of_all u.prime u.alternates.items)))
 
 pub returns-in_err-put_in-clause-adds : goal.returns-in_err-put_in-clause-adds
 returns-in_err-put_in-clause-adds g c =
@@ -106,12 +86,7 @@ returns-in_err-put_in-clause-adds g c =
     let told = (rw c.in-Done.is at c.in_ok-repeated.ensures.found h1 file stands).answer in
     let free = done_is u.schema c.args.bytes.now file c.in-Done.repeated told in
     (c.in_err-put_in.ensures.done honest kept file still free).no_damage)
-    (record {
-      schema = c.put_in.ensures.keeps.schema;
-      ready = record { pages = g.met.P.Pages.begins_ready start last begins c.requires.ready.pages; shaped = c.put_in.ensures.keeps.shaped };
-      begins = begins;
-      asked = omega (arith, c.adding.ensures.reads.asked, c.begin.ensures.asked, c.put_in.ensures.writes.asked, need_in u.prime u.alternates.items, heights_few u.prime u.alternates.items, levels_of_all u.prime u.alternates.items);
-    })
+    (kept _ _ _ c.put_in.ensures.keeps.schema (g.met.P.Pages.begins_ready start last begins c.requires.ready.pages) c.put_in.ensures.keeps.shaped begins (omega (arith, c.adding.ensures.reads.asked, c.begin.ensures.asked, c.put_in.ensures.writes.asked, need_in u.prime u.alternates.items, heights_few u.prime u.alternates.items, levels_of_all u.prime u.alternates.items)))
 
 pub returns-in_err-put_in-clause-cause : goal.returns-in_err-put_in-clause-cause
 returns-in_err-put_in-clause-cause g c =
@@ -146,9 +121,4 @@ returns-clause-adds g c =
     let left = c.pages_left.ensures ∙ g.met.P.Pages.reads_available start looked step in
     let room = ap (λ n. nat_lt n (need_of_add (heights_of u)) || nat_le (2 ^ 63) u.next_stamp) (sym left) ∙ sym c.is_full.ensures ∙ c.if-is_full.false in
     has_room (heights_of u) (g.P.Pages.shown.state start).available u.next_stamp (clashes u.schema c.args.bytes.now file.rows) file stands.stamp room)
-    (record {
-      schema = c.put_in.ensures.keeps.schema;
-      ready = record { pages = g.met.P.Pages.begins_ready start last begins c.requires.ready.pages; shaped = c.put_in.ensures.keeps.shaped };
-      begins = begins;
-      asked = omega (arith, c.adding.ensures.reads.asked, c.begin.ensures.asked, c.put_in.ensures.writes.asked, need_in u.prime u.alternates.items, heights_few u.prime u.alternates.items, levels_of_all u.prime u.alternates.items);
-    })
+    (kept _ _ _ c.put_in.ensures.keeps.schema (g.met.P.Pages.begins_ready start last begins c.requires.ready.pages) c.put_in.ensures.keeps.shaped begins (omega (arith, c.adding.ensures.reads.asked, c.begin.ensures.asked, c.put_in.ensures.writes.asked, need_in u.prime u.alternates.items, heights_few u.prime u.alternates.items, levels_of_all u.prime u.alternates.items)))

@@ -1,11 +1,10 @@
-use Rattle.std.proofs.Common.{◌+◌, refl, ap, sym, subst, ◌∙◌, arith, IsTrue}
-use Rattle.open_file.specs.InOrder.{alt_entries, prime_entries}
-use Rattle.open_file.specs.Parts.{Parts}
+use Rattle.std.proofs.Common.{refl, ap, ◌∙◌, arith, IsTrue}
+use Rattle.open_file.specs.InOrder.{prime_entries}
 use Rattle.open_file.specs.declared.open_file.OpenFile.{OpenFile}
 use Rattle.pages.proofs.CauseLemmas.{fails_since}
 use Rattle.open_file.proofs.StampedLemmas.{few_stamps}
-use Rattle.file_changes.proofs.EndingLemmas.{stopped, not_made, made}
-use Rattle.file_changes.proofs.FoundLemmas.{old_at}
+use Rattle.file_changes.proofs.EndingLemmas.{kept, stopped, not_made, made}
+use Rattle.file_changes.proofs.FoundLemmas.{parts_later, old_at}
 use Rattle.file_changes.proofs.LevelLemmas.{heights_few, levels_of_all}
 use Rattle.file_changes.proofs.RemovedLemmas.{has_row, has_removed, none_removed}
 use Rattle.file_changes.proofs.removing.try_remove.Goals as goal
@@ -19,12 +18,7 @@ returns-in_err-old-clause-removes g c =
     let begins = g.met.P.Pages.writes_begins start looked (g.met.P.Pages.reads_writes start looked step) in
     stopped _ _ _ _ c.from_residual.result _ c.from_residual.ensures.1 c.in_err-old.ensures.reads.cause.full
     (λ honest sound file stands. (c.in_err-old.ensures.found honest file stands).no_damage)
-    (record {
-      schema = refl;
-      ready = record { pages = g.met.P.Pages.begins_ready start looked begins c.requires.ready.pages; shaped = c.requires.ready.shaped };
-      begins = begins;
-      asked = omega (arith, c.find_old.ensures.reads.asked, heights_few u.prime u.alternates.items, levels_of_all u.prime u.alternates.items);
-    })
+    (kept _ _ _ refl (g.met.P.Pages.begins_ready start looked begins c.requires.ready.pages) c.requires.ready.shaped begins (omega (arith, c.find_old.ensures.reads.asked, heights_few u.prime u.alternates.items, levels_of_all u.prime u.alternates.items)))
 
 pub returns-in_default-clause-removes : goal.returns-in_default-clause-removes
 returns-in_default-clause-removes g c =
@@ -39,12 +33,7 @@ returns-in_default-clause-removes g c =
     none_removed u (g.P.Pages.shown.state start).live (g.P.Pages.shown.state looked).live (IsTrue (g.P.Pages.shown.state looked).is_sound) file c.args.prime.now stands
     (g.met.P.Pages.reads_live start looked step honest) none (g.met.P.Pages.reads_sound start looked step honest ∙ sound))
     (λ honest file stands. refl)
-    (record {
-      schema = refl;
-      ready = record { pages = g.met.P.Pages.begins_ready start looked begins c.requires.ready.pages; shaped = c.requires.ready.shaped };
-      begins = begins;
-      asked = omega (arith, c.find_old.ensures.reads.asked, heights_few u.prime u.alternates.items, levels_of_all u.prime u.alternates.items);
-    })
+    (kept _ _ _ refl (g.met.P.Pages.begins_ready start looked begins c.requires.ready.pages) c.requires.ready.shaped begins (omega (arith, c.find_old.ensures.reads.asked, heights_few u.prime u.alternates.items, levels_of_all u.prime u.alternates.items)))
 
 pub record_in-before-requires-clause-room : goal.record_in-before-requires-clause-room
 record_in-before-requires-clause-room g c =
@@ -61,12 +50,7 @@ returns-in_err-begin-clause-removes g c =
     let begins = g.met.P.Pages.begins_on start looked begun (g.met.P.Pages.writes_begins start looked (g.met.P.Pages.reads_writes start looked step)) c.begin.ensures.begins in
     stopped _ _ _ _ c.from_residual-in_err-begin.result _ c.from_residual-in_err-begin.ensures.1 c.in_err-begin.ensures.cause.full
     (λ honest sound file stands. c.in_err-begin.ensures.damage)
-    (record {
-      schema = refl;
-      ready = record { pages = g.met.P.Pages.begins_ready start begun begins c.requires.ready.pages; shaped = c.requires.ready.shaped };
-      begins = begins;
-      asked = omega (arith, c.find_old.ensures.reads.asked, c.begin.ensures.asked, heights_few u.prime u.alternates.items, levels_of_all u.prime u.alternates.items);
-    })
+    (kept _ _ _ refl (g.met.P.Pages.begins_ready start begun begins c.requires.ready.pages) c.requires.ready.shaped begins (omega (arith, c.find_old.ensures.reads.asked, c.begin.ensures.asked, heights_few u.prime u.alternates.items, levels_of_all u.prime u.alternates.items)))
 
 pub returns-in_err-take_out-clause-removes : goal.returns-in_err-take_out-clause-removes
 returns-in_err-take_out-clause-removes g c =
@@ -88,14 +72,9 @@ returns-in_err-take_out-clause-removes g c =
     let is = (rw c.in-Some.is at c.in_ok-old.ensures.found h1 file stands).answer in
     let at = old_at u.schema stands.slots (prime_entries u.schema stands.places file.rows) file c.args.prime.now c.find_old.new.slot c.record_in-before.result.now c.in-Some.old is c.record_in-before.ensures.bytes in
     let has = has_row u (g.P.Pages.shown.state start).live file c.args.prime.now c.in-Some.old.place _ stands at in
-    let parts = subst (λ p. Parts u.heap u.prime u.alternates.items p stands.slots (prime_entries u.schema stands.places file.rows) (λ j. alt_entries u.schema (j + 1) file.rows)) (sym live) stands.parts in
+    let parts = parts_later stands live in
     (c.in_err-take_out.ensures.out honest kept stands.slots _ _ parts has).no_damage)
-    (record {
-      schema = ap (λ (o : OpenFile). o.schema) c.take_out.ensures.rest;
-      ready = record { pages = g.met.P.Pages.begins_ready start last begins c.requires.ready.pages; shaped = c.take_out.ensures.shaped };
-      begins = begins;
-      asked = omega (arith, c.find_old.ensures.reads.asked, c.begin.ensures.asked, c.take_out.ensures.writes.asked, heights_few u.prime u.alternates.items, levels_of_all u.prime u.alternates.items);
-    })
+    (kept _ _ _ (ap (λ (o : OpenFile). o.schema) c.take_out.ensures.rest) (g.met.P.Pages.begins_ready start last begins c.requires.ready.pages) c.take_out.ensures.shaped begins (omega (arith, c.find_old.ensures.reads.asked, c.begin.ensures.asked, c.take_out.ensures.writes.asked, heights_few u.prime u.alternates.items, levels_of_all u.prime u.alternates.items)))
 
 pub returns-in_err-take_out-clause-cause : goal.returns-in_err-take_out-clause-cause
 returns-in_err-take_out-clause-cause g c =
@@ -125,14 +104,9 @@ returns-clause-removes g c =
     let is = (rw c.in-Some.is at c.in_ok-old.ensures.found h1 file stands).answer in
     let at = old_at u.schema stands.slots (prime_entries u.schema stands.places file.rows) file c.args.prime.now c.find_old.new.slot c.record_in-before.result.now c.in-Some.old is c.record_in-before.ensures.bytes in
     let has = has_row u (g.P.Pages.shown.state start).live file c.args.prime.now c.in-Some.old.place _ stands at in
-    let parts = subst (λ p. Parts u.heap u.prime u.alternates.items p stands.slots (prime_entries u.schema stands.places file.rows) (λ j. alt_entries u.schema (j + 1) file.rows)) (sym live) stands.parts in
+    let parts = parts_later stands live in
     let out = (c.in_ok-take_out.ensures.out honest kept stands.slots _ _ parts has).answer in
     has_removed u c.take_out.new.opened (g.P.Pages.shown.state start).live (g.P.Pages.shown.state last).live (IsTrue (g.P.Pages.shown.state last).is_sound) file c.args.prime.now c.in-Some.old.place _ stands
     c.requires.ready.shaped c.take_out.ensures.shaped at c.take_out.ensures.rest out)
     (λ honest file stands. refl)
-    (record {
-      schema = ap (λ (o : OpenFile). o.schema) c.take_out.ensures.rest;
-      ready = record { pages = g.met.P.Pages.begins_ready start last begins c.requires.ready.pages; shaped = c.take_out.ensures.shaped };
-      begins = begins;
-      asked = omega (arith, c.find_old.ensures.reads.asked, c.begin.ensures.asked, c.take_out.ensures.writes.asked, heights_few u.prime u.alternates.items, levels_of_all u.prime u.alternates.items);
-    })
+    (kept _ _ _ (ap (λ (o : OpenFile). o.schema) c.take_out.ensures.rest) (g.met.P.Pages.begins_ready start last begins c.requires.ready.pages) c.take_out.ensures.shaped begins (omega (arith, c.find_old.ensures.reads.asked, c.begin.ensures.asked, c.take_out.ensures.writes.asked, heights_few u.prime u.alternates.items, levels_of_all u.prime u.alternates.items)))

@@ -1,14 +1,13 @@
-use Rattle.std.proofs.Common.{◌≡◌, ◌+◌, Bool, true, false, not, ◌||◌, refl, sym, subst, ap, ◌∙◌, arith, IsTrue}
+use Rattle.std.proofs.Common.{◌≡◌, Bool, true, false, not, ◌||◌, refl, sym, ap, ◌∙◌, arith, IsTrue}
 use Rattle.indexed_file.specs.Change.{clashes_with_others}
 use Rattle.indexed_file.specs.Room.{is_full_to_replace}
-use Rattle.open_file.specs.InOrder.{alt_entries, prime_entries}
 use Rattle.file_changes.specs.Old.{row_with}
 use Rattle.file_changes.specs.Replacing.{is_full_for}
-use Rattle.open_file.specs.Parts.{Parts}
 use Rattle.open_file.specs.Stands.{room_of}
 use Rattle.pages.proofs.CauseLemmas.{fails_since}
-use Rattle.file_changes.proofs.EndingLemmas.{found_stopped}
+use Rattle.file_changes.proofs.EndingLemmas.{found_kept, found_stopped}
 use Rattle.file_changes.proofs.ReplacedLemmas.{is_change, can_put_over, has_replaced, has_clashed, clashed, not_clashed, only_clash}
+use Rattle.file_changes.proofs.FoundLemmas.{parts_later}
 use Rattle.file_changes.proofs.FullLemmas.{full_is, room_is, stamp_is, need_within}
 use Rattle.file_changes.proofs.replacing.replace_old.Goals as goal
 
@@ -29,13 +28,7 @@ returns-in_err-repeated-clause-replaces g c =
     let row = row_with c.args.before.now c.args.old.now.stamps.items in
     found_stopped _ _ _ _ _ _ c.from_residual.result _ c.from_residual.ensures.1 c.in_err-repeated.ensures.reads.cause.full
     (λ honest sound file stands at. (c.in_err-repeated.ensures.found honest file stands row at.is_row refl).no_damage)
-    (record {
-      schema = refl;
-      broken = refl;
-      shaped = c.requires.can.shaped;
-      begins = g.met.P.Pages.writes_begins start now (g.met.P.Pages.reads_writes start now c.replacing.ensures.reads.step);
-      asked = omega (arith, c.replacing.ensures.reads.asked);
-    })
+    (found_kept _ _ _ refl refl c.requires.can.shaped (g.met.P.Pages.writes_begins start now (g.met.P.Pages.reads_writes start now c.replacing.ensures.reads.step)) (omega (arith, c.replacing.ensures.reads.asked)))
 
 pub returns-in_default-clause-replaces : goal.returns-in_default-clause-replaces
 returns-in_default-clause-replaces g c =
@@ -60,13 +53,7 @@ returns-in_default-clause-replaces g c =
           rw (clashed u.schema c.args.bytes.now file row told) refl;
       full = λ same. absurd (cc);
       lacks = λ same. absurd (cc);
-      keeps = record {
-        schema = refl;
-        broken = refl;
-        shaped = c.requires.can.shaped;
-        begins = g.met.P.Pages.writes_begins start now (g.met.P.Pages.reads_writes start now step);
-        asked = omega (arith, c.replacing.ensures.reads.asked);
-      };
+      keeps = found_kept _ _ _ refl refl c.requires.can.shaped (g.met.P.Pages.writes_begins start now (g.met.P.Pages.reads_writes start now step)) (omega (arith, c.replacing.ensures.reads.asked));
     }
 
 pub returns-then-is_full_to_change-clause-replaces : goal.returns-then-is_full_to_change-clause-replaces
@@ -90,13 +77,7 @@ returns-then-is_full_to_change-clause-replaces g c =
             full_is u (g.P.Pages.shown.state start).live c.args.bytes.now file row (g.P.Pages.shown.state start).available stands c.requires.can.shaped is
                 ∙ ap (λ n. is_full_for u n c.args.before.now c.args.bytes.now) (sym left) ∙ full,
           );
-      keeps = record {
-        schema = refl;
-        broken = refl;
-        shaped = c.requires.can.shaped;
-        begins = g.met.P.Pages.writes_begins start now (g.met.P.Pages.reads_writes start now step);
-        asked = omega (arith, c.replacing.ensures.reads.asked);
-      };
+      keeps = found_kept _ _ _ refl refl c.requires.can.shaped (g.met.P.Pages.writes_begins start now (g.met.P.Pages.reads_writes start now step)) (omega (arith, c.replacing.ensures.reads.asked));
     }
 
 pub returns-in_err-begin-clause-replaces : goal.returns-in_err-begin-clause-replaces
@@ -106,13 +87,7 @@ returns-in_err-begin-clause-replaces g c =
     let begun = c.begin.new.self in
     found_stopped _ _ _ _ _ _ c.from_residual-in_err-begin.result _ c.from_residual-in_err-begin.ensures.1 c.in_err-begin.ensures.cause.full
     (λ honest sound file stands at. c.in_err-begin.ensures.damage)
-    (record {
-      schema = refl;
-      broken = refl;
-      shaped = c.requires.can.shaped;
-      begins = g.met.P.Pages.begins_on start looked begun (g.met.P.Pages.writes_begins start looked (g.met.P.Pages.reads_writes start looked c.replacing.ensures.reads.step)) c.begin.ensures.begins;
-      asked = omega (arith, c.replacing.ensures.reads.asked, c.begin.ensures.asked);
-    })
+    (found_kept _ _ _ refl refl c.requires.can.shaped (g.met.P.Pages.begins_on start looked begun (g.met.P.Pages.writes_begins start looked (g.met.P.Pages.reads_writes start looked c.replacing.ensures.reads.step)) c.begin.ensures.begins) (omega (arith, c.replacing.ensures.reads.asked, c.begin.ensures.asked)))
 
 pub returns-in_err-put_over-clause-replaces : goal.returns-in_err-put_over-clause-replaces
 returns-in_err-put_over-clause-replaces g c =
@@ -132,16 +107,9 @@ returns-in_err-put_over-clause-replaces g c =
     let clash = not_clashed u.schema c.args.bytes.now file row c.in-Done.repeated told in
     let change = is_change u c.args.bytes.now file row c.requires.can.shaped stands.sound c.requires.can.least c.requires.greatest at.is_row clash in
     let can = can_put_over u (g.P.Pages.shown.state start).live c.args.bytes.now file c.args.old.now.place row stands c.requires.can.shaped at change in
-    let parts = subst (λ p. Parts u.heap u.prime u.alternates.items p stands.slots (prime_entries u.schema stands.places file.rows) (λ j. alt_entries u.schema (j + 1) file.rows)) (sym live) stands.parts in
-    (c.in_err-put_over.ensures.over honest kept stands.slots (prime_entries u.schema stands.places file.rows) (λ j. alt_entries u.schema (j + 1) file.rows) parts can).no_damage)
-    (record {
-      schema = c.put_over.ensures.file.schema;
-      broken = c.put_over.ensures.file.broken;
-      shaped = c.put_over.ensures.file.shaped;
-      begins = g.met.P.Pages.begins_on start begun last (g.met.P.Pages.begins_on start looked begun (g.met.P.Pages.writes_begins start looked (g.met.P.Pages.reads_writes start looked c.replacing.ensures.reads.step)) c.begin.ensures.begins)
-          (g.met.P.Pages.writes_begins begun last c.put_over.ensures.writes.step);
-      asked = omega (arith, c.replacing.ensures.reads.asked, c.begin.ensures.asked, c.put_over.ensures.writes.asked, need_within u c.args.before.now c.args.bytes.now);
-    })
+    let parts = parts_later stands live in
+    (c.in_err-put_over.ensures.over honest kept stands.slots _ _ parts can).no_damage)
+    (found_kept _ _ _ c.put_over.ensures.file.schema c.put_over.ensures.file.broken c.put_over.ensures.file.shaped (g.met.P.Pages.begins_on start begun last (g.met.P.Pages.begins_on start looked begun (g.met.P.Pages.writes_begins start looked (g.met.P.Pages.reads_writes start looked c.replacing.ensures.reads.step)) c.begin.ensures.begins) (g.met.P.Pages.writes_begins begun last c.put_over.ensures.writes.step)) (omega (arith, c.replacing.ensures.reads.asked, c.begin.ensures.asked, c.put_over.ensures.writes.asked, need_within u c.args.before.now c.args.bytes.now)))
 
 or_not : (a b : Bool) → b ≡ false → (a || not b) ≡ true
 or_not true b none = refl
@@ -167,9 +135,9 @@ returns-clause-replaces g c =
           let clash = not_clashed u.schema c.args.bytes.now file row c.in-Done.repeated told in
           let change = is_change u c.args.bytes.now file row c.requires.can.shaped stands.sound c.requires.can.least c.requires.greatest at.is_row clash in
           let can = can_put_over u (g.P.Pages.shown.state start).live c.args.bytes.now file c.args.old.now.place row stands c.requires.can.shaped at change in
-          let parts = subst (λ p. Parts u.heap u.prime u.alternates.items p stands.slots (prime_entries u.schema stands.places file.rows) (λ j. alt_entries u.schema (j + 1) file.rows)) (sym live) stands.parts in
+          let parts = parts_later stands live in
           let limit = stamp_is u c.pages_left.result c.args.before.now c.args.bytes.now passes in
-          let over = (c.in_ok-put_over.ensures.over honest kept stands.slots (prime_entries u.schema stands.places file.rows) (λ j. alt_entries u.schema (j + 1) file.rows) parts can).answer in
+          let over = (c.in_ok-put_over.ensures.over honest kept stands.slots _ _ parts can).answer in
           record {
             answer = has_replaced u c.put_over.new.opened (g.P.Pages.shown.state start).live (g.P.Pages.shown.state last).live (IsTrue (g.P.Pages.shown.state last).is_sound) c.args.bytes.now file c.args.old.now.place row _ stands
                 c.requires.can.shaped c.put_over.ensures.file.shaped at change clash limit c.in_ok-put_over.ensures.file.rest told over;
@@ -184,14 +152,7 @@ returns-clause-replaces g c =
           or_not (clashes_with_others u.schema c.args.bytes.now file) (is_full_to_replace (room_of u (g.P.Pages.shown.state start).available) u.schema c.args.bytes.now file) none;
       full = λ same. absurd (cc);
       lacks = λ same. absurd (cc);
-      keeps = record {
-        schema = c.put_over.ensures.file.schema;
-        broken = c.put_over.ensures.file.broken;
-        shaped = c.put_over.ensures.file.shaped;
-        begins = g.met.P.Pages.begins_on start begun last (g.met.P.Pages.begins_on start looked begun (g.met.P.Pages.writes_begins start looked (g.met.P.Pages.reads_writes start looked step)) c.begin.ensures.begins)
-            (g.met.P.Pages.writes_begins begun last c.put_over.ensures.writes.step);
-        asked = omega (arith, c.replacing.ensures.reads.asked, c.begin.ensures.asked, c.put_over.ensures.writes.asked, need_within u c.args.before.now c.args.bytes.now);
-      };
+      keeps = found_kept _ _ _ c.put_over.ensures.file.schema c.put_over.ensures.file.broken c.put_over.ensures.file.shaped (g.met.P.Pages.begins_on start begun last (g.met.P.Pages.begins_on start looked begun (g.met.P.Pages.writes_begins start looked (g.met.P.Pages.reads_writes start looked step)) c.begin.ensures.begins) (g.met.P.Pages.writes_begins begun last c.put_over.ensures.writes.step)) (omega (arith, c.replacing.ensures.reads.asked, c.begin.ensures.asked, c.put_over.ensures.writes.asked, need_within u c.args.before.now c.args.bytes.now));
     }
 
 pub returns-in_err-put_over-clause-cause : goal.returns-in_err-put_over-clause-cause

@@ -3,11 +3,11 @@ use Rattle.record_layout.specs.Schema.{prime_of}
 use Rattle.indexed_file.specs.Change.{clashes_with_others}
 use Rattle.indexed_file.specs.Room.{is_full_at}
 use Rattle.open_file.specs.InOrder.{prime_entries}
-use Rattle.file_changes.specs.Old.{IsOldAt, row_with}
+use Rattle.file_changes.specs.Old.{IsFoundIn}
 use Rattle.open_file.specs.Stands.{Stands, room_of}
 use Rattle.open_file.proofs.ExitLemmas.{if_ok}
 use Rattle.open_file.proofs.StampedLemmas.{few_stamps}
-use Rattle.file_changes.proofs.EndingLemmas.{stopped, not_made}
+use Rattle.file_changes.proofs.EndingLemmas.{kept, stopped, not_made}
 use Rattle.file_changes.proofs.LevelLemmas.{heights_few, levels_of_all}
 use Rattle.file_changes.proofs.FoundLemmas.{old_at}
 use Rattle.pages.proofs.CauseLemmas.{caused_since}
@@ -28,12 +28,7 @@ returns-in_err-old-clause-replaces g c =
     let begins = g.met.P.Pages.writes_begins start looked (g.met.P.Pages.reads_writes start looked step) in
     stopped _ _ _ _ c.from_residual.result _ c.from_residual.ensures.1 c.in_err-old.ensures.reads.cause.full
     (λ honest sound file stands. (c.in_err-old.ensures.found honest file stands).no_damage)
-    (record {
-      schema = refl;
-      ready = record { pages = g.met.P.Pages.begins_ready start looked begins c.requires.ready.pages; shaped = c.requires.ready.shaped };
-      begins = begins;
-      asked = omega (arith, c.find_old.ensures.reads.asked, heights_few u.prime u.alternates.items, levels_of_all u.prime u.alternates.items);
-    })
+    (kept _ _ _ refl (g.met.P.Pages.begins_ready start looked begins c.requires.ready.pages) c.requires.ready.shaped begins (omega (arith, c.find_old.ensures.reads.asked, heights_few u.prime u.alternates.items, levels_of_all u.prime u.alternates.items)))
 
 or_true : (b : Bool) → (b || true) ≡ true
 or_true true = refl
@@ -55,12 +50,7 @@ returns-in_default-clause-replaces g c =
     let none = (rw (c.value-prime.ensures.value, c.in_default.is) at c.in_ok-old.ensures.found honest file stands).answer in
     ap (λ row. clashes_with_others u.schema c.args.bytes.now file || not (is_full_at (room_of u (g.P.Pages.shown.state start).available) u.schema c.args.bytes.now file row)) none
     ∙ or_true (clashes_with_others u.schema c.args.bytes.now file))
-    (record {
-      schema = refl;
-      ready = record { pages = g.met.P.Pages.begins_ready start looked begins c.requires.ready.pages; shaped = c.requires.ready.shaped };
-      begins = begins;
-      asked = omega (arith, c.find_old.ensures.reads.asked, heights_few u.prime u.alternates.items, levels_of_all u.prime u.alternates.items);
-    })
+    (kept _ _ _ refl (g.met.P.Pages.begins_ready start looked begins c.requires.ready.pages) c.requires.ready.shaped begins (omega (arith, c.find_old.ensures.reads.asked, heights_few u.prime u.alternates.items, levels_of_all u.prime u.alternates.items)))
 
 pub returns-clause-cause : goal.returns-clause-cause
 returns-clause-cause g c =
@@ -76,7 +66,6 @@ returns-clause-replaces g c =
     let step = c.find_old.ensures.reads.step in
     let last = c.replace_old.new.pages in
     let prime = prime_of u.schema c.args.bytes.now in
-    let row = row_with c.record_in-before.result.now c.in-Some.old.stamps.items in
     let found = c.replace_old.ensures.replaces in
     let begins = g.met.P.Pages.begins_on start looked last (g.met.P.Pages.writes_begins start looked (g.met.P.Pages.reads_writes start looked step)) found.keeps.begins in
     let reads = g.met.P.Pages.reads_on start looked last step in
@@ -87,7 +76,7 @@ returns-clause-replaces g c =
           let kept = g.met.P.Pages.reads_sound start looked step h1 ∙ sound in
           let is = (rw (c.value-prime.ensures.value, c.in-Some.is) at c.in_ok-old.ensures.found h1 file stands).answer in
           let at = old_at u.schema stands.slots (prime_entries u.schema stands.places file.rows) file prime c.find_old.new.slot c.record_in-before.result.now c.in-Some.old is c.record_in-before.ensures.bytes in
-          let moved = subst (λ p. (s : Stands u p file) × IsOldAt u.schema s.slots (prime_entries u.schema s.places file.rows) file prime c.in-Some.old.place row) (sym live) (stands, at) in
+          let moved = subst (λ p. (s : Stands u p file) × IsFoundIn s prime c.in-Some.old c.record_in-before.result.now) (sym live) (stands, at) in
           found.done honest kept file moved.0 moved.1;
       unmade = if_ok c.replace_old.result _ _ (λ x unmade none. let same = unmade none in (same.0, reads same.1)) found.unmade;
       begun = found.begun;
@@ -104,10 +93,5 @@ returns-clause-replaces g c =
           let told = (rw (c.value-prime.ensures.value, c.in-Some.is) at c.in_ok-old.ensures.found h1 file stands).answer in
           let at = old_at u.schema stands.slots (prime_entries u.schema stands.places file.rows) file prime c.find_old.new.slot c.record_in-before.result.now c.in-Some.old told c.record_in-before.ensures.bytes in
           rw (g.met.P.Pages.reads_available start looked step) at (found.lacks is honest file still at.is_row);
-      keeps = record {
-        schema = found.keeps.schema;
-        ready = record { pages = g.met.P.Pages.begins_ready start last begins c.requires.ready.pages; shaped = found.keeps.shaped };
-        begins = begins;
-        asked = omega (arith, c.find_old.ensures.reads.asked, found.keeps.asked, heights_few u.prime u.alternates.items, levels_of_all u.prime u.alternates.items);
-      };
+      keeps = kept _ _ _ found.keeps.schema (g.met.P.Pages.begins_ready start last begins c.requires.ready.pages) found.keeps.shaped begins (omega (arith, c.find_old.ensures.reads.asked, found.keeps.asked, heights_few u.prime u.alternates.items, levels_of_all u.prime u.alternates.items));
     }
