@@ -13,45 +13,53 @@ pub record CanWrite {S : Type 0} (shown : ShownPages S) (pages : S) : Type 0 whe
   pub changing : shown.CanChange pages
 
 -- and the entry is as long as the entries of the tree
-pub record CanInsert {S : Type 0} (shown : ShownPages S) (shape : Shape) (entry : List ℕ) (pages : S) : Type 0 where
+pub record CanInsert {S : Type 0} (shown : ShownPages S) (shape : Shape) (entry : List ℕ)
+    (pages : S) : Type 0 where
   pub size : length entry ≡ shape.entry
   pub ready : shown.IsReady pages
   pub changing : shown.CanChange pages
 
--- What a call leaves of the pages in use, and whether the free pages are sound then, where no wrong answer of the device was taken as true
--- and the free pages were sound.
-abbrev pub WhereSound : {S : Type 0} → ShownPages S → (old new : S) → (PageMap → PageMap → Type 0 → Type 0) → Type 0
+-- What a call leaves of the pages in use, and whether the free pages are sound then, where no wrong
+-- answer of the device was taken as true and the free pages were sound.
+abbrev pub WhereSound : {S : Type 0} → ShownPages S → (old new : S) → (PageMap → PageMap → Type 0 → Type 0)
+    → Type 0
 WhereSound shown old new Leaves =
-    IsTrue (shown.state new).is_honest → IsTrue (shown.state old).is_sound → Leaves (shown.state old).live (shown.state new).live (IsTrue (shown.state new).is_sound)
+    IsTrue (shown.state new).is_honest → IsTrue (shown.state old).is_sound
+    → Leaves (shown.state old).live (shown.state new).live (IsTrue (shown.state new).is_sound)
 
 -- a call on a page that is in use leaves the free pages as sound as they were
 abbrev pub KeepsSound : {S : Type 0} → ShownPages S → ℕ → (old new : S) → Type 0
 KeepsSound shown page old new =
-    IsTrue (shown.state new).is_honest → IsSome ((shown.state old).live page) → (shown.state new).is_sound ≡ (shown.state old).is_sound
+    IsTrue (shown.state new).is_honest → IsSome ((shown.state old).live page)
+    → (shown.state new).is_sound ≡ (shown.state old).is_sound
 
 -- What a call keeps, at a fault too, that takes no page and gives none back.
-pub record EditsPages {S X : Type 0} (shown : ShownPages S) (most : ℕ) (old new : S) (result : Result X Fault) : Type 0 where
+pub record EditsPages {S X : Type 0} (shown : ShownPages S) (most : ℕ) (old new : S)
+    (result : Result X Fault) : Type 0 where
   pub available : (shown.state new).available ≡ (shown.state old).available
   pub cause : IfErr result (IsCaused (shown.HasFailed old new) ⊥)
   pub asked : (shown.state new).asked ≤ (shown.state old).asked + most
   pub step : shown.Writes old new
 
 -- of one that takes no page, and may give pages back
-pub record GivesPages {S X : Type 0} (shown : ShownPages S) (most : ℕ) (old new : S) (result : Result X Fault) : Type 0 where
+pub record GivesPages {S X : Type 0} (shown : ShownPages S) (most : ℕ) (old new : S)
+    (result : Result X Fault) : Type 0 where
   pub few : (shown.state old).available ≤ (shown.state new).available
   pub cause : IfErr result (IsCaused (shown.HasFailed old new) ⊥)
   pub asked : (shown.state new).asked ≤ (shown.state old).asked + most
   pub step : shown.Writes old new
 
 -- of one that may take a page, and answers Full only where none is available
-pub record TakesOne {S X : Type 0} (shown : ShownPages S) (most : ℕ) (old new : S) (result : Result X Fault) : Type 0 where
+pub record TakesOne {S X : Type 0} (shown : ShownPages S) (most : ℕ) (old new : S)
+    (result : Result X Fault) : Type 0 where
   pub few : (shown.state old).available ≤ (shown.state new).available + 1
   pub cause : IfErr result (IsCaused (shown.HasFailed old new) ((shown.state old).available ≡ 0))
   pub asked : (shown.state new).asked ≤ (shown.state old).asked + most
   pub step : shown.Writes old new
 
 -- of one that may take so many pages, and answers Full only where fewer are available
-pub record TakesUpTo {S X : Type 0} (shown : ShownPages S) (taken most : ℕ) (old new : S) (result : Result X Fault) : Type 0 where
+pub record TakesUpTo {S X : Type 0} (shown : ShownPages S) (taken most : ℕ) (old new : S)
+    (result : Result X Fault) : Type 0 where
   pub few : (shown.state old).available ≤ (shown.state new).available + taken
   pub cause : IfErr result (IsCaused (shown.HasFailed old new) ((shown.state old).available < taken))
   pub asked : (shown.state new).asked ≤ (shown.state old).asked + most

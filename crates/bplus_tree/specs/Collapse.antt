@@ -17,13 +17,16 @@ IsOnly separators below (Some child) = (length separators ≡ 0) × (child ≡ s
 
 abbrev pub Sees : Shape → PageMap → ℕ → Result (Option ℕ) Fault → Type 0
 Sees shape page_map page result =
-    (separators : List (List ℕ)) (below : List ℕ) → IsInnerAt shape page_map page separators below → IsAnswer result (IsOnly separators below)
+    (separators : List (List ℕ)) (below : List ℕ) → IsInnerAt shape page_map page separators below
+    → IsAnswer result (IsOnly separators below)
 
--- the only child of an inner node without separators, which is given back; where it has separators, nothing is done
+-- the only child of an inner node without separators, which is given back; where it has separators,
+-- nothing is done
 abbrev pub HasCollapsed : PageMap → PageMap → ℕ → List (List ℕ) → List ℕ → Option ℕ → Type 0
 HasCollapsed before after page separators below None = (1 ≤ length separators) × (after ≡ before)
 HasCollapsed before after page separators below (Some child) =
-    (length separators ≡ 0) × (child ≡ slice_index below 0) × (after page ≡ None) × ((n : ℕ) → n ≢ page → after n ≡ before n)
+    (length separators ≡ 0) × (child ≡ slice_index below 0) × (after page ≡ None)
+    × ((n : ℕ) → n ≢ page → after n ≡ before n)
 
 abbrev pub CollapsesInner : Shape → ℕ → Result (Option ℕ) Fault → PageMap → PageMap → Type 0 → Type 0
 CollapsesInner shape page result before after is_sound =
@@ -31,7 +34,8 @@ CollapsesInner shape page result before after is_sound =
     → IsAnswer result (λ child. HasCollapsed before after page separators below child × is_sound)
 
 -- the tree, without a root that has one child only
-pub record HasSettledRoot (shape : Shape) (before after : PageMap) (h : ℕ) (t : TreeOf h) (base : Base) : Type 0 where
+pub record HasSettledRoot (shape : Shape) (before after : PageMap) (h : ℕ) (t : TreeOf h)
+    (base : Base) : Type 0 where
   pub tree : TreeOf base.levels
   pub whole : IsWhole shape after base.levels base.root None None tree
   pub has : entries_of base.levels tree ≡ entries_of h t

@@ -12,4 +12,5 @@ fewest (suc h) = 8 * fewest h
 
 -- a tree with an inner root has twice as many as one of its children must have
 abbrev pub HaveManyEntries : Type 0
-HaveManyEntries = (shape : Shape) (pages : PageMap) (h page : ℕ) (t : TreeOf (suc h)) → IsWhole shape pages (suc h) page None None t → 2 * fewest h ≤ length (entries_of (suc h) t)
+HaveManyEntries = (shape : Shape) (pages : PageMap) (h page : ℕ) (t : TreeOf (suc h))
+    → IsWhole shape pages (suc h) page None None t → 2 * fewest h ≤ length (entries_of (suc h) t)

@@ -13,15 +13,19 @@ use Rattle.tree_search.specs.Spot.{StandsAt, FoundAt, begins_with}
 use Rattle.bplus_tree.specs.Standing.{TreeStands}
 
 -- the entry that the cursor gave last stands where the cursor says
-pub record IsCursorAt (cursor : Cursor) (tree : Tree) (pages : PageMap) (entries : List (List ℕ)) (own : List ℕ) : Type 0 where
+pub record IsCursorAt (cursor : Cursor) (tree : Tree) (pages : PageMap) (entries : List (List ℕ))
+    (own : List ℕ) : Type 0 where
   pub entry : List ℕ
   pub stands : StandsAt tree.shape pages own entries cursor.spot entry
   pub key : take tree.shape.width entry ≡ cursor.key.items
 
--- The cursor is one of this tree. Where the tree has not changed since the cursor gave an entry, the cursor is at that entry.
-pub record Belongs (cursor : Cursor) (tree : Tree) (pages : PageMap) (entries : List (List ℕ)) (own : List ℕ) : Type 0 where
+-- The cursor is one of this tree. Where the tree has not changed since the cursor gave an entry,
+-- the cursor is at that entry.
+pub record Belongs (cursor : Cursor) (tree : Tree) (pages : PageMap) (entries : List (List ℕ))
+    (own : List ℕ) : Type 0 where
   pub earlier : cursor.changes < 2 ^ 64 - 1 → cursor.changes ≤ tree.changes
-  pub at : cursor.changes ≡ tree.changes → cursor.changes < 2 ^ 64 - 1 → 0 < cursor.spot.count → IsCursorAt cursor tree pages entries own
+  pub at : cursor.changes ≡ tree.changes → cursor.changes < 2 ^ 64 - 1 → 0 < cursor.spot.count
+      → IsCursorAt cursor tree pages entries own
 
 -- there is an entry behind the one that was given last, in the same leaf, and the tree has not changed since
 pub record HasNeighbour (cursor : Cursor) (tree : Tree) : Type 0 where
@@ -30,35 +34,42 @@ pub record HasNeighbour (cursor : Cursor) (tree : Tree) : Type 0 where
   pub more : cursor.spot.place + 1 < cursor.spot.count
 
 -- the first entry above the cursor's key, and where it stands
-pub record IsBehind (cursor : Cursor) (tree : Tree) (pages : PageMap) (entries : List (List ℕ)) (own : List ℕ) (spot : Spot) (found : Option (ArrayVec ℕ)) : Type 0 where
+pub record IsBehind (cursor : Cursor) (tree : Tree) (pages : PageMap) (entries : List (List ℕ))
+    (own : List ℕ) (spot : Spot) (found : Option (ArrayVec ℕ)) : Type 0 where
   pub found_is : option_map (λ e. e.items) found ≡ first_after tree.shape.width cursor.key.items entries
   pub at : FoundAt tree.shape pages own entries spot found
 
 abbrev pub LooksBehind : Cursor → Tree → PageMap → Spot → Result (Option (ArrayVec ℕ)) Fault → Type 0
 LooksBehind cursor tree pages spot result =
-    (entries : List (List ℕ)) (own : List ℕ) → TreeStands tree pages entries own → Belongs cursor tree pages entries own
+    (entries : List (List ℕ)) (own : List ℕ) → TreeStands tree pages entries own
+    → Belongs cursor tree pages entries own
     → IsAnswer result (IsBehind cursor tree pages entries own spot)
 
 -- whether there is a first entry above the cursor's key that begins with these bytes
 abbrev pub TellsNext : Cursor → Tree → PageMap → List ℕ → Result Bool Fault → Type 0
 TellsNext cursor tree pages start result =
-    (entries : List (List ℕ)) (own : List ℕ) → TreeStands tree pages entries own → Belongs cursor tree pages entries own
-    → IsAnswer result (λ told. told ≡ option_map_or (begins_with start) (first_after tree.shape.width cursor.key.items entries) false)
+    (entries : List (List ℕ)) (own : List ℕ) → TreeStands tree pages entries own
+    → Belongs cursor tree pages entries own
+    → IsAnswer result (λ told. told ≡ option_map_or (begins_with start)
+    (first_after tree.shape.width cursor.key.items entries) false)
 
--- The cursor knows where the entry that it gave last stands in the tree as it is, so that the step to its neighbour searches for nothing.
+-- The cursor knows where the entry that it gave last stands in the tree as it is, so that the step
+-- to its neighbour searches for nothing.
 pub record IsKept (cursor : Cursor) (tree : Tree) : Type 0 where
   pub unchanged : cursor.changes ≡ tree.changes
   pub somewhere : 0 < cursor.spot.count
 
 -- the first entry above the cursor's key, and a cursor at that entry
-pub record HasMoved (old new : Cursor) (tree : Tree) (pages : PageMap) (entries : List (List ℕ)) (own : List ℕ) (found : Option (ArrayVec ℕ)) : Type 0 where
+pub record HasMoved (old new : Cursor) (tree : Tree) (pages : PageMap) (entries : List (List ℕ))
+    (own : List ℕ) (found : Option (ArrayVec ℕ)) : Type 0 where
   pub found_is : option_map (λ e. e.items) found ≡ first_after tree.shape.width old.key.items entries
   pub belongs : Belongs new tree pages entries own
   pub kept : IsSome found → IsKept new tree
 
 abbrev pub CursorMoves : Cursor → Cursor → Tree → PageMap → Result (Option (ArrayVec ℕ)) Fault → Type 0
 CursorMoves old new tree pages result =
-    (entries : List (List ℕ)) (own : List ℕ) → TreeStands tree pages entries own → Belongs old tree pages entries own
+    (entries : List (List ℕ)) (own : List ℕ) → TreeStands tree pages entries own
+    → Belongs old tree pages entries own
     → IsAnswer result (HasMoved old new tree pages entries own)
 
 -- the key of the entry that was given, or the one before where none was

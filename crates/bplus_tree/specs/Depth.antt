@@ -9,7 +9,8 @@ abbrev pub IsPastAll : Tree → Type 0
 IsPastAll tree = (19 ≤ tree.levels) ⊎ (tree.count ≡ 2 ^ 64 - 1)
 
 -- the call finds damage, and leaves what it is of, and the pages
-pub record FindsDamage {X A Pages : Type 0} (old new : A) (before after : Pages) (result : Result X Fault) : Type 0 where
+pub record FindsDamage {X A Pages : Type 0} (old new : A) (before after : Pages)
+    (result : Result X Fault) : Type 0 where
   pub damage : result ≡ Err Damage
   pub owner : new ≡ old
   pub pages : after ≡ before

@@ -5,7 +5,8 @@ use Rattle.tree_node.specs.Order.{less}
 -- the entries with one more, at the place of its key
 abbrev pub with_entry : ℕ → List ℕ → List (List ℕ) → List (List ℕ)
 with_entry width e [] = e ∷ []
-with_entry width e (x ∷ xs) = if less (take width x) (take width e) then x ∷ with_entry width e xs else e ∷ x ∷ xs
+with_entry width e (x ∷ xs) = if less (take width x)
+    (take width e) then x ∷ with_entry width e xs else e ∷ x ∷ xs
 
 -- the entries but those of this key
 abbrev pub without_key : ℕ → List ℕ → List (List ℕ) → List (List ℕ)

@@ -10,12 +10,15 @@ use Rattle.tree_search.specs.Stored.{IsLeafAt, IsInnerAt}
 use Rattle.pages.specs.Answer.{IsAnswer}
 
 -- the page is a leaf of these entries now, and every other page is as it was
-pub record HasLeaf (shape : Shape) (before after : PageMap) (page : ℕ) (entries : List (List ℕ)) : Type 0 where
+pub record HasLeaf (shape : Shape) (before after : PageMap) (page : ℕ)
+    (entries : List (List ℕ)) : Type 0 where
   pub leaf : IsLeafAt shape after page entries
   pub others : (n : ℕ) → n ≢ page → after n ≡ before n
 
--- the page and one that was free are leaves of these entries now, both at least half full, and the separator has the first key of the second
-pub record HasLeaves (shape : Shape) (before after : PageMap) (page : ℕ) (entries : List (List ℕ)) (separator : Separator) : Type 0 where
+-- the page and one that was free are leaves of these entries now, both at least half full, and the
+-- separator has the first key of the second
+pub record HasLeaves (shape : Shape) (before after : PageMap) (page : ℕ) (entries : List (List ℕ))
+    (separator : Separator) : Type 0 where
   pub lower : List (List ℕ)
   pub upper : List (List ℕ)
   pub has : lower ++ upper ≡ entries
@@ -29,21 +32,27 @@ pub record HasLeaves (shape : Shape) (before after : PageMap) (page : ℕ) (entr
 -- one leaf has these entries, or two where there is a separator
 abbrev pub HasAddedToLeaf : Shape → PageMap → PageMap → ℕ → List (List ℕ) → Option Separator → Type 0
 HasAddedToLeaf shape before after page entries None = HasLeaf shape before after page entries
-HasAddedToLeaf shape before after page entries (Some separator) = HasLeaves shape before after page entries separator
+HasAddedToLeaf shape before after page entries (Some separator) =
+    HasLeaves shape before after page entries separator
 
 -- an entry is put before entry `place` of a leaf
-abbrev pub AddsToLeaf : Shape → ℕ → ℕ → List ℕ → Result (Option Separator) Fault → PageMap → PageMap → Type 0 → Type 0
+abbrev pub AddsToLeaf : Shape → ℕ → ℕ → List ℕ → Result (Option Separator) Fault → PageMap → PageMap
+    → Type 0 → Type 0
 AddsToLeaf shape page place e result before after is_sound =
     (entries : List (List ℕ)) → IsLeafAt shape before page entries → place ≤ length entries
-    → IsAnswer result (λ separator. HasAddedToLeaf shape before after page (insert entries place e) separator × is_sound)
+    → IsAnswer result (λ separator. HasAddedToLeaf shape before after page
+    (insert entries place e) separator × is_sound)
 
 -- the page is an inner node of these separators and children now, and every other page is as it was
-pub record HasInner (shape : Shape) (before after : PageMap) (page : ℕ) (seps : List (List ℕ)) (below : List ℕ) : Type 0 where
+pub record HasInner (shape : Shape) (before after : PageMap) (page : ℕ) (seps : List (List ℕ))
+    (below : List ℕ) : Type 0 where
   pub inner : IsInnerAt shape after page seps below
   pub others : (n : ℕ) → n ≢ page → after n ≡ before n
 
--- the page and one that was free are inner nodes of these now, both at least half full, but for the separator between them, which goes up
-pub record HasInners (shape : Shape) (before after : PageMap) (page : ℕ) (seps : List (List ℕ)) (below : List ℕ) (separator : Separator) : Type 0 where
+-- the page and one that was free are inner nodes of these now, both at least half full, but for the
+-- separator between them, which goes up
+pub record HasInners (shape : Shape) (before after : PageMap) (page : ℕ) (seps : List (List ℕ))
+    (below : List ℕ) (separator : Separator) : Type 0 where
   pub lower : List (List ℕ)
   pub upper : List (List ℕ)
   pub lower_children : List ℕ
@@ -57,15 +66,19 @@ pub record HasInners (shape : Shape) (before after : PageMap) (page : ℕ) (seps
   pub others : (n : ℕ) → n ≢ page → n ≢ separator.child → after n ≡ before n
 
 -- one node has these separators and children, or two where there is a separator
-abbrev pub HasAddedToInner : Shape → PageMap → PageMap → ℕ → List (List ℕ) → List ℕ → Option Separator → Type 0
+abbrev pub HasAddedToInner : Shape → PageMap → PageMap → ℕ → List (List ℕ) → List ℕ → Option Separator
+    → Type 0
 HasAddedToInner shape before after page seps below None = HasInner shape before after page seps below
-HasAddedToInner shape before after page seps below (Some separator) = HasInners shape before after page seps below separator
+HasAddedToInner shape before after page seps below (Some separator) =
+    HasInners shape before after page seps below separator
 
 -- a separator is put before separator `place` of an inner node, with the child to its right
-abbrev pub AddsToInner : Shape → ℕ → ℕ → Separator → Result (Option Separator) Fault → PageMap → PageMap → Type 0 → Type 0
+abbrev pub AddsToInner : Shape → ℕ → ℕ → Separator → Result (Option Separator) Fault → PageMap → PageMap
+    → Type 0 → Type 0
 AddsToInner shape page place new result before after is_sound =
     (seps : List (List ℕ)) (below : List ℕ) → IsInnerAt shape before page seps below → place ≤ length seps
-    → IsAnswer result (λ separator. HasAddedToInner shape before after page (insert seps place new.key.items) (insert below (place + 1) new.child) separator × is_sound)
+    → IsAnswer result (λ separator. HasAddedToInner shape before after page
+    (insert seps place new.key.items) (insert below (place + 1) new.child) separator × is_sound)
 
 -- an inner node of one separator, between this child and that to which the separator leads
 pub record IsRootOver (shape : Shape) (page : List ℕ) (left : ℕ) (separator : Separator) : Type 0 where
@@ -74,7 +87,8 @@ pub record IsRootOver (shape : Shape) (page : List ℕ) (left : ℕ) (separator 
   pub leads : children shape page ≡ left ∷ separator.child ∷ []
 
 -- a page that was free is such a node now, and every other page is as it was
-pub record HasRoot (shape : Shape) (before after : PageMap) (left : ℕ) (separator : Separator) (root : ℕ) : Type 0 where
+pub record HasRoot (shape : Shape) (before after : PageMap) (left : ℕ) (separator : Separator)
+    (root : ℕ) : Type 0 where
   pub free : before root ≡ None
   pub inner : IsInnerAt shape after root (separator.key.items ∷ []) (left ∷ separator.child ∷ [])
   pub others : (n : ℕ) → n ≢ root → after n ≡ before n

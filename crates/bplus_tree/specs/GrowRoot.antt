@@ -12,14 +12,17 @@ use Rattle.tree_search.specs.Calls.{IsWhole}
 use Rattle.bplus_tree.specs.Insert.{HasGrown}
 
 -- a tree of these entries stands below the root
-pub record HasGrownRoot (shape : Shape) (before after : PageMap) (own : List ℕ) (entries : List (List ℕ)) (base : Base) : Type 0 where
+pub record HasGrownRoot (shape : Shape) (before after : PageMap) (own : List ℕ) (entries : List (List ℕ))
+    (base : Base) : Type 0 where
   pub tree : TreeOf base.levels
   pub whole : IsWhole shape after base.levels base.root None None tree
   pub has : entries_of base.levels tree ≡ entries
   pub changes : ChangesPages before after own (pages_of base.levels tree)
 
 -- of a tree that has grown since an earlier state of the pages
-abbrev pub GrowsRoot : Shape → ℕ → ℕ → Option Separator → Result Base Fault → PageMap → PageMap → Type 0 → Type 0
+abbrev pub GrowsRoot : Shape → ℕ → ℕ → Option Separator → Result Base Fault → PageMap → PageMap → Type 0
+    → Type 0
 GrowsRoot shape h root up result mid after is_sound =
-    (before : PageMap) (t : TreeOf h) (entries : List (List ℕ)) → IsRooted h t → HasGrown shape before mid h root None None (pages_of h t) (size_of h t) entries up
+    (before : PageMap) (t : TreeOf h) (entries : List (List ℕ)) → IsRooted h t
+    → HasGrown shape before mid h root None None (pages_of h t) (size_of h t) entries up
     → IsAnswer result (λ base. HasGrownRoot shape before after (pages_of h t) entries base × is_sound)

@@ -18,8 +18,10 @@ use Rattle.tree_node.specs.Leaf.{leaf_entries}
 use Rattle.tree_node.specs.Order.{Ascends}
 use Rattle.bplus_tree.specs.Remove.{Becomes, IsHalfFullWithRoot}
 
--- The page heads the first of two trees now, which have these entries together, and the separator leads to the second. Both are at least half full.
-pub record BecomesTwo (shape : Shape) (before after : PageMap) (h page : ℕ) (low high : Bound) (own : List ℕ) (entries : List (List ℕ)) (separator : Separator) : Type 0 where
+-- The page heads the first of two trees now, which have these entries together, and the separator
+-- leads to the second. Both are at least half full.
+pub record BecomesTwo (shape : Shape) (before after : PageMap) (h page : ℕ) (low high : Bound)
+    (own : List ℕ) (entries : List (List ℕ)) (separator : Separator) : Type 0 where
   pub left : TreeOf h
   pub right : TreeOf h
   pub under : Above low separator.key.items
@@ -31,23 +33,30 @@ pub record BecomesTwo (shape : Shape) (before after : PageMap) (h page : ℕ) (l
   pub has : entries_of h left ++ entries_of h right ≡ entries
   pub changes : ChangesPages before after own (pages_of h left ++ pages_of h right)
 
--- The page heads a tree of these entries now, or two where it was split. The root has at least `floor` entries or separators.
-abbrev pub HasGrown : (shape : Shape) → PageMap → PageMap → (h page : ℕ) → (low high : Bound) → List ℕ → ℕ → List (List ℕ) → Option Separator → Type 0
-HasGrown shape before after h page low high own floor entries None = Becomes shape before after h page low high own floor entries
-HasGrown shape before after h page low high own floor entries (Some separator) = BecomesTwo shape before after h page low high own entries separator
+-- The page heads a tree of these entries now, or two where it was split. The root has at least
+-- `floor` entries or separators.
+abbrev pub HasGrown : (shape : Shape) → PageMap → PageMap → (h page : ℕ) → (low high : Bound) → List ℕ → ℕ
+    → List (List ℕ) → Option Separator → Type 0
+HasGrown shape before after h page low high own floor entries None =
+    Becomes shape before after h page low high own floor entries
+HasGrown shape before after h page low high own floor entries (Some separator) =
+    BecomesTwo shape before after h page low high own entries separator
 
 -- the key is there with this entry, and nothing has changed; or it was not, and the entry stands in order now
-abbrev pub HasInsertedBelow : (shape : Shape) → PageMap → PageMap → (h page : ℕ) → (low high : Bound) → List ℕ → TreeOf h → Grown → Type 0
+abbrev pub HasInsertedBelow : (shape : Shape) → PageMap → PageMap → (h page : ℕ) → (low high : Bound)
+    → List ℕ → TreeOf h → Grown → Type 0
 HasInsertedBelow shape before after h page low high e t (Present found) =
     (entry_of shape.width (take shape.width e) (entries_of h t) ≡ Some found.items) × (after ≡ before)
 HasInsertedBelow shape before after h page low high e t (Added up) =
     (entry_of shape.width (take shape.width e) (entries_of h t) ≡ None)
-    × HasGrown shape before after h page low high (pages_of h t) (size_of h t) (with_entry shape.width e (entries_of h t)) up
+    × HasGrown shape before after h page low high (pages_of h t) (size_of h t)
+    (with_entry shape.width e (entries_of h t)) up
 
 -- of a tree within bounds between which the key belongs
 abbrev pub Inserts : Shape → ℕ → ℕ → List ℕ → Result Grown Fault → PageMap → PageMap → Type 0 → Type 0
 Inserts shape h page e result before after is_sound =
-    (t : TreeOf h) (low high : Bound) → IsWhole shape before h page low high t → NotBelow low (take shape.width e) → Below high (take shape.width e)
+    (t : TreeOf h) (low high : Bound) → IsWhole shape before h page low high t
+    → NotBelow low (take shape.width e) → Below high (take shape.width e)
     → IsAnswer result (λ grown. HasInsertedBelow shape before after h page low high e t grown × is_sound)
 
 -- where a separator goes up, it has a whole key
@@ -56,13 +65,16 @@ HasWholeKey shape (Present found) = ⊤
 HasWholeKey shape (Added up) = HasWidth shape.width up
 
 -- the entry was put in where its key was not, and its leaf was not split; or nothing has changed
-abbrev pub HasPutIf : (shape : Shape) → PageMap → PageMap → (h page : ℕ) → (low high : Bound) → List ℕ → TreeOf h → Bool → Type 0
-HasPutIf shape before after h page low high e t true = HasInsertedBelow shape before after h page low high e t (Added None)
+abbrev pub HasPutIf : (shape : Shape) → PageMap → PageMap → (h page : ℕ) → (low high : Bound) → List ℕ
+    → TreeOf h → Bool → Type 0
+HasPutIf shape before after h page low high e t true =
+    HasInsertedBelow shape before after h page low high e t (Added None)
 HasPutIf shape before after h page low high e t false = after ≡ before
 
 abbrev pub PutsBelow : Shape → ℕ → ℕ → List ℕ → Result Bool Fault → PageMap → PageMap → Type 0 → Type 0
 PutsBelow shape h page e result before after is_sound =
-    (t : TreeOf h) (low high : Bound) → IsWhole shape before h page low high t → NotBelow low (take shape.width e) → Below high (take shape.width e)
+    (t : TreeOf h) (low high : Bound) → IsWhole shape before h page low high t
+    → NotBelow low (take shape.width e) → Below high (take shape.width e)
     → IsAnswer result (λ done. HasPutIf shape before after h page low high e t done × is_sound)
 
 -- the same of the entries of a leaf
@@ -72,12 +84,14 @@ IsPutIf width e old new false = new ≡ old
 
 -- and of the bytes of a leaf whose entries rise
 abbrev pub PutsInBytes : Shape → List ℕ → (old new : List ℕ) → Bool → Type 0
-PutsInBytes shape e old new done = Ascends shape.width (leaf_entries shape old) → IsPutIf shape.width e (leaf_entries shape old) (leaf_entries shape new) done
+PutsInBytes shape e old new done = Ascends shape.width (leaf_entries shape old)
+    → IsPutIf shape.width e (leaf_entries shape old) (leaf_entries shape new) done
 
 -- and of its page
 abbrev pub HasPutInPlaceIf : Shape → PageMap → PageMap → ℕ → List ℕ → List (List ℕ) → Bool → Type 0
 HasPutInPlaceIf shape before after page e entries true =
-    (entry_of shape.width (take shape.width e) entries ≡ None) × HasLeaf shape before after page (with_entry shape.width e entries)
+    (entry_of shape.width (take shape.width e) entries ≡ None)
+    × HasLeaf shape before after page (with_entry shape.width e entries)
 HasPutInPlaceIf shape before after page e entries false = after ≡ before
 
 abbrev pub PutsInPlace : Shape → ℕ → List ℕ → Result Bool Fault → PageMap → PageMap → Type 0 → Type 0

@@ -11,8 +11,10 @@ use Rattle.tree_search.specs.Stored.{Holds}
 -- the entries below a page with h levels below it, none below a page that is not in use
 abbrev pub entries_in : Shape → PageMap → ℕ → ℕ → List (List ℕ)
 entries_in shape pages zero page = option_map_or (λ bytes. leaf_entries shape bytes) (pages page) []
-entries_in shape pages (suc h) page = option_map_or (λ bytes. flat_map (entries_in shape pages h) (children shape bytes)) (pages page) []
+entries_in shape pages (suc h) page = option_map_or
+    (λ bytes. flat_map (entries_in shape pages h) (children shape bytes)) (pages page) []
 
 -- of a tree that stands there, they are its entries
 abbrev pub ReadsItsEntries : Type 0
-ReadsItsEntries = (shape : Shape) (pages : PageMap) (h : ℕ) (t : TreeOf h) → Holds shape pages h t → entries_in shape pages h (page_of h t) ≡ entries_of h t
+ReadsItsEntries = (shape : Shape) (pages : PageMap) (h : ℕ) (t : TreeOf h) → Holds shape pages h t
+    → entries_in shape pages h (page_of h t) ≡ entries_of h t

@@ -15,28 +15,34 @@ pub record AreThree (pages : PageMap) (p q r : ℕ) : Type 0 where
   pub apart : (p ≢ q) × (p ≢ r) × (q ≢ r)
 
 -- two pages hold these bytes, and a third one is free
-pub record HasJoined (before after : PageMap) (p : ℕ) (node : List ℕ) (q : ℕ) (left : List ℕ) (r : ℕ) : Type 0 where
+pub record HasJoined (before after : PageMap) (p : ℕ) (node : List ℕ) (q : ℕ) (left : List ℕ)
+    (r : ℕ) : Type 0 where
   pub first : after p ≡ Some node
   pub second : after q ≡ Some left
   pub third : after r ≡ None
   pub others : (n : ℕ) → n ≢ p → n ≢ q → n ≢ r → after n ≡ before n
 
 -- three pages hold these bytes
-pub record HasShared (before after : PageMap) (p : ℕ) (node : List ℕ) (q : ℕ) (left : List ℕ) (r : ℕ) (right : List ℕ) : Type 0 where
+pub record HasShared (before after : PageMap) (p : ℕ) (node : List ℕ) (q : ℕ) (left : List ℕ) (r : ℕ)
+    (right : List ℕ) : Type 0 where
   pub first : after p ≡ Some node
   pub second : after q ≡ Some left
   pub third : after r ≡ Some right
   pub others : (n : ℕ) → n ≢ p → n ≢ q → n ≢ r → after n ≡ before n
 
 -- the two children of a pair have become one
-abbrev pub EndsJoined : ℕ → Pair → (node left : List ℕ) → Result Unit Fault → PageMap → PageMap → Type 0 → Type 0
+abbrev pub EndsJoined : ℕ → Pair → (node left : List ℕ) → Result Unit Fault → PageMap → PageMap → Type 0
+    → Type 0
 EndsJoined page pair node left result before after is_sound =
-    AreThree before page pair.lower pair.upper → IsAnswer result (λ done. HasJoined before after page node pair.lower left pair.upper × is_sound)
+    AreThree before page pair.lower pair.upper → IsAnswer result
+    (λ done. HasJoined before after page node pair.lower left pair.upper × is_sound)
 
 -- the two children of a pair have other entries, or other children
-abbrev pub EndsShared : ℕ → Pair → (node left right : List ℕ) → Result Unit Fault → PageMap → PageMap → Type 0 → Type 0
+abbrev pub EndsShared : ℕ → Pair → (node left right : List ℕ) → Result Unit Fault → PageMap → PageMap
+    → Type 0 → Type 0
 EndsShared page pair node left right result before after is_sound =
-    AreThree before page pair.lower pair.upper → IsAnswer result (λ done. HasShared before after page node pair.lower left pair.upper right × is_sound)
+    AreThree before page pair.lower pair.upper → IsAnswer result
+    (λ done. HasShared before after page node pair.lower left pair.upper right × is_sound)
 
 -- a separator beside child `place`, and the pages of the children on its two sides
 pub record IsBeside (shape : Shape) (place : ℕ) (node : List ℕ) (pair : Pair) : Type 0 where
@@ -56,10 +62,12 @@ pub record IsParent (shape : Shape) (pages : PageMap) (page : ℕ) : Type 0 wher
   pub there : pages page ≡ Some bytes
   pub inner : IsInner shape bytes
   pub some : length (separators shape bytes) ≢ 0
-  pub kids : (i : ℕ) → i ≤ length (separators shape bytes) → IsSome (pages (slice_index (children shape bytes) i))
+  pub kids : (i : ℕ) → i ≤ length (separators shape bytes)
+      → IsSome (pages (slice_index (children shape bytes) i))
 
 -- what stands in a node, and in two of its children
-pub record HasRead (shape : Shape) (pages : PageMap) (page place : ℕ) (node left right : List ℕ) (pair : Pair) : Type 0 where
+pub record HasRead (shape : Shape) (pages : PageMap) (page place : ℕ) (node left right : List ℕ)
+    (pair : Pair) : Type 0 where
   pub parent : pages page ≡ Some node
   pub beside : IsBeside shape place node pair
   pub lower : pages pair.lower ≡ Some left

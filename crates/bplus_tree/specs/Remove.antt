@@ -17,8 +17,10 @@ use Rattle.tree_search.specs.Calls.{entry_of, IsTree, IsWhole}
 use Rattle.pages.specs.Owners.{AreApart, ChangesPages}
 use Rattle.bplus_tree.specs.Edits.{without_key}
 
--- The page heads a tree of these entries now, filled below its root. The root has at least `floor` entries or separators.
-pub record Becomes (shape : Shape) (before after : PageMap) (h page : ℕ) (low high : Bound) (own : List ℕ) (floor : ℕ) (entries : List (List ℕ)) : Type 0 where
+-- The page heads a tree of these entries now, filled below its root. The root has at least `floor`
+-- entries or separators.
+pub record Becomes (shape : Shape) (before after : PageMap) (h page : ℕ) (low high : Bound) (own : List ℕ)
+    (floor : ℕ) (entries : List (List ℕ)) : Type 0 where
   pub tree : TreeOf h
   pub stands : IsTree shape after h page low high tree
   pub filled : IsHalfFull shape h tree
@@ -27,16 +29,19 @@ pub record Becomes (shape : Shape) (before after : PageMap) (h page : ℕ) (low 
   pub changes : ChangesPages before after own (pages_of h tree)
 
 -- such a tree; and whether its root has too little for a node below another one
-pub record BecomesShort (shape : Shape) (before after : PageMap) (h page : ℕ) (low high : Bound) (own : List ℕ) (floor : ℕ) (entries : List (List ℕ)) (short : Bool) : Type 0 where
+pub record BecomesShort (shape : Shape) (before after : PageMap) (h page : ℕ) (low high : Bound)
+    (own : List ℕ) (floor : ℕ) (entries : List (List ℕ)) (short : Bool) : Type 0 where
   pub becomes : Becomes shape before after h page low high own floor entries
   pub short_is : IsTrue short ↔ (size_of h becomes.tree < least shape h)
 
-abbrev pub HasRemovedBelow : (shape : Shape) → PageMap → PageMap → (h page : ℕ) → (low high : Bound) → List ℕ → TreeOf h → Shrunk → Type 0
+abbrev pub HasRemovedBelow : (shape : Shape) → PageMap → PageMap → (h page : ℕ) → (low high : Bound)
+    → List ℕ → TreeOf h → Shrunk → Type 0
 HasRemovedBelow shape before after h page low high key t Absent =
     (entry_of shape.width key (entries_of h t) ≡ None) × (after ≡ before)
 HasRemovedBelow shape before after h page low high key t (Taken entry short) =
     (entry_of shape.width key (entries_of h t) ≡ Some entry.items)
-    × BecomesShort shape before after h page low high (pages_of h t) (size_of h t - 1) (without_key shape.width key (entries_of h t)) short
+    × BecomesShort shape before after h page low high (pages_of h t) (size_of h t - 1)
+    (without_key shape.width key (entries_of h t)) short
 
 abbrev pub Removes : Shape → ℕ → ℕ → List ℕ → Result Shrunk Fault → PageMap → PageMap → Type 0 → Type 0
 Removes shape h page key result before after is_sound =
@@ -47,7 +52,8 @@ Removes shape h page key result before after is_sound =
 abbrev pub AreFullBut : {X : Type 0} → (X → Type 0) → (X → Type 0) → ℕ → List X → Type 0
 AreFullBut IsHalfFullWithRoot Lacks place [] = ⊥
 AreFullBut IsHalfFullWithRoot Lacks zero (x ∷ xs) = Lacks x × Each IsHalfFullWithRoot xs
-AreFullBut IsHalfFullWithRoot Lacks (suc place) (x ∷ xs) = IsHalfFullWithRoot x × AreFullBut IsHalfFullWithRoot Lacks place xs
+AreFullBut IsHalfFullWithRoot Lacks (suc place) (x ∷ xs) =
+    IsHalfFullWithRoot x × AreFullBut IsHalfFullWithRoot Lacks place xs
 
 abbrev pub IsHalfFullWithRoot : Shape → (h : ℕ) → TreeOf h → Type 0
 IsHalfFullWithRoot shape h t = (least shape h ≤ size_of h t) × IsHalfFull shape h t
@@ -58,12 +64,15 @@ LacksOne shape h t = (least shape h ≡ size_of h t + 1) × IsHalfFull shape h t
 -- a node one of whose children lacks one
 abbrev pub Rebalances : Shape → ℕ → ℕ → ℕ → Result Bool Fault → PageMap → PageMap → Type 0 → Type 0
 Rebalances shape k page place result before after is_sound =
-    (t : TreeOf (suc k)) (low high : Bound) → IsTree shape before (suc k) page low high t → AreApart (pages_of (suc k) t)
+    (t : TreeOf (suc k)) (low high : Bound) → IsTree shape before (suc k) page low high t
+    → AreApart (pages_of (suc k) t)
     → AreFullBut (IsHalfFullWithRoot shape k) (LacksOne shape k) place t.2 → 1 ≤ length t.1
-    → IsAnswer result (λ short. BecomesShort shape before after (suc k) page low high (pages_of (suc k) t) (length t.1 - 1) (entries_of (suc k) t) short × is_sound)
+    → IsAnswer result (λ short. BecomesShort shape before after (suc k) page low high (pages_of (suc k) t)
+    (length t.1 - 1) (entries_of (suc k) t) short × is_sound)
 
 -- the leaf has one entry less, and every other page is as it was
-pub record TakesOut (shape : Shape) (before after : PageMap) (page : ℕ) (entries : List (List ℕ)) (short : Bool) : Type 0 where
+pub record TakesOut (shape : Shape) (before after : PageMap) (page : ℕ) (entries : List (List ℕ))
+    (short : Bool) : Type 0 where
   pub leaf : IsLeafAt shape after page entries
   pub others : (n : ℕ) → n ≢ page → after n ≡ before n
   pub short_is : IsTrue short ↔ (length entries < least shape 0)
@@ -74,20 +83,26 @@ OutOfLeaf shape page place result before after is_sound =
     → IsAnswer result (λ short. TakesOut shape before after page (remove entries place) short × is_sound)
 
 -- The entry of the key was taken out, and its leaf has enough still: no other node has changed.
-pub record HasTaken (shape : Shape) (before after : PageMap) (h page : ℕ) (low high : Bound) (key : List ℕ) (t : TreeOf h) (entry : List ℕ) : Type 0 where
+pub record HasTaken (shape : Shape) (before after : PageMap) (h page : ℕ) (low high : Bound) (key : List ℕ)
+    (t : TreeOf h) (entry : List ℕ) : Type 0 where
   pub was : entry_of shape.width key (entries_of h t) ≡ Some entry
-  pub becomes : Becomes shape before after h page low high (pages_of h t) (size_of h t - 1) (without_key shape.width key (entries_of h t))
+  pub becomes : Becomes shape before after h page low high (pages_of h t) (size_of h t - 1)
+      (without_key shape.width key (entries_of h t))
   pub enough : least shape h ≤ size_of h t → least shape h ≤ size_of h becomes.tree
   pub rooted : IsRooted h t → IsRooted h becomes.tree
 
-abbrev pub HasTakenIf : (shape : Shape) → PageMap → PageMap → (h page : ℕ) → (low high : Bound) → List ℕ → TreeOf h → List ℕ → Bool → Type 0
-HasTakenIf shape before after h page low high key t entry true = HasTaken shape before after h page low high key t entry
+abbrev pub HasTakenIf : (shape : Shape) → PageMap → PageMap → (h page : ℕ) → (low high : Bound) → List ℕ
+    → TreeOf h → List ℕ → Bool → Type 0
+HasTakenIf shape before after h page low high key t entry true =
+    HasTaken shape before after h page low high key t entry
 HasTakenIf shape before after h page low high key t entry false = after ≡ before
 
-abbrev pub TakesBelow : Shape → ℕ → ℕ → List ℕ → ArrayVec ℕ → Result Bool Fault → PageMap → PageMap → Type 0 → Type 0
+abbrev pub TakesBelow : Shape → ℕ → ℕ → List ℕ → ArrayVec ℕ → Result Bool Fault → PageMap → PageMap
+    → Type 0 → Type 0
 TakesBelow shape h page key entry result before after is_sound =
     (t : TreeOf h) (low high : Bound) → IsWhole shape before h page low high t
-    → IsAnswer result (λ done. HasTakenIf shape before after h page low high key t entry.items done × is_sound)
+    → IsAnswer result (λ done. HasTakenIf shape before after h page low high key t entry.items done
+    × is_sound)
 
 -- the same of the entries of a leaf
 pub record IsTaken (shape : Shape) (key : List ℕ) (old new : List (List ℕ)) (entry : List ℕ) : Type 0 where
@@ -103,20 +118,25 @@ IsTakenIf shape key old new entry false = new ≡ old
 
 -- and of the bytes of a leaf whose entries rise
 abbrev pub TakesFromBytes : Shape → List ℕ → (old new : List ℕ) → ArrayVec ℕ → Bool → Type 0
-TakesFromBytes shape key old new entry done = Ascends shape.width (leaf_entries shape old) → IsTakenIf shape key (leaf_entries shape old) (leaf_entries shape new) entry done
+TakesFromBytes shape key old new entry done = Ascends shape.width (leaf_entries shape old)
+    → IsTakenIf shape key (leaf_entries shape old) (leaf_entries shape new) entry done
 
 -- and of its page
-pub record HasTakenInPlace (shape : Shape) (before after : PageMap) (page : ℕ) (key : List ℕ) (entries : List (List ℕ)) (entry : List ℕ) : Type 0 where
+pub record HasTakenInPlace (shape : Shape) (before after : PageMap) (page : ℕ) (key : List ℕ)
+    (entries : List (List ℕ)) (entry : List ℕ) : Type 0 where
   pub now : List (List ℕ)
   pub taken : IsTaken shape key entries now entry
   pub leaf : IsLeafAt shape after page now
   pub others : (n : ℕ) → n ≢ page → after n ≡ before n
 
-abbrev pub HasTakenInPlaceIf : Shape → PageMap → PageMap → ℕ → List ℕ → List (List ℕ) → ArrayVec ℕ → Bool → Type 0
-HasTakenInPlaceIf shape before after page key entries entry true = HasTakenInPlace shape before after page key entries entry.items
+abbrev pub HasTakenInPlaceIf : Shape → PageMap → PageMap → ℕ → List ℕ → List (List ℕ) → ArrayVec ℕ → Bool
+    → Type 0
+HasTakenInPlaceIf shape before after page key entries entry true =
+    HasTakenInPlace shape before after page key entries entry.items
 HasTakenInPlaceIf shape before after page key entries entry false = after ≡ before
 
-abbrev pub TakesInPlace : Shape → ℕ → List ℕ → ArrayVec ℕ → Result Bool Fault → PageMap → PageMap → Type 0 → Type 0
+abbrev pub TakesInPlace : Shape → ℕ → List ℕ → ArrayVec ℕ → Result Bool Fault → PageMap → PageMap → Type 0
+    → Type 0
 TakesInPlace shape page key entry result before after is_sound =
     (entries : List (List ℕ)) → IsLeafAt shape before page entries → Ascends shape.width entries
     → IsAnswer result (λ done. HasTakenInPlaceIf shape before after page key entries entry done × is_sound)

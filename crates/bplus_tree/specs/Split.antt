@@ -19,16 +19,20 @@ Splits page lower upper result before after is_sound =
     IsSome (before page) → IsAnswer result (λ right. HasSplit before after page lower upper right × is_sound)
 
 -- the page was split where there is a key, which goes up
-abbrev pub IsSplitOrWhole : PageMap → PageMap → ℕ → (lower upper : List ℕ) → Option (ArrayVec ℕ) → Option Separator → Type 0
+abbrev pub IsSplitOrWhole : PageMap → PageMap → ℕ → (lower upper : List ℕ) → Option (ArrayVec ℕ)
+    → Option Separator → Type 0
 IsSplitOrWhole before after page lower upper None None = Writes before after page lower
-IsSplitOrWhole before after page lower upper (Some key) (Some separator) = HasSplit before after page lower upper separator.child
+IsSplitOrWhole before after page lower upper (Some key) (Some separator) =
+    HasSplit before after page lower upper separator.child
 IsSplitOrWhole before after page lower upper None (Some separator) = ⊥
 IsSplitOrWhole before after page lower upper (Some key) None = ⊥
 
 -- a page that is in use is written, in two parts where there is a key
-abbrev pub WritesParts : ℕ → (lower upper : List ℕ) → Option (ArrayVec ℕ) → Result (Option Separator) Fault → PageMap → PageMap → Type 0 → Type 0
+abbrev pub WritesParts : ℕ → (lower upper : List ℕ) → Option (ArrayVec ℕ) → Result (Option Separator) Fault
+    → PageMap → PageMap → Type 0 → Type 0
 WritesParts page lower upper key result before after is_sound =
-    IsSome (before page) → IsAnswer result (λ separator. IsSplitOrWhole before after page lower upper key separator × is_sound)
+    IsSome (before page) → IsAnswer result (λ separator.
+    IsSplitOrWhole before after page lower upper key separator × is_sound)
 
 -- where there is a separator, its key has this width
 abbrev pub HasWidth : ℕ → Option Separator → Type 0

@@ -20,7 +20,8 @@ pub record TreeStands (tree : Tree) (pages : PageMap) (entries : List (List ℕ)
   pub count : tree.count ≡ length entries
 
 -- it has these entries now, in pages of which those new to it were free
-pub record Changed (before after : PageMap) (new : Tree) (own : List ℕ) (entries : List (List ℕ)) : Type 0 where
+pub record Changed (before after : PageMap) (new : Tree) (own : List ℕ)
+    (entries : List (List ℕ)) : Type 0 where
   pub own_now : List ℕ
   pub stands : TreeStands new after entries own_now
   pub changes : ChangesPages before after own own_now
@@ -30,14 +31,17 @@ abbrev pub one_more : ℕ → ℕ
 one_more changes = min (changes + 1) (2 ^ 64 - 1)
 
 -- a look-up answers what `look` gives of the entries
-abbrev pub Answers : Tree → PageMap → (List (List ℕ) → Option (List ℕ)) → Result (Option (ArrayVec ℕ)) Fault → Type 0
+abbrev pub Answers : Tree → PageMap → (List (List ℕ) → Option (List ℕ))
+    → Result (Option (ArrayVec ℕ)) Fault → Type 0
 Answers tree pages look result =
-    (entries : List (List ℕ)) (own : List ℕ) → TreeStands tree pages entries own → IsAnswer result (λ found. option_map (λ e. e.items) found ≡ look entries)
+    (entries : List (List ℕ)) (own : List ℕ) → TreeStands tree pages entries own
+    → IsAnswer result (λ found. option_map (λ e. e.items) found ≡ look entries)
 
 -- what a look-up tells of the entry of a key
 abbrev pub Tells : (Option (List ℕ) → Bool → Type 0) → Tree → PageMap → List ℕ → Result Bool Fault → Type 0
 Tells Says tree pages key result =
-    (entries : List (List ℕ)) (own : List ℕ) → TreeStands tree pages entries own → IsAnswer result (Says (entry_of tree.shape.width key entries))
+    (entries : List (List ℕ)) (own : List ℕ) → TreeStands tree pages entries own
+    → IsAnswer result (Says (entry_of tree.shape.width key entries))
 
 -- a new tree without entries
 pub record IsNewTree (shape : Shape) (before after : PageMap) (tree : Tree) : Type 0 where
@@ -46,24 +50,34 @@ pub record IsNewTree (shape : Shape) (before after : PageMap) (tree : Tree) : Ty
   pub low : tree.levels ≡ 0
 
 abbrev pub MakesTree : Shape → Result Tree Fault → PageMap → PageMap → Type 0 → Type 0
-MakesTree shape result before after is_sound = IsAnswer result (λ tree. IsNewTree shape before after tree × is_sound)
+MakesTree shape result before after is_sound = IsAnswer result (λ tree. IsNewTree shape before after tree
+    × is_sound)
 
-abbrev pub HasInserted : PageMap → PageMap → Tree → Tree → List ℕ → List (List ℕ) → List ℕ → Option (ArrayVec ℕ) → Type 0
+abbrev pub HasInserted : PageMap → PageMap → Tree → Tree → List ℕ → List (List ℕ) → List ℕ
+    → Option (ArrayVec ℕ) → Type 0
 HasInserted before after old new e entries own (Some found) =
-    (entry_of old.shape.width (take old.shape.width e) entries ≡ Some found.items) × (after ≡ before) × (new ≡ old)
+    (entry_of old.shape.width (take old.shape.width e) entries ≡ Some found.items) × (after ≡ before)
+    × (new ≡ old)
 HasInserted before after old new e entries own None =
-    (entry_of old.shape.width (take old.shape.width e) entries ≡ None) × Changed before after new own (with_entry old.shape.width e entries)
+    (entry_of old.shape.width (take old.shape.width e) entries ≡ None)
+    × Changed before after new own (with_entry old.shape.width e entries)
 
-abbrev pub Inserts : Tree → Tree → List ℕ → Result (Option (ArrayVec ℕ)) Fault → PageMap → PageMap → Type 0 → Type 0
+abbrev pub Inserts : Tree → Tree → List ℕ → Result (Option (ArrayVec ℕ)) Fault → PageMap → PageMap → Type 0
+    → Type 0
 Inserts old new e result before after is_sound =
-    (entries : List (List ℕ)) (own : List ℕ) → TreeStands old before entries own → IsAnswer result (λ found. HasInserted before after old new e entries own found × is_sound)
+    (entries : List (List ℕ)) (own : List ℕ) → TreeStands old before entries own
+    → IsAnswer result (λ found. HasInserted before after old new e entries own found × is_sound)
 
-abbrev pub HasRemoved : PageMap → PageMap → Tree → Tree → List ℕ → List (List ℕ) → List ℕ → Option (ArrayVec ℕ) → Type 0
+abbrev pub HasRemoved : PageMap → PageMap → Tree → Tree → List ℕ → List (List ℕ) → List ℕ
+    → Option (ArrayVec ℕ) → Type 0
 HasRemoved before after old new key entries own None =
     (entry_of old.shape.width key entries ≡ None) × (after ≡ before) × (new ≡ old)
 HasRemoved before after old new key entries own (Some found) =
-    (entry_of old.shape.width key entries ≡ Some found.items) × Changed before after new own (without_key old.shape.width key entries)
+    (entry_of old.shape.width key entries ≡ Some found.items)
+    × Changed before after new own (without_key old.shape.width key entries)
 
-abbrev pub Removes : Tree → Tree → List ℕ → Result (Option (ArrayVec ℕ)) Fault → PageMap → PageMap → Type 0 → Type 0
+abbrev pub Removes : Tree → Tree → List ℕ → Result (Option (ArrayVec ℕ)) Fault → PageMap → PageMap → Type 0
+    → Type 0
 Removes old new key result before after is_sound =
-    (entries : List (List ℕ)) (own : List ℕ) → TreeStands old before entries own → IsAnswer result (λ found. HasRemoved before after old new key entries own found × is_sound)
+    (entries : List (List ℕ)) (own : List ℕ) → TreeStands old before entries own
+    → IsAnswer result (λ found. HasRemoved before after old new key entries own found × is_sound)

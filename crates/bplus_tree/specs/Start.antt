@@ -12,4 +12,5 @@ pub record HasStarted (shape : Shape) (before after : PageMap) (page : ℕ) : Ty
   pub others : (n : ℕ) → n ≢ page → after n ≡ before n
 
 abbrev pub Starts : Shape → PageMap → PageMap → ℕ → Result Unit Fault → Type 0
-Starts shape before after page result = IsSome (before page) → IsAnswer result (λ done. HasStarted shape before after page)
+Starts shape before after page result = IsSome (before page)
+    → IsAnswer result (λ done. HasStarted shape before after page)

@@ -11,8 +11,8 @@ use pages::Pages;
 use tree_node::{Entry, Shape, TreeKey};
 use tree_search::{Spot, begins_with, copy_entry, entry_begins_with, next_below};
 
-/// The key of the entry that was given last, at first the one that the cursor was made for. While the tree has not changed, also where that
-/// entry stands.
+/// The key of the entry that was given last, at first the one that the cursor was made for. While
+/// the tree has not changed, also where that entry stands.
 #[derive(Drop)]
 pub struct Cursor {
     pub key: TreeKey,
@@ -43,15 +43,17 @@ impl Tree {
 impl Cursor {
     ghost use Rattle.bplus_tree.specs.Cursor.{HasNeighbour, LooksBehind, CursorMoves, TellsNext, key_after};
 
-    /// The next entry: the first one whose key is above that of the entry given last. Where there is none the cursor stays where it is, and
-    /// at a fault. It asks one page mostly, and never more than twice the height.
+    /// The next entry: the first one whose key is above that of the entry given last. Where there
+    /// is none the cursor stays where it is, and at a fault. It asks one page mostly, and never
+    /// more than twice the height.
     pub fn next<P: Pages>(&mut self, tree: &Tree, pages: &mut P) -> Result<Option<Entry>, Fault>
         requires ready { P.shown.IsReady pages.old }
         ensures moved { WhenHonest P.shown pages.old pages.new
             (λ live. CursorMoves self.old self.new tree.now live result) }
         ensures key { IfOk result (λ found. self.new.key.items
             ≡ key_after tree.now.shape.width self.old.key.items found) }
-        ensures near { HasNeighbour self.old tree.now → (P.shown.state pages.new).asked ≤ (P.shown.state pages.old).asked + 1 }
+        ensures near { HasNeighbour self.old tree.now
+            → (P.shown.state pages.new).asked ≤ (P.shown.state pages.old).asked + 1 }
         ensures reads { ReadsPages P.shown (2 * (tree.now.levels + 1)) pages.old pages.new result }
         ensures err { OnErr result (self.new ≡ self.old) }
     {
@@ -72,8 +74,8 @@ impl Cursor {
         }
     }
 
-    /// Whether there is a next entry, and it begins with these bytes. The cursor stays where it is. It asks one page mostly, and never more than
-    /// twice the height.
+    /// Whether there is a next entry, and it begins with these bytes. The cursor stays where it is.
+    /// It asks one page mostly, and never more than twice the height.
     pub fn next_begins_with<P: Pages>(
         &self,
         tree: &Tree,

@@ -62,7 +62,8 @@ pub fn add_to_inner<P: Pages>(
 ) -> Result<Option<Separator>, Fault>
     requires width { length separator.now.key.items ≡ shape.width }
     requires pages { CanWrite P.shown pages.old }
-    ensures added { WhereSound P.shown pages.old pages.new (AddsToInner shape page place separator.now result) }
+    ensures added { WhereSound P.shown pages.old pages.new
+        (AddsToInner shape page place separator.now result) }
     ensures width { IfOk result (HasWidth shape.width) }
     ensures writes { TakesOne P.shown 4 pages.old pages.new result }
 {

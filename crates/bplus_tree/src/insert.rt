@@ -49,8 +49,8 @@ pub fn insert_below<P: Pages>(
     }
 }
 
-/// Puts an entry into the leaf below which its key belongs, where that has room and not the key. The answer is whether it did; where it did
-/// not, nothing is changed.
+/// Puts an entry into the leaf below which its key belongs, where that has room and not the key.
+/// The answer is whether it did; where it did not, nothing is changed.
 pub fn put_below<P: Pages>(
     pages: &mut P,
     shape: Shape,

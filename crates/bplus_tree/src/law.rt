@@ -8,7 +8,8 @@ pub fn reads_its_entries()
     ensures { ReadsItsEntries }
 {}
 
-/// A tree with an inner root has at least two times as many entries as a child must have: four in a leaf, eight times as many with each level.
+/// A tree with an inner root has at least two times as many entries as a child must have: four in a
+/// leaf, eight times as many with each level.
 pub fn have_many_entries()
     ensures { HaveManyEntries }
 {}

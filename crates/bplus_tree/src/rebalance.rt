@@ -72,7 +72,8 @@ fn end_shared<P: Pages>(
     right: &[u8; PAGE_SIZE],
 ) -> Result<(), Fault>
     requires { CanWrite P.shown pages.old }
-    ensures ended { WhereSound P.shown pages.old pages.new (EndsShared page pair node.now left.now right.now result) }
+    ensures ended { WhereSound P.shown pages.old pages.new
+        (EndsShared page pair node.now left.now right.now result) }
     ensures writes { GivesPages P.shown 3 pages.old pages.new result }
 {
     store(pages, page, node)?;
@@ -81,8 +82,8 @@ fn end_shared<P: Pages>(
     Ok(())
 }
 
-/// Balances out the children of a node, with this many levels below them, where child `place` has too little. The answer is whether the node has
-/// too little now.
+/// Balances out the children of a node, with this many levels below them, where child `place` has
+/// too little. The answer is whether the node has too little now.
 pub fn rebalance<P: Pages>(
     pages: &mut P,
     shape: Shape,
@@ -124,7 +125,8 @@ fn read_pair<P: Pages>(
     right: &mut [u8; PAGE_SIZE],
 ) -> Result<Pair, Fault>
     requires ready { P.shown.IsReady pages.old }
-    ensures inner { IfOk result (λ pair. IsInner shape node.new × (pair.at < length (separators shape node.new))) }
+    ensures inner { IfOk result (λ pair. IsInner shape node.new
+        × (pair.at < length (separators shape node.new))) }
     ensures read { WhenHonest P.shown pages.old pages.new
         (λ live. ReadsPair shape live page place node.new left.new right.new result) }
     ensures reads { ReadsPages P.shown 3 pages.old pages.new result }

@@ -52,8 +52,8 @@ pub fn remove_below<P: Pages>(
     }
 }
 
-/// Takes the entry of a key, which goes to `to`, out of a leaf that keeps enough without it. The answer is whether it did; where it did not,
-/// nothing is changed.
+/// Takes the entry of a key, which goes to `to`, out of a leaf that keeps enough without it. The
+/// answer is whether it did; where it did not, nothing is changed.
 pub fn take_below<P: Pages>(
     pages: &mut P,
     shape: Shape,
@@ -63,7 +63,8 @@ pub fn take_below<P: Pages>(
     to: &mut Entry,
 ) -> Result<bool, Fault>
     requires { CanWrite P.shown pages.old }
-    ensures taken { WhereSound P.shown pages.old pages.new (TakesBelow shape levels page key.now to.new result) }
+    ensures taken { WhereSound P.shown pages.old pages.new
+        (TakesBelow shape levels page key.now to.new result) }
     ensures writes { EditsPages P.shown (levels + 1) pages.old pages.new result }
 {
     if levels == 0 {

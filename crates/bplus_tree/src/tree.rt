@@ -18,11 +18,12 @@ use tree_search::{
 /// No tree that stands has so many levels above its leaves: it would have more entries than pages can hold.
 const GREATEST_LEVELS: u8 = 19;
 
-/// A tree: the page of its root, how many levels are above its leaves, how many entries it has, and how often it has changed, a number
-/// that stays at its greatest value. One that is read off a header begins at 0 changes.
+/// A tree: the page of its root, how many levels are above its leaves, how many entries it has, and
+/// how often it has changed, a number that stays at its greatest value. One that is read off a
+/// header begins at 0 changes.
 ///
-/// Each call may answer Device or Memory, and Damage where a page is not what its place requires. After a fault of a call that changes the
-/// tree nothing is known of it.
+/// Each call may answer Device or Memory, and Damage where a page is not what its place requires.
+/// After a fault of a call that changes the tree nothing is known of it.
 #[derive(Clone, Copy)]
 pub struct Tree {
     pub shape: Shape,
@@ -46,7 +47,8 @@ impl Tree {
         requires { CanWrite P.shown pages.old }
         ensures made { WhereSound P.shown pages.old pages.new (MakesTree shape result) }
         ensures shape { IfOk result (λ tree. (tree.shape ≡ shape) × (tree.levels ≡ 0)) }
-        ensures one { OnOk result ((P.shown.state pages.new).available + 1 ≡ (P.shown.state pages.old).available) }
+        ensures one { OnOk result ((P.shown.state pages.new).available + 1
+            ≡ (P.shown.state pages.old).available) }
         ensures writes { TakesOne P.shown 2 pages.old pages.new result }
     {
         let root = pages.take()?;
@@ -71,13 +73,14 @@ impl Tree {
     pub fn find<P: Pages>(&self, pages: &mut P, key: &[u8]) -> Result<Option<Entry>, Fault>
         requires ready { P.shown.IsReady pages.old }
         ensures { LooksUp P.shown (self.now.levels + 1)
-            (λ live. Answers self.now live (entry_of self.now.shape.width key.now)) pages.old pages.new result }
+            (λ live. Answers self.now live (entry_of self.now.shape.width key.now)) pages.old pages.new
+            result }
     {
         find_below(pages, self.shape, self.root, self.levels, key)
     }
 
-    /// The bytes behind the key of an entry go to `tail`, which is as long as they are. The answer is whether the key, which may have any length, has an
-    /// entry.
+    /// The bytes behind the key of an entry go to `tail`, which is as long as they are. The answer
+    /// is whether the key, which may have any length, has an entry.
     pub fn find_tail<P: Pages>(
         &self,
         pages: &mut P,
@@ -87,7 +90,8 @@ impl Tree {
         requires ready { P.shown.IsReady pages.old }
         requires size { self.now.shape.width + length tail.old ≡ self.now.shape.entry }
         ensures { LooksUp P.shown (self.now.levels + 1)
-            (λ live. Tells (IsTail self.now.shape.width tail.new) self.now live key.now) pages.old pages.new result }
+            (λ live. Tells (IsTail self.now.shape.width tail.new) self.now live key.now) pages.old
+            pages.new result }
     {
         find_tail(pages, self.shape, self.root, self.levels, key, tail)
     }
@@ -105,7 +109,8 @@ impl Tree {
     pub fn at_or_after<P: Pages>(&self, pages: &mut P, key: &[u8]) -> Result<Option<Entry>, Fault>
         requires ready { P.shown.IsReady pages.old }
         ensures { LooksUp P.shown (2 * (self.now.levels + 1))
-            (λ live. Answers self.now live (first_from self.now.shape.width key.now)) pages.old pages.new result }
+            (λ live. Answers self.now live (first_from self.now.shape.width key.now)) pages.old pages.new
+            result }
     {
         let mut spot = Spot::nowhere();
         next_below(
@@ -123,7 +128,8 @@ impl Tree {
     pub fn after<P: Pages>(&self, pages: &mut P, key: &[u8]) -> Result<Option<Entry>, Fault>
         requires ready { P.shown.IsReady pages.old }
         ensures { LooksUp P.shown (2 * (self.now.levels + 1))
-            (λ live. Answers self.now live (first_after self.now.shape.width key.now)) pages.old pages.new result }
+            (λ live. Answers self.now live (first_after self.now.shape.width key.now)) pages.old pages.new
+            result }
     {
         let mut spot = Spot::nowhere();
         next_below(
@@ -146,10 +152,11 @@ impl Tree {
         last_below(pages, self.shape, self.root, self.levels)
     }
 
-    /// The first entry whose key is not below `from` and not above `to`, and whether the next entry is such a one too. The keys may have any length.
+    /// The first entry whose key is not below `from` and not above `to`, and whether the next entry
+    /// is such a one too. The keys may have any length.
     ///
-    /// It asks one page a level, and more only where the range goes on behind a leaf with less than two entries of it; never more than twice the
-    /// height.
+    /// It asks one page a level, and more only where the range goes on behind a leaf with less than
+    /// two entries of it; never more than twice the height.
     pub fn first_within<P: Pages>(
         &self,
         pages: &mut P,
@@ -166,15 +173,18 @@ impl Tree {
     /// Puts an entry in where its key is not there, and answers none. Where the key is there, its
     /// entry is answered, and nothing is changed.
     ///
-    /// Full where no page is available; Memory only where the pages want it. Damage also where the tree has 20 levels, or 4,096 times as many entries
-    /// as the file has pages, which no tree that stands comes to. After a fault nothing is known of the tree.
+    /// Full where no page is available; Memory only where the pages want it. Damage also where the
+    /// tree has 20 levels, or 4,096 times as many entries as the file has pages, which no tree that
+    /// stands comes to. After a fault nothing is known of the tree.
     pub fn insert<P: Pages>(&mut self, pages: &mut P, entry: &[u8]) -> Result<Option<Entry>, Fault>
         requires { CanInsert P.shown self.old.shape entry.now pages.old }
-        ensures inserted { WhereSound P.shown pages.old pages.new (Inserts self.old self.new entry.now result) }
+        ensures inserted { WhereSound P.shown pages.old pages.new
+            (Inserts self.old self.new entry.now result) }
         ensures deep { IsPastAll self.old → FindsDamage self.old self.new pages.old pages.new result }
         ensures shape { KeepsShape (self.old.levels + 1) self.old self.new }
         ensures changes { result ≡ Ok None → self.new.changes ≡ one_more self.old.changes }
-        ensures writes { TakesUpTo P.shown (self.old.levels + 2) (8 * (self.old.levels + 2)) pages.old pages.new result }
+        ensures writes { TakesUpTo P.shown (self.old.levels + 2)
+            (8 * (self.old.levels + 2)) pages.old pages.new result }
     {
         let room = 4096 * u64::from(pages.count());
         if self.levels >= GREATEST_LEVELS || self.count >= room {
@@ -196,10 +206,12 @@ impl Tree {
     ) -> Result<Option<Entry>, Fault>
         requires low { (self.old.levels < 19) × (self.old.count < 2 ^ 64 - 1) }
         requires put { CanInsert P.shown self.old.shape entry.now pages.old }
-        ensures inserted { WhereSound P.shown pages.old pages.new (Inserts self.old self.new entry.now result) }
+        ensures inserted { WhereSound P.shown pages.old pages.new
+            (Inserts self.old self.new entry.now result) }
         ensures shape { KeepsShape (self.old.levels + 1) self.old self.new }
         ensures changes { result ≡ Ok None → self.new.changes ≡ one_more self.old.changes }
-        ensures writes { TakesUpTo P.shown (self.old.levels + 2) (7 * (self.old.levels + 2)) pages.old pages.new result }
+        ensures writes { TakesUpTo P.shown (self.old.levels + 2)
+            (7 * (self.old.levels + 2)) pages.old pages.new result }
     {
         match insert_below(pages, self.shape, self.root, self.levels, entry)? {
             Grown::Present(found) => Ok(Some(found)),

@@ -22,7 +22,8 @@ pub fn write_parts<P: Pages>(
     key: Option<TreeKey>,
 ) -> Result<Option<Separator>, Fault>
     requires { CanWrite P.shown pages.old }
-    ensures written { WhereSound P.shown pages.old pages.new (WritesParts page lower.now upper.now key result) }
+    ensures written { WhereSound P.shown pages.old pages.new
+        (WritesParts page lower.now upper.now key result) }
     ensures key { IfOk result (λ up. option_map (λ separator. separator.key) up ≡ key) }
     ensures writes { TakesOne P.shown 3 pages.old pages.new result }
 {

@@ -30,31 +30,42 @@ stamp_in schema stamp j = if (key_at schema (j + 1)).duplicates then stamp else 
 -- the entry of a new record in alternate index j
 abbrev pub entry_of : Schema → ℕ → List ℕ → ℕ → AltEntry
 entry_of schema stamp bytes j =
-    record { value = record { items = value_of schema (j + 1) bytes }; stamp = stamp_in schema stamp j; prime = record { items = prime_of schema bytes } }
+    record {
+      value = record { items = value_of schema (j + 1) bytes };
+      stamp = stamp_in schema stamp j;
+      prime = record { items = prime_of schema bytes };
+    }
 
 -- the alternate indexes below i have the entry of the new record, and the others do not have it yet
 abbrev pub added_below : Schema → ℕ → List ℕ → ℕ → (ℕ → List AltEntry) → ℕ → List AltEntry
-added_below schema stamp bytes i entries j = if nat_lt j i then with_alt (entry_of schema stamp bytes j) (entries j) else entries j
+added_below schema stamp bytes i entries j = if nat_lt j i then with_alt (entry_of schema stamp bytes j)
+    (entries j) else entries j
 
 -- no alternate index has an entry of its value and stamp
 abbrev pub AreFree : Schema → ℕ → List ℕ → ℕ → (ℕ → List AltEntry) → Type 0
-AreFree schema stamp bytes count entries = (j : ℕ) → j < count → find (has_rank (value_of schema (j + 1) bytes) (stamp_in schema stamp j)) (entries j) ≡ None
+AreFree schema stamp bytes count entries = (j : ℕ) → j < count
+    → find (has_rank (value_of schema (j + 1) bytes) (stamp_in schema stamp j)) (entries j) ≡ None
 
 -- the levels of these trees, with one more of each
 abbrev pub levels_in : List AltIndex → ℕ
 levels_in indexes = sum_by (λ index. alt_height index + 1) indexes
 
 -- the heap has these bytes at a place that was free, and all other parts are as they were
-pub record RowPut (heap : Heap) (prime : PrimeIndex) (alternates : List AltIndex) (pages : PageMap) (slots : Slots) (primes : List PrimeEntry) (entries : ℕ → List AltEntry) (place : Place) (bytes : List ℕ) : Type 0 where
+pub record RowPut (heap : Heap) (prime : PrimeIndex) (alternates : List AltIndex) (pages : PageMap)
+    (slots : Slots) (primes : List PrimeEntry) (entries : ℕ → List AltEntry) (place : Place)
+    (bytes : List ℕ) : Type 0 where
   pub free : slots place ≡ None
   pub parts : Parts heap prime alternates pages (put slots place (Some bytes)) primes entries
 
 -- where the parts were sound, a row of these bytes was put into the heap
-abbrev pub PutsRow : {S : Type 0} → ShownPages S → (before after : FileInPages S) → List ℕ → Result Place Fault → Type 0
+abbrev pub PutsRow : {S : Type 0} → ShownPages S → (before after : FileInPages S) → List ℕ
+    → Result Place Fault → Type 0
 PutsRow shown before after bytes result =
-    IsTrue (shown.state after.pages).is_honest → IsTrue (shown.state before.pages).is_sound → (slots : Slots) (primes : List PrimeEntry) (entries : ℕ → List AltEntry)
+    IsTrue (shown.state after.pages).is_honest → IsTrue (shown.state before.pages).is_sound
+    → (slots : Slots) (primes : List PrimeEntry) (entries : ℕ → List AltEntry)
     → Holds shown before (record { slots = slots; primes = primes; entries = entries })
-    → IsAnswer result (λ place. RowPut after.file.heap after.file.prime after.file.alternates.items (shown.state after.pages).live slots primes entries place bytes
+    → IsAnswer result (λ place. RowPut after.file.heap after.file.prime after.file.alternates.items
+    (shown.state after.pages).live slots primes entries place bytes
     × IsTrue (shown.state after.pages).is_sound)
 
 -- the slot of a new record: its stamps, and its bytes
@@ -65,26 +76,39 @@ new_slot file bytes = stored file.schema (new_row file.schema file.next_stamp by
 abbrev pub prime_added : Schema → List ℕ → Place → PartsStep
 prime_added schema bytes place = record {
   Asks = λ held. find (has_prime (prime_of schema bytes)) held.primes ≡ None;
-  leaves = λ held. record held { primes = with_prime (record { value = record { items = prime_of schema bytes }; place = place }) held.primes };
+  leaves = λ held. record held {
+    primes = with_prime
+        (record { value = record { items = prime_of schema bytes }; place = place }) held.primes;
+  };
 }
 
 -- alternate index j gets the entry of a record, whose value and stamp it did not have
 abbrev pub entry_added : OpenFile → List ℕ → ℕ → PartsStep
 entry_added file bytes j = record {
-  Asks = λ held. find (has_rank (value_of file.schema (j + 1) bytes) (stamp_in file.schema file.next_stamp j)) (held.entries j) ≡ None;
-  leaves = λ held. record held { entries = but_at j (with_alt (entry_of file.schema file.next_stamp bytes j) (held.entries j)) held.entries };
+  Asks = λ held. find (has_rank (value_of file.schema (j + 1) bytes)
+      (stamp_in file.schema file.next_stamp j)) (held.entries j) ≡ None;
+  leaves = λ held. record held {
+    entries = but_at j
+        (with_alt (entry_of file.schema file.next_stamp bytes j) (held.entries j)) held.entries;
+  };
 }
 
 -- so does each of them
 abbrev pub entries_added : OpenFile → List ℕ → PartsStep
 entries_added file bytes = record {
   Asks = λ held. AreFree file.schema file.next_stamp bytes (length file.alternates.items) held.entries;
-  leaves = λ held. record held { entries = added_below file.schema file.next_stamp bytes (length file.alternates.items) held.entries };
+  leaves = λ held. record held {
+    entries = added_below file.schema file.next_stamp bytes
+        (length file.alternates.items) held.entries;
+  };
 }
 
 -- where the record clashes with none, the pages stand for the file with it
-abbrev pub AddsRecord : {S : Type 0} → ShownPages S → (before after : FileInPages S) → List ℕ → Result Unit Fault → Type 0
+abbrev pub AddsRecord : {S : Type 0} → ShownPages S → (before after : FileInPages S) → List ℕ
+    → Result Unit Fault → Type 0
 AddsRecord shown before after bytes result =
     IsTrue (shown.state after.pages).is_honest → IsTrue (shown.state before.pages).is_sound → (file : File)
-    → Stands before.file (shown.state before.pages).live file → clashes before.file.schema bytes file.rows ≡ false
-    → IsAnswer result (λ u. Stands after.file (shown.state after.pages).live (added before.file.schema bytes file) × IsTrue (shown.state after.pages).is_sound)
+    → Stands before.file (shown.state before.pages).live file
+    → clashes before.file.schema bytes file.rows ≡ false
+    → IsAnswer result (λ u. Stands after.file (shown.state after.pages).live
+    (added before.file.schema bytes file) × IsTrue (shown.state after.pages).is_sound)

@@ -1,4 +1,5 @@
--- A change of an open file, said once for all that make it: what is answered and left, when nothing is changed, and when the file breaks.
+-- A change of an open file, said once for all that make it: what is answered and left, when nothing
+-- is changed, and when the file breaks.
 use Rattle.std.specs.Prelude.{◌≡◌, ◌≢◌, ◌≤◌, ◌+◌, ℕ, Bool, true, false, Result, Err, IsTrue, IsFalse, IfOk, IfErr, OnOk}
 use Rattle.io_state.specs.declared.fault.Fault.{Fault}
 use Rattle.io_state.specs.declared.fault.Fault.TheVariants.{Full, Broken}
@@ -34,7 +35,8 @@ pub record ShownFile (T : Type 0) : Type 1 where
   pub HasFailed : T → T → Type 0
 
 -- the answer is the one of the definitions, and the pages stand for the file that they leave
-pub record HasChanged {X : Type 0} (StandsFor : File → Type 0) (IsSound : Type 0) (change : FileChange X) (file : File) (x : X) : Type 0 where
+pub record HasChanged {X : Type 0} (StandsFor : File → Type 0) (IsSound : Type 0) (change : FileChange X)
+    (file : File) (x : X) : Type 0 where
   pub answers : x ≡ change.answer file
   pub stands : StandsFor (change.leaves file)
   pub sound : IsSound
@@ -46,9 +48,12 @@ pub record KeepsFile {T : Type 0} (shown : ShownFile T) (before after : T) : Typ
   pub begins : shown.Begins before after
   pub asked : shown.asked after ≤ shown.asked before + most_to_change (shown.room before)
 
--- a change was made, or it was not: Full exactly where it does not clash and lacks room, and the gate is open where something was changed
-pub record Changes {T X : Type 0} (shown : ShownFile T) (change : FileChange X) (before after : T) (result : Result X Fault) : Type 0 where
-  pub done : IsTrue (shown.is_honest after) → shown.IsSound before → (file : File) → shown.StandsFor before file
+-- a change was made, or it was not: Full exactly where it does not clash and lacks room, and the
+-- gate is open where something was changed
+pub record Changes {T X : Type 0} (shown : ShownFile T) (change : FileChange X) (before after : T)
+    (result : Result X Fault) : Type 0 where
+  pub done : IsTrue (shown.is_honest after) → shown.IsSound before → (file : File)
+      → shown.StandsFor before file
       → IsAnswer result (HasChanged (shown.StandsFor after) (shown.IsSound after) change file)
   pub unmade : IfOk result (λ x. change.is_made x ≡ false → shown.Reads before after)
   pub begun : IfOk result (λ x. change.is_made x ≡ true → shown.CanChange after)
@@ -60,8 +65,10 @@ pub record Changes {T X : Type 0} (shown : ShownFile T) (change : FileChange X) 
   pub keeps : KeepsFile shown before after
 
 -- a broken file answers Broken, and a fault other than Full breaks it
-pub record MayBreak {T X : Type 0} (shown : ShownFile T) (takes_pages : Bool) (before after : T) (result : Result X Fault) : Type 0 where
+pub record MayBreak {T X : Type 0} (shown : ShownFile T) (takes_pages : Bool) (before after : T)
+    (result : Result X Fault) : Type 0 where
   pub broken : IsTrue (shown.is_broken before) → (result ≡ Err Broken) × shown.Reads before after
   pub breaks : IfErr result (λ fault. fault ≢ Full → IsTrue (shown.is_broken after))
   pub unbroken : OnOk result (IsFalse (shown.is_broken after))
-  pub cause : IfErr result (IsCausedIn (shown.is_broken before) (shown.HasFailed before after) (IsTrue takes_pages × IsFalse (shown.is_broken before)))
+  pub cause : IfErr result (IsCausedIn (shown.is_broken before) (shown.HasFailed before after)
+      (IsTrue takes_pages × IsFalse (shown.is_broken before)))

@@ -17,7 +17,8 @@ pub record Contents : Type 0 where
 
 -- the parts hold this
 abbrev pub Holds : {S : Type 0} → ShownPages S → FileInPages S → Contents → Type 0
-Holds shown held what = Parts held.file.heap held.file.prime held.file.alternates.items (shown.state held.pages).live what.slots what.primes what.entries
+Holds shown held what = Parts held.file.heap held.file.prime held.file.alternates.items
+    (shown.state held.pages).live what.slots what.primes what.entries
 
 -- a step of a change: what it asks of what they hold, and what they hold after it
 pub record PartsStep : Type 1 where
@@ -25,8 +26,13 @@ pub record PartsStep : Type 1 where
   pub leaves : Contents → Contents
 
 -- where the parts held what the change asks for, they hold what it leaves
-abbrev pub TakesStep : {S : Type 0} → ShownPages S → PartsStep → (before after : FileInPages S) → Result Unit Fault → Type 0
+abbrev pub TakesStep : {S : Type 0} → ShownPages S → PartsStep → (before after : FileInPages S)
+    → Result Unit Fault → Type 0
 TakesStep shown change before after result =
-    IsTrue (shown.state after.pages).is_honest → IsTrue (shown.state before.pages).is_sound → (slots : Slots) (primes : List PrimeEntry) (entries : ℕ → List AltEntry)
-    → Holds shown before (record { slots = slots; primes = primes; entries = entries }) → change.Asks (record { slots = slots; primes = primes; entries = entries })
-    → IsAnswer result (λ u. Holds shown after (change.leaves (record { slots = slots; primes = primes; entries = entries })) × IsTrue (shown.state after.pages).is_sound)
+    IsTrue (shown.state after.pages).is_honest → IsTrue (shown.state before.pages).is_sound
+    → (slots : Slots) (primes : List PrimeEntry) (entries : ℕ → List AltEntry)
+    → Holds shown before (record { slots = slots; primes = primes; entries = entries })
+    → change.Asks (record { slots = slots; primes = primes; entries = entries })
+    → IsAnswer result (λ u. Holds shown after (change.leaves
+    (record { slots = slots; primes = primes; entries = entries }))
+    × IsTrue (shown.state after.pages).is_sound)

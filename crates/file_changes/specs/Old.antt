@@ -21,13 +21,15 @@ abbrev pub row_with : List ℕ → List ℕ → Row
 row_with bytes stamps = record { bytes = bytes; stamps = stamps }
 
 -- the row of a prime value lies at this place, to which the prime index leads
-pub record IsOldAt (schema : Schema) (slots : Slots) (primes : List PrimeEntry) (file : File) (prime : List ℕ) (place : Place) (row : Row) : Type 0 where
+pub record IsOldAt (schema : Schema) (slots : Slots) (primes : List PrimeEntry) (file : File)
+    (prime : List ℕ) (place : Place) (row : Row) : Type 0 where
   pub is_row : row_of schema prime file ≡ Some row
   pub leads : option_map (λ (e : PrimeEntry). e.place) (find (has_prime prime) primes) ≡ Some place
   pub here : slots place ≡ Some (stored schema row)
 
 -- this is that row, whose bytes stand behind its stamps in the slot
-pub record IsOld (schema : Schema) (slots : Slots) (primes : List PrimeEntry) (file : File) (prime slot : List ℕ) (old : OldRecord) : Type 0 where
+pub record IsOld (schema : Schema) (slots : Slots) (primes : List PrimeEntry) (file : File)
+    (prime slot : List ℕ) (old : OldRecord) : Type 0 where
   pub row : Row
   pub at : IsOldAt schema slots primes file prime old.place row
   pub bytes : slice_range slot (stamps_length (drop 1 schema.keys)) old.end ≡ row.bytes
@@ -39,13 +41,18 @@ HasFound schema slots primes file prime slot None = row_of schema prime file ≡
 HasFound schema slots primes file prime slot (Some old) = IsOld schema slots primes file prime slot old
 
 -- of a file that the pages stand for
-abbrev pub HasFoundIn : {opened : OpenFile} {pages : PageMap} {file : File} → Stands opened pages file → List ℕ → List ℕ → Option OldRecord → Type 0
-HasFoundIn {opened} {pages} {file} stands prime slot = HasFound opened.schema stands.slots (prime_entries opened.schema stands.places file.rows) file prime slot
+abbrev pub HasFoundIn : {opened : OpenFile} {pages : PageMap} {file : File} → Stands opened pages file
+    → List ℕ → List ℕ → Option OldRecord → Type 0
+HasFoundIn {opened} {pages} {file} stands prime slot =
+    HasFound opened.schema stands.slots (prime_entries opened.schema stands.places file.rows) file prime
+    slot
 
 -- and the row of these bytes is the one that was found
-abbrev pub IsFoundIn : {opened : OpenFile} {pages : PageMap} {file : File} → Stands opened pages file → List ℕ → OldRecord → List ℕ → Type 0
+abbrev pub IsFoundIn : {opened : OpenFile} {pages : PageMap} {file : File} → Stands opened pages file
+    → List ℕ → OldRecord → List ℕ → Type 0
 IsFoundIn {opened} {pages} {file} stands prime old bytes =
-    IsOldAt opened.schema stands.slots (prime_entries opened.schema stands.places file.rows) file prime old.place (row_with bytes old.stamps.items)
+    IsOldAt opened.schema stands.slots (prime_entries opened.schema stands.places file.rows) file prime
+    old.place (row_with bytes old.stamps.items)
 
 -- it is as long as a record, and has a stamp for each alternate key
 pub record HasRecordLength (shape : Shape) (alternates : List AltIndex) (old : OldRecord) : Type 0 where

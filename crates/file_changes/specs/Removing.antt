@@ -15,10 +15,12 @@ use Rattle.file_changes.specs.declared.old_record.OldRecord.{OldRecord}
 
 -- each alternate index has an entry of the row's value and stamp
 abbrev pub AreThere : Schema → Row → ℕ → (ℕ → List AltEntry) → Type 0
-AreThere schema row count entries = (j : ℕ) → j < count → IsSome (find (has_rank (value_of schema (j + 1) row.bytes) (stamp_of (j + 1) row)) (entries j))
+AreThere schema row count entries = (j : ℕ) → j < count
+    → IsSome (find (has_rank (value_of schema (j + 1) row.bytes) (stamp_of (j + 1) row)) (entries j))
 
 -- the heap has the row at this place, and each index has its entry
-pub record HasRowAndEntries (schema : Schema) (row : Row) (place : Place) (count : ℕ) (slots : Slots) (primes : List PrimeEntry) (entries : ℕ → List AltEntry) : Type 0 where
+pub record HasRowAndEntries (schema : Schema) (row : Row) (place : Place) (count : ℕ) (slots : Slots)
+    (primes : List PrimeEntry) (entries : ℕ → List AltEntry) : Type 0 where
   pub in_heap : IsSome (slots place)
   pub in_prime : IsSome (find (has_prime (prime_of schema row.bytes)) primes)
   pub in_alternates : AreThere schema row count entries
@@ -26,7 +28,8 @@ pub record HasRowAndEntries (schema : Schema) (row : Row) (place : Place) (count
 -- the alternate indexes below i do not have the entry of the row any more
 abbrev pub without_below : Schema → Row → ℕ → (ℕ → List AltEntry) → ℕ → List AltEntry
 without_below schema row i entries j =
-    if nat_lt j i then without_rank (value_of schema (j + 1) row.bytes) (stamp_of (j + 1) row) (entries j) else entries j
+    if nat_lt j i then without_rank (value_of schema (j + 1) row.bytes) (stamp_of (j + 1) row)
+    (entries j) else entries j
 
 -- the parts without the row
 abbrev pub without_row : Schema → Row → Place → ℕ → Contents → Contents
@@ -54,19 +57,26 @@ slot_freed place = record {
 abbrev pub entry_lost : OpenFile → List ℕ → ℕ → ℕ → PartsStep
 entry_lost file bytes stamp j = record {
   Asks = λ held. IsSome (find (has_rank (value_of file.schema (j + 1) bytes) stamp) (held.entries j));
-  leaves = λ held. record held { entries = but_at j (without_rank (value_of file.schema (j + 1) bytes) stamp (held.entries j)) held.entries };
+  leaves = λ held. record held {
+    entries = but_at j
+        (without_rank (value_of file.schema (j + 1) bytes) stamp (held.entries j)) held.entries;
+  };
 }
 
 -- each of them loses the entry of a record, of these stamps
 abbrev pub entries_lost : OpenFile → (bytes stamps : List ℕ) → PartsStep
 entries_lost file bytes stamps = record {
   Asks = λ held. AreThere file.schema (row_with bytes stamps) (length file.alternates.items) held.entries;
-  leaves = λ held. record held { entries = without_below file.schema (row_with bytes stamps) (length file.alternates.items) held.entries };
+  leaves = λ held. record held {
+    entries = without_below file.schema (row_with bytes stamps)
+        (length file.alternates.items) held.entries;
+  };
 }
 
 -- the parts lose the record that was found, of these bytes
 abbrev pub row_lost : OpenFile → OldRecord → List ℕ → PartsStep
 row_lost file old bytes = record {
-  Asks = λ held. HasRowAndEntries file.schema (row_with bytes old.stamps.items) old.place (length file.alternates.items) held.slots held.primes held.entries;
+  Asks = λ held. HasRowAndEntries file.schema (row_with bytes old.stamps.items) old.place
+      (length file.alternates.items) held.slots held.primes held.entries;
   leaves = without_row file.schema (row_with bytes old.stamps.items) old.place (length file.alternates.items);
 }

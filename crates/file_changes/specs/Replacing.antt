@@ -44,16 +44,20 @@ freed schema old j entries = without_rank (value_of schema (j + 1) old.bytes) (s
 -- they have none of the new value and stamp, where the value changes
 abbrev pub AreFreed : Schema → ℕ → Row → List ℕ → ℕ → (ℕ → List AltEntry) → Type 0
 AreFreed schema stamp old bytes count entries = (j : ℕ) → j < count → IsFalse (stays schema old.bytes bytes j)
-    → find (has_rank (value_of schema (j + 1) bytes) (stamp_in schema stamp j)) (freed schema old j (entries j)) ≡ None
+    → find (has_rank (value_of schema (j + 1) bytes) (stamp_in schema stamp j))
+    (freed schema old j (entries j)) ≡ None
 
--- where the value of a key stays, its index has the entries that it had; else the new record's in the place of the old row's
+-- where the value of a key stays, its index has the entries that it had; else the new record's in
+-- the place of the old row's
 abbrev pub changed_in : Schema → ℕ → Row → List ℕ → ℕ → List AltEntry → List AltEntry
 changed_in schema stamp old bytes j entries =
-    if stays schema old.bytes bytes j then entries else with_alt (entry_of schema stamp bytes j) (freed schema old j entries)
+    if stays schema old.bytes bytes j then entries else with_alt (entry_of schema stamp bytes j)
+    (freed schema old j entries)
 
 -- the alternate indexes below i have changed, and the others have not yet
 abbrev pub changed_below : Schema → ℕ → Row → List ℕ → ℕ → (ℕ → List AltEntry) → ℕ → List AltEntry
-changed_below schema stamp old bytes i entries j = if nat_lt j i then changed_in schema stamp old bytes j (entries j) else entries j
+changed_below schema stamp old bytes i entries j =
+    if nat_lt j i then changed_in schema stamp old bytes j (entries j) else entries j
 
 -- the stamp in alternate key j after a change: the next one, where the value changes
 abbrev pub stamp_after : Schema → ℕ → List ℕ → ℕ → List ℕ → ℕ → ℕ
@@ -71,17 +75,23 @@ with_row schema stamp old bytes place count held = record {
   entries = changed_below schema stamp old bytes count held.entries;
 }
 
--- alternate index j has the entry of the old record, of this stamp, and without it none of the new record's value and stamp
-pub record CanChangeEntry (schema : Schema) (next : ℕ) (old : List ℕ) (stamp : ℕ) (bytes : List ℕ) (j : ℕ) (entries : List AltEntry) : Type 0 where
+-- alternate index j has the entry of the old record, of this stamp, and without it none of the new
+-- record's value and stamp
+pub record CanChangeEntry (schema : Schema) (next : ℕ) (old : List ℕ) (stamp : ℕ) (bytes : List ℕ) (j : ℕ)
+    (entries : List AltEntry) : Type 0 where
   pub there : IsSome (find (has_rank (value_of schema (j + 1) old) stamp) entries)
-  pub freed : find (has_rank (value_of schema (j + 1) bytes) (stamp_in schema next j)) (without_rank (value_of schema (j + 1) old) stamp entries) ≡ None
+  pub freed : find (has_rank (value_of schema (j + 1) bytes) (stamp_in schema next j))
+      (without_rank (value_of schema (j + 1) old) stamp entries) ≡ None
 
 -- and then it has the new record's entry in the place of that one
 abbrev pub changed_entries : Schema → ℕ → List ℕ → ℕ → List ℕ → ℕ → List AltEntry → List AltEntry
-changed_entries schema next old stamp bytes j entries = with_alt (entry_of schema next bytes j) (without_rank (value_of schema (j + 1) old) stamp entries)
+changed_entries schema next old stamp bytes j entries =
+    with_alt (entry_of schema next bytes j) (without_rank (value_of schema (j + 1) old) stamp entries)
 
--- the heap has the old row at this place, each alternate index has its entry, and where a value changes, room for the new record's
-pub record CanPutOver (schema : Schema) (stamp : ℕ) (old : Row) (bytes : List ℕ) (place : Place) (count : ℕ) (slots : Slots) (entries : ℕ → List AltEntry) : Type 0 where
+-- the heap has the old row at this place, each alternate index has its entry, and where a value
+-- changes, room for the new record's
+pub record CanPutOver (schema : Schema) (stamp : ℕ) (old : Row) (bytes : List ℕ) (place : Place)
+    (count : ℕ) (slots : Slots) (entries : ℕ → List AltEntry) : Type 0 where
   pub in_heap : IsSome (slots place)
   pub there : AreThere schema old count entries
   pub freed : AreFreed schema stamp old bytes count entries
@@ -96,28 +106,41 @@ next_after schema stamp old new = if takes_stamp schema old new then stamp + 1 e
 abbrev pub slot_put : OpenFile → OldRecord → (was bytes : List ℕ) → PartsStep
 slot_put file old was bytes = record {
   Asks = λ held. IsSome (held.slots old.place);
-  leaves = λ held. record held { slots = put held.slots old.place (Some (slot_after file.schema file.next_stamp (row_with was old.stamps.items) bytes)) };
+  leaves = λ held. record held {
+    slots = put held.slots old.place
+        (Some (slot_after file.schema file.next_stamp (row_with was old.stamps.items) bytes));
+  };
 }
 
 -- alternate index j gets the new record's entry in the place of the old one's, of this stamp
 abbrev pub entry_put : OpenFile → (was : List ℕ) → ℕ → (bytes : List ℕ) → ℕ → PartsStep
 entry_put file was stamp bytes j = record {
   Asks = λ held. CanChangeEntry file.schema file.next_stamp was stamp bytes j (held.entries j);
-  leaves = λ held. record held { entries = but_at j (changed_entries file.schema file.next_stamp was stamp bytes j (held.entries j)) held.entries };
+  leaves = λ held. record held {
+    entries = but_at j
+        (changed_entries file.schema file.next_stamp was stamp bytes j (held.entries j)) held.entries;
+  };
 }
 
 -- so does each whose value changes
 abbrev pub entries_put : OpenFile → (was stamps bytes : List ℕ) → PartsStep
 entries_put file was stamps bytes = record {
-  Asks = λ held. AreThere file.schema (row_with was stamps) (length file.alternates.items) held.entries × AreFreed file.schema file.next_stamp (row_with was stamps) bytes (length file.alternates.items) held.entries;
-  leaves = λ held. record held { entries = changed_below file.schema file.next_stamp (row_with was stamps) bytes (length file.alternates.items) held.entries };
+  Asks = λ held. AreThere file.schema (row_with was stamps) (length file.alternates.items) held.entries
+      × AreFreed file.schema file.next_stamp (row_with was stamps) bytes
+      (length file.alternates.items) held.entries;
+  leaves = λ held. record held {
+    entries = changed_below file.schema file.next_stamp
+        (row_with was stamps) bytes (length file.alternates.items) held.entries;
+  };
 }
 
 -- the parts get the new record in the place of the one that was found
 abbrev pub row_put : OpenFile → OldRecord → (was bytes : List ℕ) → PartsStep
 row_put file old was bytes = record {
-  Asks = λ held. CanPutOver file.schema file.next_stamp (row_with was old.stamps.items) bytes old.place (length file.alternates.items) held.slots held.entries;
-  leaves = with_row file.schema file.next_stamp (row_with was old.stamps.items) bytes old.place (length file.alternates.items);
+  Asks = λ held. CanPutOver file.schema file.next_stamp (row_with was old.stamps.items) bytes old.place
+      (length file.alternates.items) held.slots held.entries;
+  leaves = with_row file.schema file.next_stamp (row_with was old.stamps.items) bytes old.place
+      (length file.alternates.items);
 }
 
 -- ---- what is needed, answered and left
@@ -128,17 +151,22 @@ need_to_put file old new = need_in_indexes file.schema old new file.alternates.i
 
 -- there are fewer pages, or no stamp for a record that takes one
 abbrev pub is_full_for : OpenFile → ℕ → List ℕ → List ℕ → Bool
-is_full_for file available old new = nat_lt available (need_to_put file old new) || (takes_stamp file.schema old new && nat_le (2 ^ 63) file.next_stamp)
+is_full_for file available old new = nat_lt available (need_to_put file old new)
+    || (takes_stamp file.schema old new && nat_le (2 ^ 63) file.next_stamp)
 
 -- the value of key k changes, and a row has the new one
 abbrev pub new_there : Schema → List ℕ → List ℕ → List Row → ℕ → Bool
-new_there schema old bytes rows k = not (bytes_eq (value_of schema k old) (value_of schema k bytes)) && is_there (key_at schema k) bytes rows
+new_there schema old bytes rows k = not (bytes_eq (value_of schema k old) (value_of schema k bytes))
+    && is_there (key_at schema k) bytes rows
 
 -- where the row of the new record's prime value has these bytes, the answer is the one of the definitions
-abbrev pub AnswersReplacing : {S : Type 0} → ShownPages S → (before : FileInPages S) → S → (was bytes : List ℕ) → Result Replaced Fault → Type 0
+abbrev pub AnswersReplacing : {S : Type 0} → ShownPages S → (before : FileInPages S) → S
+    → (was bytes : List ℕ) → Result Replaced Fault → Type 0
 AnswersReplacing shown before after was bytes result =
-    IsTrue (shown.state after).is_honest → (file : File) → Stands before.file (shown.state before.pages).live file
-    → (row : Row) → row_of before.file.schema (prime_of before.file.schema bytes) file ≡ Some row → row.bytes ≡ was
+    IsTrue (shown.state after).is_honest → (file : File)
+    → Stands before.file (shown.state before.pages).live file
+    → (row : Row) → row_of before.file.schema (prime_of before.file.schema bytes) file ≡ Some row
+    → row.bytes ≡ was
     → IsAnswer result (λ answer. answer ≡ replaced_answer_at before.file.schema bytes file (Some row))
 
 -- the path is forgotten, and a stamp was taken where the new record takes one
@@ -159,20 +187,31 @@ pub record KeepsFound {S : Type 0} (shown : ShownPages S) (before after : FileIn
   pub shaped : IsShaped after.file
   pub begins : shown.Begins before.pages after.pages
   pub asked : (shown.state after.pages).asked
-      ≤ (shown.state before.pages).asked + 2 * sum_by (λ height. height) (heights_of before.file) + 1 + 16 * levels_in before.file.alternates.items
+      ≤ (shown.state before.pages).asked + 2 * sum_by (λ height. height)
+      (heights_of before.file) + 1 + 16 * levels_in before.file.alternates.items
 
 -- what `Changes` says of a replacement, where its row was found before: it had these bytes
-pub record ReplacesFound {S : Type 0} (shown : ShownPages S) (old : OldRecord) (was bytes : List ℕ) (before after : FileInPages S) (result : Result Replaced Fault) : Type 0 where
-  pub done : IsTrue (shown.state after.pages).is_honest → IsTrue (shown.state before.pages).is_sound → (file : File)
-      → (stands : Stands before.file (shown.state before.pages).live file) → IsFoundIn stands (prime_of before.file.schema bytes) old was
-      → IsAnswer result (HasChanged (Stands after.file (shown.state after.pages).live) (IsTrue (shown.state after.pages).is_sound) (replacement before.file.schema bytes) file)
+pub record ReplacesFound {S : Type 0} (shown : ShownPages S) (old : OldRecord) (was bytes : List ℕ)
+    (before after : FileInPages S) (result : Result Replaced Fault) : Type 0 where
+  pub done : IsTrue (shown.state after.pages).is_honest → IsTrue (shown.state before.pages).is_sound
+      → (file : File)
+      → (stands : Stands before.file (shown.state before.pages).live file)
+      → IsFoundIn stands (prime_of before.file.schema bytes) old was
+      → IsAnswer result (HasChanged (Stands after.file (shown.state after.pages).live)
+      (IsTrue (shown.state after.pages).is_sound) (replacement before.file.schema bytes) file)
   pub unmade : IfOk result (λ x. is_replaced x ≡ false → (shown_in shown).Reads before after)
   pub begun : IfOk result (λ x. is_replaced x ≡ true → shown.CanChange after.pages)
-  pub room : IsTrue (shown.state after.pages).is_honest → (file : File) → Stands before.file (shown.state before.pages).live file
-      → row_of before.file.schema (prime_of before.file.schema bytes) file ≡ Some (row_with was old.stamps.items)
-      → OnOk result (IsTrue (has_room_for (room_of before.file (shown.state before.pages).available) (replacement before.file.schema bytes) file))
+  pub room : IsTrue (shown.state after.pages).is_honest → (file : File)
+      → Stands before.file (shown.state before.pages).live file
+      → row_of before.file.schema (prime_of before.file.schema bytes) file ≡ Some
+      (row_with was old.stamps.items)
+      → OnOk result (IsTrue (has_room_for (room_of before.file (shown.state before.pages).available)
+      (replacement before.file.schema bytes) file))
   pub full : result ≡ Err Full → (shown_in shown).Reads before after
-  pub lacks : result ≡ Err Full → IsTrue (shown.state after.pages).is_honest → (file : File) → Stands before.file (shown.state before.pages).live file
-      → row_of before.file.schema (prime_of before.file.schema bytes) file ≡ Some (row_with was old.stamps.items)
-      → LacksRoomFor (room_of before.file (shown.state before.pages).available) (replacement before.file.schema bytes) file
+  pub lacks : result ≡ Err Full → IsTrue (shown.state after.pages).is_honest → (file : File)
+      → Stands before.file (shown.state before.pages).live file
+      → row_of before.file.schema (prime_of before.file.schema bytes) file ≡ Some
+      (row_with was old.stamps.items)
+      → LacksRoomFor (room_of before.file (shown.state before.pages).available)
+      (replacement before.file.schema bytes) file
   pub keeps : KeepsFound shown before after

@@ -15,20 +15,23 @@ use Rattle.file_changes.specs.InPages.{FileInPages}
 -- ---- what is asked for
 
 -- calls may be made, and the record is long enough to have a value of each key
-pub record CanLookFor {S : Type 0} (shown : ShownPages S) (file : OpenFile) (pages : S) (bytes : List ℕ) : Type 0 where
+pub record CanLookFor {S : Type 0} (shown : ShownPages S) (file : OpenFile) (pages : S)
+    (bytes : List ℕ) : Type 0 where
   pub ready : shown.IsReady pages
   pub shaped : IsShaped file
   pub least : file.schema.least ≤ length bytes
 
 -- the gate is open too
-pub record CanChangeWith {S : Type 0} (shown : ShownPages S) (file : OpenFile) (pages : S) (bytes : List ℕ) : Type 0 where
+pub record CanChangeWith {S : Type 0} (shown : ShownPages S) (file : OpenFile) (pages : S)
+    (bytes : List ℕ) : Type 0 where
   pub ready : shown.IsReady pages
   pub gate : shown.CanChange pages
   pub shaped : IsShaped file
   pub least : file.schema.least ≤ length bytes
 
 -- and the record is not too long for a slot of the heap
-pub record CanStore {S : Type 0} (shown : ShownPages S) (file : OpenFile) (pages : S) (bytes : List ℕ) : Type 0 where
+pub record CanStore {S : Type 0} (shown : ShownPages S) (file : OpenFile) (pages : S)
+    (bytes : List ℕ) : Type 0 where
   pub ready : shown.IsReady pages
   pub gate : shown.CanChange pages
   pub shaped : IsShaped file
@@ -47,16 +50,21 @@ pub record IsRowOf (file : OpenFile) (row : Row) : Type 0 where
   pub many : length row.stamps ≡ length file.alternates.items
 
 -- so many pages are left, and where a stamp is taken, the next one is no greater than the last that there is
-pub record HasRoomFor {S : Type 0} (shown : ShownPages S) (file : OpenFile) (pages : S) (need : ℕ) (takes_stamp : Bool) : Type 0 where
+pub record HasRoomFor {S : Type 0} (shown : ShownPages S) (file : OpenFile) (pages : S) (need : ℕ)
+    (takes_stamp : Bool) : Type 0 where
   pub room : need ≤ (shown.state pages).available
   pub stamps : IsTrue takes_stamp → file.next_stamp < 2 ^ 63
 
 -- ---- what is answered
 
--- where no wrong answer of the device was taken as true, the answer is this, for each file that the pages stood for
-abbrev pub AnswersFor : {S X : Type 0} → (shown : ShownPages S) → (opened : OpenFile) → (old new : S) → (Is : (file : File) → Stands opened (shown.state old).live file → X → Type 0) → Result X Fault → Type 0
+-- where no wrong answer of the device was taken as true, the answer is this, for each file that the
+-- pages stood for
+abbrev pub AnswersFor : {S X : Type 0} → (shown : ShownPages S) → (opened : OpenFile) → (old new : S)
+    → (Is : (file : File) → Stands opened (shown.state old).live file → X → Type 0) → Result X Fault
+    → Type 0
 AnswersFor shown opened old new Is result =
-    IsTrue (shown.state new).is_honest → (file : File) (stands : Stands opened (shown.state old).live file) → IsAnswer result (Is file stands)
+    IsTrue (shown.state new).is_honest → (file : File) (stands : Stands opened (shown.state old).live file)
+    → IsAnswer result (Is file stands)
 
 -- ---- what is left
 
@@ -83,28 +91,34 @@ pub record ChangesAlternates (old new : OpenFile) : Type 0 where
 
 -- the tree of alternate index j has no more levels than before
 abbrev pub IsNoHigher : ℕ → (old new : OpenFile) → Type 0
-IsNoHigher j before after = (old new : AltIndex) → old ≡ slice_index_or before.alternates.items j old → new ≡ slice_index_or after.alternates.items j new → alt_height new ≤ alt_height old
+IsNoHigher j before after = (old new : AltIndex) → old ≡ slice_index_or before.alternates.items j old
+    → new ≡ slice_index_or after.alternates.items j new → alt_height new ≤ alt_height old
 
 -- the pages that a change of an alternate index may take: one more than its tree has levels
 abbrev pub pages_for : Bool → AltIndex → ℕ
 pages_for true index = alt_height index + 1
 pages_for false index = 0
 
--- only alternate index j changes of those from j on. It takes pages or not, and asks for so many for each level
-pub record ChangesAlternate {S : Type 0} (shown : ShownPages S) (j : ℕ) (takes_pages : Bool) (most : ℕ) (before after : FileInPages S) (result : Result Unit Fault) : Type 0 where
+-- only alternate index j changes of those from j on. It takes pages or not, and asks for so many
+-- for each level
+pub record ChangesAlternate {S : Type 0} (shown : ShownPages S) (j : ℕ) (takes_pages : Bool) (most : ℕ)
+    (before after : FileInPages S) (result : Result Unit Fault) : Type 0 where
   pub rest : after.file ≡ record before.file { alternates = after.file.alternates }
   pub shaped : IsShaped after.file
   pub later : drop (j + 1) after.file.alternates.items ≡ drop (j + 1) before.file.alternates.items
   pub many : length after.file.alternates.items ≡ length before.file.alternates.items
   pub few : (index : AltIndex) → index ≡ slice_index_or before.file.alternates.items j index
-      → (shown.state before.pages).available ≤ (shown.state after.pages).available + pages_for takes_pages index
+      → (shown.state before.pages).available ≤ (shown.state after.pages).available
+      + pages_for takes_pages index
   pub cause : (index : AltIndex) → index ≡ slice_index_or before.file.alternates.items j index
-      → IfErr result (IsCaused (shown.HasFailed before.pages after.pages) ((shown.state before.pages).available < pages_for takes_pages index))
+      → IfErr result (IsCaused (shown.HasFailed before.pages after.pages)
+      ((shown.state before.pages).available < pages_for takes_pages index))
   pub asked : (index : AltIndex) → index ≡ slice_index_or before.file.alternates.items j index
       → (shown.state after.pages).asked ≤ (shown.state before.pages).asked + most * (alt_height index + 1)
   pub goes : shown.Writes before.pages after.pages
 
 -- so many pages may be taken, and the fault is Full only where fewer are left
-pub record TakesPages {S X : Type 0} (shown : ShownPages S) (need most : ℕ) (old new : S) (result : Result X Fault) : Type 0 where
+pub record TakesPages {S X : Type 0} (shown : ShownPages S) (need most : ℕ) (old new : S)
+    (result : Result X Fault) : Type 0 where
   pub few : (shown.state old).available ≤ (shown.state new).available + need
   pub writes : WritesPages shown most ((shown.state old).available < need) old new result

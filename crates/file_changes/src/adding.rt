@@ -25,16 +25,19 @@ use open_file::OpenFile;
 use pages::Pages;
 use record_heap::Place;
 
-/// Adds a record, unless its value of a key that has to be unique is there. Of the looks, the test for room and the change each comes
-/// only after the one before; the gate is opened before the change.
+/// Adds a record, unless its value of a key that has to be unique is there. Of the looks, the test
+/// for room and the change each comes only after the one before; the gate is opened before the
+/// change.
 ///
 /// Device, Memory, Damage, Broken, after which the file is broken; Full, where nothing is changed.
 pub fn add<P: Pages>(opened: &mut OpenFile, pages: &mut P, bytes: &[u8]) -> Result<Added, Fault>
     requires ready { IsReadyIn P.shown (in_pages opened.old pages.old) }
     requires least { opened.old.schema.least ≤ length bytes.now }
     requires greatest { length bytes.now ≤ opened.old.schema.greatest }
-    ensures adds { Changes (shown_in P.shown) (addition opened.old.schema bytes.now) (in_pages opened.old pages.old) (in_pages opened.new pages.new) result }
-    ensures breaks { MayBreak (shown_in P.shown) true (in_pages opened.old pages.old) (in_pages opened.new pages.new) result }
+    ensures adds { Changes (shown_in P.shown) (addition opened.old.schema bytes.now)
+        (in_pages opened.old pages.old) (in_pages opened.new pages.new) result }
+    ensures breaks { MayBreak (shown_in P.shown) true (in_pages opened.old pages.old)
+        (in_pages opened.new pages.new) result }
 {
     if opened.broken {
         return Err(Fault::Broken);
@@ -49,7 +52,8 @@ fn try_add<P: Pages>(opened: &mut OpenFile, pages: &mut P, bytes: &[u8]) -> Resu
     requires ready { IsReadyIn P.shown (in_pages opened.old pages.old) }
     requires least { opened.old.schema.least ≤ length bytes.now }
     requires greatest { length bytes.now ≤ opened.old.schema.greatest }
-    ensures adds { Changes (shown_in P.shown) (addition opened.old.schema bytes.now) (in_pages opened.old pages.old) (in_pages opened.new pages.new) result }
+    ensures adds { Changes (shown_in P.shown) (addition opened.old.schema bytes.now)
+        (in_pages opened.old pages.old) (in_pages opened.new pages.new) result }
     ensures cause { IfErr result (IsCaused (P.shown.HasFailed pages.old pages.new) ⊤) }
     ensures broken { opened.new.broken ≡ opened.old.broken }
 {
@@ -67,8 +71,10 @@ fn try_add<P: Pages>(opened: &mut OpenFile, pages: &mut P, bytes: &[u8]) -> Resu
 /// What adding a record answers, if there is room for it.
 fn adding<P: Pages>(opened: &OpenFile, pages: &mut P, bytes: &[u8]) -> Result<Added, Fault>
     requires { CanLookFor P.shown opened.now pages.old bytes.now }
-    ensures found { AnswersFor P.shown opened.now pages.old pages.new (λ file stands x. x ≡ added_answer opened.now.schema bytes.now file) result }
-    ensures reads { ReadsPages P.shown (2 * sum_by (λ height. height) (heights_of opened.now)) pages.old pages.new result }
+    ensures found { AnswersFor P.shown opened.now pages.old pages.new
+        (λ file stands x. x ≡ added_answer opened.now.schema bytes.now file) result }
+    ensures reads { ReadsPages P.shown (2 * sum_by (λ height. height) (heights_of opened.now)) pages.old
+        pages.new result }
 {
     let mut repeated = false;
     for k in 0..opened.schema.key_count() {
@@ -86,9 +92,11 @@ fn adding<P: Pages>(opened: &OpenFile, pages: &mut P, bytes: &[u8]) -> Result<Ad
 fn put_in<P: Pages>(opened: &mut OpenFile, pages: &mut P, bytes: &[u8]) -> Result<(), Fault>
     requires can { CanStore P.shown opened.old pages.old bytes.now }
     requires room { HasRoomFor P.shown opened.old pages.old (need_of_add (heights_of opened.old)) true }
-    ensures done { AddsRecord P.shown (in_pages opened.old pages.old) (in_pages opened.new pages.new) bytes.now result }
+    ensures done { AddsRecord P.shown (in_pages opened.old pages.old)
+        (in_pages opened.new pages.new) bytes.now result }
     ensures keeps { KeepsMade opened.old opened.new }
-    ensures writes { WritesPages P.shown (8 * need_of_add (heights_of opened.old)) ⊥ pages.old pages.new result }
+    ensures writes { WritesPages P.shown (8 * need_of_add (heights_of opened.old)) ⊥ pages.old pages.new
+        result }
 {
     opened.path = None;
     let place = store(opened, pages, bytes)?;
@@ -101,7 +109,8 @@ fn put_in<P: Pages>(opened: &mut OpenFile, pages: &mut P, bytes: &[u8]) -> Resul
 /// Puts a new record into the heap.
 fn store<P: Pages>(opened: &mut OpenFile, pages: &mut P, bytes: &[u8]) -> Result<Place, Fault>
     requires { CanStore P.shown opened.old pages.old bytes.now }
-    ensures put { PutsRow P.shown (in_pages opened.old pages.old) (in_pages opened.new pages.new) (new_slot opened.old bytes.now) result }
+    ensures put { PutsRow P.shown (in_pages opened.old pages.old) (in_pages opened.new pages.new)
+        (new_slot opened.old bytes.now) result }
     ensures file { ChangesHeap opened.old opened.new }
     ensures pages { TakesPages P.shown 1 4 pages.old pages.new result }
 {
@@ -117,9 +126,11 @@ fn add_to_prime<P: Pages>(
     bytes: &[u8],
 ) -> Result<(), Fault>
     requires { CanChangeWith P.shown opened.old pages.old bytes.now }
-    ensures added { TakesStep P.shown (prime_added opened.old.schema bytes.now place) (in_pages opened.old pages.old) (in_pages opened.new pages.new) result }
+    ensures added { TakesStep P.shown (prime_added opened.old.schema bytes.now place)
+        (in_pages opened.old pages.old) (in_pages opened.new pages.new) result }
     ensures file { ChangesPrime opened.old opened.new }
-    ensures pages { TakesPages P.shown (prime_height opened.old.prime + 1) (8 * (prime_height opened.old.prime + 1)) pages.old pages.new result }
+    ensures pages { TakesPages P.shown (prime_height opened.old.prime + 1)
+        (8 * (prime_height opened.old.prime + 1)) pages.old pages.new result }
 {
     let value = opened.schema.value(bytes, 0);
     match opened.prime.add(pages, value, place)? {
@@ -136,9 +147,11 @@ fn add_to_alternates<P: Pages>(
 ) -> Result<(), Fault>
     requires can { CanChangeWith P.shown opened.old pages.old bytes.now }
     requires room { levels_in opened.old.alternates.items ≤ (P.shown.state pages.old).available }
-    ensures added { TakesStep P.shown (entries_added opened.old bytes.now) (in_pages opened.old pages.old) (in_pages opened.new pages.new) result }
+    ensures added { TakesStep P.shown (entries_added opened.old bytes.now) (in_pages opened.old pages.old)
+        (in_pages opened.new pages.new) result }
     ensures file { ChangesAlternates opened.old opened.new }
-    ensures writes { WritesPages P.shown (8 * levels_in opened.old.alternates.items) ⊥ pages.old pages.new result }
+    ensures writes { WritesPages P.shown (8 * levels_in opened.old.alternates.items) ⊥ pages.old pages.new
+        result }
 {
     for j in 0..opened.alternates.len() {
         add_to_alternate(opened, pages, j, bytes)?;
@@ -155,8 +168,10 @@ pub(crate) fn add_to_alternate<P: Pages>(
 ) -> Result<(), Fault>
     requires can { CanChangeWith P.shown opened.old pages.old bytes.now }
     requires index { j < length opened.old.alternates.items }
-    ensures added { TakesStep P.shown (entry_added opened.old bytes.now j) (in_pages opened.old pages.old) (in_pages opened.new pages.new) result }
-    ensures alternate { ChangesAlternate P.shown j true 8 (in_pages opened.old pages.old) (in_pages opened.new pages.new) result }
+    ensures added { TakesStep P.shown (entry_added opened.old bytes.now j) (in_pages opened.old pages.old)
+        (in_pages opened.new pages.new) result }
+    ensures alternate { ChangesAlternate P.shown j true 8 (in_pages opened.old pages.old)
+        (in_pages opened.new pages.new) result }
 {
     let part = opened.schema.part(j as u8 + 1);
     let value = opened.schema.value(bytes, j as u8 + 1);

@@ -15,7 +15,8 @@ use open_file::OpenFile;
 pub(crate) fn differs(opened: &OpenFile, k: usize, old: &[u8], new: &[u8]) -> bool
     requires key { k < length opened.now.schema.keys }
     requires records { HaveEachKey opened.now old.now new.now }
-    ensures { result ≡ not (bytes_eq (value_of opened.now.schema k old.now) (value_of opened.now.schema k new.now)) }
+    ensures { result ≡ not (bytes_eq (value_of opened.now.schema k old.now)
+        (value_of opened.now.schema k new.now)) }
 {
     opened.schema.value(old, k as u8) != opened.schema.value(new, k as u8)
 }
@@ -65,7 +66,8 @@ pub(crate) fn changed_stamps(
 ) -> ArrayVec<u8, 64>
     requires records { HaveEachKey opened.now old.now new.now }
     requires stamps { length stamps.now ≡ length opened.now.alternates.items }
-    ensures stored { result.items ++ new.now ≡ slot_after opened.now.schema opened.now.next_stamp (row_with old.now stamps.now) new.now }
+    ensures stored { result.items ++ new.now ≡ slot_after opened.now.schema opened.now.next_stamp
+        (row_with old.now stamps.now) new.now }
     ensures length { length result.items ≡ opened.now.heap.shape.stamps }
 {
     let mut changed = ArrayVec::new();

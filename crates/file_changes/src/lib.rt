@@ -1,10 +1,12 @@
 //! The changes of an indexed file that is open: a record added, replaced or taken out.
 //!
-//! Each call looks first, then tests for room, then opens the gate, and only then changes pages; the file stands for the rows that the definitions
-//! say afterwards. A fault leaves the file broken, but for Full, which leaves it as it was. What reads a file, makes one or writes its header is
-//! not here.
+//! Each call looks first, then tests for room, then opens the gate, and only then changes pages;
+//! the file stands for the rows that the definitions say afterwards. A fault leaves the file
+//! broken, but for Full, which leaves it as it was. What reads a file, makes one or writes its
+//! header is not here.
 //!
-//! Read `specs/FileChange.antt` for the three changes of a list of rows, `specs/Changes.antt` for what is promised of each, and then `adding`.
+//! Read `specs/FileChange.antt` for the three changes of a list of rows, `specs/Changes.antt` for
+//! what is promised of each, and then `adding`.
 #![tactic(auto)]
 
 mod adding;

@@ -17,7 +17,8 @@ use open_file::OpenFile;
 use pages::Pages;
 use record_heap::Place;
 
-/// Where a record is, its stamp in each alternate key (0 in a unique one), and where it ends in its slot. It begins behind the stamps.
+/// Where a record is, its stamp in each alternate key (0 in a unique one), and where it ends in its
+/// slot. It begins behind the stamps.
 #[derive(Drop)]
 pub struct OldRecord {
     pub place: Place,
@@ -33,8 +34,10 @@ pub(crate) fn find_old<P: Pages>(
     slot: &mut [u8; 4064],
 ) -> Result<Option<OldRecord>, Fault>
     requires { IsReadyIn P.shown (in_pages opened.now pages.old) }
-    ensures found { AnswersFor P.shown opened.now pages.old pages.new (λ file stands. HasFoundIn stands prime.now slot.new) result }
-    ensures within { IfOk result (λ found. IfSome found (HasRecordLength opened.now.heap.shape opened.now.alternates.items)) }
+    ensures found { AnswersFor P.shown opened.now pages.old pages.new
+        (λ file stands. HasFoundIn stands prime.now slot.new) result }
+    ensures within { IfOk result (λ found. IfSome found
+        (HasRecordLength opened.now.heap.shape opened.now.alternates.items)) }
     ensures reads { ReadsPages P.shown (prime_height opened.now.prime + 1) pages.old pages.new result }
 {
     let Some(entry) = opened.prime.find(pages, prime)? else {
@@ -54,7 +57,8 @@ pub(crate) fn record_in<'a>(opened: &OpenFile, old: &OldRecord, slot: &'a [u8]) 
     requires shaped { IsShaped opened.now }
     requires within { HasRecordLength opened.now.heap.shape opened.now.alternates.items old.now }
     requires room { opened.now.heap.shape.stamps + opened.now.heap.shape.greatest ≤ length slot.now }
-    ensures bytes { result.now ≡ slice_range slot.now (stamps_length (drop 1 opened.now.schema.keys)) old.now.end }
+    ensures bytes { result.now ≡ slice_range slot.now
+        (stamps_length (drop 1 opened.now.schema.keys)) old.now.end }
     ensures least { opened.now.schema.least ≤ length result.now }
     ensures greatest { length result.now ≤ opened.now.schema.greatest }
 {

@@ -27,8 +27,10 @@ use record_heap::Place;
 /// Device, Memory, Damage, Broken, after which the file is broken.
 pub fn remove<P: Pages>(opened: &mut OpenFile, pages: &mut P, key: &Key) -> Result<bool, Fault>
     requires ready { IsReadyIn P.shown (in_pages opened.old pages.old) }
-    ensures removes { Changes (shown_in P.shown) (removal opened.old.schema key.now.items) (in_pages opened.old pages.old) (in_pages opened.new pages.new) result }
-    ensures breaks { MayBreak (shown_in P.shown) false (in_pages opened.old pages.old) (in_pages opened.new pages.new) result }
+    ensures removes { Changes (shown_in P.shown) (removal opened.old.schema key.now.items)
+        (in_pages opened.old pages.old) (in_pages opened.new pages.new) result }
+    ensures breaks { MayBreak (shown_in P.shown) false (in_pages opened.old pages.old)
+        (in_pages opened.new pages.new) result }
 {
     if opened.broken {
         return Err(Fault::Broken);
@@ -41,7 +43,8 @@ pub fn remove<P: Pages>(opened: &mut OpenFile, pages: &mut P, key: &Key) -> Resu
 /// What `remove` does on a file that is not broken.
 fn try_remove<P: Pages>(opened: &mut OpenFile, pages: &mut P, prime: &[u8]) -> Result<bool, Fault>
     requires ready { IsReadyIn P.shown (in_pages opened.old pages.old) }
-    ensures removes { Changes (shown_in P.shown) (removal opened.old.schema prime.now) (in_pages opened.old pages.old) (in_pages opened.new pages.new) result }
+    ensures removes { Changes (shown_in P.shown) (removal opened.old.schema prime.now)
+        (in_pages opened.old pages.old) (in_pages opened.new pages.new) result }
     ensures cause { IfErr result (IsCaused (P.shown.HasFailed pages.old pages.new) ⊥) }
 {
     let mut slot = [0; 4064];
@@ -63,10 +66,17 @@ fn take_out<P: Pages>(
 ) -> Result<(), Fault>
     requires can { CanChangeWith P.shown opened.old pages.old bytes.now }
     requires stamps { length old.now.stamps.items ≡ length opened.old.alternates.items }
-    ensures out { TakesStep P.shown (row_lost opened.old old.now bytes.now) (in_pages opened.old pages.old) (in_pages opened.new pages.new) result }
-    ensures rest { opened.new ≡ record opened.old { heap = opened.new.heap; prime = opened.new.prime; alternates = opened.new.alternates; path = None } }
+    ensures out { TakesStep P.shown (row_lost opened.old old.now bytes.now) (in_pages opened.old pages.old)
+        (in_pages opened.new pages.new) result }
+    ensures rest { opened.new ≡ record opened.old {
+      heap = opened.new.heap;
+      prime = opened.new.prime;
+      alternates = opened.new.alternates;
+      path = None;
+    } }
     ensures shaped { IsShaped opened.new }
-    ensures writes { WritesPages P.shown (8 * ((prime_height opened.old.prime + 1) + levels_in opened.old.alternates.items) + 1) ⊥ pages.old pages.new result }
+    ensures writes { WritesPages P.shown (8 * ((prime_height opened.old.prime + 1)
+        + levels_in opened.old.alternates.items) + 1) ⊥ pages.old pages.new result }
 {
     opened.path = None;
     remove_from_prime(opened, pages, bytes)?;
@@ -78,7 +88,8 @@ fn take_out<P: Pages>(
 fn free_slot<P: Pages>(opened: &mut OpenFile, pages: &mut P, place: Place) -> Result<(), Fault>
     requires ready { P.shown.IsReady pages.old }
     requires open { P.shown.CanChange pages.old }
-    ensures freed { TakesStep P.shown (slot_freed place) (in_pages opened.old pages.old) (in_pages opened.new pages.new) result }
+    ensures freed { TakesStep P.shown (slot_freed place) (in_pages opened.old pages.old)
+        (in_pages opened.new pages.new) result }
     ensures file { ChangesHeap opened.old opened.new }
     ensures writes { WritesPages P.shown 1 ⊥ pages.old pages.new result }
 {
@@ -92,9 +103,11 @@ fn remove_from_prime<P: Pages>(
     bytes: &[u8],
 ) -> Result<(), Fault>
     requires { CanChangeWith P.shown opened.old pages.old bytes.now }
-    ensures removed { TakesStep P.shown (prime_lost opened.old.schema bytes.now) (in_pages opened.old pages.old) (in_pages opened.new pages.new) result }
+    ensures removed { TakesStep P.shown (prime_lost opened.old.schema bytes.now)
+        (in_pages opened.old pages.old) (in_pages opened.new pages.new) result }
     ensures file { ChangesPrime opened.old opened.new }
-    ensures writes { WritesPages P.shown (8 * (prime_height opened.old.prime + 1)) ⊥ pages.old pages.new result }
+    ensures writes { WritesPages P.shown (8 * (prime_height opened.old.prime + 1)) ⊥ pages.old pages.new
+        result }
 {
     let value = opened.schema.value(bytes, 0);
     match opened.prime.remove(pages, value)? {
@@ -112,9 +125,11 @@ fn remove_from_alternates<P: Pages>(
 ) -> Result<(), Fault>
     requires can { CanChangeWith P.shown opened.old pages.old bytes.now }
     requires stamps { length stamps.now ≡ length opened.old.alternates.items }
-    ensures removed { TakesStep P.shown (entries_lost opened.old bytes.now stamps.now) (in_pages opened.old pages.old) (in_pages opened.new pages.new) result }
+    ensures removed { TakesStep P.shown (entries_lost opened.old bytes.now stamps.now)
+        (in_pages opened.old pages.old) (in_pages opened.new pages.new) result }
     ensures file { ChangesAlternates opened.old opened.new }
-    ensures writes { WritesPages P.shown (8 * levels_in opened.old.alternates.items) ⊥ pages.old pages.new result }
+    ensures writes { WritesPages P.shown (8 * levels_in opened.old.alternates.items) ⊥ pages.old pages.new
+        result }
 {
     for j in 0..opened.alternates.len() {
         remove_from_alternate(opened, pages, j, bytes, stamps[j])?;
@@ -132,9 +147,13 @@ pub(crate) fn remove_from_alternate<P: Pages>(
 ) -> Result<(), Fault>
     requires can { CanChangeWith P.shown opened.old pages.old bytes.now }
     requires index { j < length opened.old.alternates.items }
-    ensures removed { TakesStep P.shown (entry_lost opened.old bytes.now stamp j) (in_pages opened.old pages.old) (in_pages opened.new pages.new) result }
-    ensures alternate { ChangesAlternate P.shown j false 8 (in_pages opened.old pages.old) (in_pages opened.new pages.new) result }
-    ensures others { (i : ℕ) (index : AltIndex) → i ≢ j → slice_index_or opened.new.alternates.items i index ≡ slice_index_or opened.old.alternates.items i index }
+    ensures removed { TakesStep P.shown (entry_lost opened.old bytes.now stamp j)
+        (in_pages opened.old pages.old) (in_pages opened.new pages.new) result }
+    ensures alternate { ChangesAlternate P.shown j false 8 (in_pages opened.old pages.old)
+        (in_pages opened.new pages.new) result }
+    ensures others { (i : ℕ) (index : AltIndex) → i ≢ j
+        → slice_index_or opened.new.alternates.items i index ≡ slice_index_or opened.old.alternates.items i
+        index }
     ensures height { OnOk result (IsNoHigher j opened.old opened.new) }
 {
     let value = opened.schema.value(bytes, j as u8 + 1);

@@ -24,8 +24,8 @@ use key_index::{AltEntry, AltIndex, PrimeEntry};
 use open_file::OpenFile;
 use pages::Pages;
 
-/// Puts a record in the place of that of its prime value, unless a unique alternate value is that of another record. The entries of keys that
-/// do not change stay where they are.
+/// Puts a record in the place of that of its prime value, unless a unique alternate value is that
+/// of another record. The entries of keys that do not change stay where they are.
 ///
 /// Device, Memory, Damage, Broken, after which the file is broken; Full, where nothing is changed.
 pub fn replace<P: Pages>(
@@ -36,8 +36,10 @@ pub fn replace<P: Pages>(
     requires ready { IsReadyIn P.shown (in_pages opened.old pages.old) }
     requires least { opened.old.schema.least ≤ length bytes.now }
     requires greatest { length bytes.now ≤ opened.old.schema.greatest }
-    ensures replaces { Changes (shown_in P.shown) (replacement opened.old.schema bytes.now) (in_pages opened.old pages.old) (in_pages opened.new pages.new) result }
-    ensures breaks { MayBreak (shown_in P.shown) true (in_pages opened.old pages.old) (in_pages opened.new pages.new) result }
+    ensures replaces { Changes (shown_in P.shown) (replacement opened.old.schema bytes.now)
+        (in_pages opened.old pages.old) (in_pages opened.new pages.new) result }
+    ensures breaks { MayBreak (shown_in P.shown) true (in_pages opened.old pages.old)
+        (in_pages opened.new pages.new) result }
 {
     if opened.broken {
         return Err(Fault::Broken);
@@ -56,7 +58,8 @@ fn try_replace<P: Pages>(
     requires ready { IsReadyIn P.shown (in_pages opened.old pages.old) }
     requires least { opened.old.schema.least ≤ length bytes.now }
     requires greatest { length bytes.now ≤ opened.old.schema.greatest }
-    ensures replaces { Changes (shown_in P.shown) (replacement opened.old.schema bytes.now) (in_pages opened.old pages.old) (in_pages opened.new pages.new) result }
+    ensures replaces { Changes (shown_in P.shown) (replacement opened.old.schema bytes.now)
+        (in_pages opened.old pages.old) (in_pages opened.new pages.new) result }
     ensures cause { IfErr result (IsCaused (P.shown.HasFailed pages.old pages.new) ⊤) }
     ensures broken { opened.new.broken ≡ opened.old.broken }
 {
@@ -69,7 +72,8 @@ fn try_replace<P: Pages>(
     replace_old(opened, pages, &old, before, bytes)
 }
 
-/// Puts a record in the place of the one that was found. Of the looks, the test for room and the change each comes only after the one before.
+/// Puts a record in the place of the one that was found. Of the looks, the test for room and the
+/// change each comes only after the one before.
 fn replace_old<P: Pages>(
     opened: &mut OpenFile,
     pages: &mut P,
@@ -80,7 +84,8 @@ fn replace_old<P: Pages>(
     requires can { CanLookFor P.shown opened.old pages.old bytes.now }
     requires old { IsRowOf opened.old (row_with before.now old.now.stamps.items) }
     requires greatest { length bytes.now ≤ opened.old.schema.greatest }
-    ensures replaces { ReplacesFound P.shown old.now before.now bytes.now (in_pages opened.old pages.old) (in_pages opened.new pages.new) result }
+    ensures replaces { ReplacesFound P.shown old.now before.now bytes.now (in_pages opened.old pages.old)
+        (in_pages opened.new pages.new) result }
     ensures some { IfOk result (λ answer. answer ≢ Replaced.Gone) }
     ensures cause { IfErr result (IsCaused (P.shown.HasFailed pages.old pages.new) ⊤) }
 {
@@ -104,9 +109,11 @@ fn replacing<P: Pages>(
 ) -> Result<Replaced, Fault>
     requires can { CanLookFor P.shown opened.now pages.old bytes.now }
     requires old { opened.now.schema.least ≤ length old.now }
-    ensures found { AnswersReplacing P.shown (in_pages opened.now pages.old) pages.new old.now bytes.now result }
+    ensures found { AnswersReplacing P.shown (in_pages opened.now pages.old) pages.new old.now bytes.now
+        result }
     ensures some { IfOk result (λ answer. answer ≢ Replaced.Gone) }
-    ensures reads { ReadsPages P.shown (2 * sum_by (λ height. height) (heights_of opened.now)) pages.old pages.new result }
+    ensures reads { ReadsPages P.shown (2 * sum_by (λ height. height) (heights_of opened.now)) pages.old
+        pages.new result }
 {
     let mut repeated = false;
     for k in 1..opened.schema.key_count() {
@@ -131,8 +138,10 @@ fn is_new_there<P: Pages>(
     requires can { CanLookFor P.shown opened.now pages.old bytes.now }
     requires key { k < length opened.now.schema.keys }
     requires old { opened.now.schema.least ≤ length old.now }
-    ensures found { AnswersFor P.shown opened.now pages.old pages.new (λ file stands x. x ≡ new_there opened.now.schema old.now bytes.now file.rows k) result }
-    ensures reads { ReadsPages P.shown (2 * slice_index (heights_of opened.now) k) pages.old pages.new result }
+    ensures found { AnswersFor P.shown opened.now pages.old pages.new
+        (λ file stands x. x ≡ new_there opened.now.schema old.now bytes.now file.rows k) result }
+    ensures reads { ReadsPages P.shown (2 * slice_index (heights_of opened.now) k) pages.old pages.new
+        result }
 {
     if !differs(opened, k, old, bytes) {
         return Ok(false);
@@ -150,10 +159,13 @@ fn put_over<P: Pages>(
 ) -> Result<(), Fault>
     requires can { CanStore P.shown opened.old pages.old bytes.now }
     requires old { IsRowOf opened.old (row_with before.now old.now.stamps.items) }
-    requires room { HasRoomFor P.shown opened.old pages.old (need_to_put opened.old before.now bytes.now) (takes_stamp opened.old.schema before.now bytes.now) }
-    ensures over { TakesStep P.shown (row_put opened.old old.now before.now bytes.now) (in_pages opened.old pages.old) (in_pages opened.new pages.new) result }
+    requires room { HasRoomFor P.shown opened.old pages.old (need_to_put opened.old before.now bytes.now)
+        (takes_stamp opened.old.schema before.now bytes.now) }
+    ensures over { TakesStep P.shown (row_put opened.old old.now before.now bytes.now)
+        (in_pages opened.old pages.old) (in_pages opened.new pages.new) result }
     ensures file { LeavesPutOver opened.old opened.new before.now bytes.now result }
-    ensures writes { WritesPages P.shown (1 + 16 * need_to_put opened.old before.now bytes.now) ⊥ pages.old pages.new result }
+    ensures writes { WritesPages P.shown (1 + 16 * need_to_put opened.old before.now bytes.now) ⊥ pages.old
+        pages.new result }
 {
     opened.path = None;
     set_slot(opened, pages, old, before, bytes)?;
@@ -174,7 +186,8 @@ fn set_slot<P: Pages>(
 ) -> Result<(), Fault>
     requires can { CanStore P.shown opened.now pages.old bytes.now }
     requires old { IsRowOf opened.now (row_with before.now old.now.stamps.items) }
-    ensures set { TakesStep P.shown (slot_put opened.now old.now before.now bytes.now) (in_pages opened.now pages.old) (in_pages opened.now pages.new) result }
+    ensures set { TakesStep P.shown (slot_put opened.now old.now before.now bytes.now)
+        (in_pages opened.now pages.old) (in_pages opened.now pages.new) result }
     ensures available { (P.shown.state pages.new).available ≡ (P.shown.state pages.old).available }
     ensures writes { WritesPages P.shown 1 ⊥ pages.old pages.new result }
 {
@@ -193,9 +206,11 @@ fn change_alternates<P: Pages>(
     requires can { CanChangeWith P.shown opened.old pages.old bytes.now }
     requires old { IsRowOf opened.old (row_with old.now stamps.now) }
     requires room { need_to_put opened.old old.now bytes.now ≤ (P.shown.state pages.old).available }
-    ensures put { TakesStep P.shown (entries_put opened.old old.now stamps.now bytes.now) (in_pages opened.old pages.old) (in_pages opened.new pages.new) result }
+    ensures put { TakesStep P.shown (entries_put opened.old old.now stamps.now bytes.now)
+        (in_pages opened.old pages.old) (in_pages opened.new pages.new) result }
     ensures file { ChangesAlternates opened.old opened.new }
-    ensures writes { WritesPages P.shown (16 * need_to_put opened.old old.now bytes.now) ⊥ pages.old pages.new result }
+    ensures writes { WritesPages P.shown (16 * need_to_put opened.old old.now bytes.now) ⊥ pages.old
+        pages.new result }
 {
     for j in 0..opened.alternates.len() {
         if differs(opened, j + 1, old, bytes) {
@@ -217,8 +232,10 @@ fn change_alternate<P: Pages>(
     requires can { CanChangeWith P.shown opened.old pages.old bytes.now }
     requires old { opened.old.schema.least ≤ length old.now }
     requires index { j < length opened.old.alternates.items }
-    ensures changed { TakesStep P.shown (entry_put opened.old old.now stamp bytes.now j) (in_pages opened.old pages.old) (in_pages opened.new pages.new) result }
-    ensures alternate { ChangesAlternate P.shown j true 16 (in_pages opened.old pages.old) (in_pages opened.new pages.new) result }
+    ensures changed { TakesStep P.shown (entry_put opened.old old.now stamp bytes.now j)
+        (in_pages opened.old pages.old) (in_pages opened.new pages.new) result }
+    ensures alternate { ChangesAlternate P.shown j true 16 (in_pages opened.old pages.old)
+        (in_pages opened.new pages.new) result }
 {
     remove_from_alternate(opened, pages, j, old, stamp)?;
     add_to_alternate(opened, pages, j, bytes)

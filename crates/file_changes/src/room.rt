@@ -19,7 +19,8 @@ fn need_to_add(opened: &OpenFile) -> u64
 
 /// Whether a record cannot be added for want of pages or stamps.
 pub(crate) fn is_full(opened: &OpenFile, left: u64) -> bool
-    ensures { result ≡ (nat_lt left (need_of_add (heights_of opened.now)) || nat_le (2 ^ 63) opened.now.next_stamp) }
+    ensures { result ≡ (nat_lt left (need_of_add (heights_of opened.now))
+        || nat_le (2 ^ 63) opened.now.next_stamp) }
 {
     left < need_to_add(opened) || opened.next_stamp >= 1 << 63
 }

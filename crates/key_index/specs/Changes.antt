@@ -24,12 +24,15 @@ abbrev pub IsPrimeOf : ℕ → PrimeIndex → Type 0
 IsPrimeOf width index = (index.width ≡ width) × (prime_height index ≡ 1)
 
 abbrev pub IsAltOf : ℕ → ℕ → ℕ → AltIndex → Type 0
-IsAltOf key width prime index = (index.width ≡ width) × (index.prime ≡ prime) × (alt_height index ≡ 1) × (alt_key index ≡ key)
+IsAltOf key width prime index = (index.width ≡ width) × (index.prime ≡ prime) × (alt_height index ≡ 1)
+    × (alt_key index ≡ key)
 
 -- a call that makes an index without entries, and takes a page for its root
-pub record MakesIndex {S I : Type 0} (shown : ShownPages S) (before after : S) (result : Result I Fault) (IsNew : PageMap → PageMap → I → Type 0) (IsOf : I → Type 0) : Type 0 where
+pub record MakesIndex {S I : Type 0} (shown : ShownPages S) (before after : S) (result : Result I Fault)
+    (IsNew : PageMap → PageMap → I → Type 0) (IsOf : I → Type 0) : Type 0 where
   pub made : IsTrue (shown.state after).is_honest → IsTrue (shown.state before).is_sound
-      → IsAnswer result (λ index. IsNew (shown.state before).live (shown.state after).live index × IsTrue (shown.state after).is_sound)
+      → IsAnswer result (λ index. IsNew (shown.state before).live (shown.state after).live index
+      × IsTrue (shown.state after).is_sound)
   pub width : IfOk result IsOf
   pub spends : Spends (shown.state before) (shown.state after) 1 2
   pub one : OnOk result ((shown.state after).available + 1 ≡ (shown.state before).available)
@@ -37,21 +40,29 @@ pub record MakesIndex {S I : Type 0} (shown : ShownPages S) (before after : S) (
   pub goes : shown.Writes before after
 
 -- a call that adds an entry to an index that had this tree
-pub record AddsEntry {S I : Type 0} (shown : ShownPages S) (before after : S) (old new : I) (tree : Tree) (result : Result Bool Fault)
-    (Adds : I → I → Result Bool Fault → PageMap → PageMap → Type 0 → Type 0) (Grows : I → I → ℕ → Type 0) : Type 0 where
+pub record AddsEntry {S I : Type 0} (shown : ShownPages S) (before after : S) (old new : I) (tree : Tree)
+    (result : Result Bool Fault)
+    (Adds : I → I → Result Bool Fault → PageMap → PageMap → Type 0 → Type 0) (Grows : I → I → ℕ
+    → Type 0) : Type 0 where
   pub added : IsTrue (shown.state after).is_honest → IsTrue (shown.state before).is_sound
-      → Adds old new result (shown.state before).live (shown.state after).live (IsTrue (shown.state after).is_sound)
+      → Adds old new result (shown.state before).live (shown.state after).live
+      (IsTrue (shown.state after).is_sound)
   pub deep : IsPastAll tree → FindsDamage old new before after result
   pub grows : Grows old new 1
-  pub spends : Spends (shown.state before) (shown.state after) (tree.levels + 1 + 1) (8 * (tree.levels + 1 + 1))
-  pub cause : IfErr result (IsCaused (shown.HasFailed before after) ((shown.state before).available < tree.levels + 1 + 1))
+  pub spends : Spends (shown.state before) (shown.state after) (tree.levels + 1 + 1)
+      (8 * (tree.levels + 1 + 1))
+  pub cause : IfErr result (IsCaused (shown.HasFailed before after)
+      ((shown.state before).available < tree.levels + 1 + 1))
   pub goes : shown.Writes before after
 
 -- a call that takes an entry out of an index that had this tree; no page is taken
-pub record TakesEntry {S I : Type 0} (shown : ShownPages S) (before after : S) (old new : I) (tree : Tree) (result : Result Bool Fault)
-    (Removes : I → I → Result Bool Fault → PageMap → PageMap → Type 0 → Type 0) (Grows : I → I → ℕ → Type 0) : Type 0 where
+pub record TakesEntry {S I : Type 0} (shown : ShownPages S) (before after : S) (old new : I) (tree : Tree)
+    (result : Result Bool Fault)
+    (Removes : I → I → Result Bool Fault → PageMap → PageMap → Type 0 → Type 0) (Grows : I → I → ℕ
+    → Type 0) : Type 0 where
   pub removed : IsTrue (shown.state after).is_honest → IsTrue (shown.state before).is_sound
-      → Removes old new result (shown.state before).live (shown.state after).live (IsTrue (shown.state after).is_sound)
+      → Removes old new result (shown.state before).live (shown.state after).live
+      (IsTrue (shown.state after).is_sound)
   pub grows : Grows old new 0
   pub spends : Spends (shown.state before) (shown.state after) 0 (8 * (tree.levels + 1 + 1))
   pub cause : IfErr result (IsCaused (shown.HasFailed before after) ⊥)

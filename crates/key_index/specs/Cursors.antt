@@ -18,7 +18,8 @@ use Rattle.key_index.specs.Standing.{PrimeStands, AltStands}
 
 -- the cursor is one of this index
 abbrev pub PrimeBelongs : PrimeCursor → PrimeIndex → PageMap → List PrimeEntry → List ℕ → Type 0
-PrimeBelongs cursor index pages entries own = Belongs cursor.cursor index.tree pages (map prime_bytes entries) own
+PrimeBelongs cursor index pages entries own = Belongs cursor.cursor index.tree pages
+    (map prime_bytes entries) own
 
 abbrev pub AltBelongs : AltCursor → AltIndex → PageMap → List AltEntry → List ℕ → Type 0
 AltBelongs cursor index pages entries own = Belongs cursor.cursor index.tree pages (map alt_bytes entries) own
@@ -34,17 +35,21 @@ rank_after key None = key
 rank_after key (Some e) = e.value.items ++ big_bytes 8 e.stamp
 
 -- the first entry behind the cursor, which stands behind that one then
-pub record PrimeHasMoved (old new : PrimeCursor) (index : PrimeIndex) (pages : PageMap) (entries : List PrimeEntry) (own : List ℕ) (found : Option PrimeEntry) : Type 0 where
+pub record PrimeHasMoved (old new : PrimeCursor) (index : PrimeIndex) (pages : PageMap)
+    (entries : List PrimeEntry) (own : List ℕ) (found : Option PrimeEntry) : Type 0 where
   pub found_is : found ≡ find (after_prime old.cursor.key.items) entries
   pub after : new.cursor.key.items ≡ value_after old.cursor.key.items found
   pub belongs : PrimeBelongs new index pages entries own
 
-abbrev pub PrimeMoves : PrimeCursor → PrimeCursor → PrimeIndex → PageMap → Result (Option PrimeEntry) Fault → Type 0
+abbrev pub PrimeMoves : PrimeCursor → PrimeCursor → PrimeIndex → PageMap → Result (Option PrimeEntry) Fault
+    → Type 0
 PrimeMoves old new index pages result =
-    (entries : List PrimeEntry) (own : List ℕ) → PrimeStands index pages entries own → PrimeBelongs old index pages entries own
+    (entries : List PrimeEntry) (own : List ℕ) → PrimeStands index pages entries own
+    → PrimeBelongs old index pages entries own
     → IsAnswer result (PrimeHasMoved old new index pages entries own)
 
-pub record AltHasMoved (value : List ℕ) (stamp : ℕ) (old new : AltCursor) (index : AltIndex) (pages : PageMap) (entries : List AltEntry) (own : List ℕ) (found : Option AltEntry) : Type 0 where
+pub record AltHasMoved (value : List ℕ) (stamp : ℕ) (old new : AltCursor) (index : AltIndex)
+    (pages : PageMap) (entries : List AltEntry) (own : List ℕ) (found : Option AltEntry) : Type 0 where
   pub found_is : found ≡ find (after_rank value stamp) entries
   pub after : new.cursor.key.items ≡ rank_after old.cursor.key.items found
   pub belongs : AltBelongs new index pages entries own
@@ -52,13 +57,16 @@ pub record AltHasMoved (value : List ℕ) (stamp : ℕ) (old new : AltCursor) (i
 -- of a cursor behind a value and stamp
 abbrev pub AltMoves : AltCursor → AltCursor → AltIndex → PageMap → Result (Option AltEntry) Fault → Type 0
 AltMoves old new index pages result =
-    (value : List ℕ) (stamp : ℕ) (entries : List AltEntry) (own : List ℕ) → AltStands index pages entries own → AltBelongs old index pages entries own
+    (value : List ℕ) (stamp : ℕ) (entries : List AltEntry) (own : List ℕ)
+    → AltStands index pages entries own → AltBelongs old index pages entries own
     → length value ≡ index.width → stamp < 2 ^ 64 → old.cursor.key.items ≡ value ++ big_bytes 8 stamp
     → IsAnswer result (AltHasMoved value stamp old new index pages entries own)
 
 -- whether the entry behind a cursor, which stands behind a value and stamp, has that value too
 abbrev pub AltTellsNext : AltCursor → AltIndex → PageMap → Result Bool Fault → Type 0
 AltTellsNext cursor index pages result =
-    (value : List ℕ) (stamp : ℕ) (entries : List AltEntry) (own : List ℕ) → AltStands index pages entries own → AltBelongs cursor index pages entries own
+    (value : List ℕ) (stamp : ℕ) (entries : List AltEntry) (own : List ℕ)
+    → AltStands index pages entries own → AltBelongs cursor index pages entries own
     → length value ≡ index.width → stamp < 2 ^ 64 → cursor.cursor.key.items ≡ value ++ big_bytes 8 stamp
-    → IsAnswer result (λ told. told ≡ option_map_or (entry_has_value value) (find (after_rank value stamp) entries) false)
+    → IsAnswer result (λ told. told ≡ option_map_or (entry_has_value value)
+    (find (after_rank value stamp) entries) false)

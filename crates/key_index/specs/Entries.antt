@@ -44,12 +44,14 @@ past_value v e = is_gt (value_cmp (take (length v) e.value.items) v)
 -- the entries with one more, at the place of its value
 abbrev pub with_prime : PrimeEntry → List PrimeEntry → List PrimeEntry
 with_prime e [] = e ∷ []
-with_prime e (x ∷ xs) = if is_lt (value_cmp e.value.items x.value.items) then e ∷ x ∷ xs else x ∷ with_prime e xs
+with_prime e (x ∷ xs) = if is_lt (value_cmp e.value.items x.value.items) then e ∷ x ∷ xs else x ∷
+    with_prime e xs
 
 -- the entries with one more, at the place of its rank
 abbrev pub with_alt : AltEntry → List AltEntry → List AltEntry
 with_alt e [] = e ∷ []
-with_alt e (x ∷ xs) = if is_lt (rank_cmp x.value.items x.stamp e.value.items e.stamp) then x ∷ with_alt e xs else e ∷ x ∷ xs
+with_alt e (x ∷ xs) = if is_lt (rank_cmp x.value.items x.stamp e.value.items e.stamp) then x ∷ with_alt e
+    xs else e ∷ x ∷ xs
 
 -- the entries but that of this value
 abbrev pub without_prime : List ℕ → List PrimeEntry → List PrimeEntry

@@ -1,5 +1,6 @@
 -- The order of the values of a key, and of the ranks of records.
--- ANSI X3.23-1985, Indexed I-O module, READ statement, general rules: the next record in the order of the key of reference.
+-- ANSI X3.23-1985, Indexed I-O module, READ statement, general rules: the next record in the order
+-- of the key of reference.
 use Rattle.std.specs.Prelude.{ℕ, List}
 use Rattle.std.specs.declared.cmp.Ordering.{Ordering}
 use Rattle.std.specs.Ordering.{nat_cmp, ordering_then}

@@ -37,35 +37,42 @@ pub record IsAltStored (index : AltIndex) (width prime root height count : ℕ) 
   pub count_is : index.tree.count ≡ count
 
 -- it has these entries, in the order of their ranks, in these pages
-pub record PrimeStands (index : PrimeIndex) (pages : PageMap) (entries : List PrimeEntry) (own : List ℕ) : Type 0 where
+pub record PrimeStands (index : PrimeIndex) (pages : PageMap) (entries : List PrimeEntry)
+    (own : List ℕ) : Type 0 where
   pub tree : TreeStands index.tree pages (map prime_bytes entries) own
   pub each : Each (IsPrimeEntry index.width) entries
 
-pub record AltStands (index : AltIndex) (pages : PageMap) (entries : List AltEntry) (own : List ℕ) : Type 0 where
+pub record AltStands (index : AltIndex) (pages : PageMap) (entries : List AltEntry)
+    (own : List ℕ) : Type 0 where
   pub tree : TreeStands index.tree pages (map alt_bytes entries) own
   pub each : Each (IsAltEntry index.width index.prime) entries
 
 -- it has so many entries, wherever it stands
 abbrev pub CountsPrime : PrimeIndex → ℕ → Type 0
-CountsPrime index count = (pages : PageMap) (entries : List PrimeEntry) (own : List ℕ) → PrimeStands index pages entries own → count ≡ length entries
+CountsPrime index count = (pages : PageMap) (entries : List PrimeEntry) (own : List ℕ)
+    → PrimeStands index pages entries own → count ≡ length entries
 
 abbrev pub CountsAlt : AltIndex → ℕ → Type 0
-CountsAlt index count = (pages : PageMap) (entries : List AltEntry) (own : List ℕ) → AltStands index pages entries own → count ≡ length entries
+CountsAlt index count = (pages : PageMap) (entries : List AltEntry) (own : List ℕ)
+    → AltStands index pages entries own → count ≡ length entries
 
 -- it has these entries now, in pages of which those new to it were free
-pub record PrimeChanged (before after : PageMap) (new : PrimeIndex) (own : List ℕ) (entries : List PrimeEntry) : Type 0 where
+pub record PrimeChanged (before after : PageMap) (new : PrimeIndex) (own : List ℕ)
+    (entries : List PrimeEntry) : Type 0 where
   pub own_now : List ℕ
   pub stands : PrimeStands new after entries own_now
   pub changes : ChangesPages before after own own_now
 
-pub record AltChanged (before after : PageMap) (new : AltIndex) (own : List ℕ) (entries : List AltEntry) : Type 0 where
+pub record AltChanged (before after : PageMap) (new : AltIndex) (own : List ℕ)
+    (entries : List AltEntry) : Type 0 where
   pub own_now : List ℕ
   pub stands : AltStands new after entries own_now
   pub changes : ChangesPages before after own own_now
 
 -- the entries that are read off the pages, whether or not an index stands in them
 abbrev pub prime_off : PrimeIndex → PageMap → List PrimeEntry
-prime_off index pages = map (prime_entry_in index.width) (entries_in index.tree.shape pages index.tree.levels index.tree.root)
+prime_off index pages = map (prime_entry_in index.width)
+    (entries_in index.tree.shape pages index.tree.levels index.tree.root)
 
 abbrev pub alt_off : AltIndex → PageMap → List AltEntry
 alt_off index pages =

@@ -62,4 +62,8 @@ entry_at value place = record { value = record { items = value }; place = place 
 
 -- the entry of a value, a stamp and a prime value
 abbrev pub entry_to : List ℕ → ℕ → List ℕ → AltEntry
-entry_to value stamp prime = record { value = record { items = value }; stamp = stamp; prime = record { items = prime } }
+entry_to value stamp prime = record {
+  value = record { items = value };
+  stamp = stamp;
+  prime = record { items = prime };
+}

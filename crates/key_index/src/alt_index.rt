@@ -41,7 +41,8 @@ impl AltIndex {
     ghost use Rattle.key_index.specs.Cost.{AltGrows};
     ghost use Rattle.key_index.specs.Changes.{MakesIndex, AddsEntry, TakesEntry, IsNewAlt, IsAltOf};
 
-    /// An index without entries for values of `width` bytes and prime values of `prime` bytes. `key` is the number of the key. One page is taken for its root, which may be answered Full.
+    /// An index without entries for values of `width` bytes and prime values of `prime` bytes.
+    /// `key` is the number of the key. One page is taken for its root, which may be answered Full.
     pub fn empty<P: Pages>(
         pages: &mut P,
         key: u8,
@@ -135,9 +136,11 @@ impl AltIndex {
         self.told(found)
     }
 
-    /// The first entry of a value, and whether the next entry has the value too. A value of another length than the key's is not found.
+    /// The first entry of a value, and whether the next entry has the value too. A value of another
+    /// length than the key's is not found.
     ///
-    /// It asks one page a level, and more only where a leaf ends between two entries of the value or in front of its first entry; never more than twice the height.
+    /// It asks one page a level, and more only where a leaf ends between two entries of the value
+    /// or in front of its first entry; never more than twice the height.
     pub fn first_of<P: Pages>(&self, pages: &mut P, value: &[u8]) -> Result<Option<AltFirst>, Fault>
         requires ready { P.shown.IsReady pages.old }
         ensures { LooksUp P.shown (2 * alt_height self.now) pages.old pages.new result
@@ -157,7 +160,8 @@ impl AltIndex {
         }
     }
 
-    /// The first entry whose value and stamp come after these. The value may have any length; one that goes on where it ends comes after it.
+    /// The first entry whose value and stamp come after these. The value may have any length; one
+    /// that goes on where it ends comes after it.
     pub fn first_after<P: Pages>(
         &self,
         pages: &mut P,
@@ -206,8 +210,10 @@ impl AltIndex {
         self.told(found)
     }
 
-    /// Adds an entry, and answers true; where its value and stamp are there, answers false, and nothing is changed. Full only where fewer pages are left
-    /// than the height and one; Damage, and no change, where the tree tells of 20 levels or of 2^64 - 1 entries. After a fault nothing is said of the index.
+    /// Adds an entry, and answers true; where its value and stamp are there, answers false, and
+    /// nothing is changed. Full only where fewer pages are left than the height and one; Damage,
+    /// and no change, where the tree tells of 20 levels or of 2^64 - 1 entries. After a fault
+    /// nothing is said of the index.
     pub fn add<P: Pages>(
         &mut self,
         pages: &mut P,
@@ -232,8 +238,8 @@ impl AltIndex {
         }
     }
 
-    /// Takes out the entry of a value and stamp, and answers whether it was there; where it was not, nothing is changed. No page is taken.
-    /// After a fault nothing is said of the index.
+    /// Takes out the entry of a value and stamp, and answers whether it was there; where it was
+    /// not, nothing is changed. No page is taken. After a fault nothing is said of the index.
     pub fn remove<P: Pages>(
         &mut self,
         pages: &mut P,
@@ -258,7 +264,8 @@ impl AltIndex {
         }
     }
 
-    /// The first entry of a value, whose bytes the tree gave, and whether another one follows. Damage where they are not as many as an entry has.
+    /// The first entry of a value, whose bytes the tree gave, and whether another one follows.
+    /// Damage where they are not as many as an entry has.
     fn told_first(&self, bytes: Entry, followed: bool) -> Result<Option<AltFirst>, Fault>
         ensures told { TellsFirst self.now.width self.now.prime bytes.items followed result }
         ensures damage { IfErr result (λ fault. fault ≡ Fault.Damage) }
@@ -271,7 +278,8 @@ impl AltIndex {
 
     /// The entry whose bytes the tree gave. Damage where they are not as many as an entry has.
     pub(crate) fn told(&self, found: Option<Entry>) -> Result<Option<AltEntry>, Fault>
-        ensures told { TellsEntry alt_bytes (IsAltEntry self.now.width self.now.prime) (option_map (λ bytes. bytes.items) found) result }
+        ensures told { TellsEntry alt_bytes (IsAltEntry self.now.width self.now.prime)
+            (option_map (λ bytes. bytes.items) found) result }
         ensures damage { IfErr result (λ fault. fault ≡ Fault.Damage) }
     {
         let Some(bytes) = found else {

@@ -52,8 +52,9 @@ impl PrimeCursor {
         self.cursor.key.as_slice() == value
     }
 
-    /// The next entry, behind which the cursor stands then; where there is none it stays. While the index has not changed it asks for one page
-    /// mostly. After a fault nothing is said of the cursor.
+    /// The next entry, behind which the cursor stands then; where there is none it stays. While the
+    /// index has not changed it asks for one page mostly. After a fault nothing is said of the
+    /// cursor.
     pub fn next<P: Pages>(
         &mut self,
         index: &PrimeIndex,
@@ -99,8 +100,9 @@ impl AltCursor {
         self.cursor.key.as_slice() == key.as_slice()
     }
 
-    /// The next entry, behind which the cursor stands then; where there is none it stays. While the index has not changed it asks for one page
-    /// mostly. After a fault nothing is said of the cursor.
+    /// The next entry, behind which the cursor stands then; where there is none it stays. While the
+    /// index has not changed it asks for one page mostly. After a fault nothing is said of the
+    /// cursor.
     pub fn next<P: Pages>(
         &mut self,
         index: &AltIndex,
@@ -115,8 +117,8 @@ impl AltCursor {
         index.told(found)
     }
 
-    /// Whether the next entry has the value that the cursor stands behind. The cursor stays where it is. While the index has not changed it asks for
-    /// one page mostly.
+    /// Whether the next entry has the value that the cursor stands behind. The cursor stays where
+    /// it is. While the index has not changed it asks for one page mostly.
     pub fn is_followed<P: Pages>(&self, index: &AltIndex, pages: &mut P) -> Result<bool, Fault>
         requires ready { P.shown.IsReady pages.old }
         ensures told { IsTrue (P.shown.state pages.new).is_honest

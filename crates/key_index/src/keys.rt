@@ -23,7 +23,8 @@ pub fn rank_key(value: &[u8], stamp: u64) -> TreeKey
     key
 }
 
-/// The greatest tree key of `long` bytes that begins as a value of `width` bytes does which begins with these.
+/// The greatest tree key of `long` bytes that begins as a value of `width` bytes does which begins
+/// with these.
 pub fn greatest_key(start: &[u8], width: usize, long: usize) -> TreeKey
     requires width { width ≤ long }
     requires long { long ≤ 258 }

@@ -33,7 +33,8 @@ impl PrimeIndex {
     ghost use Rattle.key_index.specs.Cost.{PrimeGrows};
     ghost use Rattle.key_index.specs.Changes.{MakesIndex, AddsEntry, TakesEntry, IsNewPrime, IsPrimeOf};
 
-    /// An index without entries for values of `width` bytes. One page is taken for its root, which may be answered Full.
+    /// An index without entries for values of `width` bytes. One page is taken for its root, which
+    /// may be answered Full.
     pub fn empty<P: Pages>(pages: &mut P, width: u16) -> Result<PrimeIndex, Fault>
         requires pages { MayChange P.shown pages.old }
         requires width { IsWidth width }
@@ -130,7 +131,8 @@ impl PrimeIndex {
         self.told(found)
     }
 
-    /// The first entry whose value comes after this one, which may have any length. A value that goes on where this one ends comes after it.
+    /// The first entry whose value comes after this one, which may have any length. A value that
+    /// goes on where this one ends comes after it.
     pub fn first_after<P: Pages>(
         &self,
         pages: &mut P,
@@ -170,8 +172,10 @@ impl PrimeIndex {
         self.told(found)
     }
 
-    /// Adds an entry, and answers true; where its value is there, answers false, and nothing is changed. Full only where fewer pages are left than the
-    /// height and one; Damage, and no change, where the tree tells of 20 levels or of 2^64 - 1 entries. After a fault nothing is said of the index.
+    /// Adds an entry, and answers true; where its value is there, answers false, and nothing is
+    /// changed. Full only where fewer pages are left than the height and one; Damage, and no
+    /// change, where the tree tells of 20 levels or of 2^64 - 1 entries. After a fault nothing is
+    /// said of the index.
     pub fn add<P: Pages>(
         &mut self,
         pages: &mut P,
@@ -194,8 +198,8 @@ impl PrimeIndex {
         }
     }
 
-    /// Takes out the entry of a value, and answers whether it was there; where it was not, nothing is changed. No page is taken.
-    /// After a fault nothing is said of the index.
+    /// Takes out the entry of a value, and answers whether it was there; where it was not, nothing
+    /// is changed. No page is taken. After a fault nothing is said of the index.
     pub fn remove<P: Pages>(&mut self, pages: &mut P, value: &[u8]) -> Result<bool, Fault>
         requires pages { MayChange P.shown pages.old }
         ensures { TakesEntry P.shown pages.old pages.new self.old self.new self.old.tree result
@@ -213,7 +217,8 @@ impl PrimeIndex {
 
     /// The entry whose bytes the tree gave. Damage where they are not as many as an entry has.
     pub(crate) fn told(&self, found: Option<Entry>) -> Result<Option<PrimeEntry>, Fault>
-        ensures told { TellsEntry prime_bytes (IsPrimeEntry self.now.width) (option_map (λ bytes. bytes.items) found) result }
+        ensures told { TellsEntry prime_bytes (IsPrimeEntry self.now.width)
+            (option_map (λ bytes. bytes.items) found) result }
         ensures damage { IfErr result (λ fault. fault ≡ Fault.Damage) }
     {
         let Some(bytes) = found else {

@@ -22,15 +22,19 @@ pub record LeavesJoined (shape : Shape) (left right left_now : List ℕ) : Type 
   pub leaf : IsLeaf shape left_now
   pub has : leaf_entries shape left_now ≡ leaf_entries shape left ++ leaf_entries shape right
 
--- both leaves have entries, together those that they had, and neither is short, where neither lacked more than one; the key is the first of the second leaf
+-- both leaves have entries, together those that they had, and neither is short, where neither
+-- lacked more than one; the key is the first of the second leaf
 pub record LeavesShared (shape : Shape) (left right left_now right_now key : List ℕ) : Type 0 where
   pub lower : IsLeaf shape left_now
   pub upper : IsLeaf shape right_now
-  pub has : leaf_entries shape left_now ++ leaf_entries shape right_now ≡ leaf_entries shape left ++ leaf_entries shape right
+  pub has : leaf_entries shape left_now ++ leaf_entries shape right_now ≡ leaf_entries shape left
+      ++ leaf_entries shape right
   pub between : key ≡ take shape.width (slice_index_or (leaf_entries shape right_now) 0 [])
   pub some : (1 ≤ length (leaf_entries shape left_now)) × (1 ≤ length (leaf_entries shape right_now))
-  pub fill : least shape 0 ≤ length (leaf_entries shape left) + 1 → least shape 0 ≤ length (leaf_entries shape right) + 1
-      → (least shape 0 ≤ length (leaf_entries shape left_now)) × (least shape 0 ≤ length (leaf_entries shape right_now))
+  pub fill : least shape 0 ≤ length (leaf_entries shape left) + 1
+      → least shape 0 ≤ length (leaf_entries shape right) + 1
+      → (least shape 0 ≤ length (leaf_entries shape left_now))
+      × (least shape 0 ≤ length (leaf_entries shape right_now))
 
 -- the first node has the separators and children of both, and the separator that stood between them
 pub record InnersJoined (shape : Shape) (between left right left_now : List ℕ) : Type 0 where
@@ -42,10 +46,14 @@ pub record InnersJoined (shape : Shape) (between left right left_now : List ℕ)
 pub record InnersShared (shape : Shape) (between left right left_now right_now key : List ℕ) : Type 0 where
   pub lower : IsInner shape left_now
   pub upper : IsInner shape right_now
-  pub has : separators shape left_now ++ key ∷ separators shape right_now ≡ separators shape left ++ between ∷ separators shape right
-  pub below : children shape left_now ++ children shape right_now ≡ children shape left ++ children shape right
-  pub fill : least shape 1 ≤ length (separators shape left) + 1 → least shape 1 ≤ length (separators shape right) + 1
-      → (least shape 1 ≤ length (separators shape left_now)) × (least shape 1 ≤ length (separators shape right_now))
+  pub has : separators shape left_now ++ key ∷ separators shape right_now ≡ separators shape left
+      ++ between ∷ separators shape right
+  pub below : children shape left_now ++ children shape right_now ≡ children shape left
+      ++ children shape right
+  pub fill : least shape 1 ≤ length (separators shape left) + 1
+      → least shape 1 ≤ length (separators shape right) + 1
+      → (least shape 1 ≤ length (separators shape left_now))
+      × (least shape 1 ≤ length (separators shape right_now))
 
 -- nodes with this many levels below them
 abbrev pub IsNode : Shape → ℕ → List ℕ → Type 0
@@ -61,22 +69,30 @@ AreJoined shape zero between left right left_now = LeavesJoined shape left right
 AreJoined shape (suc k) between left right left_now = InnersJoined shape between left right left_now
 
 abbrev pub AreShared : Shape → ℕ → (between left right left_now right_now key : List ℕ) → Type 0
-AreShared shape zero between left right left_now right_now key = LeavesShared shape left right left_now right_now key
-AreShared shape (suc k) between left right left_now right_now key = InnersShared shape between left right left_now right_now key
+AreShared shape zero between left right left_now right_now key =
+    LeavesShared shape left right left_now right_now key
+AreShared shape (suc k) between left right left_now right_now key =
+    InnersShared shape between left right left_now right_now key
 
 -- a node and two of its children with k levels below these, where the two share what they have
-pub record Shares (shape : Shape) (k at : ℕ) (node left right node_now left_now right_now : List ℕ) : Type 0 where
+pub record Shares (shape : Shape) (k at : ℕ) (node left right node_now left_now right_now : List ℕ) : Type
+    0 where
   pub key : List ℕ
   pub parent : ChangesSeparator shape at key node node_now
-  pub pair : AreShared shape k (slice_index_or (separators shape node) at []) left right left_now right_now key
+  pub pair : AreShared shape k (slice_index_or (separators shape node) at []) left right left_now right_now
+      key
 
 -- a node and two of its children, which become one
 pub record Joins (shape : Shape) (k at : ℕ) (node left right node_now left_now : List ℕ) : Type 0 where
   pub parent : LosesSeparator shape at node node_now
   pub pair : AreJoined shape k (slice_index_or (separators shape node) at []) left right left_now
 
--- `Some(true)`: they became one; `Some(false)`: they share; and `None` only where one of them is no such node, or both have enough
-pub record Balances (shape : Shape) (k at : ℕ) (node left right node_now left_now right_now : List ℕ) (result : Option Bool) : Type 0 where
+-- `Some(true)`: they became one; `Some(false)`: they share; and `None` only where one of them is no
+-- such node, or both have enough
+pub record Balances (shape : Shape) (k at : ℕ) (node left right node_now left_now right_now : List ℕ)
+    (result : Option Bool) : Type 0 where
   pub joined : result ≡ Some true → Joins shape k at node left right node_now left_now
   pub shared : result ≡ Some false → Shares shape k at node left right node_now left_now right_now
-  pub neither : result ≡ None → IsNode shape k left → IsNode shape k right → (count_at shape k left ≡ count_at shape k right) × (2 * least shape k ≤ count_at shape k left + count_at shape k right)
+  pub neither : result ≡ None → IsNode shape k left → IsNode shape k right
+      → (count_at shape k left ≡ count_at shape k right)
+      × (2 * least shape k ≤ count_at shape k left + count_at shape k right)

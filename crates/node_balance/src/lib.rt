@@ -1,5 +1,5 @@
-//! Nodes that are kept half full: one that has no room is split, and two neighbours of which one has too little share what they have, or
-//! become one.
+//! Nodes that are kept half full: one that has no room is split, and two neighbours of which one
+//! has too little share what they have, or become one.
 //!
 //! Pages are bytes here; which pages a tree has is not known. Read `specs/Balance.antt`, then `neighbours`.
 #![tactic(auto)]

@@ -22,7 +22,8 @@ fn lose(node: &mut [u8; PAGE_SIZE], shape: Shape, at: usize)
 fn lead(node: &mut [u8; PAGE_SIZE], shape: Shape, at: usize, right: &[u8; PAGE_SIZE])
     requires place { HasSeparatorAt shape at node.old }
     requires first { HasEntryAt shape 0 right.now }
-    ensures { ChangesSeparator shape at (take shape.width (slice_index_or (leaf_entries shape right.now) 0 []))
+    ensures { ChangesSeparator shape at (take shape.width
+        (slice_index_or (leaf_entries shape right.now) 0 []))
         node.old node.new }
 {
     let right = LeafView { page: right, shape };
@@ -107,7 +108,8 @@ fn join_inners(between: &[u8], left: &mut [u8; PAGE_SIZE], right: &[u8; PAGE_SIZ
     InnerViewMut { page: left, shape }.merge_from(between, right);
 }
 
-/// The first child of the node to the right goes over to the left one. Answers the separator that stands between the two now.
+/// The first child of the node to the right goes over to the left one. Answers the separator that
+/// stands between the two now.
 fn fill_left_inner(
     between: &[u8],
     left: &mut [u8; PAGE_SIZE],
@@ -121,7 +123,8 @@ fn fill_left_inner(
     InnerViewMut { page: left, shape }.borrow_from_right(between, right)
 }
 
-/// The last child of the node to the left goes over to the right one. Answers the separator that stands between the two now.
+/// The last child of the node to the left goes over to the right one. Answers the separator that
+/// stands between the two now.
 fn fill_right_inner(
     between: &[u8],
     left: &mut [u8; PAGE_SIZE],
@@ -179,7 +182,8 @@ fn balance_inners(
     }
 }
 
-/// Two children of a node, with this many levels below them, share what they have, or become one. The answer is whether they did.
+/// Two children of a node, with this many levels below them, share what they have, or become one.
+/// The answer is whether they did.
 pub fn balance(
     levels: u8,
     node: &mut [u8; PAGE_SIZE],

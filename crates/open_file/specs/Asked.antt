@@ -21,7 +21,8 @@ LacksPages shown pages need = (shown.state pages).available < need
 
 -- no more than so many were asked for, by a key that one record alone can have
 abbrev pub AsksAlone : {S : Type 0} → ShownPages S → OpenFile → ℕ → ℕ → S → S → Type 0
-AsksAlone shown opened k most before after = IsFalse (key_at opened.schema k).duplicates → AsksFor shown most before after
+AsksAlone shown opened k most before after = IsFalse (key_at opened.schema k).duplicates
+    → AsksFor shown most before after
 
 -- the most that a call asks for that reads a record by key k
 abbrev pub pages_to_read : {S : Type 0} → ShownPages S → OpenFile → S → ℕ → ℕ

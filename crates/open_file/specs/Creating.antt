@@ -21,11 +21,14 @@ pub record IsNewFile (opened : OpenFile) (pages : PageMap) (is_sound : Type 0) :
   pub stands : Stands opened pages empty_file
   pub sound : is_sound
 
--- a new file is made in sound pages of which none is in use, where no wrong answer of the device was taken as true
+-- a new file is made in sound pages of which none is in use, where no wrong answer of the device
+-- was taken as true
 abbrev pub MakesNewFile : {S : Type 0} → ShownPages S → S → S → Result OpenFile Fault → Type 0
 MakesNewFile shown before after result =
-    IsTrue (shown.state after).is_honest → IsTrue (shown.state before).is_sound → ((n : ℕ) → (shown.state before).live n ≡ None)
-    → IsAnswer result (λ opened. IsNewFile opened (shown.state after).live (IsTrue (shown.state after).is_sound))
+    IsTrue (shown.state after).is_honest → IsTrue (shown.state before).is_sound
+    → ((n : ℕ) → (shown.state before).live n ≡ None)
+    → IsAnswer result (λ opened. IsNewFile opened (shown.state after).live
+    (IsTrue (shown.state after).is_sound))
 
 -- it is one of this schema that is not broken, with a tree of one level for each key
 pub record IsNewOpenFile (opened : OpenFile) (schema : Schema) : Type 0 where
@@ -43,18 +46,20 @@ pub record IsIndexOf (schema : Schema) (j : ℕ) (index : AltIndex) : Type 0 whe
 
 -- these are indexes for the first alternate keys
 abbrev pub AreIndexesOf : Schema → List AltIndex → Type 0
-AreIndexesOf schema alternates = (j : ℕ) (index : AltIndex) → j < length alternates → index ≡ slice_index_or alternates j index → IsIndexOf schema j index
+AreIndexesOf schema alternates = (j : ℕ) (index : AltIndex) → j < length alternates
+    → index ≡ slice_index_or alternates j index → IsIndexOf schema j index
 
 -- and there is one for each alternate key
 pub record AreAllIndexesOf (schema : Schema) (alternates : List AltIndex) : Type 0 where
   pub each : AreIndexesOf schema alternates
   pub many : length schema.keys ≡ length alternates + 1
 
--- these indexes without entries are made beside a heap and a prime index without any, in sound pages, where no wrong answer of the device was
--- taken as true
+-- these indexes without entries are made beside a heap and a prime index without any, in sound
+-- pages, where no wrong answer of the device was taken as true
 abbrev pub MakesIndexes : {S : Type 0} → ShownPages S → S → S → Result (ArrayVec AltIndex) Fault → Type 0
 MakesIndexes shown before after result =
     IsTrue (shown.state after).is_honest → IsTrue (shown.state before).is_sound
     → (heap : Heap) (prime : PrimeIndex) → Parts heap prime [] (shown.state before).live no_slots [] (λ j. [])
     → IsAnswer result (λ alternates.
-    Parts heap prime alternates.items (shown.state after).live no_slots [] (λ j. []) × IsTrue (shown.state after).is_sound)
+    Parts heap prime alternates.items (shown.state after).live no_slots [] (λ j. [])
+    × IsTrue (shown.state after).is_sound)

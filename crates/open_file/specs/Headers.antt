@@ -32,7 +32,8 @@ pub record IsHeaderOf (header : Header) (opened : OpenFile) : Type 0 where
   -- the tree of each key, in the order of the keys
   pub trees : length header.trees.items ≡ length header.schema.keys
   pub prime : HasTree opened.prime.tree (tree_at header 0)
-  pub alternates : (j : ℕ) (index : AltIndex) → j < length opened.alternates.items → index ≡ slice_index_or opened.alternates.items j index
+  pub alternates : (j : ℕ) (index : AltIndex) → j < length opened.alternates.items
+      → index ≡ slice_index_or opened.alternates.items j index
       → HasTree index.tree (tree_at header (j + 1))
 
 -- the header counts these pages, and these free ones
@@ -45,7 +46,8 @@ pub record Counts (header : Header) (pages first_free free : ℕ) : Type 0 where
 pub record IsOpenedBy (header : Header) (opened : OpenFile) : Type 0 where
   pub header_is : IsHeaderOf header opened
   pub shaped : IsShaped opened
-  pub counts : (j : ℕ) (index : AltIndex) → j < length opened.alternates.items → index ≡ slice_index_or opened.alternates.items j index
+  pub counts : (j : ℕ) (index : AltIndex) → j < length opened.alternates.items
+      → index ≡ slice_index_or opened.alternates.items j index
       → index.tree.count ≡ header.records
   pub unbroken : IsFalse opened.broken
   pub no_path : opened.path ≡ None
@@ -53,21 +55,25 @@ pub record IsOpenedBy (header : Header) (opened : OpenFile) : Type 0 where
 -- what is opened by the header of a file that stands, stands for the same records
 abbrev pub is_read_back : Type 0
 is_read_back = (opened other : OpenFile) (header : Header) (pages : PageMap) (file : File)
-    → Stands opened pages file → IsShaped opened → IsHeaderOf header opened → IsOpenedBy header other → Stands other pages file
+    → Stands opened pages file → IsShaped opened → IsHeaderOf header opened → IsOpenedBy header other
+    → Stands other pages file
 
 -- ---- its trees
 
 -- index j is the one of alternate key j + 1 that the header tells of
 pub record IsIndexStored (header : Header) (j : ℕ) (index : AltIndex) : Type 0 where
-  pub stored : IsAltStored index (key_at header.schema (j + 1)).length (key_at header.schema 0).length (tree_at header (j + 1)).root (tree_at header (j + 1)).height header.records
+  pub stored : IsAltStored index (key_at header.schema (j + 1)).length (key_at header.schema 0).length
+      (tree_at header (j + 1)).root (tree_at header (j + 1)).height header.records
   pub number : alt_key index ≡ j + 1
 
 abbrev pub AreStored : Header → List AltIndex → Type 0
-AreStored header alternates = (j : ℕ) (index : AltIndex) → j < length alternates → index ≡ slice_index_or alternates j index → IsIndexStored header j index
+AreStored header alternates = (j : ℕ) (index : AltIndex) → j < length alternates
+    → index ≡ slice_index_or alternates j index → IsIndexStored header j index
 
 -- the numbers of the trees of these indexes
 abbrev pub numbers_of : Tree → TreeNumbers
 numbers_of tree = record { height = tree.levels + 1; root = tree.root }
 
 abbrev pub AreTrees : PrimeIndex → List AltIndex → List TreeNumbers → Type 0
-AreTrees prime alternates trees = trees ≡ numbers_of prime.tree ∷ map (λ (index : AltIndex). numbers_of index.tree) alternates
+AreTrees prime alternates trees = trees ≡ numbers_of prime.tree ∷ map (λ (index : AltIndex).
+    numbers_of index.tree) alternates

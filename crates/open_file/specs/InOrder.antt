@@ -11,7 +11,8 @@ use Rattle.record_heap.specs.declared.shape.Place.{Place}
 -- rows in order, with one more
 abbrev pub put : Schema → ℕ → Row → List Row → List Row
 put schema k row [] = row ∷ []
-put schema k row (next ∷ rows) = if is_lt (row_cmp schema k next row) then next ∷ put schema k row rows else row ∷ next ∷ rows
+put schema k row (next ∷ rows) = if is_lt (row_cmp schema k next row) then next ∷ put schema k row rows
+    else row ∷ next ∷ rows
 
 -- these rows, in order by key k
 abbrev pub in_order : Schema → ℕ → List Row → List Row
@@ -20,7 +21,11 @@ in_order schema k (row ∷ rows) = put schema k row (in_order schema k rows)
 
 -- what alternate index k has of a row
 abbrev pub alt_entry : Schema → ℕ → Row → AltEntry
-alt_entry schema k row = record { value = record { items = value_of schema k row.bytes }; stamp = stamp_of k row; prime = record { items = prime_of schema row.bytes } }
+alt_entry schema k row = record {
+  value = record { items = value_of schema k row.bytes };
+  stamp = stamp_of k row;
+  prime = record { items = prime_of schema row.bytes };
+}
 
 -- the entries of alternate index k
 abbrev pub alt_entries : Schema → ℕ → List Row → List AltEntry
@@ -31,4 +36,7 @@ abbrev pub prime_entries : Schema → List Place → List Row → List PrimeEntr
 prime_entries schema [] rows = []
 prime_entries schema (place ∷ places) [] = []
 prime_entries schema (place ∷ places) (row ∷ rows) =
-    record { value = record { items = prime_of schema row.bytes }; place = place } ∷ prime_entries schema places rows
+    record {
+      value = record { items = prime_of schema row.bytes };
+      place = place;
+    } ∷ prime_entries schema places rows

@@ -9,13 +9,16 @@ use Rattle.open_file.specs.declared.open_file.OpenFile.{OpenFile}
 
 -- what is read off the pages is the file
 abbrev pub reads_as_its_file : Type 0
-reads_as_its_file = (opened : OpenFile) (pages : PageMap) (file : File) → Stands opened pages file → file_off opened pages ≡ file
+reads_as_its_file = (opened : OpenFile) (pages : PageMap) (file : File) → Stands opened pages file
+    → file_off opened pages ≡ file
 
 -- each key has its tree, and a tree of two levels or more has its least number of entries
 abbrev pub is_filled : Type 0
-is_filled = (opened : OpenFile) (pages : PageMap) (file : File) (available : ℕ) → IsShaped opened → Stands opened pages file
+is_filled = (opened : OpenFile) (pages : PageMap) (file : File) (available : ℕ) → IsShaped opened
+    → Stands opened pages file
     → IsFilled (room_of opened available) opened.schema file
 
 -- the prime index has an entry for each row
 abbrev pub counts_its_rows : Type 0
-counts_its_rows = (opened : OpenFile) (pages : PageMap) (file : File) → Stands opened pages file → opened.prime.tree.count ≡ length file.rows
+counts_its_rows = (opened : OpenFile) (pages : PageMap) (file : File) → Stands opened pages file
+    → opened.prime.tree.count ≡ length file.rows

@@ -15,14 +15,17 @@ pub record LendsToChange {S : Type 0} (shown : ShownPages S) (pages : S) : Type 
   pub ready : shown.IsReady pages
   pub «open» : shown.CanChange pages
 
--- the pages may be asked for, the parts are made for the schema, and the area is as long as the greatest record
-pub record LendsArea {S : Type 0} (shown : ShownPages S) (pages : S) (opened : OpenFile) (bytes : List ℕ) : Type 0 where
+-- the pages may be asked for, the parts are made for the schema, and the area is as long as the
+-- greatest record
+pub record LendsArea {S : Type 0} (shown : ShownPages S) (pages : S) (opened : OpenFile)
+    (bytes : List ℕ) : Type 0 where
   pub ready : shown.IsReady pages
   pub shaped : IsShaped opened
   pub area : length bytes ≡ opened.schema.greatest
 
 -- the same for a look by key k, which the schema has
-pub record LendsAreaBy {S : Type 0} (shown : ShownPages S) (pages : S) (opened : OpenFile) (k : ℕ) (bytes : List ℕ) : Type 0 where
+pub record LendsAreaBy {S : Type 0} (shown : ShownPages S) (pages : S) (opened : OpenFile) (k : ℕ)
+    (bytes : List ℕ) : Type 0 where
   pub ready : shown.IsReady pages
   pub shaped : IsShaped opened
   pub key : k < length opened.schema.keys

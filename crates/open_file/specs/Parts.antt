@@ -11,14 +11,16 @@ use Rattle.record_heap.specs.Chain.{Slots}
 use Rattle.record_heap.specs.Standing.{HeapStands}
 use Rattle.page_marks.specs.Parted.{own_at, Parted}
 
--- the heap has these records, and the indexes these entries. Part 0 is the heap, part 1 the prime index, part j + 2
--- alternate index j
-pub record Parts (heap : Heap) (prime : PrimeIndex) (alternates : List AltIndex) (pages : PageMap) (slots : Slots) (primes : List PrimeEntry) (entries : ℕ → List AltEntry) : Type 0 where
+-- the heap has these records, and the indexes these entries. Part 0 is the heap, part 1 the prime
+-- index, part j + 2 alternate index j
+pub record Parts (heap : Heap) (prime : PrimeIndex) (alternates : List AltIndex) (pages : PageMap)
+    (slots : Slots) (primes : List PrimeEntry) (entries : ℕ → List AltEntry) : Type 0 where
   pub owns : List (List ℕ)
   pub owners : length owns ≡ length alternates + 2
   pub heap_stands : HeapStands heap pages slots (own_at owns 0)
   pub prime_stands : PrimeStands prime pages primes (own_at owns 1)
-  pub alternates_stand : (j : ℕ) (index : AltIndex) → j < length alternates → index ≡ slice_index_or alternates j index
+  pub alternates_stand : (j : ℕ) (index : AltIndex) → j < length alternates
+      → index ≡ slice_index_or alternates j index
       → AltStands index pages (entries j) (own_at owns (j + 2))
   pub parted : Parted pages owns
 

@@ -24,36 +24,44 @@ use Rattle.open_file.specs.Stands.{Stands}
 use Rattle.open_file.specs.declared.open_file.OpenFile.{OpenFile}
 
 -- the answer, and the area with the record in its front; or as it was, where there is none
-pub record ReadsRow {X : Type 0} (result : Result X Fault) (answer : X) (old new : List ℕ) (row : Option Row) : Type 0 where
+pub record ReadsRow {X : Type 0} (result : Result X Fault) (answer : X) (old new : List ℕ)
+    (row : Option Row) : Type 0 where
   pub answered : IsAnswer result (λ x. x ≡ answer)
   pub area : OnOk result (new ≡ area_after old row)
 
 -- the first row by key k that passes a test is told, and read into the area
-abbrev pub Delivers : OpenFile → PageMap → ℕ → (Row → Bool) → List ℕ → List ℕ → Result (Option Found) Fault → Type 0
+abbrev pub Delivers : OpenFile → PageMap → ℕ → (Row → Bool) → List ℕ → List ℕ → Result (Option Found) Fault
+    → Type 0
 Delivers opened pages k test old new result =
     (file : File) → Stands opened pages file
-    → ReadsRow result (option_map (found_of opened.schema k file) (least opened.schema k test file)) old new (least opened.schema k test file)
+    → ReadsRow result (option_map (found_of opened.schema k file) (least opened.schema k test file)) old
+    new (least opened.schema k test file)
 
--- a call that looks for that row: what it delivers where no wrong answer of the device was taken as true, and that the area stays where
--- it tells of none, and at a fault
-pub record FindsFirst (is_honest : Bool) (opened : OpenFile) (pages : PageMap) (k : ℕ) (test : Row → Bool) (old new : List ℕ)
+-- a call that looks for that row: what it delivers where no wrong answer of the device was taken as
+-- true, and that the area stays where it tells of none, and at a fault
+pub record FindsFirst (is_honest : Bool) (opened : OpenFile) (pages : PageMap) (k : ℕ) (test : Row → Bool)
+    (old new : List ℕ)
     (result : Result (Option Found) Fault) : Type 0 where
   pub found : IsTrue is_honest → Delivers opened pages k test old new result
   pub none : result ≡ Ok None → new ≡ old
   pub kept : OnErr result (new ≡ old)
 
 -- the same of pages before and after it
-abbrev pub FindsIn : {S : Type 0} → ShownPages S → S → S → OpenFile → ℕ → (Row → Bool) → List ℕ → List ℕ → Result (Option Found) Fault → Type 0
-FindsIn shown before after opened k test old new result = FindsFirst (shown.state after).is_honest opened (shown.state before).live k test old new result
+abbrev pub FindsIn : {S : Type 0} → ShownPages S → S → S → OpenFile → ℕ → (Row → Bool) → List ℕ → List ℕ
+    → Result (Option Found) Fault → Type 0
+FindsIn shown before after opened k test old new result =
+    FindsFirst (shown.state after).is_honest opened (shown.state before).live k test old new result
 
 -- the full value of key k of the first row whose value begins so related to the operand
 abbrev pub Seeks : OpenFile → PageMap → ℕ → Relation → List ℕ → Result (Option (ArrayVec ℕ)) Fault → Type 0
 Seeks opened pages k relation operand result =
     (file : File) → Stands opened pages file
-    → IsAnswer result (λ key. key ≡ option_map (key_of_row opened.schema k) (least opened.schema k (satisfies opened.schema k relation operand) file))
+    → IsAnswer result (λ key. key ≡ option_map (key_of_row opened.schema k)
+    (least opened.schema k (satisfies opened.schema k relation operand) file))
 
 -- the row stands at this place of the heap
-pub record IsRowAt (schema : Schema) (heap : Heap) (stamps : ℕ) (pages : PageMap) (place : Place) (row : Row) : Type 0 where
+pub record IsRowAt (schema : Schema) (heap : Heap) (stamps : ℕ) (pages : PageMap) (place : Place)
+    (row : Row) : Type 0 where
   pub slots : Slots
   pub own : List ℕ
   pub stands : HeapStands heap pages slots own
@@ -69,13 +77,15 @@ pub record IsEntryOfRow (schema : Schema) (k : ℕ) (file : File) (entry : AltEn
 -- the row at this place of the heap is read: its length is the answer
 abbrev pub ReadsAtPlace : OpenFile → PageMap → Place → List ℕ → List ℕ → Result ℕ Fault → Type 0
 ReadsAtPlace opened pages place old new result =
-    (row : Row) → IsRowAt opened.schema opened.heap opened.heap.shape.stamps pages place row → ReadsRow result (length row.bytes) old new (Some row)
+    (row : Row) → IsRowAt opened.schema opened.heap opened.heap.shape.stamps pages place row
+    → ReadsRow result (length row.bytes) old new (Some row)
 
 -- the row of a prime value is read, where there is one
 abbrev pub ReadsByPrime : OpenFile → PageMap → List ℕ → List ℕ → List ℕ → Result (Option ℕ) Fault → Type 0
 ReadsByPrime opened pages prime old new result =
     (file : File) → Stands opened pages file
-    → ReadsRow result (option_map (λ row. length row.bytes) (row_of opened.schema prime file)) old new (row_of opened.schema prime file)
+    → ReadsRow result (option_map (λ row. length row.bytes) (row_of opened.schema prime file)) old new
+    (row_of opened.schema prime file)
 
 -- the row of an entry of alternate index k is told and read
 abbrev pub ReadsByEntry : OpenFile → PageMap → ℕ → AltEntry → List ℕ → List ℕ → Result Found Fault → Type 0
@@ -86,24 +96,29 @@ ReadsByEntry opened pages k entry old new result =
 -- the same, where it is known whether a later row has the entry's value
 abbrev pub TellsByEntry : OpenFile → PageMap → AltEntry → Bool → List ℕ → List ℕ → Result Found Fault → Type 0
 TellsByEntry opened pages entry repeated old new result =
-    (file : File) → Stands opened pages file → (k : ℕ) (row : Row) → IsEntryOfRow opened.schema k file entry row
-    → repeated ≡ is_repeated opened.schema k row file → ReadsRow result (found_of opened.schema k file row) old new (Some row)
+    (file : File) → Stands opened pages file → (k : ℕ) (row : Row)
+    → IsEntryOfRow opened.schema k file entry row
+    → repeated ≡ is_repeated opened.schema k row file
+    → ReadsRow result (found_of opened.schema k file row) old new (Some row)
 
--- what a call keeps that reads a record into the area: why it gave up, how many pages it asked for at most, that it left them, and that the
--- area stays at a fault
-pub record ReadsInto {S X : Type 0} (shown : ShownPages S) (most : ℕ) (before after : S) (old new : List ℕ) (result : Result X Fault) : Type 0 where
+-- what a call keeps that reads a record into the area: why it gave up, how many pages it asked for
+-- at most, that it left them, and that the area stays at a fault
+pub record ReadsInto {S X : Type 0} (shown : ShownPages S) (most : ℕ) (before after : S) (old new : List ℕ)
+    (result : Result X Fault) : Type 0 where
   pub reads : ReadsPages shown most before after result
   pub kept : OnErr result (new ≡ old)
 
 -- the greatest prime value
 abbrev pub TellsHighest : OpenFile → PageMap → Result (Option (ArrayVec ℕ)) Fault → Type 0
 TellsHighest opened pages result =
-    (file : File) → Stands opened pages file → IsAnswer result (λ key. option_map (λ key. key.items) key ≡ highest_of opened.schema file.rows)
+    (file : File) → Stands opened pages file → IsAnswer result
+    (λ key. option_map (λ key. key.items) key ≡ highest_of opened.schema file.rows)
 
 -- whether some row has the value of key k that this record has
 abbrev pub TellsThere : OpenFile → PageMap → ℕ → List ℕ → Result Bool Fault → Type 0
 TellsThere opened pages k bytes result =
-    (file : File) → Stands opened pages file → IsAnswer result (λ found. found ≡ is_there (key_at opened.schema k) bytes file.rows)
+    (file : File) → Stands opened pages file → IsAnswer result
+    (λ found. found ≡ is_there (key_at opened.schema k) bytes file.rows)
 
 -- the same, by the value alone
 abbrev pub TellsValueThere : OpenFile → PageMap → ℕ → List ℕ → Result Bool Fault → Type 0

@@ -18,14 +18,16 @@ use Rattle.open_file.specs.Paths.{IsOnPath}
 use Rattle.open_file.specs.declared.open_file.OpenFile.{OpenFile}
 
 -- the parts are made for this schema: known of every open file, whatever its pages hold
-pub record HasParts (schema : Schema) (heap : Heap) (prime : PrimeIndex) (alternates : List AltIndex) : Type 0 where
+pub record HasParts (schema : Schema) (heap : Heap) (prime : PrimeIndex)
+    (alternates : List AltIndex) : Type 0 where
   pub is_schema : IsSchema schema
   -- an index for each alternate key
   pub keys : length schema.keys ≡ length alternates + 1
   pub prime_width : prime.width ≡ (key_at schema 0).length
   pub widths : (j : ℕ) (index : AltIndex) → j < length alternates → index ≡ slice_index_or alternates j index
       → (index.width ≡ (key_at schema (j + 1)).length) × (index.prime ≡ (key_at schema 0).length)
-  pub numbers : (j : ℕ) (index : AltIndex) → j < length alternates → index ≡ slice_index_or alternates j index → alt_key index ≡ j + 1
+  pub numbers : (j : ℕ) (index : AltIndex) → j < length alternates
+      → index ≡ slice_index_or alternates j index → alt_key index ≡ j + 1
   -- a slot has room for the stamps and the longest record
   pub stamps : heap.shape.stamps ≡ stamps_length (drop 1 schema.keys)
   pub least : heap.shape.least ≡ schema.least
@@ -51,9 +53,11 @@ pub record Stands (opened : OpenFile) (pages : PageMap) (file : File) : Type 0 w
   pub places : List Place
   pub slots : Slots
   pub placed : IsPlaced opened.schema slots places file.rows
-  pub parts : Parts opened.heap opened.prime opened.alternates.items pages slots (prime_entries opened.schema places file.rows) (λ j. alt_entries opened.schema (j + 1) file.rows)
+  pub parts : Parts opened.heap opened.prime opened.alternates.items pages slots
+      (prime_entries opened.schema places file.rows) (λ j. alt_entries opened.schema (j + 1) file.rows)
   pub on_path : IsOnPath opened.path opened.prime opened.alternates.items pages
-      (prime_entries opened.schema places file.rows) (λ j. alt_entries opened.schema (j + 1) file.rows) parts.owns
+      (prime_entries opened.schema places file.rows)
+      (λ j. alt_entries opened.schema (j + 1) file.rows) parts.owns
 
 -- the height of each key's tree
 abbrev pub heights_in : PrimeIndex → List AltIndex → List ℕ

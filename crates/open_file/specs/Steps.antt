@@ -63,18 +63,21 @@ GivesPrime opened pages test result =
 -- the first entry of the index of alternate key k that passes a test
 abbrev pub GivesAlt : OpenFile → PageMap → ℕ → (AltEntry → Bool) → Result (Option AltEntry) Fault → Type 0
 GivesAlt opened pages k test result =
-    (file : File) → Stands opened pages file → IsAnswer result (λ found. found ≡ find test (alt_entries opened.schema k file.rows))
+    (file : File) → Stands opened pages file → IsAnswer result
+    (λ found. found ≡ find test (alt_entries opened.schema k file.rows))
 
 -- the first entry of a value in the index of alternate key k, and whether the next entry has the value too
 abbrev pub GivesFirstOf : OpenFile → PageMap → ℕ → List ℕ → Result (Option AltFirst) Fault → Type 0
 GivesFirstOf opened pages k value result =
-    (file : File) → Stands opened pages file → IsAnswer result (IsAltFirst value (alt_entries opened.schema k file.rows))
+    (file : File) → Stands opened pages file → IsAnswer result
+    (IsAltFirst value (alt_entries opened.schema k file.rows))
 
 -- whether the first entry of the index of alternate key k that comes after a value and stamp has this value
 abbrev pub TellsNextOfKey : OpenFile → PageMap → ℕ → List ℕ → ℕ → Result Bool Fault → Type 0
 TellsNextOfKey opened pages k value stamp result =
     (file : File) → Stands opened pages file
-    → IsAnswer result (λ told. told ≡ option_map_or (entry_has_value value) (find (after_rank value stamp) (alt_entries opened.schema k file.rows)) false)
+    → IsAnswer result (λ told. told ≡ option_map_or (entry_has_value value)
+    (find (after_rank value stamp) (alt_entries opened.schema k file.rows)) false)
 
 -- what the pages stood for they stand for still
 abbrev pub StandsStill : OpenFile → OpenFile → PageMap → Type 0
@@ -86,13 +89,15 @@ pub record MovesPath (old new : OpenFile) : Type 0 where
   pub rest : new ≡ record old { path = new.path }
 
 -- only the path is another, and the file stands as it did
-pub record MovesPathIn {S : Type 0} (shown : ShownPages S) (before after : S) (old new : OpenFile) : Type 0 where
+pub record MovesPathIn {S : Type 0} (shown : ShownPages S) (before after : S)
+    (old new : OpenFile) : Type 0 where
   pub stands : OfHonestPages shown before after (StandsStill old new)
   pub rest : new ≡ record old { path = new.path }
 
--- a step in the prime index: the first entry that passes a test is given where no wrong answer of the device was taken as true, the file
--- stands as it did, and nothing else is changed but the path
-pub record StepsInPrime {S : Type 0} (shown : ShownPages S) (test : PrimeEntry → Bool) (old new : OpenFile) (before after : S)
+-- a step in the prime index: the first entry that passes a test is given where no wrong answer of
+-- the device was taken as true, the file stands as it did, and nothing else is changed but the path
+pub record StepsInPrime {S : Type 0} (shown : ShownPages S) (test : PrimeEntry → Bool) (old new : OpenFile)
+    (before after : S)
     (result : Result (Option PrimeEntry) Fault) : Type 0 where
   pub found : OfHonestPages shown before after (λ live. GivesPrime old live test result)
   pub stands : OfHonestPages shown before after (StandsStill old new)
@@ -100,7 +105,8 @@ pub record StepsInPrime {S : Type 0} (shown : ShownPages S) (test : PrimeEntry �
   pub reads : ReadsPages shown (2 * prime_height old.prime) before after result
 
 -- the same in the index of alternate key k
-pub record StepsInAlternate {S : Type 0} (shown : ShownPages S) (k : ℕ) (index : AltIndex) (test : AltEntry → Bool) (old new : OpenFile)
+pub record StepsInAlternate {S : Type 0} (shown : ShownPages S) (k : ℕ) (index : AltIndex) (test : AltEntry
+    → Bool) (old new : OpenFile)
     (before after : S) (result : Result (Option AltEntry) Fault) : Type 0 where
   pub found : OfHonestPages shown before after (λ live. GivesAlt old live k test result)
   pub stands : OfHonestPages shown before after (StandsStill old new)

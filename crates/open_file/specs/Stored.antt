@@ -11,7 +11,8 @@ use Rattle.record_heap.specs.Chain.{Slots}
 abbrev pub stamp_bytes : List KeyPart → List ℕ → List ℕ
 stamp_bytes [] stamps = []
 stamp_bytes (part ∷ parts) [] = []
-stamp_bytes (part ∷ parts) (stamp ∷ stamps) = if part.duplicates then big_bytes 8 stamp ++ stamp_bytes parts stamps else stamp_bytes parts stamps
+stamp_bytes (part ∷ parts) (stamp ∷ stamps) = if part.duplicates then big_bytes 8 stamp
+    ++ stamp_bytes parts stamps else stamp_bytes parts stamps
 
 -- how long they are
 abbrev pub stamps_length : List KeyPart → ℕ
@@ -27,4 +28,5 @@ abbrev pub AreAt : Schema → Slots → List Place → List Row → Type 0
 AreAt schema slots [] [] = ⊤
 AreAt schema slots [] (row ∷ rows) = ⊥
 AreAt schema slots (place ∷ places) [] = ⊥
-AreAt schema slots (place ∷ places) (row ∷ rows) = (slots place ≡ Some (stored schema row)) × AreAt schema slots places rows
+AreAt schema slots (place ∷ places) (row ∷ rows) =
+    (slots place ≡ Some (stored schema row)) × AreAt schema slots places rows

@@ -17,16 +17,20 @@ use record_heap::{Heap, Shape};
 use record_layout::Schema;
 
 impl OpenFile {
-    /// A file without records, of which no page is in use yet: one page is taken for the tree of each key, in the order of the keys.
+    /// A file without records, of which no page is in use yet: one page is taken for the tree of
+    /// each key, in the order of the keys.
     ///
     /// Device, Memory, Damage; Full where fewer pages are left than there are keys.
     pub fn create<P: Pages>(pages: &mut P, schema: &Schema) -> Result<OpenFile, Fault>
         requires { LendsToChange P.shown pages.old }
         ensures new { MakesNewFile P.shown pages.old pages.new result }
         ensures made { IfOk result (λ opened. IsNewOpenFile opened schema.now) }
-        ensures few { (P.shown.state pages.old).available ≤ (P.shown.state pages.new).available + length schema.now.keys }
-        ensures spent { OnOk result ((P.shown.state pages.new).available + length schema.now.keys ≡ (P.shown.state pages.old).available) }
-        ensures writes { WritesPages P.shown (2 * length schema.now.keys) (LacksPages P.shown pages.old (length schema.now.keys)) pages.old pages.new result }
+        ensures few { (P.shown.state pages.old).available ≤ (P.shown.state pages.new).available
+            + length schema.now.keys }
+        ensures spent { OnOk result ((P.shown.state pages.new).available + length schema.now.keys
+            ≡ (P.shown.state pages.old).available) }
+        ensures writes { WritesPages P.shown (2 * length schema.now.keys)
+            (LacksPages P.shown pages.old (length schema.now.keys)) pages.old pages.new result }
     {
         let heap = Heap::new(heap_shape(schema));
         let prime = PrimeIndex::empty(pages, schema.part(0).length)?;
@@ -48,9 +52,12 @@ fn new_alternates<P: Pages>(pages: &mut P, schema: &Schema) -> Result<ArrayVec<A
     requires { LendsToChange P.shown pages.old }
     ensures made { MakesIndexes P.shown pages.old pages.new result }
     ensures all { IfOk result (λ alternates. AreAllIndexesOf schema.now alternates.items) }
-    ensures few { (P.shown.state pages.old).available + 1 ≤ (P.shown.state pages.new).available + length schema.now.keys }
-    ensures spent { OnOk result ((P.shown.state pages.new).available + length schema.now.keys ≡ (P.shown.state pages.old).available + 1) }
-    ensures writes { WritesPages P.shown (2 * (length schema.now.keys - 1)) (LacksPages P.shown pages.old (length schema.now.keys - 1)) pages.old pages.new result }
+    ensures few { (P.shown.state pages.old).available + 1 ≤ (P.shown.state pages.new).available
+        + length schema.now.keys }
+    ensures spent { OnOk result ((P.shown.state pages.new).available + length schema.now.keys
+        ≡ (P.shown.state pages.old).available + 1) }
+    ensures writes { WritesPages P.shown (2 * (length schema.now.keys - 1))
+        (LacksPages P.shown pages.old (length schema.now.keys - 1)) pages.old pages.new result }
 {
     let keys = schema.key_count();
     let prime = schema.part(0).length;
@@ -62,7 +69,8 @@ fn new_alternates<P: Pages>(pages: &mut P, schema: &Schema) -> Result<ArrayVec<A
     Ok(alternates)
 }
 
-/// What the slots of a file's heap have in common: each has a stamp for each alternate key that may have duplicates.
+/// What the slots of a file's heap have in common: each has a stamp for each alternate key that may
+/// have duplicates.
 pub(crate) fn heap_shape(schema: &Schema) -> Shape
     ensures stamps { result.stamps ≡ stamps_length (drop 1 schema.now.keys) }
     ensures least { result.least ≡ schema.now.least }

@@ -41,7 +41,8 @@ impl OpenFile {
         }
     }
 
-    /// Its header. How many pages there are, the header among them, the first free one and how many are free, is known where pages are given out.
+    /// Its header. How many pages there are, the header among them, the first free one and how many
+    /// are free, is known where pages are given out.
     pub fn header(&self, pages: u32, first_free: u32, free: u32) -> Header
         requires { IsShaped self.now }
         ensures told { IsHeaderOf result self.now }
@@ -104,7 +105,8 @@ fn stored_alternates(header: &Header) -> ArrayVec<AltIndex, 8>
     alternates
 }
 
-/// The law of a header: what is opened by the header of a file that stands, stands for the same records. It does nothing.
+/// The law of a header: what is opened by the header of a file that stands, stands for the same
+/// records. It does nothing.
 pub fn header_laws()
     ensures { is_read_back }
 {}

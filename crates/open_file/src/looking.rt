@@ -16,7 +16,8 @@ impl OpenFile {
     /// Whether some record has this value of the prime key.
     fn has_prime<P: Pages>(&self, pages: &mut P, value: &[u8]) -> Result<bool, Fault>
         requires ready { P.shown.IsReady pages.old }
-        ensures found { OfHonestPages P.shown pages.old pages.new (λ live. TellsValueThere self.now live 0 value.now result) }
+        ensures found { OfHonestPages P.shown pages.old pages.new
+            (λ live. TellsValueThere self.now live 0 value.now result) }
         ensures reads { ReadsPages P.shown (prime_height self.now.prime) pages.old pages.new result }
     {
         self.prime.has(pages, value)
@@ -26,8 +27,10 @@ impl OpenFile {
     fn has_alternate<P: Pages>(&self, pages: &mut P, k: usize, value: &[u8]) -> Result<bool, Fault>
         requires ready { P.shown.IsReady pages.old }
         requires key { IsAlternate self.now k }
-        ensures found { OfHonestPages P.shown pages.old pages.new (λ live. TellsValueThere self.now live k value.now result) }
-        ensures reads { ReadsPages P.shown (2 * slice_index (heights_of self.now) k) pages.old pages.new result }
+        ensures found { OfHonestPages P.shown pages.old pages.new
+            (λ live. TellsValueThere self.now live k value.now result) }
+        ensures reads { ReadsPages P.shown (2 * slice_index (heights_of self.now) k) pages.old pages.new
+            result }
     {
         let index = self.alternate(k);
         match index.first_from(pages, value)? {
@@ -44,8 +47,10 @@ impl OpenFile {
         requires shaped { IsShaped self.now }
         requires key { k < length self.now.schema.keys }
         requires least { self.now.schema.least ≤ length bytes.now }
-        ensures found { OfHonestPages P.shown pages.old pages.new (λ live. TellsThere self.now live k bytes.now result) }
-        ensures reads { ReadsPages P.shown (2 * slice_index (heights_of self.now) k) pages.old pages.new result }
+        ensures found { OfHonestPages P.shown pages.old pages.new
+            (λ live. TellsThere self.now live k bytes.now result) }
+        ensures reads { ReadsPages P.shown (2 * slice_index (heights_of self.now) k) pages.old pages.new
+            result }
     {
         let value = self.schema.value(bytes, k);
         if k == 0 {

@@ -16,8 +16,8 @@ use key_index::PrimeEntry;
 use pages::Pages;
 
 impl OpenFile {
-    /// The first record that the position admits, by key k. It is read into the front of the area, which is as long as the greatest record. The
-    /// path to it is kept for the next call.
+    /// The first record that the position admits, by key k. It is read into the front of the area,
+    /// which is as long as the greatest record. The path to it is kept for the next call.
     ///
     /// Device, Memory, Damage, Broken. A fault leaves the area as it was.
     pub fn next<P: Pages>(
@@ -28,10 +28,12 @@ impl OpenFile {
         area: &mut [u8],
     ) -> Result<Option<Found>, Fault>
         requires { LendsAreaBy P.shown pages.old self.old k area.old }
-        ensures finds { FindsIn P.shown pages.old pages.new self.old k (admits self.old.schema k position.now) area.old area.new result }
+        ensures finds { FindsIn P.shown pages.old pages.new self.old k
+            (admits self.old.schema k position.now) area.old area.new result }
         ensures stands { OfHonestPages P.shown pages.old pages.new (StandsStill self.old self.new) }
         ensures rest { self.new ≡ record self.old { path = self.new.path } }
-        ensures reads { ReadsFile P.shown self.old.broken (pages_to_read P.shown self.old pages.old k) pages.old pages.new result }
+        ensures reads { ReadsFile P.shown self.old.broken
+            (pages_to_read P.shown self.old pages.old k) pages.old pages.new result }
     {
         if self.broken {
             return Err(Fault::Broken);
@@ -50,9 +52,11 @@ impl OpenFile {
         area: &mut [u8],
     ) -> Result<Option<Found>, Fault>
         requires { LendsArea P.shown pages.old self.old area.old }
-        ensures finds { FindsIn P.shown pages.old pages.new self.old 0 (admits self.old.schema 0 position.now) area.old area.new result }
+        ensures finds { FindsIn P.shown pages.old pages.new self.old 0
+            (admits self.old.schema 0 position.now) area.old area.new result }
         ensures moves { MovesPathIn P.shown pages.old pages.new self.old self.new }
-        ensures reads { ReadsPages P.shown (pages_to_read P.shown self.old pages.old 0) pages.old pages.new result }
+        ensures reads { ReadsPages P.shown (pages_to_read P.shown self.old pages.old 0) pages.old pages.new
+            result }
     {
         let Some(PrimeEntry { value, place }) = self.step_in_prime(pages, position)? else {
             return Ok(None);
@@ -76,9 +80,11 @@ impl OpenFile {
     ) -> Result<Option<Found>, Fault>
         requires lent { LendsArea P.shown pages.old self.old area.old }
         requires key { IsAlternate self.old k }
-        ensures finds { FindsIn P.shown pages.old pages.new self.old k (admits self.old.schema k position.now) area.old area.new result }
+        ensures finds { FindsIn P.shown pages.old pages.new self.old k
+            (admits self.old.schema k position.now) area.old area.new result }
         ensures moves { MovesPathIn P.shown pages.old pages.new self.old self.new }
-        ensures reads { ReadsPages P.shown (pages_to_read P.shown self.old pages.old k) pages.old pages.new result }
+        ensures reads { ReadsPages P.shown (pages_to_read P.shown self.old pages.old k) pages.old pages.new
+            result }
     {
         let index = self.alternate(k);
         let Some(entry) = self.step_in_alternate(pages, k, index, position)? else {

@@ -32,7 +32,8 @@ impl OpenFile {
         position: &Position,
     ) -> Result<Option<PrimeEntry>, Fault>
         requires ready { P.shown.IsReady pages.old }
-        ensures { StepsInPrime P.shown (admits_prime position.now) self.old self.new pages.old pages.new result }
+        ensures { StepsInPrime P.shown (admits_prime position.now) self.old self.new pages.old pages.new
+            result }
     {
         match position {
             Position::Invalid | Position::Missing => Ok(None),
@@ -51,7 +52,8 @@ impl OpenFile {
     ) -> Result<Option<AltEntry>, Fault>
         requires ready { P.shown.IsReady pages.old }
         requires key { IsAlternateBy self.old k index }
-        ensures { StepsInAlternate P.shown k index (admits_alt position.now) self.old self.new pages.old pages.new result }
+        ensures { StepsInAlternate P.shown k index (admits_alt position.now) self.old self.new pages.old
+            pages.new result }
     {
         match position {
             Position::Invalid | Position::Missing => Ok(None),
@@ -66,8 +68,9 @@ impl OpenFile {
         }
     }
 
-    /// Whether the first entry of the index of an alternate key that comes after a value and stamp has this value. The path tells, where it stands
-    /// behind them; of a key that one record alone can have no page is asked.
+    /// Whether the first entry of the index of an alternate key that comes after a value and stamp
+    /// has this value. The path tells, where it stands behind them; of a key that one record alone
+    /// can have no page is asked.
     pub(crate) fn is_followed<P: Pages>(
         &self,
         pages: &mut P,
@@ -79,7 +82,8 @@ impl OpenFile {
         requires lent { LendsPages P.shown pages.old self.now }
         requires key { IsAlternateBy self.now k index }
         requires short { length value.now ≤ 250 }
-        ensures told { OfHonestPages P.shown pages.old pages.new (λ live. TellsNextOfKey self.now live k value.now stamp result) }
+        ensures told { OfHonestPages P.shown pages.old pages.new
+            (λ live. TellsNextOfKey self.now live k value.now stamp result) }
         ensures alone { AsksAlone P.shown self.now k 0 pages.old pages.new }
         ensures reads { ReadsPages P.shown (2 * alt_height index) pages.old pages.new result }
     {
@@ -152,7 +156,8 @@ impl OpenFile {
     ) -> Result<Option<AltEntry>, Fault>
         requires ready { P.shown.IsReady pages.old }
         requires key { IsAlternateBy self.old k index }
-        ensures { StepsInAlternate P.shown k index (from_value value.now) self.old self.new pages.old pages.new result }
+        ensures { StepsInAlternate P.shown k index (from_value value.now) self.old self.new pages.old
+            pages.new result }
     {
         let found = index.first_from(pages, value)?;
         if let Some(entry) = &found {
@@ -172,7 +177,8 @@ impl OpenFile {
     ) -> Result<Option<AltEntry>, Fault>
         requires ready { P.shown.IsReady pages.old }
         requires key { IsAlternateBy self.old k index }
-        ensures { StepsInAlternate P.shown k index (after_rank value.now stamp) self.old self.new pages.old pages.new result }
+        ensures { StepsInAlternate P.shown k index (after_rank value.now stamp) self.old self.new pages.old
+            pages.new result }
     {
         if value.len() != usize::from(index.width) {
             return index.first_after(pages, value, stamp);
@@ -183,11 +189,13 @@ impl OpenFile {
         Ok(found)
     }
 
-    /// A cursor of the prime index behind a value: that of the path, where it is there. The path is gone then.
+    /// A cursor of the prime index behind a value: that of the path, where it is there. The path is
+    /// gone then.
     fn prime_cursor(&mut self, value: &[u8]) -> PrimeCursor
         requires whole { length value.now ≡ self.old.prime.width }
         ensures after { result.cursor.key.items ≡ value.now }
-        ensures belongs { WhereOnPath self.old (λ pages primes entries owns. PrimeBelongs result self.old.prime pages primes (own_at owns 1)) }
+        ensures belongs { WhereOnPath self.old (λ pages primes entries owns.
+            PrimeBelongs result self.old.prime pages primes (own_at owns 1)) }
         ensures gone { self.new ≡ record self.old { path = None } }
     {
         if let Some(Path::Prime(cursor)) = self.path.take() {
@@ -198,12 +206,14 @@ impl OpenFile {
         self.prime.cursor(value)
     }
 
-    /// A cursor of the index of an alternate key behind a value and stamp: that of the path, where it is there. The path is gone then.
+    /// A cursor of the index of an alternate key behind a value and stamp: that of the path, where
+    /// it is there. The path is gone then.
     fn alternate_cursor(&mut self, k: usize, index: AltIndex, value: &[u8], stamp: u64) -> AltCursor
         requires key { IsAlternateBy self.old k index }
         requires whole { length value.now ≡ index.width }
         ensures after { result.cursor.key.items ≡ value.now ++ big_bytes 8 stamp }
-        ensures belongs { WhereOnPath self.old (λ pages primes entries owns. AltBelongs result index pages (entries (k - 1)) (own_at owns (k - 1 + 2))) }
+        ensures belongs { WhereOnPath self.old (λ pages primes entries owns.
+            AltBelongs result index pages (entries (k - 1)) (own_at owns (k - 1 + 2))) }
         ensures gone { self.new ≡ record self.old { path = None } }
     {
         if let Some(Path::Alternate(j, cursor)) = self.path.take() {

@@ -19,10 +19,13 @@ use pages::Pages;
 use record_heap::Place;
 
 impl OpenFile {
-    /// The first record whose key k has this value. It is read into the front of the area, which is as long as the greatest record.
+    /// The first record whose key k has this value. It is read into the front of the area, which is
+    /// as long as the greatest record.
     ///
-    /// It asks one page for each level of the key's tree, one for each of the prime key's, and the record's; by an alternate key one look tells the
-    /// record and whether a later one has its value, and goes on to a second leaf only where one ends in front of the first such record or behind it.
+    /// It asks one page for each level of the key's tree, one for each of the prime key's, and the
+    /// record's; by an alternate key one look tells the record and whether a later one has its
+    /// value, and goes on to a second leaf only where one ends in front of the first such record or
+    /// behind it.
     ///
     /// Device, Memory, Damage, Broken. A fault leaves the area as it was.
     pub fn by_key<P: Pages>(
@@ -33,10 +36,14 @@ impl OpenFile {
         area: &mut [u8],
     ) -> Result<Option<Found>, Fault>
         requires { LendsAreaBy P.shown pages.old self.now k area.old }
-        ensures finds { FindsIn P.shown pages.old pages.new self.now k (has_value self.now.schema k key.now.items) area.old area.new result }
-        ensures once { AsksFor P.shown (2 * slice_index (heights_of self.now) k + prime_height self.now.prime + 1) pages.old pages.new }
-        ensures alone { AsksAlone P.shown self.now k (slice_index (heights_of self.now) k + prime_height self.now.prime + 1) pages.old pages.new }
-        ensures reads { ReadsFile P.shown self.now.broken (pages_to_read P.shown self.now pages.old k) pages.old pages.new result }
+        ensures finds { FindsIn P.shown pages.old pages.new self.now k
+            (has_value self.now.schema k key.now.items) area.old area.new result }
+        ensures once { AsksFor P.shown (2 * slice_index
+            (heights_of self.now) k + prime_height self.now.prime + 1) pages.old pages.new }
+        ensures alone { AsksAlone P.shown self.now k (slice_index
+            (heights_of self.now) k + prime_height self.now.prime + 1) pages.old pages.new }
+        ensures reads { ReadsFile P.shown self.now.broken
+            (pages_to_read P.shown self.now pages.old k) pages.old pages.new result }
     {
         if self.broken {
             return Err(Fault::Broken);
@@ -52,8 +59,10 @@ impl OpenFile {
     /// Device, Memory, Damage, Broken.
     pub fn highest<P: Pages>(&self, pages: &mut P) -> Result<Option<Key>, Fault>
         requires ready { P.shown.IsReady pages.old }
-        ensures found { OfHonestPages P.shown pages.old pages.new (λ live. TellsHighest self.now live result) }
-        ensures reads { ReadsFile P.shown self.now.broken (pages_to_seek P.shown self.now pages.old 0) pages.old pages.new result }
+        ensures found { OfHonestPages P.shown pages.old pages.new
+            (λ live. TellsHighest self.now live result) }
+        ensures reads { ReadsFile P.shown self.now.broken
+            (pages_to_seek P.shown self.now pages.old 0) pages.old pages.new result }
     {
         if self.broken {
             return Err(Fault::Broken);
@@ -72,7 +81,8 @@ impl OpenFile {
         area: &mut [u8],
     ) -> Result<Option<Found>, Fault>
         requires { LendsArea P.shown pages.old self.now area.old }
-        ensures finds { FindsIn P.shown pages.old pages.new self.now 0 (has_value self.now.schema 0 key.now.items) area.old area.new result }
+        ensures finds { FindsIn P.shown pages.old pages.new self.now 0
+            (has_value self.now.schema 0 key.now.items) area.old area.new result }
         ensures reads { ReadsPages P.shown (prime_height self.now.prime + 1) pages.old pages.new result }
     {
         match self.fetch(pages, key.as_slice(), area)? {
@@ -96,9 +106,12 @@ impl OpenFile {
     ) -> Result<Option<Found>, Fault>
         requires lent { LendsArea P.shown pages.old self.now area.old }
         requires key { IsAlternate self.now k }
-        ensures finds { FindsIn P.shown pages.old pages.new self.now k (has_value self.now.schema k key.now.items) area.old area.new result }
-        ensures alone { AsksAlone P.shown self.now k (slice_index (heights_of self.now) k + prime_height self.now.prime + 1) pages.old pages.new }
-        ensures reads { ReadsPages P.shown (2 * slice_index (heights_of self.now) k + prime_height self.now.prime + 1) pages.old pages.new result }
+        ensures finds { FindsIn P.shown pages.old pages.new self.now k
+            (has_value self.now.schema k key.now.items) area.old area.new result }
+        ensures alone { AsksAlone P.shown self.now k (slice_index
+            (heights_of self.now) k + prime_height self.now.prime + 1) pages.old pages.new }
+        ensures reads { ReadsPages P.shown (2 * slice_index
+            (heights_of self.now) k + prime_height self.now.prime + 1) pages.old pages.new result }
     {
         match self.first_of(pages, k, key.as_slice())? {
             Some(AltFirst { entry, followed }) => Ok(Some(self.tell(
@@ -108,8 +121,8 @@ impl OpenFile {
         }
     }
 
-    /// The first entry of a value of an alternate key, and whether the next entry has the value too. Of a key that one record alone can have, the entry is
-    /// the one of stamp 0.
+    /// The first entry of a value of an alternate key, and whether the next entry has the value
+    /// too. Of a key that one record alone can have, the entry is the one of stamp 0.
     fn first_of<P: Pages>(
         &self,
         pages: &mut P,
@@ -118,9 +131,12 @@ impl OpenFile {
     ) -> Result<Option<AltFirst>, Fault>
         requires lent { LendsPages P.shown pages.old self.now }
         requires key { IsAlternate self.now k }
-        ensures found { OfHonestPages P.shown pages.old pages.new (λ live. GivesFirstOf self.now live k value.now result) }
-        ensures alone { AsksAlone P.shown self.now k (slice_index (heights_of self.now) k) pages.old pages.new }
-        ensures reads { ReadsPages P.shown (2 * slice_index (heights_of self.now) k) pages.old pages.new result }
+        ensures found { OfHonestPages P.shown pages.old pages.new
+            (λ live. GivesFirstOf self.now live k value.now result) }
+        ensures alone { AsksAlone P.shown self.now k (slice_index (heights_of self.now) k) pages.old
+            pages.new }
+        ensures reads { ReadsPages P.shown (2 * slice_index (heights_of self.now) k) pages.old pages.new
+            result }
     {
         let index = self.alternate(k);
         if self.schema.part(k as u8).duplicates {
@@ -146,8 +162,10 @@ impl OpenFile {
     ) -> Result<Found, Fault>
         requires lent { LendsArea P.shown pages.old self.now area.old }
         requires key { IsAlternateBy self.now k index }
-        ensures found { OfHonestPages P.shown pages.old pages.new (λ live. ReadsByEntry self.now live k entry area.old area.new result) }
-        ensures keeps { ReadsInto P.shown (2 * alt_height index + prime_height self.now.prime + 1) pages.old pages.new area.old area.new result }
+        ensures found { OfHonestPages P.shown pages.old pages.new
+            (λ live. ReadsByEntry self.now live k entry area.old area.new result) }
+        ensures keeps { ReadsInto P.shown (2 * alt_height index + prime_height self.now.prime + 1)
+            pages.old pages.new area.old area.new result }
     {
         let repeated = self.is_followed(pages, k, index, entry.value.as_slice(), entry.stamp)?;
         self.tell(pages, entry, repeated, area)
@@ -162,8 +180,10 @@ impl OpenFile {
         area: &mut [u8],
     ) -> Result<Found, Fault>
         requires { LendsArea P.shown pages.old self.now area.old }
-        ensures found { OfHonestPages P.shown pages.old pages.new (λ live. TellsByEntry self.now live entry repeated area.old area.new result) }
-        ensures keeps { ReadsInto P.shown (prime_height self.now.prime + 1) pages.old pages.new area.old area.new result }
+        ensures found { OfHonestPages P.shown pages.old pages.new
+            (λ live. TellsByEntry self.now live entry repeated area.old area.new result) }
+        ensures keeps { ReadsInto P.shown (prime_height self.now.prime + 1) pages.old pages.new area.old
+            area.new result }
     {
         let AltEntry {
             value,
@@ -189,9 +209,11 @@ impl OpenFile {
         area: &mut [u8],
     ) -> Result<Option<u16>, Fault>
         requires { LendsArea P.shown pages.old self.now area.old }
-        ensures fetched { OfHonestPages P.shown pages.old pages.new (λ live. ReadsByPrime self.now live prime.now area.old area.new result) }
+        ensures fetched { OfHonestPages P.shown pages.old pages.new
+            (λ live. ReadsByPrime self.now live prime.now area.old area.new result) }
         ensures none { result ≡ Ok None → area.new ≡ area.old }
-        ensures keeps { ReadsInto P.shown (prime_height self.now.prime + 1) pages.old pages.new area.old area.new result }
+        ensures keeps { ReadsInto P.shown (prime_height self.now.prime + 1) pages.old pages.new area.old
+            area.new result }
     {
         match self.prime.place_of(pages, prime)? {
             None => Ok(None),
@@ -207,7 +229,8 @@ impl OpenFile {
         area: &mut [u8],
     ) -> Result<u16, Fault>
         requires { LendsArea P.shown pages.old self.now area.old }
-        ensures found { OfHonestPages P.shown pages.old pages.new (λ live. ReadsAtPlace self.now live place area.old area.new result) }
+        ensures found { OfHonestPages P.shown pages.old pages.new
+            (λ live. ReadsAtPlace self.now live place area.old area.new result) }
         ensures keeps { ReadsInto P.shown 1 pages.old pages.new area.old area.new result }
     {
         let length = self.heap.get_record(pages, place, area)?;

@@ -30,8 +30,10 @@ impl OpenFile {
         requires ready { P.shown.IsReady pages.old }
         requires shaped { IsShaped self.now }
         requires key { k < length self.now.schema.keys }
-        ensures found { OfHonestPages P.shown pages.old pages.new (λ live. Seeks self.now live k relation operand.now result) }
-        ensures reads { ReadsFile P.shown self.now.broken (pages_to_seek P.shown self.now pages.old k) pages.old pages.new result }
+        ensures found { OfHonestPages P.shown pages.old pages.new
+            (λ live. Seeks self.now live k relation operand.now result) }
+        ensures reads { ReadsFile P.shown self.now.broken
+            (pages_to_seek P.shown self.now pages.old k) pages.old pages.new result }
     {
         if self.broken {
             return Err(Fault::Broken);
@@ -50,8 +52,10 @@ impl OpenFile {
         relation: Relation,
     ) -> Result<Option<Key>, Fault>
         requires ready { P.shown.IsReady pages.old }
-        ensures found { OfHonestPages P.shown pages.old pages.new (λ live. Seeks self.now live 0 relation operand.now result) }
-        ensures reads { ReadsPages P.shown (pages_to_seek P.shown self.now pages.old 0) pages.old pages.new result }
+        ensures found { OfHonestPages P.shown pages.old pages.new
+            (λ live. Seeks self.now live 0 relation operand.now result) }
+        ensures reads { ReadsPages P.shown (pages_to_seek P.shown self.now pages.old 0) pages.old pages.new
+            result }
     {
         match self.first_in_prime(pages, operand, relation)? {
             Some(entry) => Ok(wanted(entry.value, operand, relation)),
@@ -69,8 +73,10 @@ impl OpenFile {
     ) -> Result<Option<Key>, Fault>
         requires ready { P.shown.IsReady pages.old }
         requires key { IsAlternate self.now k }
-        ensures found { OfHonestPages P.shown pages.old pages.new (λ live. Seeks self.now live k relation operand.now result) }
-        ensures reads { ReadsPages P.shown (pages_to_seek P.shown self.now pages.old k) pages.old pages.new result }
+        ensures found { OfHonestPages P.shown pages.old pages.new
+            (λ live. Seeks self.now live k relation operand.now result) }
+        ensures reads { ReadsPages P.shown (pages_to_seek P.shown self.now pages.old k) pages.old pages.new
+            result }
     {
         let index = self.alternate(k);
         match first_in_alternate(&index, pages, operand, relation)? {
@@ -87,7 +93,8 @@ impl OpenFile {
         relation: Relation,
     ) -> Result<Option<PrimeEntry>, Fault>
         requires ready { P.shown.IsReady pages.old }
-        ensures found { OfHonestPages P.shown pages.old pages.new (λ live. PrimeFinds self.now.prime live (find (leads_prime relation operand.now)) result) }
+        ensures found { OfHonestPages P.shown pages.old pages.new
+            (λ live. PrimeFinds self.now.prime live (find (leads_prime relation operand.now)) result) }
         ensures reads { ReadsPages P.shown (2 * prime_height self.now.prime) pages.old pages.new result }
     {
         match relation {
@@ -105,7 +112,8 @@ fn first_in_alternate<P: Pages>(
     relation: Relation,
 ) -> Result<Option<AltEntry>, Fault>
     requires ready { P.shown.IsReady pages.old }
-    ensures found { OfHonestPages P.shown pages.old pages.new (λ live. AltFinds index.now live (find (leads_alt relation operand.now)) result) }
+    ensures found { OfHonestPages P.shown pages.old pages.new
+        (λ live. AltFinds index.now live (find (leads_alt relation operand.now)) result) }
     ensures reads { ReadsPages P.shown (2 * alt_height index.now) pages.old pages.new result }
 {
     match relation {

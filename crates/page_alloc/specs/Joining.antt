@@ -32,8 +32,8 @@ pub record IsJoined (cache : Cache) (pager : Pager) (shelf : ShelfState) : Type 
   pub counted : pager.count ≤ cache.store.pages
   pub header : 0 < pager.count
 
--- what a call leaves of cache and shelf, at a fault too: the unit, as many frames, no fewer pages, a count of pages asked for that does not
--- fall, other files; the unit's file went quietly
+-- what a call leaves of cache and shelf, at a fault too: the unit, as many frames, no fewer pages,
+-- a count of pages asked for that does not fall, other files; the unit's file went quietly
 pub record PartsGo (old new : Cache) (before after : ShelfState) (failed fails : ℕ) : Type 0 where
   pub unit : new.store.unit ≡ old.store.unit
   pub cap : new.frames.cap ≡ old.frames.cap

@@ -13,7 +13,8 @@ use Rattle.page_alloc.specs.declared.pager.Pager.{Pager}
 use Rattle.page_alloc.specs.declared.paged_file.PagedFile.{PagedFile}
 use Rattle.page_alloc.specs.Joining.{IsJoined}
 
--- calls may be made, and the gate is open on the disk where a change was begun; where none was, no page was changed
+-- calls may be made, and the gate is open on the disk where a change was begun; where none was, no
+-- page was changed
 pub record IsOpenOver (held : PagedFile) (shelf : ShelfState) : Type 0 where
   pub joined : IsJoined held.cache held.pager shelf
   pub clean : held.changed ≡ false → IsClean held.cache
@@ -38,30 +39,37 @@ pub record IsClosedWith (page : List ℕ) (cache : Cache) (shelf : ShelfState) (
   pub pages : (k : ℕ) → IsTrue (is_counted cache k) → page_of bytes k ≡ pages_of cache shelf k
 
 -- the file has them, and a crash leaves nothing else
-pub record ClosedWith (header : List ℕ) (cache : Cache) (shelf : ShelfState) (file : DeviceFile) : Type 0 where
+pub record ClosedWith (header : List ℕ) (cache : Cache) (shelf : ShelfState)
+    (file : DeviceFile) : Type 0 where
   pub bytes : IsClosedWith header cache shelf (content file)
   pub settled : IsSettled file
 
 -- at each moment a crash leaves a refused file, or such bytes
 abbrev pub ClosesPages : List ℕ → Cache → ShelfState → DeviceFile → DeviceFile → Type 0
-ClosesPages header cache shelf old new = Throughout (λ c. IsRefused c ⊎ ((bytes : List ℕ) × (c ≡ Some bytes) × IsClosedWith header cache shelf bytes)) old new
+ClosesPages header cache shelf old new = Throughout (λ c. IsRefused c
+    ⊎ ((bytes : List ℕ) × (c ≡ Some bytes) × IsClosedWith header cache shelf bytes)) old new
 
--- where the shelf is honest and a change was begun: at each moment a crash leaves a refused file, or that which is closed at the end
+-- where the shelf is honest and a change was begun: at each moment a crash leaves a refused file,
+-- or that which is closed at the end
 abbrev pub MayShut : List ℕ → PagedFile → ShelfState → ShelfState → Type 0
 MayShut header held before after = IsTrue after.is_honest → held.changed ≡ true
-    → ClosesPages header held.cache before (unit_file before held.cache.store.unit) (unit_file after held.cache.store.unit)
+    → ClosesPages header held.cache before (unit_file before held.cache.store.unit)
+    (unit_file after held.cache.store.unit)
 
 -- where the shelf is honest and a change was begun, the file is closed with this header and the pages
 abbrev pub IsShut : List ℕ → PagedFile → ShelfState → ShelfState → Type 0
-IsShut header held before after = IsTrue after.is_honest → held.changed ≡ true → ClosedWith header held.cache before (unit_file after held.cache.store.unit)
+IsShut header held before after = IsTrue after.is_honest → held.changed ≡ true
+    → ClosedWith header held.cache before (unit_file after held.cache.store.unit)
 
--- the pages of a file that is there, with these numbers of pages and at most so many frames, of which none was asked for; it shows the pages
--- of the file, over each shelf that has them
+-- the pages of a file that is there, with these numbers of pages and at most so many frames, of
+-- which none was asked for; it shows the pages of the file, over each shelf that has them
 pub record IsOldPagedFile (stored : Store) (most : ℕ) (numbers : Pager) (held : PagedFile) : Type 0 where
   pub pager : held.pager ≡ numbers
   pub changed : held.changed ≡ false
   pub store : held.cache.store ≡ stored
   pub asked : held.cache.asked ≡ 0
   pub frames : held.cache.frames.cap ≡ most
-  pub ready : (shelf : ShelfState) → HasUnit shelf stored.unit → WhereHonest shelf stored.unit (HasPages stored.pages) → IsOpenOver held shelf
-  pub pages : (shelf : ShelfState) (n : ℕ) → pages_of held.cache shelf n ≡ (if is_counted held.cache n then page_of (content (unit_file shelf stored.unit)) n else [])
+  pub ready : (shelf : ShelfState) → HasUnit shelf stored.unit
+      → WhereHonest shelf stored.unit (HasPages stored.pages) → IsOpenOver held shelf
+  pub pages : (shelf : ShelfState) (n : ℕ) → pages_of held.cache shelf n
+      ≡ (if is_counted held.cache n then page_of (content (unit_file shelf stored.unit)) n else [])

@@ -14,7 +14,8 @@ use Rattle.page_alloc.specs.Taking.{Taken, Given, CallFails}
 module _ {H : Type 0} (count : H → ℕ) where
   -- a fault of the call is no Damage where the pages were sound, and Full only where room was lacking
   abbrev pub FailsOnly : {X : Type 0} → Type 0 → Type 0 → H → H → Result X Fault → Type 0
-  FailsOnly sound lacks_room before after result = IfErr result (CallFails sound (HasFailed (count before) (count after)) lacks_room)
+  FailsOnly sound lacks_room before after result =
+      IfErr result (CallFails sound (HasFailed (count before) (count after)) lacks_room)
 
 -- of shelves that show this state and count their faults so
 module _ {H : Type 0} (state : H → ShelfState) (count : H → ℕ) where
@@ -33,24 +34,30 @@ module _ {H : Type 0} (state : H → ShelfState) (count : H → ℕ) where
 module _ {H : Type 0} (state : H → ShelfState) where
   -- the shelf is honest after a call before which the free pages were what they should be
   abbrev pub WasSound : Cache → Pager → H → H → Type 0
-  WasSound cache pager before after = IsTrue (state after).is_honest × IsTrue (pages_state cache pager (state before)).is_sound
+  WasSound cache pager before after = IsTrue (state after).is_honest
+      × IsTrue (pages_state cache pager (state before)).is_sound
 
   -- the shelf is honest after a call before which page n was in use
   abbrev pub WasInUse : ℕ → Cache → Pager → H → H → Type 0
-  WasInUse n cache pager before after = IsTrue (state after).is_honest × IsSome ((pages_state cache pager (state before)).live n)
+  WasInUse n cache pager before after = IsTrue (state after).is_honest
+      × IsSome ((pages_state cache pager (state before)).live n)
 
   -- the shelf is honest after a call before which page n was marked as a free one
   abbrev pub WasMarked : ℕ → Cache → H → H → Type 0
-  WasMarked n cache before after = IsTrue (state after).is_honest × IsTrue (is_free (pages_of cache (state before) n))
+  WasMarked n cache before after = IsTrue (state after).is_honest
+      × IsTrue (is_free (pages_of cache (state before) n))
 
   -- a call that takes a page, or leaves all of them as they were
-  pub record TakesPage (old new : Cache) (from to : Pager) (before after : H) (result : Result ℕ Fault) : Type 0 where
+  pub record TakesPage (old new : Cache) (from to : Pager) (before after : H)
+      (result : Result ℕ Fault) : Type 0 where
     pub taken : IfOk result (Taken (pages_state old from (state before)) (pages_state new to (state after)))
     pub kept : OnErr result (Rests (pages_state old from (state before)) (pages_state new to (state after)))
-    pub order : IsTrue (state after).is_honest → TakesInOrder from to (free_pages old from (state before)) (free_pages new to (state after)) result
+    pub order : IsTrue (state after).is_honest → TakesInOrder from to (free_pages old from (state before))
+        (free_pages new to (state after)) result
 
   -- a call that gives page n back, or leaves all pages as they were
-  pub record GivesPage {X : Type 0} (n : ℕ) (old new : Cache) (from to : Pager) (before after : H) (result : Result X Fault) : Type 0 where
+  pub record GivesPage {X : Type 0} (n : ℕ) (old new : Cache) (from to : Pager) (before after : H)
+      (result : Result X Fault) : Type 0 where
     pub given : OnOk result (Given (pages_state old from (state before)) (pages_state new to (state after)) n)
     pub kept : OnErr result (Rests (pages_state old from (state before)) (pages_state new to (state after)))
     pub order : IsTrue (state after).is_honest → IsSome ((pages_state old from (state before)).live n)

@@ -18,9 +18,17 @@ use Rattle.page_alloc.specs.PagedFile.{IsOpenOver, StandsOrRefused}
 use Rattle.page_alloc.specs.Steps.{Goes, ReadsPages, Moves}
 
 pub parts_stay : (c : Cache) (s : ShelfState) (n : ℕ) → PartsGo c c s s n n
-parts_stay c s n = record { unit = refl; cap = refl; pages = omega arith; asked = omega arith; quietly = goes_nowhere c.store.unit s; faults = omega arith }
+parts_stay c s n = record {
+  unit = refl;
+  cap = refl;
+  pages = omega arith;
+  asked = omega arith;
+  quietly = goes_nowhere c.store.unit s;
+  faults = omega arith;
+}
 
-pub parts_then : (c d e : Cache) (x y z : ShelfState) (i j k : ℕ) → PartsGo c d x y i j → PartsGo d e y z j k → PartsGo c e x z i k
+pub parts_then : (c d e : Cache) (x y z : ShelfState) (i j k : ℕ) → PartsGo c d x y i j
+    → PartsGo d e y z j k → PartsGo c e x z i k
 parts_then c d e x y z i j k cd de = record {
   unit = de.unit ∙ cd.unit;
   cap = de.cap ∙ cd.cap;
@@ -37,9 +45,16 @@ pub failed_after : (i j k : ℕ) → i ≤ j → HasFailed j k → HasFailed i k
 failed_after i j k p q = omega arith
 
 pub goes_nothing : (a : PagedFile) (s : ShelfState) (n : ℕ) → Goes a a s s n n
-goes_nothing a s n = record { parts = parts_stay a.cache s n; gate = refl; limit = refl; ready = λ r. r; still = λ r shut. refl }
+goes_nothing a s n = record {
+  parts = parts_stay a.cache s n;
+  gate = refl;
+  limit = refl;
+  ready = λ r. r;
+  still = λ r shut. refl;
+}
 
-pub goes_on : (a b c : PagedFile) (x y z : ShelfState) (i j k : ℕ) → Goes a b x y i j → Goes b c y z j k → Goes a c x z i k
+pub goes_on : (a b c : PagedFile) (x y z : ShelfState) (i j k : ℕ) → Goes a b x y i j → Goes b c y z j k
+    → Goes a c x z i k
 goes_on a b c x y z i j k ab bc = record {
   parts = parts_then a.cache b.cache c.cache x y z i j k ab.parts bc.parts;
   gate = bc.gate ∙ ab.gate;
@@ -49,9 +64,14 @@ goes_on a b c x y z i j k ab bc = record {
 }
 
 pub reads_nothing : (a : PagedFile) (s : ShelfState) (n : ℕ) → ReadsPages a a s s n n
-reads_nothing a s n = record { goes = goes_nothing a s n; pager = refl; rests = record { live = λ h. refl; sound = λ h. refl; available = refl; honest = λ h. h } }
+reads_nothing a s n = record {
+  goes = goes_nothing a s n;
+  pager = refl;
+  rests = record { live = λ h. refl; sound = λ h. refl; available = refl; honest = λ h. h };
+}
 
-pub reads_on : (a b c : PagedFile) (x y z : ShelfState) (i j k : ℕ) → ReadsPages a b x y i j → ReadsPages b c y z j k → ReadsPages a c x z i k
+pub reads_on : (a b c : PagedFile) (x y z : ShelfState) (i j k : ℕ) → ReadsPages a b x y i j
+    → ReadsPages b c y z j k → ReadsPages a c x z i k
 reads_on a b c x y z i j k ab bc = record {
   goes = goes_on a b c x y z i j k ab.goes bc.goes;
   pager = bc.pager ∙ ab.pager;
@@ -75,11 +95,14 @@ goes_moves a b x y i j goes = record {
   images = λ r honest. elim (cases_Bool a.changed) [
     | inl begun ↦
         let all = r.gate begun (goes.parts.quietly.others.honest honest) in
-        throughout_weaker IsOpen (WasOrRefused f) f g (λ c o. inr (refused_open c o)) (quiet_open f g all goes.parts.quietly.quiet)
-    | inr shut ↦ throughout_none (WasOrRefused f) f g (ap (λ (h : DeviceFile). h.log) (same r shut)) (λ c may. inl may)
+        throughout_weaker IsOpen (WasOrRefused f) f g (λ c o. inr (refused_open c o))
+        (quiet_open f g all goes.parts.quietly.quiet)
+    | inr shut ↦ throughout_none (WasOrRefused f) f g (ap (λ (h : DeviceFile). h.log) (same r shut))
+        (λ c may. inl may)
   ];
   stands = λ r honest. elim (cases_Bool a.changed) [
-    | inl begun ↦ inr (all_refused g (open_kept f g (r.gate begun (goes.parts.quietly.others.honest honest)) goes.parts.quietly.quiet))
+    | inl begun ↦ inr (all_refused g (open_kept f g
+        (r.gate begun (goes.parts.quietly.others.honest honest)) goes.parts.quietly.quiet))
     | inr shut ↦ inl (inl (ap (λ (h : DeviceFile). h.seen) (same r shut)))
   ];
 }
@@ -93,14 +116,16 @@ goes_moves a b x y i j goes = record {
     same : IsOpenOver a x → a.changed ≡ false → g ≡ f
     same r shut = same_place x y a.cache.store.unit (goes.still r shut) goes.parts.quietly.others.names
 
-stands_then : (f g h : DeviceFile) → Throughout (WasOrRefused g) g h → StandsOrRefused f g → StandsOrRefused g h → StandsOrRefused f h
+stands_then : (f g h : DeviceFile) → Throughout (WasOrRefused g) g h → StandsOrRefused f g
+    → StandsOrRefused g h → StandsOrRefused f h
 stands_then f g h gh (inr all) next = inr (refused_after g h all gh)
 stands_then f g h gh (inl was) (inr all) = inr all
 stands_then f g h gh (inl was) (inl (inr refused)) = inl (inr refused)
 stands_then f g h gh (inl (inl same)) (inl (inl again)) = inl (inl (again ∙ same))
 stands_then f g h gh (inl (inr refused)) (inl (inl again)) = inl (inr (subst IsRefused (sym again) refused))
 
-pub moves_on : (a b c : PagedFile) (x y z : ShelfState) (i j k : ℕ) → Moves a b x y i j → Moves b c y z j k → Moves a c x z i k
+pub moves_on : (a b c : PagedFile) (x y z : ShelfState) (i j k : ℕ) → Moves a b x y i j → Moves b c y z j k
+    → Moves a c x z i k
 moves_on a b c x y z i j k ab bc = record {
   unit = bc.unit ∙ ab.unit;
   cap = bc.cap ∙ ab.cap;
@@ -109,8 +134,10 @@ moves_on a b c x y z i j k ab bc = record {
   others = others_then unit x y z ab.others others;
   faults = let p = ab.faults in let q = bc.faults in omega arith;
   ready = λ r. bc.ready (ab.ready r);
-  images = λ r honest. images_then (unit_file x unit) (unit_file y unit) (unit_file z unit) (ab.images r (others.honest honest)) (images (ab.ready r) honest);
-  stands = λ r honest. stands_then (unit_file x unit) (unit_file y unit) (unit_file z unit) (images (ab.ready r) honest) (ab.stands r (others.honest honest)) (stands (ab.ready r) honest);
+  images = λ r honest. images_then (unit_file x unit) (unit_file y unit) (unit_file z unit)
+      (ab.images r (others.honest honest)) (images (ab.ready r) honest);
+  stands = λ r honest. stands_then (unit_file x unit) (unit_file y unit) (unit_file z unit)
+      (images (ab.ready r) honest) (ab.stands r (others.honest honest)) (stands (ab.ready r) honest);
 }
   where
     unit : ℕ
@@ -119,8 +146,11 @@ moves_on a b c x y z i j k ab bc = record {
     others : KeepsOthers unit y z
     others = subst (λ n. KeepsOthers n y z) ab.unit bc.others
 
-    images : IsOpenOver b y → IsTrue z.is_honest → Throughout (WasOrRefused (unit_file y unit)) (unit_file y unit) (unit_file z unit)
-    images r honest = subst (λ n. Throughout (WasOrRefused (unit_file y n)) (unit_file y n) (unit_file z n)) ab.unit (bc.images r honest)
+    images : IsOpenOver b y → IsTrue z.is_honest → Throughout (WasOrRefused (unit_file y unit))
+        (unit_file y unit) (unit_file z unit)
+    images r honest = subst (λ n. Throughout (WasOrRefused (unit_file y n)) (unit_file y n)
+        (unit_file z n)) ab.unit (bc.images r honest)
 
     stands : IsOpenOver b y → IsTrue z.is_honest → StandsOrRefused (unit_file y unit) (unit_file z unit)
-    stands r honest = subst (λ n. StandsOrRefused (unit_file y n) (unit_file z n)) ab.unit (bc.stands r honest)
+    stands r honest = subst (λ n. StandsOrRefused (unit_file y n) (unit_file z n)) ab.unit
+        (bc.stands r honest)

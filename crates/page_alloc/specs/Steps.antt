@@ -11,8 +11,8 @@ use Rattle.page_alloc.specs.PagedFile.{IsOpenOver, StandsOrRefused}
 abbrev pub state_of : PagedFile → ShelfState → PagesState
 state_of held shelf = pages_state held.cache held.pager shelf
 
--- a call that leaves the gate and the limit of pages: behind a closed gate nothing is written, behind an open one each crash image begins as
--- some image before did
+-- a call that leaves the gate and the limit of pages: behind a closed gate nothing is written,
+-- behind an open one each crash image begins as some image before did
 pub record Goes (old new : PagedFile) (before after : ShelfState) (failed fails : ℕ) : Type 0 where
   pub parts : PartsGo old.cache new.cache before after failed fails
   pub gate : new.changed ≡ old.changed
@@ -26,8 +26,9 @@ pub record ReadsPages (old new : PagedFile) (before after : ShelfState) (failed 
   pub pager : new.pager ≡ old.pager
   pub rests : Rests (state_of old before) (state_of new after)
 
--- a call that may open the gate: at each moment a crash leaves what it could leave before, or a refused file. As many frames stay, and the limit
--- of pages; the count of pages asked for does not fall
+-- a call that may open the gate: at each moment a crash leaves what it could leave before, or a
+-- refused file. As many frames stay, and the limit of pages; the count of pages asked for does not
+-- fall
 pub record Moves (old new : PagedFile) (before after : ShelfState) (failed fails : ℕ) : Type 0 where
   pub unit : new.cache.store.unit ≡ old.cache.store.unit
   pub cap : new.cache.frames.cap ≡ old.cache.frames.cap

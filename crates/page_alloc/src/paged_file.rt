@@ -24,8 +24,8 @@ pub struct PagedFile {
 }
 
 impl PagedFile {
-    /// Makes the file, or makes it anew, with this header and no other page; at most `frames` pages are held later. Its
-    /// gate is open. A fault leaves the file as it was, or one that is refused.
+    /// Makes the file, or makes it anew, with this header and no other page; at most `frames` pages
+    /// are held later. Its gate is open. A fault leaves the file as it was, or one that is refused.
     pub fn create<S: Shelf>(
         alloc: Global,
         shelf: &mut S,
@@ -50,8 +50,9 @@ impl PagedFile {
         })
     }
 
-    /// The pages of a file that is there, of which the pager was read from its header; at most `frames` are held later.
-    /// Nothing is read, and its gate stays as it is. Memory is the only fault.
+    /// The pages of a file that is there, of which the pager was read from its header; at most
+    /// `frames` are held later. Nothing is read, and its gate stays as it is. Memory is the only
+    /// fault.
     pub fn open(
         alloc: Global,
         store: Store,
@@ -74,7 +75,8 @@ impl PagedFile {
     /// and the file as it was or refused; the call may be made again.
     pub fn begin<S: Shelf>(&mut self, shelf: &mut S) -> Result<(), Fault>
         requires ready { IsOpenOver self.old (S.state shelf.old) }
-        ensures begun { MatchResult result (λ _. self.new ≡ record self.old { changed = true }) (λ _. self.new ≡ self.old) }
+        ensures begun { MatchResult result (λ _. self.new ≡ record self.old { changed = true })
+            (λ _. self.new ≡ self.old) }
         ensures same { ShowsSame self.old.cache self.new.cache (S.state shelf.old) (S.state shelf.new) }
         ensures nothing { self.old.changed ≡ true → (S.state shelf.new).file ≡ (S.state shelf.old).file }
         ensures moves { Moves self.old self.new (S.state shelf.old) (S.state shelf.new)
@@ -89,8 +91,8 @@ impl PagedFile {
         Ok(())
     }
 
-    /// Writes what was changed, and this header, and closes the gate. Where nothing was changed, it does nothing.
-    /// After a fault the file is refused, or it is closed.
+    /// Writes what was changed, and this header, and closes the gate. Where nothing was changed, it
+    /// does nothing. After a fault the file is refused, or it is closed.
     pub fn close<S: Shelf>(&mut self, shelf: &mut S, header: &[u8; PAGE_SIZE]) -> Result<(), Fault>
         requires ready { IsOpenOver self.old (S.state shelf.old) }
         ensures nothing { self.old.changed ≡ false → (S.state shelf.new).file ≡ (S.state shelf.old).file }

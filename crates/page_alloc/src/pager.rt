@@ -45,14 +45,16 @@ impl Pager {
         self.free as u64 + self.limit.saturating_sub(self.count) as u64
     }
 
-    /// Takes the first of the free pages, or else the next new one. Its bytes have no meaning. Full where none is
-    /// available; Damage where the first free page is not one. A fault leaves each page as it was.
+    /// Takes the first of the free pages, or else the next new one. Its bytes have no meaning. Full
+    /// where none is available; Damage where the first free page is not one. A fault leaves each
+    /// page as it was.
     pub fn take<S: Shelf>(&mut self, cache: &mut Cache, shelf: &mut S) -> Result<u32, Fault>
         requires ready { IsJoined cache.old self.old (S.state shelf.old) }
         ensures takes { TakesPage S.state cache.old cache.new self.old self.new shelf.old shelf.new result }
         ensures fails { FailsOnly S.fault_count (WasSound S.state cache.old self.old shelf.old shelf.new)
             (available_of self.old ≡ 0) shelf.old shelf.new result }
-        ensures goes { PagerGoes S.state S.fault_count cache.old cache.new self.old self.new shelf.old shelf.new }
+        ensures goes { PagerGoes S.state S.fault_count cache.old cache.new self.old self.new shelf.old
+            shelf.new }
     {
         if self.free > 0 {
             self.take_free(cache, shelf)
@@ -68,7 +70,8 @@ impl Pager {
         ensures takes { TakesPage S.state cache.old cache.new self.old self.new shelf.old shelf.new result }
         ensures fails { FailsOnly S.fault_count (WasSound S.state cache.old self.old shelf.old shelf.new)
             ⊥ shelf.old shelf.new result }
-        ensures goes { PagerGoes S.state S.fault_count cache.old cache.new self.old self.new shelf.old shelf.new }
+        ensures goes { PagerGoes S.state S.fault_count cache.old cache.new self.old self.new shelf.old
+            shelf.new }
     {
         let n = self.first;
         if n == 0 || n >= self.count {
@@ -86,7 +89,8 @@ impl Pager {
         requires free { self.old.free ≡ 0 }
         ensures takes { TakesPage S.state cache.old cache.new self.old self.new shelf.old shelf.new result }
         ensures fails { FailsOnly S.fault_count ⊤ (available_of self.old ≡ 0) shelf.old shelf.new result }
-        ensures goes { PagerGoes S.state S.fault_count cache.old cache.new self.old self.new shelf.old shelf.new }
+        ensures goes { PagerGoes S.state S.fault_count cache.old cache.new self.old self.new shelf.old
+            shelf.new }
     {
         if self.count >= self.limit {
             return Err(Fault::Full);
@@ -97,14 +101,15 @@ impl Pager {
         Ok(n)
     }
 
-    /// Puts a page in use in front of the free ones, so that it is the next one taken. Damage where it is not in use.
-    /// A fault leaves each page as it was.
+    /// Puts a page in use in front of the free ones, so that it is the next one taken. Damage where
+    /// it is not in use. A fault leaves each page as it was.
     pub fn give<S: Shelf>(&mut self, cache: &mut Cache, shelf: &mut S, n: u32) -> Result<(), Fault>
         requires ready { IsJoined cache.old self.old (S.state shelf.old) }
         ensures gives { GivesPage S.state n cache.old cache.new self.old self.new shelf.old shelf.new result }
         ensures fails { FailsOnly S.fault_count (WasInUse S.state n cache.old self.old shelf.old shelf.new)
             ⊥ shelf.old shelf.new result }
-        ensures goes { PagerGoes S.state S.fault_count cache.old cache.new self.old self.new shelf.old shelf.new }
+        ensures goes { PagerGoes S.state S.fault_count cache.old cache.new self.old self.new shelf.old
+            shelf.new }
     {
         if n == 0 || n >= self.count || self.free >= self.count - 1 {
             return Err(Fault::Damage);

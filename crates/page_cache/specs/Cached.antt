@@ -18,9 +18,11 @@ frame_of cache n = lookup (nat_eq n) cache.frames.entries
 abbrev pub is_counted : Cache → ℕ → Bool
 is_counted cache n = ltb 0 n && ltb n cache.store.pages
 
--- each page of the store as the cache shows it over a file; the header and what is past the last page have no bytes here
+-- each page of the store as the cache shows it over a file; the header and what is past the last
+-- page have no bytes here
 abbrev pub pages_in : Cache → DeviceFile → ℕ → List ℕ
-pages_in cache file n = option_map_or (λ frame. frame.page.value) (frame_of cache n) (if is_counted cache n then page_of (content file) n else [])
+pages_in cache file n = option_map_or (λ frame. frame.page.value) (frame_of cache n)
+    (if is_counted cache n then page_of (content file) n else [])
 
 -- the pages over the unit's file
 abbrev pub pages_of : Cache → ShelfState → ℕ → List ℕ
@@ -33,7 +35,8 @@ pub record IsOver (cache : Cache) (shelf : ShelfState) : Type 0 where
   pub counted : (n : ℕ) (frame : Frame) → frame_of cache n ≡ Some frame → IsTrue (is_counted cache n)
   pub pages : WhereHonest shelf cache.store.unit (HasPages cache.store.pages)
   -- a page that was not changed is that of the file
-  pub clean : IsTrue shelf.is_honest → (n : ℕ) (frame : Frame) → frame_of cache n ≡ Some frame → frame.changed ≡ false → frame.page.value ≡ page_of (content (unit_file shelf cache.store.unit)) n
+  pub clean : IsTrue shelf.is_honest → (n : ℕ) (frame : Frame) → frame_of cache n ≡ Some frame
+      → frame.changed ≡ false → frame.page.value ≡ page_of (content (unit_file shelf cache.store.unit)) n
 
 -- so, and n is a page of the store
 pub record IsOverPage (n : ℕ) (cache : Cache) (shelf : ShelfState) : Type 0 where
@@ -51,13 +54,16 @@ pub record IsOverHeader (cache : Cache) (shelf : ShelfState) : Type 0 where
   pub over : IsOver cache shelf
   pub header : 0 < cache.store.pages
 
--- no page is in memory, at most so many may be, and none was asked for; it shows the pages of the file, over each shelf that has them
+-- no page is in memory, at most so many may be, and none was asked for; it shows the pages of the
+-- file, over each shelf that has them
 pub record IsEmptyCache (store : Store) (most : ℕ) (cache : Cache) : Type 0 where
   pub store_is : cache.store ≡ store
   pub frames : cache.frames ≡ lru_cache [] most
   pub asked : cache.asked ≡ 0
-  pub over : (shelf : ShelfState) → HasUnit shelf store.unit → WhereHonest shelf store.unit (HasPages store.pages) → IsOver cache shelf
-  pub pages : (shelf : ShelfState) (n : ℕ) → pages_of cache shelf n ≡ (if is_counted cache n then page_of (content (unit_file shelf store.unit)) n else [])
+  pub over : (shelf : ShelfState) → HasUnit shelf store.unit
+      → WhereHonest shelf store.unit (HasPages store.pages) → IsOver cache shelf
+  pub pages : (shelf : ShelfState) (n : ℕ) → pages_of cache shelf n
+      ≡ (if is_counted cache n then page_of (content (unit_file shelf store.unit)) n else [])
 
 -- no page in memory was changed since it was written
 pub record IsClean (cache : Cache) : Type 0 where

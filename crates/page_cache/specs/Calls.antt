@@ -59,7 +59,8 @@ asked_once cache = min (cache.asked + 1) (2 ^ 64 - 1)
 -- of shelves that show this state and count their faults so
 module _ {H X : Type 0} (state : H → ShelfState) (count : H → ℕ) where
   -- a call that leaves all pages as they were, and pages asked for so many times
-  pub record PagesStay (times : ℕ) (old new : Cache) (before after : H) (result : Result X Fault) : Type 0 where
+  pub record PagesStay (times : ℕ) (old new : Cache) (before after : H)
+      (result : Result X Fault) : Type 0 where
     pub kept : KeepsPages old new (state before) (state after)
     pub asked : new.asked ≡ times
     pub cause : FaultHasCause (count before) (count after) result
@@ -73,7 +74,8 @@ module _ {H X : Type 0} (state : H → ShelfState) (count : H → ℕ) where
     pub cause : FaultHasCause (count before) (count after) result
 
   -- a call that makes page n one of zeros; a fault leaves all pages as they were
-  pub record PutsZeros (n times : ℕ) (old new : Cache) (before after : H) (result : Result X Fault) : Type 0 where
+  pub record PutsZeros (n times : ℕ) (old new : Cache) (before after : H)
+      (result : Result X Fault) : Type 0 where
     pub zeroed : OnOk result (Zeroed n old new (state before) (state after))
     pub kept : OnErr result (KeepsPages old new (state before) (state after))
     pub goes_on : MayGoOn old new (state before) (state after)

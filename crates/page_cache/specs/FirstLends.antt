@@ -9,4 +9,5 @@ use Rattle.page_cache.specs.contracts.frames.Frames.{the_row}
 
 -- the first page ends with the frame last written through r
 abbrev pub LendsFirst : MutBor (LruCache ℕ Frame) → Option (MutBor Frame) → Fml
-LendsFirst s r = LendsIf the_row frame_row s r (λ w. lru_cache (set_value (λ _. true) s.now.entries w) s.now.cap) s.now
+LendsFirst s r = LendsIf the_row frame_row s r (λ w.
+    lru_cache (set_value (λ _. true) s.now.entries w) s.now.cap) s.now

@@ -23,20 +23,24 @@ header_with unit shelf page = page_over 0 (content (unit_file shelf unit)) page
 
 -- at each moment a crash leaves what it could leave before, or a refused file
 abbrev pub MayRefuse : ℕ → ShelfState → ShelfState → Type 0
-MayRefuse unit before after = IsTrue after.is_honest → Throughout (WasOrRefused (unit_file before unit)) (unit_file before unit) (unit_file after unit)
+MayRefuse unit before after = IsTrue after.is_honest
+    → Throughout (WasOrRefused (unit_file before unit)) (unit_file before unit) (unit_file after unit)
 
 -- at each moment a crash of a refused file leaves a refused file, or the closed content
 abbrev pub MayClose : ℕ → ShelfState → ShelfState → Type 0
-MayClose unit before after = IsTrue after.is_honest → AllRefused (unit_file before unit) → Throughout (ClosedOrRefused (unit_file before unit)) (unit_file before unit) (unit_file after unit)
+MayClose unit before after = IsTrue after.is_honest → AllRefused (unit_file before unit)
+    → Throughout (ClosedOrRefused (unit_file before unit)) (unit_file before unit) (unit_file after unit)
 
 -- the content with a closed gate, and a crash leaves nothing else
 abbrev pub IsClosedAnew : DeviceFile → DeviceFile → Type 0
 IsClosedAnew old new = (content new ≡ with_gate 67 (content old)) × IsSettled new
 
--- a call that opens the gate of this unit's file and changes no other file: at each moment a crash leaves what it could leave before, or a
--- refused file, and after a fault the file has gone so
-pub record OpensGate {H X : Type 0} (state : H → ShelfState) (count : H → ℕ) (unit : ℕ) (Failed : DeviceFile → DeviceFile → Type 0) (before after : H) (result : Result X Fault) : Type 0 where
+-- a call that opens the gate of this unit's file and changes no other file: at each moment a crash
+-- leaves what it could leave before, or a refused file, and after a fault the file has gone so
+pub record OpensGate {H X : Type 0} (state : H → ShelfState) (count : H → ℕ) (unit : ℕ)
+    (Failed : DeviceFile → DeviceFile → Type 0) (before after : H) (result : Result X Fault) : Type 0 where
   pub images : MayRefuse unit (state before) (state after)
-  pub failed : OnErr result (IsTrue (state after).is_honest → FileGoes unit (state before) (state after) Failed)
+  pub failed : OnErr result (IsTrue (state after).is_honest
+      → FileGoes unit (state before) (state after) Failed)
   pub others : KeepsOthers unit (state before) (state after)
   pub cause : FaultHasCause (count before) (count after) result

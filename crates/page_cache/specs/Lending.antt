@@ -30,7 +30,8 @@ pub record FrameSet (n : ℕ) (bytes : List ℕ) (old new : Cache) : Type 0 wher
   pub asked : new.asked ≡ old.asked
 
 abbrev pub LendsHeld : MutBor Cache → ℕ → Result (MutBor (List ℕ)) Fault → Fml
-LendsHeld s n r = LendsSoOk the_row (Array u8 4096) s r (λ after bytes. FrameSet n bytes s.now after) (λ after. SameFrames s.now after)
+LendsHeld s n r = LendsSoOk the_row (Array u8 4096) s r (λ after bytes. FrameSet n bytes s.now after)
+    (λ after. SameFrames s.now after)
 
 abbrev pub ShowsHeld : MutBor Cache → Fml
 ShowsHeld s = follows_so the_row the_row s.ghost_name none (λ _ _. ⊤) (λ after. SameFrames s.now after)

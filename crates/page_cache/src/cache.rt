@@ -29,8 +29,8 @@ pub struct Cache {
 }
 
 impl Cache {
-    /// A cache that holds no page yet, and at most `frames` pages later. Memory is its only fault, and no file is
-    /// changed.
+    /// A cache that holds no page yet, and at most `frames` pages later. Memory is its only fault,
+    /// and no file is changed.
     pub fn new(alloc: Global, store: Store, frames: NonZeroUsize) -> Result<Cache, Fault>
         ensures empty { IfOk result (IsEmptyCache store (non_zero_usize_get frames)) }
         ensures memory { OnErr result (result ≡ Err Fault.Memory) }
@@ -66,14 +66,15 @@ impl Cache {
         self.asked = 0;
     }
 
-    /// Sees to it that page `n` is held, and counts one page asked. Where all frames are taken, the page used last
-    /// longest ago is pushed out, and written first where it was changed. A fault loses no page, and leaves the list
-    /// of pages as it was.
+    /// Sees to it that page `n` is held, and counts one page asked. Where all frames are taken, the
+    /// page used last longest ago is pushed out, and written first where it was changed. A fault
+    /// loses no page, and leaves the list of pages as it was.
     #[inline(always)]
     pub fn load<S: Shelf>(&mut self, shelf: &mut S, n: u32) -> Result<(), Fault>
         requires { IsOverPage n self.old (S.state shelf.old) }
         ensures held { OnOk result (IsSome (frame_of self.new n)) }
-        ensures looks { LooksUp S.state S.fault_count (asked_once self.old) self.old self.new shelf.old shelf.new result }
+        ensures looks { LooksUp S.state S.fault_count
+            (asked_once self.old) self.old self.new shelf.old shelf.new result }
     {
         self.asked = self.asked.saturating_add(1);
         if self.promote(n) {
@@ -93,8 +94,8 @@ impl Cache {
         self.frames.promote(n)
     }
 
-    /// Has page `n` be the first that is pushed out, where all frames are taken. Nothing is read or written, and what is held
-    /// stays held.
+    /// Has page `n` be the first that is pushed out, where all frames are taken. Nothing is read or
+    /// written, and what is held stays held.
     pub fn demote(&mut self, n: u32)
         ensures same { SameFrames self.old self.new }
     {
@@ -115,12 +116,13 @@ impl Cache {
         }
     }
 
-    /// Makes page `n` one of zeros, and counts one page asked. Where `n` is the number of pages, it is added, and
-    /// written at once.
+    /// Makes page `n` one of zeros, and counts one page asked. Where `n` is the number of pages, it
+    /// is added, and written at once.
     pub fn zero<S: Shelf>(&mut self, shelf: &mut S, n: u32) -> Result<(), Fault>
         requires over { IsOver self.old (S.state shelf.old) }
         requires page { (0 < n) × (n ≤ self.old.store.pages) × (n < 2 ^ 32 - 1) }
-        ensures { PutsZeros S.state S.fault_count n (asked_once self.old) self.old self.new shelf.old shelf.new result }
+        ensures { PutsZeros S.state S.fault_count n (asked_once self.old) self.old self.new shelf.old
+            shelf.new result }
     {
         if n < self.store.pages {
             return self.clear(shelf, n);
@@ -131,7 +133,8 @@ impl Cache {
     // Makes a page of the store one of zeros; one that is not held is not read.
     fn clear<S: Shelf>(&mut self, shelf: &mut S, n: u32) -> Result<(), Fault>
         requires { IsOverPage n self.old (S.state shelf.old) }
-        ensures { PutsZeros S.state S.fault_count n (asked_once self.old) self.old self.new shelf.old shelf.new result }
+        ensures { PutsZeros S.state S.fault_count n (asked_once self.old) self.old self.new shelf.old
+            shelf.new result }
     {
         self.asked = self.asked.saturating_add(1);
         let _held = self.promote(n);
@@ -147,7 +150,8 @@ impl Cache {
     // Holds a page of zeros for one that is not held.
     fn hold_zeros<S: Shelf>(&mut self, shelf: &mut S, n: u32) -> Result<(), Fault>
         requires { IsOverMissing n self.old (S.state shelf.old) }
-        ensures { PutsZeros S.state S.fault_count n self.old.asked self.old self.new shelf.old shelf.new result }
+        ensures { PutsZeros S.state S.fault_count n self.old.asked self.old self.new shelf.old shelf.new
+            result }
     {
         self.make_room(shelf)?;
         let mut page = self.box_for_page()?;
@@ -165,7 +169,8 @@ impl Cache {
     fn add<S: Shelf>(&mut self, shelf: &mut S, n: u32) -> Result<(), Fault>
         requires over { IsOver self.old (S.state shelf.old) }
         requires page { (0 < n) × (n ≡ self.old.store.pages) × (n < 2 ^ 32 - 1) }
-        ensures { PutsZeros S.state S.fault_count n (asked_once self.old) self.old self.new shelf.old shelf.new result }
+        ensures { PutsZeros S.state S.fault_count n (asked_once self.old) self.old self.new shelf.old
+            shelf.new result }
     {
         self.asked = self.asked.saturating_add(1);
         self.make_room(shelf)?;
@@ -194,7 +199,8 @@ impl Cache {
     pub fn flush<S: Shelf>(&mut self, shelf: &mut S) -> Result<(), Fault>
         requires over { IsOver self.old (S.state shelf.old) }
         ensures clean { OnOk result (IsClean self.new) }
-        ensures stay { PagesStay S.state S.fault_count self.old.asked self.old self.new shelf.old shelf.new result }
+        ensures stay { PagesStay S.state S.fault_count self.old.asked self.old self.new shelf.old shelf.new
+            result }
     {
         for turn in 0..self.frames.len() {
             self.settle_last(shelf)?;
@@ -202,12 +208,13 @@ impl Cache {
         Ok(())
     }
 
-    // Writes the last page where it was changed, and puts it in front. After as many turns as there are frames each
-    // stands where it stood.
+    // Writes the last page where it was changed, and puts it in front. After as many turns as there
+    // are frames each stands where it stood.
     fn settle_last<S: Shelf>(&mut self, shelf: &mut S) -> Result<(), Fault>
         requires over { IsOver self.old (S.state shelf.old) }
         ensures turned { OnOk result (Turned self.old self.new) }
-        ensures stay { PagesStay S.state S.fault_count self.old.asked self.old self.new shelf.old shelf.new result }
+        ensures stay { PagesStay S.state S.fault_count self.old.asked self.old self.new shelf.old shelf.new
+            result }
     {
         self.write_last(shelf)?;
         let _held = self.frames.len();
@@ -240,7 +247,8 @@ impl Cache {
     fn bring<S: Shelf>(&mut self, shelf: &mut S, n: u32) -> Result<(), Fault>
         requires { IsOverMissing n self.old (S.state shelf.old) }
         ensures held { OnOk result (IsSome (frame_of self.new n)) }
-        ensures looks { LooksUp S.state S.fault_count self.old.asked self.old self.new shelf.old shelf.new result }
+        ensures looks { LooksUp S.state S.fault_count self.old.asked self.old self.new shelf.old shelf.new
+            result }
     {
         self.make_room(shelf)?;
         let page = self.read(shelf, n)?;
@@ -258,7 +266,8 @@ impl Cache {
         requires over { IsOver self.old (S.state shelf.old) }
         ensures room { OnOk result (HasRoom self.new (S.state shelf.new)) }
         ensures same { self.new ≡ self.old }
-        ensures looks { LooksUp S.state S.fault_count self.old.asked self.old self.new shelf.old shelf.new result }
+        ensures looks { LooksUp S.state S.fault_count self.old.asked self.old self.new shelf.old shelf.new
+            result }
     {
         if self.frames.len() < self.frames.cap().get() {
             return Ok(());
@@ -271,7 +280,8 @@ impl Cache {
         requires over { IsOver self.old (S.state shelf.old) }
         ensures last { OnOk result (IsLastWritten self.old (S.state shelf.new)) }
         ensures same { self.new ≡ self.old }
-        ensures looks { LooksUp S.state S.fault_count self.old.asked self.old self.new shelf.old shelf.new result }
+        ensures looks { LooksUp S.state S.fault_count self.old.asked self.old self.new shelf.old shelf.new
+            result }
     {
         let _held = self.frames.len();
         let Some((n, frame)) = self.frames.peek_lru() else {
@@ -286,7 +296,8 @@ impl Cache {
     // A box with the bytes of page n.
     fn read<S: Shelf>(&mut self, shelf: &mut S, n: u32) -> Result<Box<[u8; PAGE_SIZE]>, Fault>
         requires { IsOverPage n self.old (S.state shelf.old) }
-        ensures bytes { IfOk result (λ page. WasPage self.old.store.unit n (S.state shelf.old) (S.state shelf.new) page.value) }
+        ensures bytes { IfOk result (λ page. WasPage self.old.store.unit n (S.state shelf.old)
+            (S.state shelf.new) page.value) }
         ensures same { KeepsFrames self.old self.new }
         ensures only { OnlyAnswers (S.state shelf.old) (S.state shelf.new) }
         ensures cause { FaultHasCause (S.fault_count shelf.old) (S.fault_count shelf.new) result }

@@ -121,8 +121,9 @@ impl Frames {
         }
     }
 
-    /// Puts a page first that has no frame yet. Where there are as many frames as there may be, the page used longest
-    /// ago is pushed out, and its frame is the answer. Where memory lacks, all stays, and `frame` comes back.
+    /// Puts a page first that has no frame yet. Where there are as many frames as there may be, the
+    /// page used longest ago is pushed out, and its frame is the answer. Where memory lacks, all
+    /// stays, and `frame` comes back.
     pub fn push(&mut self, n: u32, frame: Frame) -> Result<Option<Frame>, Option<Frame>>
         requires absent { lookup (nat_eq n) self.old.entries ≡ None }
         ensures { Pushes n frame self.old self.new result }

@@ -19,7 +19,8 @@ impl Cache {
         page: &mut [u8; PAGE_SIZE],
     ) -> Result<(), Fault>
         requires { IsOverHeader self.now (S.state shelf.old) }
-        ensures answer { OnOk result (WasPage self.now.store.unit 0 (S.state shelf.old) (S.state shelf.new) page.new) }
+        ensures answer { OnOk result (WasPage self.now.store.unit 0 (S.state shelf.old)
+            (S.state shelf.new) page.new) }
         ensures over { IsOver self.now (S.state shelf.new) }
         ensures only { OnlyAnswers (S.state shelf.old) (S.state shelf.new) }
         ensures cause { FaultHasCause (S.fault_count shelf.old) (S.fault_count shelf.new) result }
@@ -37,19 +38,21 @@ impl Cache {
         ensures written { OnOk result (HoldsPage self.old.store.unit 0 (S.state shelf.new)
             (header_with self.old.store.unit (S.state shelf.old) page.now)) }
         ensures same { self.new ≡ self.old }
-        ensures stay { PagesStay S.state S.fault_count self.old.asked self.old self.new shelf.old shelf.new result }
+        ensures stay { PagesStay S.state S.fault_count self.old.asked self.old self.new shelf.old shelf.new
+            result }
     {
         let _pages = self.store.pages;
         self.store.write_page(shelf, 0, page)
     }
 
-    /// Opens the gate, before the first change. A gate that is open already is synced, and not written. After a fault
-    /// the cache is as it was, and the call may be made again.
+    /// Opens the gate, before the first change. A gate that is open already is synced, and not
+    /// written. After a fault the cache is as it was, and the call may be made again.
     pub fn begin_change<S: Shelf>(&self, shelf: &mut S) -> Result<(), Fault>
         requires over { IsOver self.now (S.state shelf.old) }
         ensures open { OnOk result (WhereHonest (S.state shelf.new) self.now.store.unit AllOpen) }
         ensures same { ShowsSame self.now self.now (S.state shelf.old) (S.state shelf.new) }
-        ensures opens { OpensGate S.state S.fault_count self.now.store.unit SameOrRefused shelf.old shelf.new result }
+        ensures opens { OpensGate S.state S.fault_count self.now.store.unit SameOrRefused shelf.old
+            shelf.new result }
     {
         self.store.begin_change(shelf)
     }

@@ -30,22 +30,27 @@ pub record IsHeapAt (pages : PageMap) (n next : ℕ) : Type 0 where
   pub there : pages n ≡ Some bytes
   pub heap : IsHeapPage next bytes
 
--- The slot at a place has other bytes now, of which P holds; its page is a heap page still. Every other slot and every other page is as it was.
-pub record RewritesSlot (shape : Shape) (before after : PageMap) (place : Place) (P : List ℕ → Type 0) : Type 0 where
+-- The slot at a place has other bytes now, of which P holds; its page is a heap page still. Every
+-- other slot and every other page is as it was.
+pub record RewritesSlot (shape : Shape) (before after : PageMap) (place : Place) (P : List ℕ
+    → Type 0) : Type 0 where
   pub is : P (slot_of shape after place)
   pub heap : (next : ℕ) → IsHeapAt before place.page next → IsHeapAt after place.page next
   pub others : (q : Place) → q ≢ place → slot_of shape after q ≡ slot_of shape before q
   pub pages : (n : ℕ) → n ≢ place.page → after n ≡ before n
 
 -- a call that rewrites the slot at a place of a heap page
-abbrev pub Rewriting : {X : Type 0} → Shape → Place → (X → List ℕ → Type 0) → PagesState → PagesState → Result X Fault → Type 0
+abbrev pub Rewriting : {X : Type 0} → Shape → Place → (X → List ℕ → Type 0) → PagesState → PagesState
+    → Result X Fault → Type 0
 Rewriting shape place P before after result =
-    IsTrue after.is_honest → IsTrue before.is_sound → (next : ℕ) → IsHeapAt before.live place.page next → place.slot < room shape
+    IsTrue after.is_honest → IsTrue before.is_sound → (next : ℕ) → IsHeapAt before.live place.page next
+    → place.slot < room shape
     → IsAnswer result (λ x. RewritesSlot shape before.live after.live place (P x) × IsTrue after.is_sound)
 
 -- a call that puts these bytes into a slot
 abbrev pub Filling : {X : Type 0} → Shape → Place → List ℕ → PagesState → PagesState → Result X Fault → Type 0
-Filling shape place bytes before after result = Rewriting shape place (λ x slot. used_in shape slot ≡ Some bytes) before after result
+Filling shape place bytes before after result = Rewriting shape place
+    (λ x slot. used_in shape slot ≡ Some bytes) before after result
 
 -- a call that rewrites a free slot, and answers the place of the one behind it
 abbrev pub Refilling : Shape → Place → List ℕ → PagesState → PagesState → Result Place Fault → Type 0
@@ -61,16 +66,19 @@ pub record IsFront (n : ℕ) (bytes old new : List ℕ) : Type 0 where
 -- the answer of a call that reads a slot of a heap page: its length, and its bytes at the front of `to`
 abbrev pub Gets : Shape → Place → PageMap → List ℕ → List ℕ → Result ℕ Fault → Type 0
 Gets shape place pages old new result =
-    (next : ℕ) → IsHeapAt pages place.page next → place.slot < room shape → (bytes : List ℕ) → used_at shape pages place ≡ Some bytes
+    (next : ℕ) → IsHeapAt pages place.page next → place.slot < room shape → (bytes : List ℕ)
+    → used_at shape pages place ≡ Some bytes
     → IsAnswer result (λ n. (n ≡ length bytes) × (new ≡ bytes ++ drop (length bytes) old))
 
 -- the answer of a call that reads the record of a slot: its length, and its bytes at the front of `to`
 abbrev pub GetsRecord : Shape → Place → PageMap → List ℕ → List ℕ → Result ℕ Fault → Type 0
 GetsRecord shape place pages old new result =
-    (next : ℕ) → IsHeapAt pages place.page next → place.slot < room shape → (bytes : List ℕ) → used_at shape pages place ≡ Some bytes
+    (next : ℕ) → IsHeapAt pages place.page next → place.slot < room shape → (bytes : List ℕ)
+    → used_at shape pages place ≡ Some bytes
     → IsAnswer result (λ n. IsFront n (drop shape.stamps bytes) old new)
 
--- what a call that reads a slot leaves in `to`, whatever the pages hold: the answer is a length that the heap has, and at a fault nothing has changed
+-- what a call that reads a slot leaves in `to`, whatever the pages hold: the answer is a length
+-- that the heap has, and at a fault nothing has changed
 pub record FillsFront (shape : Shape) (old new : List ℕ) (result : Result ℕ Fault) : Type 0 where
   pub least : IfOk result (λ n. shape.stamps + shape.least ≤ n)
   pub greatest : IfOk result (λ n. n ≤ shape.stamps + shape.greatest)
@@ -83,26 +91,33 @@ pub record MayChange {S : Type 0} (shown : ShownPages S) (pages : S) : Type 0 wh
   pub gate : shown.CanChange pages
 
 -- pages may be changed, and a slot takes these stamps and this record
-pub record MayFill {S : Type 0} (shown : ShownPages S) (pages : S) (shape : Shape) (before behind : List ℕ) : Type 0 where
+pub record MayFill {S : Type 0} (shown : ShownPages S) (pages : S) (shape : Shape)
+    (before behind : List ℕ) : Type 0 where
   pub ready : shown.IsReady pages
   pub gate : shown.CanChange pages
   pub fits : FitsSlot shape before behind
 
--- a call that reads the stamps and the record of a slot to the front of `to`; `Reads` is said of the pages in use where no wrong answer was taken
-pub record ReadsWithStamps {S : Type 0} (shown : ShownPages S) (before after : S) (shape : Shape) (old new : List ℕ) (result : Result ℕ Fault) (Reads : PageMap → List ℕ → List ℕ → Result ℕ Fault → Type 0) : Type 0 where
+-- a call that reads the stamps and the record of a slot to the front of `to`; `Reads` is said of
+-- the pages in use where no wrong answer was taken
+pub record ReadsWithStamps {S : Type 0} (shown : ShownPages S) (before after : S) (shape : Shape)
+    (old new : List ℕ) (result : Result ℕ Fault) (Reads : PageMap → List ℕ → List ℕ → Result ℕ Fault
+    → Type 0) : Type 0 where
   pub got : IsTrue (shown.state after).is_honest → Reads (shown.state before).live old new result
   pub front : FillsFront shape old new result
   pub reads : ReadsPages shown 1 before after result
 
 -- a call that reads the record of a slot, without its stamps
-pub record ReadsWithoutStamps {S : Type 0} (shown : ShownPages S) (before after : S) (shape : Shape) (old new : List ℕ) (result : Result ℕ Fault) (Reads : PageMap → List ℕ → List ℕ → Result ℕ Fault → Type 0) : Type 0 where
+pub record ReadsWithoutStamps {S : Type 0} (shown : ShownPages S) (before after : S) (shape : Shape)
+    (old new : List ℕ) (result : Result ℕ Fault) (Reads : PageMap → List ℕ → List ℕ → Result ℕ Fault
+    → Type 0) : Type 0 where
   pub got : IsTrue (shown.state after).is_honest → Reads (shown.state before).live old new result
   pub greatest : IfOk result (λ n. n ≤ shape.greatest)
   pub kept : OnErr result (new ≡ old)
   pub reads : ReadsPages shown 1 before after result
 
 -- a call that changes one slot, and takes no page
-pub record ChangesSlot {S X : Type 0} (shown : ShownPages S) (before after : S) (result : Result X Fault) (Changes : PagesState → PagesState → Result X Fault → Type 0) : Type 0 where
+pub record ChangesSlot {S X : Type 0} (shown : ShownPages S) (before after : S) (result : Result X Fault)
+    (Changes : PagesState → PagesState → Result X Fault → Type 0) : Type 0 where
   pub changed : Changes (shown.state before) (shown.state after) result
   pub available : (shown.state after).available ≡ (shown.state before).available
   pub writes : WritesPages shown 1 ⊥ before after result

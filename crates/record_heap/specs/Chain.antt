@@ -36,13 +36,16 @@ pub record IsPlaceOf (room : ℕ) (own : List ℕ) (p : Place) : Type 0 where
 -- these are the free slots from the first on, each with the place of the next; page 0 is none
 abbrev pub IsFreeChain : (Place → Option Place) → Place → List Place → Type 0
 IsFreeChain behind first [] = first.page ≡ 0
-IsFreeChain behind first (p ∷ ps) = (first ≡ p) × ((next : Place) × (behind p ≡ Some next) × IsFreeChain behind next ps)
+IsFreeChain behind first (p ∷ ps) = (first ≡ p) × ((next : Place) × (behind p ≡ Some next)
+    × IsFreeChain behind next ps)
 
 -- Every slot of the pages is in use, or stands once in the chain of free slots.
-pub record KeepsSlots (room : ℕ) (own : List ℕ) (used : Slots) (behind : Place → Option Place) (slots : Slots) (first : Place) : Type 0 where
+pub record KeepsSlots (room : ℕ) (own : List ℕ) (used : Slots) (behind : Place → Option Place)
+    (slots : Slots) (first : Place) : Type 0 where
   pub free : List Place
   pub chain : IsFreeChain behind first free
   pub once : AreOnce free
-  pub used_are : (p : Place) (bytes : List ℕ) → slots p ≡ Some bytes → IsPlaceOf room own p × (used p ≡ Some bytes)
+  pub used_are : (p : Place) (bytes : List ℕ) → slots p ≡ Some bytes → IsPlaceOf room own p
+      × (used p ≡ Some bytes)
   pub free_are : Each (λ p. IsPlaceOf room own p × (slots p ≡ None)) free
   pub every : (p : Place) → IsPlaceOf room own p → slots p ≡ None → IsOneOf free p

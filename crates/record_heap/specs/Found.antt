@@ -20,20 +20,24 @@ pub record HeapHas (before after : PageMap) (new : Heap) (own : List ℕ) (slots
 -- the stamps and the record at a place, read to the front of `to`
 abbrev pub Got : Heap → Place → PageMap → List ℕ → List ℕ → Result ℕ Fault → Type 0
 Got heap place pages old new result =
-    (slots : Slots) (own : List ℕ) (bytes : List ℕ) → HeapStands heap pages slots own → slots place ≡ Some bytes
+    (slots : Slots) (own : List ℕ) (bytes : List ℕ) → HeapStands heap pages slots own
+    → slots place ≡ Some bytes
     → IsAnswer result (λ n. (n ≡ length bytes) × (new ≡ bytes ++ drop (length bytes) old))
 
 -- the record at a place, without its stamps, read to the front of `to`
 abbrev pub GotRecord : Heap → Place → PageMap → List ℕ → List ℕ → Result ℕ Fault → Type 0
 GotRecord heap place pages old new result =
-    (slots : Slots) (own : List ℕ) (bytes : List ℕ) → HeapStands heap pages slots own → slots place ≡ Some bytes
+    (slots : Slots) (own : List ℕ) (bytes : List ℕ) → HeapStands heap pages slots own
+    → slots place ≡ Some bytes
     → IsAnswer result (λ n. IsFront n (drop heap.shape.stamps bytes) old new)
 
 -- a place that was free holds these stamps and this record now
 abbrev pub Adds : PagesState → PagesState → Heap → Heap → List ℕ → Result Place Fault → Type 0
 Adds before after old new bytes result =
-    IsTrue after.is_honest → IsTrue before.is_sound → (slots : Slots) (own : List ℕ) → HeapStands old before.live slots own
-    → IsAnswer result (λ place. (slots place ≡ None) × HeapHas before.live after.live new own (put slots place (Some bytes)) × IsTrue after.is_sound)
+    IsTrue after.is_honest → IsTrue before.is_sound → (slots : Slots) (own : List ℕ)
+    → HeapStands old before.live slots own
+    → IsAnswer result (λ place. (slots place ≡ None)
+    × HeapHas before.live after.live new own (put slots place (Some bytes)) × IsTrue after.is_sound)
 
 -- at most one page is taken, and none where a slot is free
 pub record TakesFew (heap : Heap) (before after : PagesState) : Type 0 where
@@ -47,11 +51,16 @@ LacksSlot heap pages = (heap.free.page ≡ 0) × (pages.available ≡ 0)
 -- the heap has a free slot now, and the records that it had
 abbrev pub MakesRoom : PagesState → PagesState → Heap → Heap → Result ⊤ Fault → Type 0
 MakesRoom before after old new result =
-    IsTrue after.is_honest → IsTrue before.is_sound → (slots : Slots) (own : List ℕ) → HeapStands old before.live slots own
-    → IsAnswer result (λ u. HeapHas before.live after.live new own slots × (1 ≤ new.free.page) × IsTrue after.is_sound)
+    IsTrue after.is_honest → IsTrue before.is_sound → (slots : Slots) (own : List ℕ)
+    → HeapStands old before.live slots own
+    → IsAnswer result (λ u. HeapHas before.live after.live new own slots × (1 ≤ new.free.page)
+    × IsTrue after.is_sound)
 
 -- the slot of a place in use holds this now, or is free
-abbrev pub Sets : {X : Type 0} → PagesState → PagesState → Heap → Heap → Place → Option (List ℕ) → Result X Fault → Type 0
+abbrev pub Sets : {X : Type 0} → PagesState → PagesState → Heap → Heap → Place → Option (List ℕ)
+    → Result X Fault → Type 0
 Sets before after old new place bytes result =
-    IsTrue after.is_honest → IsTrue before.is_sound → (slots : Slots) (own : List ℕ) → HeapStands old before.live slots own → IsSome (slots place)
-    → IsAnswer result (λ u. HeapHas before.live after.live new own (put slots place bytes) × IsTrue after.is_sound)
+    IsTrue after.is_honest → IsTrue before.is_sound → (slots : Slots) (own : List ℕ)
+    → HeapStands old before.live slots own → IsSome (slots place)
+    → IsAnswer result (λ u. HeapHas before.live after.live new own (put slots place bytes)
+    × IsTrue after.is_sound)

@@ -35,8 +35,10 @@ abbrev pub own_or_new : ℕ → List Place → List ℕ → List ℕ
 own_or_new n [] own = n ∷ own
 own_or_new n (p ∷ ps) own = own
 
--- the place is the first of the free slots, or where there are none, of those of a new page before the others; the slots behind it are free
-pub record TakesFirst (old new : Heap) (after : PageMap) (own : List ℕ) (free : List Place) (place : Place) : Type 0 where
+-- the place is the first of the free slots, or where there are none, of those of a new page before
+-- the others; the slots behind it are free
+pub record TakesFirst (old new : Heap) (after : PageMap) (own : List ℕ) (free : List Place)
+    (place : Place) : Type 0 where
   pub rest : List Place
   pub first : place ∷ rest ≡ free_or_new old.shape place.page free
   pub chains : HasChains new after rest (own_or_new place.page free own)
@@ -44,23 +46,32 @@ pub record TakesFirst (old new : Heap) (after : PageMap) (own : List ℕ) (free 
 -- a call that takes the first free slot, and a new page only where no slot is free
 abbrev pub AddsInOrder : PagesState → PagesState → Heap → Heap → Result Place Fault → Type 0
 AddsInOrder before after old new result =
-    IsTrue after.is_honest → IsTrue before.is_sound → (slots : Slots) (own : List ℕ) (stands : HeapStands old before.live slots own)
+    IsTrue after.is_honest → IsTrue before.is_sound
+    → (slots : Slots) (own : List ℕ) (stands : HeapStands old before.live slots own)
     → IfOk result (TakesFirst old new after.live own stands.keeps.free)
 
--- a call that takes a new page only where no slot is free, and puts it before the others, with all its slots free
+-- a call that takes a new page only where no slot is free, and puts it before the others, with all
+-- its slots free
 abbrev pub MakesRoomInOrder : PagesState → PagesState → Heap → Heap → Result ⊤ Fault → Type 0
 MakesRoomInOrder before after old new result =
-    IsTrue after.is_honest → IsTrue before.is_sound → (slots : Slots) (own : List ℕ) (stands : HeapStands old before.live slots own)
-    → OnOk result (HasChains new after.live (free_or_new old.shape new.free.page stands.keeps.free) (own_or_new new.free.page stands.keeps.free own))
+    IsTrue after.is_honest → IsTrue before.is_sound
+    → (slots : Slots) (own : List ℕ) (stands : HeapStands old before.live slots own)
+    → OnOk result (HasChains new after.live (free_or_new old.shape new.free.page stands.keeps.free)
+    (own_or_new new.free.page stands.keeps.free own))
 
 -- a call at a place in use that puts these slots before the free ones, and leaves the order else
-abbrev pub SetsInOrder : {X : Type 0} → PagesState → PagesState → Heap → Heap → Place → List Place → Result X Fault → Type 0
+abbrev pub SetsInOrder : {X : Type 0} → PagesState → PagesState → Heap → Heap → Place → List Place
+    → Result X Fault → Type 0
 SetsInOrder before after old new place freed result =
-    IsTrue after.is_honest → IsTrue before.is_sound → (slots : Slots) (own : List ℕ) (stands : HeapStands old before.live slots own) → IsSome (slots place)
+    IsTrue after.is_honest → IsTrue before.is_sound
+    → (slots : Slots) (own : List ℕ) (stands : HeapStands old before.live slots own)
+    → IsSome (slots place)
     → OnOk result (HasChains new after.live (freed ++ stands.keeps.free) own)
 
--- a call at a place in use that leaves this in its slot, and puts these slots before the free ones; no page is taken
-pub record SetsSlot {S X : Type 0} (shown : ShownPages S) (before after : S) (old new : Heap) (place : Place) (bytes : Option (List ℕ)) (freed : List Place) (result : Result X Fault) : Type 0 where
+-- a call at a place in use that leaves this in its slot, and puts these slots before the free ones;
+-- no page is taken
+pub record SetsSlot {S X : Type 0} (shown : ShownPages S) (before after : S) (old new : Heap)
+    (place : Place) (bytes : Option (List ℕ)) (freed : List Place) (result : Result X Fault) : Type 0 where
   pub set : Sets (shown.state before) (shown.state after) old new place bytes result
   pub shape : new.shape ≡ old.shape
   pub available : (shown.state after).available ≡ (shown.state before).available
@@ -68,7 +79,8 @@ pub record SetsSlot {S X : Type 0} (shown : ShownPages S) (before after : S) (ol
   pub order : SetsInOrder (shown.state before) (shown.state after) old new place freed result
 
 -- a call that takes a new page where no slot is free
-pub record MakesFreeSlot {S : Type 0} (shown : ShownPages S) (before after : S) (old new : Heap) (result : Result ⊤ Fault) : Type 0 where
+pub record MakesFreeSlot {S : Type 0} (shown : ShownPages S) (before after : S) (old new : Heap)
+    (result : Result ⊤ Fault) : Type 0 where
   pub room : MakesRoom (shown.state before) (shown.state after) old new result
   pub shape : new.shape ≡ old.shape
   pub few : TakesFew old (shown.state before) (shown.state after)

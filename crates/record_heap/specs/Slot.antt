@@ -26,11 +26,13 @@ record_length shape slot = if is_varying shape then big_number 2 (drop 1 slot) e
 
 -- the slot is in use, with a record of a length that the heap takes
 abbrev pub is_used : Shape → List ℕ → Bool
-is_used shape slot = (slice_index slot 0 == 1) && (nat_le shape.least (record_length shape slot) && nat_le (record_length shape slot) shape.greatest)
+is_used shape slot = (slice_index slot 0 == 1) && (nat_le shape.least (record_length shape slot)
+    && nat_le (record_length shape slot) shape.greatest)
 
 -- the stamps and the record of a slot in use
 abbrev pub used_in : Shape → List ℕ → Option (List ℕ)
-used_in shape slot = if is_used shape slot then Some (take (shape.stamps + record_length shape slot) (drop (head shape) slot)) else None
+used_in shape slot = if is_used shape slot then Some
+    (take (shape.stamps + record_length shape slot) (drop (head shape) slot)) else None
 
 -- its record, without the stamps
 abbrev pub record_in : Shape → List ℕ → Option (List ℕ)
@@ -38,7 +40,8 @@ record_in shape slot = option_map (λ bytes. drop shape.stamps bytes) (used_in s
 
 -- the free slot behind a free one
 abbrev pub behind_in : List ℕ → Option Place
-behind_in slot = if slice_index slot 0 == 0 then Some (record { page = big_number 4 (drop 1 slot); slot = big_number 2 (drop 5 slot) }) else None
+behind_in slot = if slice_index slot 0 == 0 then Some
+    (record { page = big_number 4 (drop 1 slot); slot = big_number 2 (drop 5 slot) }) else None
 
 -- these bytes over the front of others
 abbrev pub over : Option (List ℕ) → List ℕ → List ℕ

@@ -7,11 +7,13 @@ use Rattle.record_heap.specs.declared.slot_marks.SlotMarks.{SlotMarks}
 
 -- page n is the one at this position, and has a slot of this number
 abbrev pub is_at : SlotMarks → ℕ → Place → Bool
-is_at marks at p = option_map_or (λ n. n == p.page) (slice_get marks.own.now at) false && nat_lt p.slot marks.room
+is_at marks at p = option_map_or (λ n. n == p.page) (slice_get marks.own.now at) false
+    && nat_lt p.slot marks.room
 
 -- the mark of a slot, where the position of its page is this
 abbrev pub mark_from : SlotMarks → Place → ℕ → Bool
-mark_from marks p at = if is_at marks at p then bit_of marks.marks.words.items (at * marks.room + p.slot) else false
+mark_from marks p at = if is_at marks at p then bit_of marks.marks.words.items
+    (at * marks.room + p.slot) else false
 
 -- the slot is marked
 abbrev pub marked_slot : SlotMarks → Place → Bool

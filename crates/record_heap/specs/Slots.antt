@@ -32,8 +32,10 @@ pub record Edits (shape : Shape) (old new : List ℕ) (i : ℕ) (P : List ℕ �
 
 -- what is behind slot i of page n where all its slots are free, linked in rising order
 abbrev pub behind_new : ℕ → ℕ → ℕ → Place
-behind_new room n i = if nat_lt (i + 1) room then (record { page = n; slot = i + 1 }) else (record { page = 0; slot = 0 })
+behind_new room n i = if nat_lt (i + 1) room then (record { page = n; slot = i + 1 }) else
+    (record { page = 0; slot = 0 })
 
 -- the first slots of page n, so many, are free and linked like this
 abbrev pub AreLinked : Shape → ℕ → ℕ → List ℕ → Type 0
-AreLinked shape n count page = (i : ℕ) → i < count → behind_in (slot_at shape page i) ≡ Some (behind_new (room shape) n i)
+AreLinked shape n count page = (i : ℕ) → i < count
+    → behind_in (slot_at shape page i) ≡ Some (behind_new (room shape) n i)

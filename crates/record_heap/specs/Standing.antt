@@ -12,13 +12,15 @@ use Rattle.record_heap.specs.Calls.{used_at, behind_at, IsHeapAt}
 -- the chain of heap pages from the first on; page 0 is none
 abbrev pub IsPageChain : PageMap → ℕ → List ℕ → Type 0
 IsPageChain pages first [] = first ≡ 0
-IsPageChain pages first (n ∷ ns) = (first ≡ n) × ((next : ℕ) × IsHeapAt pages n next × IsPageChain pages next ns)
+IsPageChain pages first (n ∷ ns) = (first ≡ n) × ((next : ℕ) × IsHeapAt pages n next
+    × IsPageChain pages next ns)
 
 -- these pages are the heap's, and stand for these records
 pub record HeapStands (heap : Heap) (pages : PageMap) (slots : Slots) (own : List ℕ) : Type 0 where
   pub chain : IsPageChain pages heap.first own
   pub apart : AreApart own
-  pub keeps : KeepsSlots (room heap.shape) own (used_at heap.shape pages) (behind_at heap.shape pages) slots heap.free
+  pub keeps : KeepsSlots (room heap.shape) own (used_at heap.shape pages)
+      (behind_at heap.shape pages) slots heap.free
 
 -- what is read off the pages at a place, whether they stand for anything or not
 abbrev pub slot_off : Heap → PageMap → Place → Option (List ℕ)
@@ -26,7 +28,8 @@ slot_off heap pages place = used_at heap.shape pages place
 
 -- what is read off is what stands
 abbrev pub slots_read_off : Type 0
-slots_read_off = (heap : Heap) (pages : PageMap) (slots : Slots) (own : List ℕ) (place : Place) (bytes : List ℕ)
+slots_read_off = (heap : Heap) (pages : PageMap) (slots : Slots) (own : List ℕ) (place : Place)
+    (bytes : List ℕ)
     → HeapStands heap pages slots own → slots place ≡ Some bytes → slot_off heap pages place ≡ Some bytes
 
 -- a heap stands while its own pages stay as they are
@@ -36,4 +39,5 @@ kept_by_its_pages = (heap : Heap) (before after : PageMap) (slots : Slots) (own 
 
 -- its own pages are in use
 abbrev pub own_pages_live : Type 0
-own_pages_live = (heap : Heap) (pages : PageMap) (slots : Slots) (own : List ℕ) → HeapStands heap pages slots own → Each (λ n. IsSome (pages n)) own
+own_pages_live = (heap : Heap) (pages : PageMap) (slots : Slots) (own : List ℕ)
+    → HeapStands heap pages slots own → Each (λ n. IsSome (pages n)) own

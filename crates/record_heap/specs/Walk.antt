@@ -16,10 +16,12 @@ use Rattle.page_marks.specs.Marks.{Marks}
 -- these heap pages lead from the first one to this
 abbrev pub IsPagePath : PageMap → ℕ → List ℕ → ℕ → Type 0
 IsPagePath pages first [] at = first ≡ at
-IsPagePath pages first (n ∷ ns) at = (first ≡ n) × ((next : ℕ) × IsHeapAt pages n next × IsPagePath pages next ns at)
+IsPagePath pages first (n ∷ ns) at = (first ≡ n)
+    × ((next : ℕ) × IsHeapAt pages n next × IsPagePath pages next ns at)
 
 -- these pages were reached from the first one, and this one is next
-pub record PagesWalked (pages : PageMap) (first at : ℕ) (before after : ℕ → Bool) (own : List ℕ) : Type 0 where
+pub record PagesWalked (pages : PageMap) (first at : ℕ) (before after : ℕ → Bool)
+    (own : List ℕ) : Type 0 where
   pub path : IsPagePath pages first own at
   pub some : Each (λ n. 1 ≤ n) own
   pub marks : Marks before after own
@@ -30,7 +32,8 @@ is_one_of (m ∷ ms) n = if n == m then true else is_one_of ms n
 
 -- the records in the slots of these pages
 abbrev pub slots_of : Shape → PageMap → List ℕ → Slots
-slots_of shape pages own p = if is_one_of own p.page && nat_lt p.slot (room shape) then used_at shape pages p else None
+slots_of shape pages own p = if is_one_of own p.page
+    && nat_lt p.slot (room shape) then used_at shape pages p else None
 
 -- the slot of a place is in use
 abbrev pub IsUsedAt : Shape → PageMap → Place → Type 0
@@ -43,16 +46,21 @@ IsFreeAt shape pages p = (next : Place) × (behind_at shape pages p ≡ Some nex
 -- a slot with these bytes is free and marked now, or it is in use and nothing has changed
 abbrev pub SlotMarked : Shape → List ℕ → Place → SlotMarks → SlotMarks → Type 0
 SlotMarked shape bytes place before after =
-    (((next : Place) × (behind_in bytes ≡ Some next)) × SetsMark place true before after) ⊎ (((found : List ℕ) × (used_in shape bytes ≡ Some found)) × (after ≡ before))
+    (((next : Place) × (behind_in bytes ≡ Some next)) × SetsMark place true before after)
+    ⊎ (((found : List ℕ) × (used_in shape bytes ≡ Some found)) × (after ≡ before))
 
 -- the first slots of page n, so many, are marked where they are free, and in use else
 pub record PageMarked (shape : Shape) (page : List ℕ) (n count : ℕ) (before after : SlotMarks) : Type 0 where
-  pub free : (p : Place) → p.page ≡ n → p.slot < count → marked_slot after p ≡ true → (marked_slot before p ≡ true) ⊎ ((next : Place) × (behind_in (slot_at shape page p.slot) ≡ Some next))
-  pub every : (p : Place) → p.page ≡ n → p.slot < count → (marked_slot after p ≡ true) ⊎ ((bytes : List ℕ) × (used_in shape (slot_at shape page p.slot) ≡ Some bytes))
+  pub free : (p : Place) → p.page ≡ n → p.slot < count → marked_slot after p ≡ true
+      → (marked_slot before p ≡ true) ⊎ ((next : Place)
+      × (behind_in (slot_at shape page p.slot) ≡ Some next))
+  pub every : (p : Place) → p.page ≡ n → p.slot < count → (marked_slot after p ≡ true)
+      ⊎ ((bytes : List ℕ) × (used_in shape (slot_at shape page p.slot) ≡ Some bytes))
   pub others : (p : Place) → (p.page ≢ n) ⊎ (count ≤ p.slot) → marked_slot after p ≡ marked_slot before p
 
 -- the mark of a free slot was taken, and this one is behind it
-pub record TakesMark (shape : Shape) (pages : PageMap) (at next : Place) (before after : SlotMarks) : Type 0 where
+pub record TakesMark (shape : Shape) (pages : PageMap) (at next : Place)
+    (before after : SlotMarks) : Type 0 where
   pub within : at.slot < room shape
   pub linked : behind_at shape pages at ≡ Some next
   pub was : marked_slot before at ≡ true
@@ -60,23 +68,30 @@ pub record TakesMark (shape : Shape) (pages : PageMap) (at next : Place) (before
 
 -- the free slots of these pages are marked, and each other slot of them is in use
 pub record AreMarked (shape : Shape) (pages : PageMap) (own : List ℕ) (marks : SlotMarks) : Type 0 where
-  pub free : (p : Place) → p.slot < room shape → marked_slot marks p ≡ true → IsOneOf own p.page × IsFreeAt shape pages p
-  pub every : (p : Place) → p.slot < room shape → IsOneOf own p.page → (marked_slot marks p ≡ true) ⊎ IsUsedAt shape pages p
+  pub free : (p : Place) → p.slot < room shape → marked_slot marks p ≡ true → IsOneOf own p.page
+      × IsFreeAt shape pages p
+  pub every : (p : Place) → p.slot < room shape → IsOneOf own p.page → (marked_slot marks p ≡ true)
+      ⊎ IsUsedAt shape pages p
 
 -- these free slots lead from the first one to this
 abbrev pub IsFreePath : (Place → Option Place) → Place → List Place → Place → Type 0
 IsFreePath behind first [] at = first ≡ at
-IsFreePath behind first (p ∷ ps) at = (first ≡ p) × ((next : Place) × (behind p ≡ Some next) × IsFreePath behind next ps at)
+IsFreePath behind first (p ∷ ps) at = (first ≡ p)
+    × ((next : Place) × (behind p ≡ Some next) × IsFreePath behind next ps at)
 
 -- these marked slots were reached from the first one, and their marks taken; this one is next
-pub record SlotsWalked (shape : Shape) (pages : PageMap) (first at : Place) (before after : SlotMarks) (free : List Place) : Type 0 where
+pub record SlotsWalked (shape : Shape) (pages : PageMap) (first at : Place) (before after : SlotMarks)
+    (free : List Place) : Type 0 where
   pub path : IsFreePath (behind_at shape pages) first free at
   pub once : AreOnce free
-  pub were : Each (λ p. (p.slot < room shape) × ((marked_slot before p ≡ true) × (marked_slot after p ≡ false))) free
-  pub every : (p : Place) → p.slot < room shape → marked_slot before p ≡ true → (marked_slot after p ≡ true) ⊎ IsOneOf free p
+  pub were : Each (λ p. (p.slot < room shape) × ((marked_slot before p ≡ true)
+      × (marked_slot after p ≡ false))) free
+  pub every : (p : Place) → p.slot < room shape → marked_slot before p ≡ true
+      → (marked_slot after p ≡ true) ⊎ IsOneOf free p
   pub only : (p : Place) → p.slot < room shape → marked_slot after p ≡ true → marked_slot before p ≡ true
 
 -- each slot of these pages is in use, or stands once in the chain of free slots
 abbrev pub SlotsKept : Heap → PageMap → List ℕ → Type 0
 SlotsKept heap pages own =
-    Each (λ n. 1 ≤ n) own → KeepsSlots (room heap.shape) own (used_at heap.shape pages) (behind_at heap.shape pages) (slots_of heap.shape pages own) heap.free
+    Each (λ n. 1 ≤ n) own → KeepsSlots (room heap.shape) own (used_at heap.shape pages)
+    (behind_at heap.shape pages) (slots_of heap.shape pages own) heap.free

@@ -40,7 +40,8 @@ pub fn read_record<P: Pages>(
 ) -> Result<usize, Fault>
     requires ready { P.shown.IsReady pages.old }
     requires room { shape.greatest ≤ length to.old }
-    ensures { ReadsWithoutStamps P.shown pages.old pages.new shape to.old to.new result (GetsRecord shape place) }
+    ensures { ReadsWithoutStamps P.shown pages.old pages.new shape to.old to.new result
+        (GetsRecord shape place) }
 {
     let page = pages.page(place.page)?;
     if page[0] != b'H' || place.slot as usize >= shape.room() {
@@ -75,7 +76,8 @@ pub fn fill<P: Pages>(
     record: &[u8],
 ) -> Result<(), Fault>
     requires { MayFill P.shown pages.old shape stamps.now «record».now }
-    ensures { ChangesSlot P.shown pages.old pages.new result (Filling shape place (stamps.now ++ «record».now)) }
+    ensures { ChangesSlot P.shown pages.old pages.new result
+        (Filling shape place (stamps.now ++ «record».now)) }
 {
     let page = pages.page_mut(place.page)?;
     if page[0] != b'H' || place.slot as usize >= shape.room() {
@@ -94,7 +96,8 @@ pub fn refill<P: Pages>(
     record: &[u8],
 ) -> Result<Place, Fault>
     requires { MayFill P.shown pages.old shape stamps.now «record».now }
-    ensures { ChangesSlot P.shown pages.old pages.new result (Refilling shape place (stamps.now ++ «record».now)) }
+    ensures { ChangesSlot P.shown pages.old pages.new result
+        (Refilling shape place (stamps.now ++ «record».now)) }
 {
     let page = pages.page_mut(place.page)?;
     if page[0] != b'H' || place.slot as usize >= shape.room() {

@@ -7,7 +7,8 @@ use io_state::Fault;
 use page_bytes::PAGE_SIZE;
 use pages::{Pages, store};
 
-/// Records, each with its stamps before it, in slots. `first` is the first page of the chain of heap pages, and `free` the first free slot; page 0 is none.
+/// Records, each with its stamps before it, in slots. `first` is the first page of the chain of
+/// heap pages, and `free` the first free slot; page 0 is none.
 #[derive(Clone, Copy, Debug, PartialEq, Eq)]
 pub struct Heap {
     pub shape: Shape,
@@ -37,7 +38,8 @@ impl Heap {
         }
     }
 
-    /// Reads the stamps and the record at a place in use to the front of `to`, and answers how many bytes they are. The rest of `to` stays; at a fault it all does.
+    /// Reads the stamps and the record at a place in use to the front of `to`, and answers how many
+    /// bytes they are. The rest of `to` stays; at a fault it all does.
     ///
     /// Device, Memory; Damage where the place has no record.
     pub fn get<P: Pages>(&self, pages: &mut P, place: Place, to: &mut [u8]) -> Result<usize, Fault>
@@ -49,7 +51,8 @@ impl Heap {
         read_used(pages, self.shape, place, to)
     }
 
-    /// Reads the record at a place in use to the front of `to`, without its stamps, and answers its length. The rest of `to` stays; at a fault it all does.
+    /// Reads the record at a place in use to the front of `to`, without its stamps, and answers its
+    /// length. The rest of `to` stays; at a fault it all does.
     ///
     /// Device, Memory; Damage where the place has no record.
     pub fn get_record<P: Pages>(
@@ -68,7 +71,8 @@ impl Heap {
         length
     }
 
-    /// Puts stamps and a record into the slot that was freed last, and answers its place. Where no slot is free, a new page is taken for it.
+    /// Puts stamps and a record into the slot that was freed last, and answers its place. Where no
+    /// slot is free, a new page is taken for it.
     ///
     /// Device, Memory; Full where no slot is free and no page is left; Damage where a page is none of a heap.
     pub fn add<P: Pages>(
@@ -82,8 +86,10 @@ impl Heap {
             (stamps.now ++ «record».now) result }
         ensures shape { self.new.shape ≡ self.old.shape }
         ensures few { TakesFew self.old (P.shown.state pages.old) (P.shown.state pages.new) }
-        ensures writes { WritesPages P.shown 3 (LacksSlot self.old (P.shown.state pages.old)) pages.old pages.new result }
-        ensures order { AddsInOrder (P.shown.state pages.old) (P.shown.state pages.new) self.old self.new result }
+        ensures writes { WritesPages P.shown 3 (LacksSlot self.old (P.shown.state pages.old)) pages.old
+            pages.new result }
+        ensures order { AddsInOrder (P.shown.state pages.old)
+            (P.shown.state pages.new) self.old self.new result }
     {
         self.make_room(pages)?;
         let place = self.free;
@@ -102,7 +108,8 @@ impl Heap {
         record: &[u8],
     ) -> Result<(), Fault>
         requires { MayFill P.shown pages.old self.now.shape stamps.now «record».now }
-        ensures { SetsSlot P.shown pages.old pages.new self.now self.now place (Some (stamps.now ++ «record».now)) [] result }
+        ensures { SetsSlot P.shown pages.old pages.new self.now self.now place
+            (Some (stamps.now ++ «record».now)) [] result }
     {
         fill(pages, self.shape, place, stamps, record)?;
         Ok(())

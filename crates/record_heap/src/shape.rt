@@ -9,7 +9,8 @@ pub struct Place {
     pub slot: u16,
 }
 
-/// The bytes that the stamps of a record take, and the least and the greatest length of a record, in bytes. Where these differ, a slot holds the record's length.
+/// The bytes that the stamps of a record take, and the least and the greatest length of a record,
+/// in bytes. Where these differ, a slot holds the record's length.
 #[derive(Clone, Copy, Debug, PartialEq, Eq)]
 pub struct Shape {
     pub stamps: u16,

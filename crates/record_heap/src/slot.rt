@@ -79,7 +79,8 @@ fn used(slot: &[u8], shape: Shape) -> Option<&[u8]>
     Some(&slot[head..head + n])
 }
 
-/// The stamps and the record go to the front of `to`, the rest of which stays. The answer is how many bytes they are; none where the slot is not in use.
+/// The stamps and the record go to the front of `to`, the rest of which stays. The answer is how
+/// many bytes they are; none where the slot is not in use.
 pub fn fetch(slot: &[u8], shape: Shape, to: &mut [u8]) -> Option<usize>
     requires slot { size shape ≤ length slot.now }
     requires room { shape.stamps + shape.greatest ≤ length to.old }
@@ -95,8 +96,8 @@ pub fn fetch(slot: &[u8], shape: Shape, to: &mut [u8]) -> Option<usize>
     }
 }
 
-/// The record goes to the front of `to`, the rest of which stays, and the stamps in front of it are left out. The answer is its length; none where the slot is not
-/// in use.
+/// The record goes to the front of `to`, the rest of which stays, and the stamps in front of it are
+/// left out. The answer is its length; none where the slot is not in use.
 pub fn fetch_record(slot: &[u8], shape: Shape, to: &mut [u8]) -> Option<usize>
     requires slot { size shape ≤ length slot.now }
     requires room { shape.greatest ≤ length to.old }

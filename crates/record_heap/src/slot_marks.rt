@@ -9,7 +9,8 @@ use crate::shape::Place;
 use page_marks::WalkFault;
 use std::alloc::Global;
 
-/// A mark for each slot of these pages, in their order, of one bit. Where a page stands among them is looked up by its number, and compared with what stands there.
+/// A mark for each slot of these pages, in their order, of one bit. Where a page stands among them
+/// is looked up by its number, and compared with what stands there.
 #[derive(Drop)]
 pub struct SlotMarks<'a> {
     pub own: &'a [u32],

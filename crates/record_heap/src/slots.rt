@@ -50,7 +50,8 @@ pub fn put_free(page: &mut [u8; PAGE_SIZE], shape: Shape, i: usize, next: Place)
 pub fn put_used(page: &mut [u8; PAGE_SIZE], shape: Shape, i: usize, stamps: &[u8], record: &[u8])
     requires slot { i < room shape }
     requires fits { FitsSlot shape stamps.now «record».now }
-    ensures { Edits shape page.old page.new i (λ slot. used_in shape slot ≡ Some (stamps.now ++ «record».now)) }
+    ensures { Edits shape page.old page.new i (λ slot.
+        used_in shape slot ≡ Some (stamps.now ++ «record».now)) }
 {
     let size = shape.size();
     let at = FIRST_SLOT + i * size;

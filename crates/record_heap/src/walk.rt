@@ -49,7 +49,8 @@ fn walk_pages(
     first: u32,
     reached: &mut [bool],
 ) -> Result<Vec<u32>, WalkFault>
-    ensures { IfOk result (λ own. PagesWalked (pages_in pages.now) first 0 (marked_in reached.old) (marked_in reached.new) own.items) }
+    ensures { IfOk result (λ own. PagesWalked (pages_in pages.now) first 0 (marked_in reached.old)
+        (marked_in reached.new) own.items) }
 {
     let mut own = Vec::new(alloc);
     let mut from = 0;
@@ -214,11 +215,13 @@ fn walk_own(
     Ok(())
 }
 
-/// Walks the heap over the pages of a file, as they were read. Answers its own pages in the order of their chain, and marks them as reached; each slot of
-/// them is in use, or stands once in the chain of free slots.
+/// Walks the heap over the pages of a file, as they were read. Answers its own pages in the order
+/// of their chain, and marks them as reached; each slot of them is in use, or stands once in the
+/// chain of free slots.
 ///
-/// Memory; Shared where a heap page was reached before; Chain where the pages are no such heap: at a page or slot that is none, at a free slot that nothing leads
-/// to, or at the page or slot that leads on wrongly, which is page 0 for the first. At a fault some of its pages may be marked.
+/// Memory; Shared where a heap page was reached before; Chain where the pages are no such heap: at
+/// a page or slot that is none, at a free slot that nothing leads to, or at the page or slot that
+/// leads on wrongly, which is page 0 for the first. At a fault some of its pages may be marked.
 pub fn walk_heap(
     alloc: Global,
     pages: &[[u8; PAGE_SIZE]],

@@ -26,13 +26,15 @@ last_of (x ∷ []) = Some x
 last_of (x ∷ (y ∷ ys)) = last_of (y ∷ ys)
 
 -- a tree with h levels above its leaves stands below this page, within these bounds
-pub record IsTree (shape : Shape) (pages : PageMap) (h page : ℕ) (low high : Bound) (t : TreeOf h) : Type 0 where
+pub record IsTree (shape : Shape) (pages : PageMap) (h page : ℕ) (low high : Bound)
+    (t : TreeOf h) : Type 0 where
   pub holds : Holds shape pages h t
   pub root : page_of h t ≡ page
   pub ordered : IsOrdered shape.width h low high t
 
 -- no page stands twice in it, and its nodes are filled
-pub record IsWhole (shape : Shape) (pages : PageMap) (h page : ℕ) (low high : Bound) (t : TreeOf h) : Type 0 where
+pub record IsWhole (shape : Shape) (pages : PageMap) (h page : ℕ) (low high : Bound)
+    (t : TreeOf h) : Type 0 where
   pub stands : IsTree shape pages h page low high t
   pub apart : AreApart (pages_of h t)
   pub filled : IsHalfFull shape h t

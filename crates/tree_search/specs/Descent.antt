@@ -11,7 +11,8 @@ use Rattle.pages.specs.Answer.{IsAnswer}
 use Rattle.tree_search.specs.Calls.{entry_of}
 
 -- the child to the right of all separators that are not above the key, and the one behind it
-pub record IsDescentStep (width : ℕ) (key : List ℕ) (separators : List (List ℕ)) (below : List ℕ) (step : StepDown) : Type 0 where
+pub record IsDescentStep (width : ℕ) (key : List ℕ) (separators : List (List ℕ)) (below : List ℕ)
+    (step : StepDown) : Type 0 where
   pub rank : Ascends width separators → IsRankAfter width key separators step.place
   pub within : step.place ≤ length separators
   pub child : step.child ≡ slice_index below step.place
@@ -20,7 +21,8 @@ pub record IsDescentStep (width : ℕ) (key : List ℕ) (separators : List (List
 
 abbrev pub Steps : Shape → PageMap → ℕ → List ℕ → Result StepDown Fault → Type 0
 Steps shape pages page key result =
-    (separators : List (List ℕ)) (below : List ℕ) → IsInnerAt shape pages page separators below → IsAnswer result (IsDescentStep shape.width key separators below)
+    (separators : List (List ℕ)) (below : List ℕ) → IsInnerAt shape pages page separators below
+    → IsAnswer result (IsDescentStep shape.width key separators below)
 
 -- the place of the key among the entries, and its entry
 pub record IsLook (width : ℕ) (key : List ℕ) (entries : List (List ℕ)) (look : Look) : Type 0 where
@@ -29,9 +31,11 @@ pub record IsLook (width : ℕ) (key : List ℕ) (entries : List (List ℕ)) (lo
 
 abbrev pub Looks : Shape → PageMap → ℕ → List ℕ → Result Look Fault → Type 0
 Looks shape pages page key result =
-    (entries : List (List ℕ)) → IsLeafAt shape pages page entries → Ascends shape.width entries → IsAnswer result (IsLook shape.width key entries)
+    (entries : List (List ℕ)) → IsLeafAt shape pages page entries → Ascends shape.width entries
+    → IsAnswer result (IsLook shape.width key entries)
 
 -- whether the entry of a key stands at this place
-pub record IsKeyAt (width : ℕ) (key : List ℕ) (entries : List (List ℕ)) (place : ℕ) (has : Bool) : Type 0 where
+pub record IsKeyAt (width : ℕ) (key : List ℕ) (entries : List (List ℕ)) (place : ℕ)
+    (has : Bool) : Type 0 where
   pub present : has ≡ true → entry_of width key entries ≡ Some (slice_index_or entries place [])
   pub absent : has ≡ false → entry_of width key entries ≡ None

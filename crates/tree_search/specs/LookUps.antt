@@ -10,6 +10,7 @@ abbrev pub WhenHonest : {S : Type 0} → ShownPages S → (old new : S) → (Pag
 WhenHonest shown old new Says = IsTrue (shown.state new).is_honest → Says (shown.state old).live
 
 -- the answer of a look-up, and what it keeps, at a fault too
-pub record LooksUp {S X : Type 0} (shown : ShownPages S) (most : ℕ) (Says : PageMap → Result X Fault → Type 0) (old new : S) (result : Result X Fault) : Type 0 where
+pub record LooksUp {S X : Type 0} (shown : ShownPages S) (most : ℕ) (Says : PageMap → Result X Fault
+    → Type 0) (old new : S) (result : Result X Fault) : Type 0 where
   pub found : IsTrue (shown.state new).is_honest → Says (shown.state old).live result
   pub reads : ReadsPages shown most old new result

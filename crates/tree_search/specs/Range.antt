@@ -28,11 +28,14 @@ abbrev pub IsFirst : ℕ → List ℕ → List ℕ → List (List ℕ) → Optio
 IsFirst width from to entries None = find (is_within width from to) entries ≡ None
 IsFirst width from to entries (Some first) =
     (find (is_within width from to) entries ≡ Some first.entry.items)
-    × (first.followed ≡ option_map_or (is_within width from to) (first_after width (take width first.entry.items) entries) false)
+    × (first.followed ≡ option_map_or (is_within width from to)
+    (first_after width (take width first.entry.items) entries) false)
 
-abbrev pub FindsBelow : Shape → PageMap → (h page : ℕ) → List ℕ → List ℕ → Result (Option First) Fault → Type 0
+abbrev pub FindsBelow : Shape → PageMap → (h page : ℕ) → List ℕ → List ℕ → Result (Option First) Fault
+    → Type 0
 FindsBelow shape pages h page from to result =
-    (t : TreeOf h) → IsTree shape pages h page None None t → IsHalfFull shape h t → IsAnswer result (IsFirst shape.width from to (entries_of h t))
+    (t : TreeOf h) → IsTree shape pages h page None None t → IsHalfFull shape h t
+    → IsAnswer result (IsFirst shape.width from to (entries_of h t))
 
 -- the entries in the range
 abbrev pub within : ℕ → List ℕ → List ℕ → List (List ℕ) → List (List ℕ)
@@ -64,7 +67,8 @@ abbrev pub told_first : ArrayVec ℕ → Result (Option Bool) Fault → Result (
 told_first entry (Ok found) = Ok (first_with entry found)
 told_first entry (Err fault) = Err fault
 
--- what a look has come to: the answer, whatever stands behind the page, or the one entry of the range that is here, if there is one
+-- what a look has come to: the answer, whatever stands behind the page, or the one entry of the
+-- range that is here, if there is one
 pub data Seen : Type 0 where
   Settled : Option First → Seen
   Open : Option (ArrayVec ℕ) → Seen
@@ -92,11 +96,13 @@ abbrev pub IsUnended : Sight → Type 0
 IsUnended (Answered found) = ⊥
 IsUnended (Unended here) = ⊤
 
--- what a look has come to below a page whose entries are below this bound: the answer for these entries and all others that may
--- stand behind them, or the one entry of the range that is here, if there is one
+-- what a look has come to below a page whose entries are below this bound: the answer for these
+-- entries and all others that may stand behind them, or the one entry of the range that is here, if
+-- there is one
 abbrev pub IsSight : ℕ → List ℕ → List ℕ → Bound → List (List ℕ) → Seen → Type 0
 IsSight width from to high entries (Settled found) =
-    (others : List (List ℕ)) → Each (IsBeyond width high) others → Begin (within width from to (entries ++ others)) found
+    (others : List (List ℕ)) → Each (IsBeyond width high) others
+    → Begin (within width from to (entries ++ others)) found
 IsSight width from to high entries (Open last) = within width from to entries ≡ only last
 
 abbrev pub Sights : Shape → PageMap → (h page : ℕ) → List ℕ → List ℕ → Result Seen Fault → Type 0
@@ -108,7 +114,8 @@ Sights shape pages h page from to result =
 abbrev pub SightsInLeaf : Shape → PageMap → (page : ℕ) → List ℕ → List ℕ → Result Seen Fault → Type 0
 SightsInLeaf shape pages page from to result =
     (entries : List (List ℕ)) (high : Bound) → IsLeafAt shape pages page entries → Ascends shape.width entries
-    → Each (λ e. Below high (take shape.width e)) entries → IsAnswer result (IsSight shape.width from to high entries)
+    → Each (λ e. Below high (take shape.width e)) entries
+    → IsAnswer result (IsSight shape.width from to high entries)
 
 -- a look from a place of a leaf on
 abbrev pub IsSightFrom : ℕ → ℕ → List ℕ → List (List ℕ) → Seen → Type 0
@@ -119,23 +126,28 @@ IsSightFrom width place to entries sight =
 -- the answer of a tree that is no root and has no entry below the range
 abbrev pub Fronts : Shape → PageMap → (h page : ℕ) → List ℕ → Result (Option First) Fault → Type 0
 Fronts shape pages h page to result =
-    (from : List ℕ) (t : TreeOf h) (low high : Bound) → IsTree shape pages h page low high t → IsHalfFull shape h t → least shape h ≤ size_of h t
+    (from : List ℕ) (t : TreeOf h) (low high : Bound) → IsTree shape pages h page low high t
+    → IsHalfFull shape h t → least shape h ≤ size_of h t
     → Each (λ e. less (take shape.width e) from ≡ false) (entries_of h t)
     → IsAnswer result (λ found. IsSight shape.width from to high (entries_of h t) (Settled found))
 
 abbrev pub FrontsInLeaf : Shape → PageMap → (page : ℕ) → List ℕ → Result (Option First) Fault → Type 0
 FrontsInLeaf shape pages page to result =
-    (from : List ℕ) (entries : List (List ℕ)) (high : Bound) → IsLeafAt shape pages page entries → Ascends shape.width entries
-    → Each (λ e. Below high (take shape.width e)) entries → least shape 0 ≤ length entries → Each (λ e. less (take shape.width e) from ≡ false) entries
+    (from : List ℕ) (entries : List (List ℕ)) (high : Bound) → IsLeafAt shape pages page entries
+    → Ascends shape.width entries
+    → Each (λ e. Below high (take shape.width e)) entries → least shape 0 ≤ length entries
+    → Each (λ e. less (take shape.width e) from ≡ false) entries
     → IsAnswer result (λ found. IsSight shape.width from to high entries (Settled found))
 
 -- whether such a tree has an entry of the range
 abbrev pub HasFront : Shape → PageMap → (h page : ℕ) → List ℕ → Result Bool Fault → Type 0
-HasFront shape pages h page to (Ok told) = (front : Option First) × (Fronts shape pages h page to (Ok front) × (told ≡ is_some front))
+HasFront shape pages h page to (Ok told) = (front : Option First)
+    × (Fronts shape pages h page to (Ok front) × (told ≡ is_some front))
 HasFront shape pages h page to (Err fault) = Fronts shape pages h page to (Err fault)
 
 -- one step down to where a range begins; where it is past, the separator behind the child lies past the range
-pub record IsFork (width : ℕ) (from to : List ℕ) (separators : List (List ℕ)) (below : List ℕ) (fork : Fork) : Type 0 where
+pub record IsFork (width : ℕ) (from to : List ℕ) (separators : List (List ℕ)) (below : List ℕ)
+    (fork : Fork) : Type 0 where
   pub step : IsDescentStep width from separators below fork.step
   pub inside : IsTrue fork.past → fork.step.place < length separators
   pub above : IsTrue fork.past → less to (slice_index_or separators fork.step.place []) ≡ true

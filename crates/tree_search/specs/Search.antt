@@ -28,20 +28,27 @@ abbrev pub IsFound : (List (List ℕ) → Option (List ℕ)) → List (List ℕ)
 IsFound look entries found = option_map (λ e. e.items) found ≡ look entries
 
 -- of a tree that stands, and of a tree that is filled too
-abbrev pub Finds : Shape → PageMap → ℕ → ℕ → (List (List ℕ) → Option (List ℕ)) → Result (Option (ArrayVec ℕ)) Fault → Type 0
+abbrev pub Finds : Shape → PageMap → ℕ → ℕ → (List (List ℕ) → Option (List ℕ))
+    → Result (Option (ArrayVec ℕ)) Fault → Type 0
 Finds shape pages h page look result =
-    (t : TreeOf h) (low high : Bound) → IsTree shape pages h page low high t → IsAnswer result (IsFound look (entries_of h t))
+    (t : TreeOf h) (low high : Bound) → IsTree shape pages h page low high t
+    → IsAnswer result (IsFound look (entries_of h t))
 
-abbrev pub FindsFilled : Shape → PageMap → ℕ → ℕ → (List (List ℕ) → Option (List ℕ)) → Result (Option (ArrayVec ℕ)) Fault → Type 0
+abbrev pub FindsFilled : Shape → PageMap → ℕ → ℕ → (List (List ℕ) → Option (List ℕ))
+    → Result (Option (ArrayVec ℕ)) Fault → Type 0
 FindsFilled shape pages h page look result =
-    (t : TreeOf h) (low high : Bound) → IsTree shape pages h page low high t → IsHalfFull shape h t → IsAnswer result (IsFound look (entries_of h t))
+    (t : TreeOf h) (low high : Bound) → IsTree shape pages h page low high t → IsHalfFull shape h t
+    → IsAnswer result (IsFound look (entries_of h t))
 
-abbrev pub FindsInLeaf : Shape → PageMap → ℕ → (List (List ℕ) → Option (List ℕ)) → Result (Option (ArrayVec ℕ)) Fault → Type 0
+abbrev pub FindsInLeaf : Shape → PageMap → ℕ → (List (List ℕ) → Option (List ℕ))
+    → Result (Option (ArrayVec ℕ)) Fault → Type 0
 FindsInLeaf shape pages page look result =
-    (entries : List (List ℕ)) → IsLeafAt shape pages page entries → Ascends shape.width entries → IsAnswer result (IsFound look entries)
+    (entries : List (List ℕ)) → IsLeafAt shape pages page entries → Ascends shape.width entries
+    → IsAnswer result (IsFound look entries)
 
 -- a leaf in which the entry of a key stands, where the tree has one
-pub record IsLeafFor (shape : Shape) (pages : PageMap) (h : ℕ) (key : List ℕ) (t : TreeOf h) (leaf : ℕ) : Type 0 where
+pub record IsLeafFor (shape : Shape) (pages : PageMap) (h : ℕ) (key : List ℕ) (t : TreeOf h)
+    (leaf : ℕ) : Type 0 where
   pub entries : List (List ℕ)
   pub at : IsLeafAt shape pages leaf entries
   pub rises : Ascends shape.width entries
@@ -49,16 +56,19 @@ pub record IsLeafFor (shape : Shape) (pages : PageMap) (h : ℕ) (key : List ℕ
 
 abbrev pub LeadsToLeaf : Shape → PageMap → ℕ → ℕ → List ℕ → Result ℕ Fault → Type 0
 LeadsToLeaf shape pages h page key result =
-    (t : TreeOf h) (low high : Bound) → IsTree shape pages h page low high t → IsAnswer result (IsLeafFor shape pages h key t)
+    (t : TreeOf h) (low high : Bound) → IsTree shape pages h page low high t
+    → IsAnswer result (IsLeafFor shape pages h key t)
 
 -- the entry that was filled, or none
 abbrev pub filled : ArrayVec ℕ → Bool → Option (ArrayVec ℕ)
 filled entry true = Some entry
 filled entry false = None
 
-abbrev pub FillsFromLeaf : Shape → PageMap → ℕ → (List (List ℕ) → Option (List ℕ)) → ArrayVec ℕ → Result Bool Fault → Type 0
+abbrev pub FillsFromLeaf : Shape → PageMap → ℕ → (List (List ℕ) → Option (List ℕ)) → ArrayVec ℕ
+    → Result Bool Fault → Type 0
 FillsFromLeaf shape pages page look entry result =
-    (entries : List (List ℕ)) → IsLeafAt shape pages page entries → Ascends shape.width entries → IsAnswer result (λ done. IsFound look entries (filled entry done))
+    (entries : List (List ℕ)) → IsLeafAt shape pages page entries → Ascends shape.width entries
+    → IsAnswer result (λ done. IsFound look entries (filled entry done))
 
 -- the first entry of a tree that has one
 abbrev pub FindsFirst : Shape → PageMap → ℕ → ℕ → Result (ArrayVec ℕ) Fault → Type 0
@@ -68,16 +78,19 @@ FindsFirst shape pages h page result =
 
 abbrev pub FirstOfLeaf : Shape → PageMap → ℕ → Result (ArrayVec ℕ) Fault → Type 0
 FirstOfLeaf shape pages page result =
-    (entries : List (List ℕ)) → IsLeafAt shape pages page entries → 1 ≤ length entries → IsAnswer result (λ e. head_of entries ≡ Some e.items)
+    (entries : List (List ℕ)) → IsLeafAt shape pages page entries → 1 ≤ length entries
+    → IsAnswer result (λ e. head_of entries ≡ Some e.items)
 
 abbrev pub FirstChild : Shape → PageMap → ℕ → Result ℕ Fault → Type 0
 FirstChild shape pages page result =
-    (separators : List (List ℕ)) (below : List ℕ) → IsInnerAt shape pages page separators below → IsAnswer result (λ child. child ≡ slice_index below 0)
+    (separators : List (List ℕ)) (below : List ℕ) → IsInnerAt shape pages page separators below
+    → IsAnswer result (λ child. child ≡ slice_index below 0)
 
 -- the last entry of a tree that is filled
 abbrev pub FindsLast : Shape → PageMap → ℕ → ℕ → Result (Option (ArrayVec ℕ)) Fault → Type 0
 FindsLast shape pages h page result =
-    (t : TreeOf h) (low high : Bound) → IsTree shape pages h page low high t → IsHalfFull shape h t → IsAnswer result (IsFound last_of (entries_of h t))
+    (t : TreeOf h) (low high : Bound) → IsTree shape pages h page low high t → IsHalfFull shape h t
+    → IsAnswer result (IsFound last_of (entries_of h t))
 
 abbrev pub LastOfLeaf : Shape → PageMap → ℕ → Result (Option (ArrayVec ℕ)) Fault → Type 0
 LastOfLeaf shape pages page result =
@@ -85,4 +98,5 @@ LastOfLeaf shape pages page result =
 
 abbrev pub LastChild : Shape → PageMap → ℕ → Result ℕ Fault → Type 0
 LastChild shape pages page result =
-    (separators : List (List ℕ)) (below : List ℕ) → IsInnerAt shape pages page separators below → IsAnswer result (λ child. child ≡ slice_index below (length separators))
+    (separators : List (List ℕ)) (below : List ℕ) → IsInnerAt shape pages page separators below
+    → IsAnswer result (λ child. child ≡ slice_index below (length separators))

@@ -29,7 +29,8 @@ IsEntryAt leaf place entries spot (Some entry) = (spot.place ≡ place) × IsInL
 
 abbrev pub EntryAt : Shape → PageMap → (page place : ℕ) → Spot → Result (Option (ArrayVec ℕ)) Fault → Type 0
 EntryAt shape pages page place spot result =
-    (entries : List (List ℕ)) → IsLeafAt shape pages page entries → IsAnswer result (IsEntryAt page place entries spot)
+    (entries : List (List ℕ)) → IsLeafAt shape pages page entries
+    → IsAnswer result (IsEntryAt page place entries spot)
 
 -- the entry at a place of a leaf was copied, or the leaf has no more
 abbrev pub IsCopyAt : ℕ → List (List ℕ) → List ℕ → Bool → Type 0
@@ -38,7 +39,8 @@ IsCopyAt place entries entry false = length entries ≤ place
 
 abbrev pub CopiesEntry : Shape → PageMap → (page place : ℕ) → List ℕ → Result Bool Fault → Type 0
 CopiesEntry shape pages page place entry result =
-    (entries : List (List ℕ)) → IsLeafAt shape pages page entries → IsAnswer result (IsCopyAt place entries entry)
+    (entries : List (List ℕ)) → IsLeafAt shape pages page entries
+    → IsAnswer result (IsCopyAt place entries entry)
 
 -- the entry begins with these bytes
 abbrev pub begins_with : List ℕ → List ℕ → Bool
@@ -51,7 +53,8 @@ TellsStart shape pages page place start result =
     → IsAnswer result (λ told. told ≡ begins_with start (slice_index_or entries place []))
 
 -- the entry stands at this place of this leaf of these pages, between these of the entries
-pub record StandsAt (shape : Shape) (pages : PageMap) (own : List ℕ) (entries : List (List ℕ)) (spot : Spot) (entry : List ℕ) : Type 0 where
+pub record StandsAt (shape : Shape) (pages : PageMap) (own : List ℕ) (entries : List (List ℕ))
+    (spot : Spot) (entry : List ℕ) : Type 0 where
   pub before : List (List ℕ)
   pub here : List (List ℕ)
   pub behind : List (List ℕ)
@@ -84,4 +87,5 @@ SpotsInLeaf shape pages page spot result =
 
 abbrev pub SpotsFirstInLeaf : Shape → PageMap → ℕ → Spot → Result (ArrayVec ℕ) Fault → Type 0
 SpotsFirstInLeaf shape pages page spot result =
-    (entries : List (List ℕ)) → IsLeafAt shape pages page entries → IfOk result (λ e. IsInLeaf page entries spot e.items)
+    (entries : List (List ℕ)) → IsLeafAt shape pages page entries
+    → IfOk result (λ e. IsInLeaf page entries spot e.items)

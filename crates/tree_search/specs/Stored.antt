@@ -16,7 +16,8 @@ pub record IsLeafAt (shape : Shape) (pages : PageMap) (page : ℕ) (entries : Li
   pub holds : leaf_entries shape bytes ≡ entries
 
 -- the page is an inner node of these separators, with these children
-pub record IsInnerAt (shape : Shape) (pages : PageMap) (page : ℕ) (seps : List (List ℕ)) (below : List ℕ) : Type 0 where
+pub record IsInnerAt (shape : Shape) (pages : PageMap) (page : ℕ) (seps : List (List ℕ))
+    (below : List ℕ) : Type 0 where
   pub bytes : List ℕ
   pub there : pages page ≡ Some bytes
   pub inner : IsInner shape bytes
@@ -30,4 +31,5 @@ WhereRising shape page Says = Ascends shape.width (leaf_entries shape page) → 
 -- the tree stands in these pages
 abbrev pub Holds : Shape → PageMap → (h : ℕ) → TreeOf h → Type 0
 Holds shape pages zero t = IsLeafAt shape pages t.0 t.1
-Holds shape pages (suc h) t = IsInnerAt shape pages t.0 t.1 (map (page_of h) t.2) × Each (Holds shape pages h) t.2
+Holds shape pages (suc h) t = IsInnerAt shape pages t.0 t.1 (map (page_of h) t.2)
+    × Each (Holds shape pages h) t.2

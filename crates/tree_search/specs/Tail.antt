@@ -23,11 +23,15 @@ abbrev pub TellsPresence : Option (List ℕ) → Bool → Type 0
 TellsPresence entry told = told ≡ is_some entry
 
 -- what a look-up tells of the entry of a key
-abbrev pub TellsBelow : (Option (List ℕ) → Bool → Type 0) → Shape → PageMap → (h page : ℕ) → List ℕ → Result Bool Fault → Type 0
+abbrev pub TellsBelow : (Option (List ℕ) → Bool → Type 0) → Shape → PageMap → (h page : ℕ) → List ℕ
+    → Result Bool Fault → Type 0
 TellsBelow Says shape pages h page key result =
-    (t : TreeOf h) (low high : Bound) → IsTree shape pages h page low high t → IsAnswer result (Says (entry_of shape.width key (entries_of h t)))
+    (t : TreeOf h) (low high : Bound) → IsTree shape pages h page low high t
+    → IsAnswer result (Says (entry_of shape.width key (entries_of h t)))
 
 -- the same of a leaf alone
-abbrev pub TellsInLeaf : (Option (List ℕ) → Bool → Type 0) → Shape → PageMap → ℕ → List ℕ → Result Bool Fault → Type 0
+abbrev pub TellsInLeaf : (Option (List ℕ) → Bool → Type 0) → Shape → PageMap → ℕ → List ℕ
+    → Result Bool Fault → Type 0
 TellsInLeaf Says shape pages page key result =
-    (entries : List (List ℕ)) → IsLeafAt shape pages page entries → Ascends shape.width entries → IsAnswer result (Says (entry_of shape.width key entries))
+    (entries : List (List ℕ)) → IsLeafAt shape pages page entries → Ascends shape.width entries
+    → IsAnswer result (Says (entry_of shape.width key entries))

@@ -1,11 +1,13 @@
--- A B+ tree as a value: its pages by their numbers, the entries of its leaves and the separators between children.
+-- A B+ tree as a value: its pages by their numbers, the entries of its leaves and the separators
+-- between children.
 use Rattle.std.specs.Prelude.{◌≡◌, ℕ, zero, suc, ◌≤◌, List, [], ◌∷◌, length, take, flat_map, Option, Some, None, true, false, ⊤}
 use Rattle.tree_node.specs.declared.shape.Shape.{Shape}
 use Rattle.page_bytes.specs.Each.{Each}
 use Rattle.node_balance.specs.Fill.{least}
 use Rattle.tree_node.specs.Order.{less, Ascends}
 
--- A tree with `h` levels above its leaves: its page, and in a leaf the entries, else the separators and the children.
+-- A tree with `h` levels above its leaves: its page, and in a leaf the entries, else the separators
+-- and the children.
 abbrev pub TreeOf : ℕ → Type 0
 TreeOf zero = ℕ × List (List ℕ)
 TreeOf (suc h) = ℕ × List (List ℕ) × List (TreeOf h)
@@ -61,13 +63,16 @@ Below None key = ⊤
 Below (Some high) key = less key high ≡ true
 
 -- Members of a row, one more than the separators: each lies between the separators beside it.
-abbrev pub IsRow : {X : Type 0} → (Bound → Bound → X → Type 0) → Bound → List (List ℕ) → List X → Bound → Type 0
+abbrev pub IsRow : {X : Type 0} → (Bound → Bound → X → Type 0) → Bound → List (List ℕ) → List X → Bound
+    → Type 0
 IsRow Between low separators [] high = ⊥
 IsRow Between low [] (x ∷ []) high = Between low high x
 IsRow Between low [] (x ∷ y ∷ xs) high = ⊥
-IsRow Between low (s ∷ ss) (x ∷ xs) high = Above low s × Below high s × Between low (Some s) x × IsRow Between (Some s) ss xs high
+IsRow Between low (s ∷ ss) (x ∷ xs) high = Above low s × Below high s × Between low (Some s) x
+    × IsRow Between (Some s) ss xs high
 
 -- the keys rise and lie from `low` on, below `high`
 abbrev pub IsOrdered : ℕ → (h : ℕ) → Bound → Bound → TreeOf h → Type 0
-IsOrdered width zero low high t = Ascends width t.1 × Each (λ e. NotBelow low (take width e) × Below high (take width e)) t.1
+IsOrdered width zero low high t = Ascends width t.1
+    × Each (λ e. NotBelow low (take width e) × Below high (take width e)) t.1
 IsOrdered width (suc h) low high t = Ascends width t.1 × IsRow (IsOrdered width h) low t.1 t.2 high

@@ -14,8 +14,8 @@ use page_bytes::PAGE_SIZE;
 use pages::Pages;
 use tree_node::{Entry, InnerView, LeafView, Shape, is_inner, is_leaf};
 
-/// The child of an inner node below which a key belongs: its place, its page, the page of the next one (or its own, where it is the last),
-/// and how many separators the node has.
+/// The child of an inner node below which a key belongs: its place, its page, the page of the next
+/// one (or its own, where it is the last), and how many separators the node has.
 #[derive(Clone, Copy)]
 pub struct StepDown {
     pub place: usize,
@@ -95,7 +95,8 @@ pub fn has_key(page: &[u8; PAGE_SIZE], shape: Shape, place: usize, key: &[u8]) -
     requires leaf { IsLeaf shape page.now }
     ensures within { result ≡ true → place < length (leaf_entries shape page.now) }
     ensures key { WhereRising shape page.now
-        (λ entries. IsRank shape.width key.now entries place → IsKeyAt shape.width key.now entries place result) }
+        (λ entries. IsRank shape.width key.now entries place
+        → IsKeyAt shape.width key.now entries place result) }
 {
     let leaf = LeafView { page, shape };
     if place >= leaf.count() {

@@ -39,8 +39,8 @@ pub struct Fork {
     pub past: bool,
 }
 
-/// The first entry whose key is not below `from` and not above `to` in a tree with `levels` levels above its leaves, and whether the next entry is such a
-/// one too. The keys may have any length.
+/// The first entry whose key is not below `from` and not above `to` in a tree with `levels` levels
+/// above its leaves, and whether the next entry is such a one too. The keys may have any length.
 pub fn first_within<P: Pages>(
     pages: &mut P,
     shape: Shape,
@@ -60,7 +60,8 @@ pub fn first_within<P: Pages>(
     }
 }
 
-/// The same, where the entry goes to `entry`. The answer is whether the next entry is of the range too, or none where no entry is.
+/// The same, where the entry goes to `entry`. The answer is whether the next entry is of the range
+/// too, or none where no entry is.
 fn fill_within<P: Pages>(
     pages: &mut P,
     shape: Shape,
@@ -94,7 +95,8 @@ fn look_below<P: Pages>(
     requires ready { P.shown.IsReady pages.old }
     ensures sight { WhenHonest P.shown pages.old pages.new
         (λ live. Sights shape live levels page from.now to.now (told_seen entry.new result)) }
-    ensures open { IfOk result (λ sight. IsUnended sight → (P.shown.state pages.new).asked ≤ (P.shown.state pages.old).asked + (levels + 1)) }
+    ensures open { IfOk result (λ sight. IsUnended sight
+        → (P.shown.state pages.new).asked ≤ (P.shown.state pages.old).asked + (levels + 1)) }
     ensures reads { ReadsPages P.shown (2 * (levels + 1)) pages.old pages.new result }
 {
     if levels == 0 {
@@ -150,7 +152,8 @@ fn look_from(
     entry: &mut Entry,
 ) -> Sight
     requires leaf { IsLeaf shape page.now }
-    ensures sight { IsSightFrom shape.width place to.now (leaf_entries shape page.now) (seen entry.new result) }
+    ensures sight { IsSightFrom shape.width place to.now (leaf_entries shape page.now)
+        (seen entry.new result) }
     ensures open { IsUnended result → length (leaf_entries shape page.now) ≤ place + 1 }
 {
     let leaf = LeafView { page, shape };
@@ -190,7 +193,8 @@ fn fork_at<P: Pages>(
 /// The same step from the bytes of an inner node.
 fn fork_in(page: &[u8; PAGE_SIZE], shape: Shape, from: &[u8], to: &[u8]) -> Fork
     requires inner { IsInner shape page.now }
-    ensures { IsFork shape.width from.now to.now (separators shape page.now) (children shape page.now) result }
+    ensures { IsFork shape.width from.now to.now (separators shape page.now)
+        (children shape page.now) result }
 {
     let step = step_in(page, shape, from);
     let node = InnerView { page, shape };
@@ -198,7 +202,8 @@ fn fork_in(page: &[u8; PAGE_SIZE], shape: Shape, from: &[u8], to: &[u8]) -> Fork
     Fork { step, past }
 }
 
-/// The range in the front of a tree that is no root and has no entry below the range. Its first entry goes to `entry`.
+/// The range in the front of a tree that is no root and has no entry below the range. Its first
+/// entry goes to `entry`.
 fn front_below<P: Pages>(
     pages: &mut P,
     shape: Shape,

@@ -67,7 +67,8 @@ fn find_in_leaf<P: Pages>(
 ) -> Result<bool, Fault>
     requires ready { P.shown.IsReady pages.old }
     ensures { LooksUp P.shown 1
-        (λ live. FillsFromLeaf shape live page (entry_of shape.width key.now) to.new) pages.old pages.new result }
+        (λ live. FillsFromLeaf shape live page (entry_of shape.width key.now) to.new) pages.old pages.new
+        result }
 {
     let bytes = pages.page(page)?;
     if !is_leaf(bytes, shape) {
@@ -91,7 +92,8 @@ fn find_entry(bytes: &[u8; PAGE_SIZE], shape: Shape, key: &[u8], to: &mut Entry)
     true
 }
 
-/// The first entry at a key or behind it, and where `past`, behind it. Where one is found, `spot` is where it stands.
+/// The first entry at a key or behind it, and where `past`, behind it. Where one is found, `spot`
+/// is where it stands.
 pub fn next_below<P: Pages>(
     pages: &mut P,
     shape: Shape,
@@ -106,7 +108,8 @@ pub fn next_below<P: Pages>(
         (λ live. FindsFilled shape live levels page (first_of past shape.width key.now) result) }
     ensures spot { WhenHonest P.shown pages.old pages.new
         (λ live. Spots shape live levels page spot.new result) }
-    ensures none { result ≡ Ok None → (P.shown.state pages.new).asked ≤ (P.shown.state pages.old).asked + (levels + 1) }
+    ensures none { result ≡ Ok None → (P.shown.state pages.new).asked ≤ (P.shown.state pages.old).asked
+        + (levels + 1) }
     ensures reads { ReadsPages P.shown (2 * (levels + 1)) pages.old pages.new result }
 {
     if levels == 0 {
@@ -163,7 +166,8 @@ fn next_in(
     entry_at(bytes, shape, page, place, spot)
 }
 
-/// How many entries of a leaf come before those at a key or behind it, and where `past`, before those behind it.
+/// How many entries of a leaf come before those at a key or behind it, and where `past`, before
+/// those behind it.
 fn place_in(bytes: &[u8; PAGE_SIZE], shape: Shape, key: &[u8], past: bool) -> usize
     requires leaf { IsLeaf shape bytes.now }
     ensures { WhereRising shape bytes.now (λ entries. IsPlace past shape.width key.now entries result) }

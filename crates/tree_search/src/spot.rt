@@ -98,7 +98,8 @@ pub fn copy_entry<P: Pages>(
     Ok(true)
 }
 
-/// Whether entry `place` of the leaf on a page begins with these bytes. Damage where the leaf has no such entry.
+/// Whether entry `place` of the leaf on a page begins with these bytes. Damage where the leaf has
+/// no such entry.
 pub fn entry_begins_with<P: Pages>(
     pages: &mut P,
     shape: Shape,

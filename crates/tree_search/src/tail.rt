@@ -15,7 +15,8 @@ use page_bytes::PAGE_SIZE;
 use pages::Pages;
 use tree_node::{LeafView, Shape, is_leaf};
 
-/// The bytes behind the key of an entry go to `tail`, in a tree with `levels` levels above its leaves. The answer is whether the key has an entry.
+/// The bytes behind the key of an entry go to `tail`, in a tree with `levels` levels above its
+/// leaves. The answer is whether the key has an entry.
 pub fn find_tail<P: Pages>(
     pages: &mut P,
     shape: Shape,
@@ -45,7 +46,8 @@ fn tail_in_leaf<P: Pages>(
     requires ready { P.shown.IsReady pages.old }
     requires size { shape.width + length tail.old ≡ shape.entry }
     ensures { LooksUp P.shown 1
-        (λ live. TellsInLeaf (IsTail shape.width tail.new) shape live page key.now) pages.old pages.new result }
+        (λ live. TellsInLeaf (IsTail shape.width tail.new) shape live page key.now) pages.old pages.new
+        result }
 {
     let bytes = pages.page(page)?;
     if !is_leaf(bytes, shape) {
@@ -104,7 +106,8 @@ fn is_in_leaf<P: Pages>(pages: &mut P, shape: Shape, page: u32, key: &[u8]) -> R
 /// The same in the bytes of a leaf.
 fn is_among(bytes: &[u8; PAGE_SIZE], shape: Shape, key: &[u8]) -> bool
     requires leaf { IsLeaf shape bytes.now }
-    ensures { WhereRising shape bytes.now (λ entries. TellsPresence (entry_of shape.width key.now entries) result) }
+    ensures { WhereRising shape bytes.now (λ entries.
+        TellsPresence (entry_of shape.width key.now entries) result) }
 {
     let leaf = LeafView { page: bytes, shape };
     has_key(bytes, shape, leaf.rank(key), key)
