@@ -1,6 +1,5 @@
 -- What an outcome means: of what it is right, and what was written. All of this is ours.
 use Rattle.std.specs.Prelude.{ℕ, Bool, List, length, Option, Ok, Err, ⊤}
-use Rattle.std.specs.Option.{IfSome}
 use Rattle.clap.specs.Words.{Text}
 use Rattle.folder_shelf.specs.Replay.{Unseen}
 use Rattle.file_checker.specs.Sound.{IsRight}
@@ -13,7 +12,7 @@ use Rattle.schema_listing.specs.Comparing.{TellsDifferences}
 use Rattle.command_words.specs.Asks.{AskCheck, AskCobol, AskDeck, AskExplain, AskStat}
 use Rattle.file_commands.specs.DeckFile.{IsDeckFile}
 use Rattle.file_commands.specs.Forms.{IsFormAsked}
-use Rattle.file_commands.specs.Front.{IsFrontOfInput, IsDeckNamed, IsTextNamed}
+use Rattle.file_commands.specs.Front.{IsDeckNamed, IsTextNamed, OfFile, OfWholeFile, OfDeck}
 use Rattle.file_commands.specs.Listed.{WritesList, WritesCobol}
 use Rattle.file_commands.specs.Records.{ListsRecords}
 use Rattle.file_commands.specs.Verdicts.{AreVerdicts}
@@ -36,27 +35,13 @@ abbrev pub given_by : {File : Type 0} → (File → Option (List ℕ)) → Optio
 given_by of_file of_input of_folder =
     record { of_file = of_file; of_input = of_input; of_folder = of_folder }
 
--- this is so of the bytes of some file that was opened, where they are known
-abbrev pub OfFile : {File : Type 0} → Given File → (IsSo : List ℕ → Type 0) → Type 0
-OfFile {File} given IsSo = (file : File) × IfSome (given.of_file file) IsSo
-
--- this is so of all bytes of such a file, up to what memory could ever hold
-abbrev pub OfWholeFile : {File : Type 0} → Given File → (IsSo : List ℕ → Type 0) → Type 0
-OfWholeFile {File} given IsSo =
-    (file : File) × (bytes : List ℕ)
-    × IsFrontOfInput 18446744073709551615 (given.of_file file) bytes × IsSo bytes
-
 -- the bytes are those of the deck that a word names
 abbrev pub AreOfDeck : {File : Type 0} → Given File → (deck : Text) → List ℕ → Type 0
 AreOfDeck given = IsDeckNamed given.of_file given.of_input
 
--- this is so of the bytes of the deck that a word names
-abbrev pub OfDeck : {File : Type 0} → Given File → (deck : Text) → (IsSo : List ℕ → Type 0) → Type 0
-OfDeck given deck IsSo = (bytes : List ℕ) × AreOfDeck given deck bytes × IsSo bytes
-
 -- the verdict is that on some file
 abbrev pub IsVerdict : {File : Type 0} → Given File → Verdict → Type 0
-IsVerdict given verdict = OfFile given (λ bytes. IsRight bytes verdict)
+IsVerdict given verdict = OfFile given.of_file (λ bytes. IsRight bytes verdict)
 
 -- the outcome is right, of what was read and of what was written, for words that ask for it. What is so of a
 -- run and of a session is said by `Did` and `ServedAsAsked`, and of the text of help nothing is said.
@@ -72,15 +57,15 @@ IsRightOf given words out (CheckedAll sound) =
     × AreVerdicts (IsVerdict given) (length files) sound
 -- the lines of a file's schema were written
 IsRightOf given words out SchemaTold =
-    OfFile given (λ bytes. Tells out.before out.behind (read_in bytes) (Ok tt))
+    OfFile given.of_file (λ bytes. Tells out.before out.behind (read_in bytes) (Ok tt))
 -- a file has no schema, for this reason
 IsRightOf given words out (SchemaRefused refusal) =
-    OfFile given (λ bytes. Tells out.before out.behind (read_in bytes) (Err refusal))
+    OfFile given.of_file (λ bytes. Tells out.before out.behind (read_in bytes) (Err refusal))
 -- the differences of a file's schema from that of the file of a deck that the words name were written
 IsRightOf given words out (SchemaCompared told) =
     (schema : AskForSchema words) × (described : FileDesc)
     × IsDeckFile (AreOfDeck given) schema.deck schema.name described
-    × OfFile given (λ bytes.
+    × OfFile given.of_file (λ bytes.
     TellsDifferences described.schema out.before out.behind (read_in bytes) (Ok told))
 -- the text of the number that the words name was written
 IsRightOf given words out Explained =
@@ -88,23 +73,23 @@ IsRightOf given words out Explained =
     × WritesText (explanation kind number) out.before out.behind
 -- the list of the deck that the words name was written
 IsRightOf given words out Listed =
-    (deck : Text) × AskDeck words deck × OfDeck given deck (λ bytes. WritesList bytes out.before out.behind)
+    (deck : Text) × AskDeck words deck × OfDeck given.of_file given.of_input deck (λ bytes. WritesList bytes out.before out.behind)
 -- the records that the words ask for were written, in the form that they name, or it is told why not
 IsRightOf given words out (Records list) =
     (asked : AskForRecords words) × (form : Form) × IsFormAsked (AreOfDeck given) asked.form form
-    × OfWholeFile given (λ bytes.
+    × OfWholeFile given.of_file (λ bytes.
     ListsRecords form bytes asked.key asked.from asked.to asked.first out.before out.behind list)
 -- the deck that the words name was written as a program
 IsRightOf given words out InCobol =
     (deck : Text) × (fixed : Bool) × AskCobol words deck fixed
-    × OfDeck given deck (λ bytes. WritesCobol bytes fixed out.before out.behind)
+    × OfDeck given.of_file given.of_input deck (λ bytes. WritesCobol bytes fixed out.before out.behind)
 -- the text that the words name was loaded, up to this end: into the file of the deck that they name, in the
 -- folder that they name
 IsRightOf given words out (Loaded end) =
-    (load : AskForLoad words) × OfDeck given load.deck (λ bytes.
+    (load : AskForLoad words) × OfDeck given.of_file given.of_input load.deck (λ bytes.
     LoadsDeck given.of_folder (IsTextNamed given.of_file given.of_input load.text)
     bytes load.folder load.file load.form load.into out.before out.behind end)
 -- what a file has was counted and written, or it is told why not
 IsRightOf given words out (Counted end) =
     (path : Text) × AskStat words path
-    × OfWholeFile given (λ bytes. EndsWith bytes out.before out.behind end)
+    × OfWholeFile given.of_file (λ bytes. EndsWith bytes out.before out.behind end)

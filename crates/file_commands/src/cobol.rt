@@ -1,6 +1,6 @@
 //! The deck in a file as a COBOL program.
-ghost use Rattle.std.specs.Prelude.{◌≡◌, ◌≢◌, ℕ, List, string_bytes, IfOk, IfErr};
-ghost use Rattle.file_commands.specs.Front.{IsDeckNamed};
+ghost use Rattle.std.specs.Prelude.{◌≡◌, ◌≢◌, string_bytes, IfOk, IfErr};
+ghost use Rattle.file_commands.specs.Front.{OfDeck};
 ghost use Rattle.file_commands.specs.Listed.{form_of, IsInCobol, WritesCobol, AreRefused, IsListFault};
 ghost use Rattle.command_outcomes.specs.Status.{status_of};
 
@@ -45,12 +45,10 @@ pub fn write_cobol<R: Files, I: Read, W: Write>(
     out: &mut W,
 ) -> Result<Outcome, Fault>
     ensures done { IfOk result (λ outcome. outcome ≡ Outcome.InCobol) }
-    ensures written { IfOk result (λ _. (bytes : List ℕ)
-        × IsDeckNamed R.File.remaining (I.remaining input.old) path.now bytes
-        × WritesCobol bytes fixed (W.contents out.old) (W.contents out.new)) }
+    ensures written { IfOk result (λ _. OfDeck R.File.remaining (I.remaining input.old) path.now
+        (λ bytes. WritesCobol bytes fixed (W.contents out.old) (W.contents out.new))) }
     ensures refused { IfErr result (λ fault. (told : _) → fault ≡ Fault.NotListed told
-        → (bytes : List ℕ) × IsDeckNamed R.File.remaining (I.remaining input.old) path.now bytes
-        × AreRefused bytes told) }
+        → OfDeck R.File.remaining (I.remaining input.old) path.now (λ bytes. AreRefused bytes told)) }
     ensures untouched { IfErr result (λ fault. status_of fault ≢ 4 → out.new ≡ out.old) }
     ensures fault { IfErr result IsListFault }
 {

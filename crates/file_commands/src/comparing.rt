@@ -4,7 +4,7 @@ ghost use Rattle.std.specs.Option.{IfSome};
 ghost use Rattle.file_control.specs.Description.{FileDesc as ToldFile};
 ghost use Rattle.schema_listing.specs.Listing.{read_in};
 ghost use Rattle.file_commands.specs.DeckFile.{IsOfDeck, IsDeckFault};
-ghost use Rattle.file_commands.specs.Front.{IsDeckNamed};
+ghost use Rattle.file_commands.specs.Front.{IsDeckNamed, OfFile};
 ghost use Rattle.file_commands.specs.Schema.{ComparesAs, IsOfComparison};
 ghost use Rattle.command_outcomes.specs.Status.{status_of};
 
@@ -49,7 +49,7 @@ fn compare_file<R: Files, W: Write>(
 ) -> Result<Outcome, Fault>
 where
     R::File: LockFile,
-    ensures told { IfOk result (λ outcome. (file : R.File) × IfSome (R.File.remaining file)
+    ensures told { IfOk result (λ outcome. OfFile R.File.remaining
         (λ bytes. ComparesAs deck.now (W.contents out.old) (W.contents out.new) (read_in bytes) outcome)) }
     ensures kind { IfOk result IsOfComparison }
     ensures fault { IfErr result (λ fault. status_of fault ≡ 4) }
@@ -74,9 +74,8 @@ where
     R::File: LockFile,
     ensures told { IfOk result (λ outcome. (described : ToldFile)
         × IsOfDeck (IsDeckNamed R.File.remaining (I.remaining input.old) deck.now) name.now described
-        × ((file : R.File) × IfSome (R.File.remaining file)
-        (λ bytes. ComparesAs described.schema (W.contents out.old) (W.contents out.new)
-        (read_in bytes) outcome))) }
+        × OfFile R.File.remaining (λ bytes. ComparesAs described.schema (W.contents out.old)
+        (W.contents out.new) (read_in bytes) outcome)) }
     ensures kind { IfOk result IsOfComparison }
     ensures untouched { IfErr result (λ fault. status_of fault ≢ 4 → out.new ≡ out.old) }
     ensures fault { IfErr result IsDeckFault }

@@ -1,7 +1,7 @@
 //! The count of what the file of a path has.
-ghost use Rattle.std.specs.Prelude.{◌≡◌, ℕ, List, IfOk, IfErr};
+ghost use Rattle.std.specs.Prelude.{◌≡◌, IfOk, IfErr};
 ghost use Rattle.file_statistics.specs.Listing.{EndsWith};
-ghost use Rattle.file_commands.specs.Front.{IsFrontOfInput};
+ghost use Rattle.file_commands.specs.Front.{OfWholeFile};
 ghost use Rattle.command_outcomes.specs.Status.{status_of};
 
 use crate::file_bytes::read_file;
@@ -34,9 +34,8 @@ pub fn count_path<R: Files, W: Write>(
 where
     R::File: LockFile,
     ensures counted { IfOk result (λ outcome. (end : _) × (outcome ≡ Outcome.Counted end)
-        × ((file : R.File) × (bytes : List ℕ)
-        × IsFrontOfInput 18446744073709551615 (R.File.remaining file) bytes
-        × EndsWith bytes (W.contents out.old) (W.contents out.new) end)) }
+        × OfWholeFile R.File.remaining (λ bytes. EndsWith bytes (W.contents out.old)
+        (W.contents out.new) end)) }
     ensures fault { IfErr result (λ fault. status_of fault ≡ 4) }
 {
     let bytes = match read_file(rt, alloc, path, &mut Silent) {

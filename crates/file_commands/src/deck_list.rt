@@ -1,9 +1,9 @@
 //! The list of the deck in a file.
-ghost use Rattle.std.specs.Prelude.{◌≡◌, ◌≢◌, ℕ, List, string_bytes, IfOk, IfErr};
+ghost use Rattle.std.specs.Prelude.{◌≡◌, ◌≢◌, string_bytes, IfOk, IfErr};
 ghost use Rattle.deck_reader.specs.declared.deck.Deck.{Deck as ToldDeck};
 ghost use Rattle.deck_reader.specs.Deck.{IsDeck};
 ghost use Rattle.deck_listing.specs.Listing.{Lists};
-ghost use Rattle.file_commands.specs.Front.{IsDeckNamed};
+ghost use Rattle.file_commands.specs.Front.{OfDeck};
 ghost use Rattle.file_commands.specs.Listed.{WritesList, AreRefused, IsListFault};
 ghost use Rattle.command_outcomes.specs.Status.{status_of};
 
@@ -59,12 +59,10 @@ pub fn list_path<R: Files, I: Read, W: Write>(
     out: &mut W,
 ) -> Result<Outcome, Fault>
     ensures done { IfOk result (λ outcome. outcome ≡ Outcome.Listed) }
-    ensures listed { IfOk result (λ _. (bytes : List ℕ)
-        × IsDeckNamed R.File.remaining (I.remaining input.old) path.now bytes
-        × WritesList bytes (W.contents out.old) (W.contents out.new)) }
+    ensures listed { IfOk result (λ _. OfDeck R.File.remaining (I.remaining input.old) path.now
+        (λ bytes. WritesList bytes (W.contents out.old) (W.contents out.new))) }
     ensures refused { IfErr result (λ fault. (told : _) → fault ≡ Fault.NotListed told
-        → (bytes : List ℕ) × IsDeckNamed R.File.remaining (I.remaining input.old) path.now bytes
-        × AreRefused bytes told) }
+        → OfDeck R.File.remaining (I.remaining input.old) path.now (λ bytes. AreRefused bytes told)) }
     ensures untouched { IfErr result (λ fault. status_of fault ≢ 4 → out.new ≡ out.old) }
     ensures fault { IfErr result IsListFault }
 {

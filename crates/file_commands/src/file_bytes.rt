@@ -1,7 +1,7 @@
 //! The bytes of a file: of a deck, of records, or of a text.
 ghost use Rattle.std.specs.Prelude.{◌≡◌, ◌≤◌, ◌<◌, IfOk, IfErr, length, take, codes};
 ghost use Rattle.std.specs.Io.KnownBytes.{Consumes, IsAtEnd};
-ghost use Rattle.file_commands.specs.Front.{IsFrontOfInput, IsFrontOfNamed, IsDeckNamed, IsTextNamed};
+ghost use Rattle.file_commands.specs.Front.{IsFrontOfNamed, IsFrontOfInput, IsDeckNamed, IsTextNamed};
 ghost use Rattle.command_outcomes.specs.Status.{status_of};
 
 use command_outcomes::Fault;

@@ -4,7 +4,7 @@ ghost use Rattle.std.specs.Option.{IfSome};
 ghost use Rattle.file_control.specs.Description.{FileDesc as ToldFile};
 ghost use Rattle.schema_listing.specs.Listing.{read_in};
 ghost use Rattle.file_commands.specs.DeckFile.{IsDeckFile};
-ghost use Rattle.file_commands.specs.Front.{IsDeckNamed};
+ghost use Rattle.file_commands.specs.Front.{IsDeckNamed, OfFile};
 ghost use Rattle.file_commands.specs.Schema.{TellsAs, ComparesAs, IsOfSchema, IsSchemaDone, IsSchemaFault, listing_told_as};
 ghost use Rattle.command_outcomes.specs.Status.{status_of};
 
@@ -57,7 +57,7 @@ fn schema_path<R: Files, W: Write>(
 ) -> Result<Outcome, Fault>
 where
     R::File: LockFile,
-    ensures told { IfOk result (λ outcome. (file : R.File) × IfSome (R.File.remaining file)
+    ensures told { IfOk result (λ outcome. OfFile R.File.remaining
         (λ bytes. TellsAs (W.contents out.old) (W.contents out.new) (read_in bytes) outcome)) }
     ensures kind { IfOk result IsOfSchema }
     ensures fault { IfErr result (λ fault. status_of fault ≡ 4) }
@@ -78,16 +78,14 @@ pub fn schema<R: Files, I: Read, W: Write>(
 ) -> Result<Outcome, Fault>
 where
     R::File: LockFile,
-    ensures told { IfOk result (λ outcome. IsOfSchema outcome → (file : R.File)
-        × IfSome (R.File.remaining file)
-        (λ bytes. TellsAs (W.contents out.old) (W.contents out.new) (read_in bytes) outcome)) }
+    ensures told { IfOk result (λ outcome. IsOfSchema outcome
+        → OfFile R.File.remaining (λ bytes. TellsAs (W.contents out.old) (W.contents out.new)
+        (read_in bytes) outcome)) }
     ensures compared { IfOk result (λ outcome. (told : _) → outcome ≡ Outcome.SchemaCompared told
-        → (described : ToldFile)
-        × IsDeckFile (IsDeckNamed R.File.remaining (I.remaining input.old))
+        → (described : ToldFile) × IsDeckFile (IsDeckNamed R.File.remaining (I.remaining input.old))
         (option_map (λ text. text.now) deck.entry) (option_map (λ text. text.now) name.entry) described
-        × ((file : R.File) × IfSome (R.File.remaining file)
-        (λ bytes. ComparesAs described.schema (W.contents out.old) (W.contents out.new)
-        (read_in bytes) outcome))) }
+        × OfFile R.File.remaining (λ bytes. ComparesAs described.schema (W.contents out.old)
+        (W.contents out.new) (read_in bytes) outcome)) }
     ensures done { IfOk result (IsSchemaDone (option_map (λ text. text.now) deck.entry)
         (option_map (λ text. text.now) name.entry)) }
     ensures untouched { IfErr result (λ fault. status_of fault ≢ 4 → out.new ≡ out.old) }

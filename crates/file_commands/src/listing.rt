@@ -1,8 +1,8 @@
 //! The list of the records of the file of a path.
-ghost use Rattle.std.specs.Prelude.{◌≡◌, ◌≢◌, ℕ, List, option_map, IfOk, IfErr};
+ghost use Rattle.std.specs.Prelude.{◌≡◌, ◌≢◌, option_map, IfOk, IfErr};
 ghost use Rattle.command_words.specs.Asks.{form_text};
 ghost use Rattle.file_commands.specs.Forms.{IsFormAsked, IsListRefused};
-ghost use Rattle.file_commands.specs.Front.{IsFrontOfInput, IsDeckNamed};
+ghost use Rattle.file_commands.specs.Front.{IsDeckNamed, OfWholeFile};
 ghost use Rattle.file_commands.specs.Records.{IsAskedFor, ListsRecords};
 ghost use Rattle.command_outcomes.specs.Status.{status_of};
 
@@ -100,13 +100,12 @@ pub fn list_records<R: Files, I: Read, P: Progress, W: Write>(
 where
     R::File: LockFile,
     ensures records { IfOk result (λ outcome. (list : _) × (outcome ≡ Outcome.Records list)
-        × ((written : _)
-        × IsFormAsked (IsDeckNamed R.File.remaining (I.remaining input.old)) (form_text form.entry) written
-        × ((file : R.File) × (bytes : List ℕ) × IsFrontOfInput 18446744073709551615
-        (R.File.remaining file) bytes
-        × ListsRecords written bytes bounds.entry.key (option_map (λ text. text.now) bounds.entry.from)
-        (option_map (λ text. text.now) bounds.entry.to) bounds.entry.first
-        (W.contents out.old) (W.contents out.new) list))) }
+        × ((written : _) × IsFormAsked (IsDeckNamed R.File.remaining (I.remaining input.old))
+        (form_text form.entry) written × OfWholeFile R.File.remaining
+        (λ bytes. ListsRecords written bytes bounds.entry.key
+        (option_map (λ text. text.now) bounds.entry.from)
+        (option_map (λ text. text.now) bounds.entry.to) bounds.entry.first (W.contents out.old)
+        (W.contents out.new) list))) }
     ensures untouched { IfErr result (λ fault. status_of fault ≢ 4 → out.new ≡ out.old) }
     ensures fault { IfErr result (IsListRefused (form_text form.entry)) }
 {

@@ -4,6 +4,7 @@ ghost use Rattle.std.specs.Option.{IfSome};
 ghost use Rattle.file_checker.specs.Sound.{IsRight};
 ghost use Rattle.command_outcomes.specs.Status.{status_of};
 ghost use Rattle.file_commands.specs.Verdicts.{is_sound, AreVerdicts};
+ghost use Rattle.file_commands.specs.Front.{OfFile};
 
 use crate::file_bytes::{open_shared, with_progress};
 use command_outcomes::{Fault, Outcome};
@@ -65,8 +66,7 @@ fn verdict_of<R: Files, P: Progress>(
 ) -> Result<Verdict, Fault>
 where
     R::File: LockFile,
-    ensures right { IfOk result (λ verdict. (file : R.File)
-        × IfSome (R.File.remaining file) (λ bytes. IsRight bytes verdict)) }
+    ensures right { IfOk result (λ verdict. OfFile R.File.remaining (λ bytes. IsRight bytes verdict)) }
     ensures fault { IfErr result (λ fault. status_of fault ≡ 4) }
 {
     let file = open_shared(rt, path)?;
@@ -86,7 +86,7 @@ pub fn check_path<R: Files, P: Progress, W: Write>(
 where
     R::File: LockFile,
     ensures right { IfOk result (λ outcome. (verdict : _) × (outcome ≡ Outcome.Checked verdict)
-        × ((file : R.File) × IfSome (R.File.remaining file) (λ bytes. IsRight bytes verdict))) }
+        × OfFile R.File.remaining (λ bytes. IsRight bytes verdict)) }
     ensures fault { IfErr result (λ fault. status_of fault ≡ 4) }
 {
     let verdict = verdict_of(rt, alloc, path, progress)?;
@@ -114,8 +114,8 @@ fn check_files<R: Files, P: Progress, W: Write>(
 ) -> Result<bool, Fault>
 where
     R::File: LockFile,
-    ensures right { IfOk result (AreVerdicts (λ verdict. (file : R.File)
-        × IfSome (R.File.remaining file) (λ bytes. IsRight bytes verdict)) (length paths.now)) }
+    ensures right { IfOk result (AreVerdicts (λ verdict.
+        OfFile R.File.remaining (λ bytes. IsRight bytes verdict)) (length paths.now)) }
     ensures fault { IfErr result (λ fault. status_of fault ≡ 4) }
 {
     match paths {
@@ -142,8 +142,8 @@ pub fn check_paths<R: Files, P: Progress, W: Write>(
 where
     R::File: LockFile,
     ensures right { IfOk result (λ outcome. (sound : _) × (outcome ≡ Outcome.CheckedAll sound)
-        × AreVerdicts (λ verdict. (file : R.File) × IfSome (R.File.remaining file)
-        (λ bytes. IsRight bytes verdict)) (length paths.now) sound) }
+        × AreVerdicts (λ verdict. OfFile R.File.remaining (λ bytes. IsRight bytes verdict))
+        (length paths.now) sound) }
     ensures fault { IfErr result (λ fault. status_of fault ≡ 4) }
 {
     match check_files(rt, alloc, paths, progress, out) {
