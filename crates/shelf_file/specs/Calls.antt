@@ -1,16 +1,35 @@
 -- What the calls on an open file leave.
-use Rattle.std.specs.Prelude.{◌≡◌, ◌≤◌, ◌+◌, ℕ, true, IsTrue, Result, Err, IfErr}
+use Rattle.std.specs.Prelude.{◌≡◌, ◌≤◌, ◌<◌, ◌+◌, ℕ, Bool, true, List, length, Option, option_map, IsTrue}
+use Rattle.std.specs.Prelude.{Result, Err, IfErr}
+use Rattle.arrayvec.specs.ArrayVec.{ArrayVec}
 use Rattle.io_state.specs.declared.fault.Fault.{Fault}
 use Rattle.io_state.specs.declared.fault.Fault.TheVariants.{Broken}
-use Rattle.indexed_file.specs.File.{File}
+use Rattle.indexed_file.specs.File.{Row, File}
+use Rattle.indexed_file.specs.FileChange.{FileChange}
+use Rattle.indexed_file.specs.Rank.{highest_of}
+use Rattle.indexed_file.specs.declared.answer.Found.{Found}
+use Rattle.record_layout.specs.Schema.{Schema}
 use Rattle.page_store.specs.ShelfState.{ShelfState}
 use Rattle.page_alloc.specs.Joining.{HasFailed}
 use Rattle.page_alloc.specs.Steps.{ReadsPages, Moves, state_of}
 use Rattle.open_file.specs.Stands.{Stands}
 use Rattle.open_file.specs.Faults.{IsCausedIn}
-use Rattle.file_changes.specs.Changes.{ShownFile}
+use Rattle.open_file.specs.Reading.{FindsFirst}
+use Rattle.file_changes.specs.Changes.{ShownFile, Changes, MayBreak}
 use Rattle.shelf_file.specs.Standing.{IsReady, StandsFor, live_of, room_in}
 use Rattle.shelf_file.specs.declared.shelf_file.ShelfFile.{ShelfFile}
+
+-- a call may be made that reads a record by key k into an area of these bytes
+pub record IsReadyToRead (held : ShelfFile) (shelf : ShelfState) (k : ℕ) (bytes : List ℕ) : Type 0 where
+  pub ready : IsReady held shelf
+  pub key : k < length held.file.schema.keys
+  pub area : length bytes ≡ held.file.schema.greatest
+
+-- a call may be made that puts this record into the file
+pub record IsReadyToWrite (held : ShelfFile) (shelf : ShelfState) (bytes : List ℕ) : Type 0 where
+  pub ready : IsReady held shelf
+  pub least : held.file.schema.least ≤ length bytes
+  pub greatest : length bytes ≤ held.file.schema.greatest
 
 -- a call that only reads: but for its path the file is as it was, and so are its pages
 pub record OnlyReadsFile (old new : ShelfFile) (before after : ShelfState) (failed fails : ℕ) : Type 0 where
@@ -54,3 +73,37 @@ pub record ReadsOnShelf {X : Type 0} (most : ℕ) (before after : FileOnShelf)
   pub cause : IfErr result (IsCausedIn before.held.file.broken (HasFailed before.faults after.faults) ⊥)
   pub asked : after.held.pages.cache.asked ≤ before.held.pages.cache.asked + most
   pub step : OnlyReadsFile before.held after.held before.shelf after.shelf before.faults after.faults
+
+-- the greatest prime value of the rows, if there is any
+abbrev pub IsHighestPrime : Schema → List Row → Option (ArrayVec ℕ) → Type 0
+IsHighestPrime schema rows key = option_map (λ (key : ArrayVec ℕ). key.items) key ≡ highest_of schema rows
+
+-- on shelves that show this state
+module _ {H : Type 0} (state : H → ShelfState) where
+  -- where no wrong answer was taken as true, for each file that the pages stand for
+  abbrev pub WhereStands : ShelfFile → H → H → (File → Type 0) → Type 0
+  WhereStands held old new P = IsTrue (state new).is_honest → (file : File)
+      → Stands held.file (live_of held (state old)) file → P file
+
+  -- a call that reads the first row by key k that passes a test into the area
+  abbrev pub FindsHeld : ℕ → (Row → Bool) → ShelfFile → H → H → (area now : List ℕ)
+      → Result (Option Found) Fault → Type 0
+  FindsHeld k test held old new area now result = FindsFirst (state new).is_honest held.file
+      (live_of held (state old)) k test area now result
+
+  -- so, of shelves that count their faults so
+  module _ (count : H → ℕ) {X : Type 0} where
+    -- a call that only reads, and asks for at most so many pages
+    abbrev pub ReadsHeld : ℕ → (held now : ShelfFile) → H → H → Result X Fault → Type 0
+    ReadsHeld most held now old new result = ReadsOnShelf most (on_shelf held (state old) (count old))
+        (on_shelf now (state new) (count new)) result
+
+    -- a call that makes this change of the file
+    abbrev pub ChangesHeld : FileChange X → (held now : ShelfFile) → H → H → Result X Fault → Type 0
+    ChangesHeld change held now old new result = Changes shown_on_shelf change
+        (on_shelf held (state old) (count old)) (on_shelf now (state new) (count new)) result
+
+    -- a call that breaks the file at a fault other than Full, and may take pages
+    abbrev pub BreaksHeld : Bool → (held now : ShelfFile) → H → H → Result X Fault → Type 0
+    BreaksHeld takes_pages held now old new result = MayBreak shown_on_shelf takes_pages
+        (on_shelf held (state old) (count old)) (on_shelf now (state new) (count new)) result

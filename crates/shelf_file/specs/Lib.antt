@@ -3,3 +3,4 @@ pub mod Calls
 pub mod ReadOff
 pub mod Named
 pub mod Shelves
+pub mod Opening

@@ -1,10 +1,9 @@
 //! The calls that change records.
 
-ghost use Rattle.std.specs.Prelude.{◌≤◌, true, false, length};
+ghost use Rattle.std.specs.Prelude.{true, false};
 ghost use Rattle.indexed_file.specs.FileChange.{addition, replacement, removal};
-ghost use Rattle.file_changes.specs.Changes.{Changes, MayBreak};
 ghost use Rattle.shelf_file.specs.Standing.{IsReady};
-ghost use Rattle.shelf_file.specs.Calls.{on_shelf, shown_on_shelf};
+ghost use Rattle.shelf_file.specs.Calls.{IsReadyToWrite, ChangesHeld, BreaksHeld};
 
 use crate::shelf_file::ShelfFile;
 use indexed_file::{Added, Replaced};
@@ -16,15 +15,10 @@ impl ShelfFile {
     /// Adds a record, unless its value of a key that has to be unique is there. At Full nothing is
     /// changed; after any other fault the file is broken.
     pub fn add<S: Shelf>(&mut self, shelf: &mut S, bytes: &[u8]) -> Result<Added, Fault>
-        requires ready { IsReady self.old (S.state shelf.old) }
-        requires least { self.old.file.schema.least ≤ length bytes.now }
-        requires greatest { length bytes.now ≤ self.old.file.schema.greatest }
-        ensures adds { Changes shown_on_shelf (addition self.old.file.schema bytes.now)
-            (on_shelf self.old (S.state shelf.old) (S.fault_count shelf.old))
-            (on_shelf self.new (S.state shelf.new) (S.fault_count shelf.new)) result }
-        ensures breaks { MayBreak shown_on_shelf true
-            (on_shelf self.old (S.state shelf.old) (S.fault_count shelf.old))
-            (on_shelf self.new (S.state shelf.new) (S.fault_count shelf.new)) result }
+        requires { IsReadyToWrite self.old (S.state shelf.old) bytes.now }
+        ensures adds { ChangesHeld S.state S.fault_count (addition self.old.file.schema bytes.now)
+            self.old self.new shelf.old shelf.new result }
+        ensures breaks { BreaksHeld S.state S.fault_count true self.old self.new shelf.old shelf.new result }
     {
         let mut pages = FilePages {
             file: &mut self.pages,
@@ -37,15 +31,10 @@ impl ShelfFile {
     /// that of another record. At Full nothing is changed; after any other fault the file is
     /// broken.
     pub fn replace<S: Shelf>(&mut self, shelf: &mut S, bytes: &[u8]) -> Result<Replaced, Fault>
-        requires ready { IsReady self.old (S.state shelf.old) }
-        requires least { self.old.file.schema.least ≤ length bytes.now }
-        requires greatest { length bytes.now ≤ self.old.file.schema.greatest }
-        ensures replaces { Changes shown_on_shelf (replacement self.old.file.schema bytes.now)
-            (on_shelf self.old (S.state shelf.old) (S.fault_count shelf.old))
-            (on_shelf self.new (S.state shelf.new) (S.fault_count shelf.new)) result }
-        ensures breaks { MayBreak shown_on_shelf true
-            (on_shelf self.old (S.state shelf.old) (S.fault_count shelf.old))
-            (on_shelf self.new (S.state shelf.new) (S.fault_count shelf.new)) result }
+        requires { IsReadyToWrite self.old (S.state shelf.old) bytes.now }
+        ensures replaces { ChangesHeld S.state S.fault_count (replacement self.old.file.schema bytes.now)
+            self.old self.new shelf.old shelf.new result }
+        ensures breaks { BreaksHeld S.state S.fault_count true self.old self.new shelf.old shelf.new result }
     {
         let mut pages = FilePages {
             file: &mut self.pages,
@@ -58,12 +47,9 @@ impl ShelfFile {
     /// file is broken.
     pub fn remove<S: Shelf>(&mut self, shelf: &mut S, key: &Key) -> Result<bool, Fault>
         requires ready { IsReady self.old (S.state shelf.old) }
-        ensures removes { Changes shown_on_shelf (removal self.old.file.schema key.now.items)
-            (on_shelf self.old (S.state shelf.old) (S.fault_count shelf.old))
-            (on_shelf self.new (S.state shelf.new) (S.fault_count shelf.new)) result }
-        ensures breaks { MayBreak shown_on_shelf false
-            (on_shelf self.old (S.state shelf.old) (S.fault_count shelf.old))
-            (on_shelf self.new (S.state shelf.new) (S.fault_count shelf.new)) result }
+        ensures removes { ChangesHeld S.state S.fault_count (removal self.old.file.schema key.now.items)
+            self.old self.new shelf.old shelf.new result }
+        ensures breaks { BreaksHeld S.state S.fault_count false self.old self.new shelf.old shelf.new result }
     {
         let mut pages = FilePages {
             file: &mut self.pages,

@@ -1,19 +1,13 @@
 //! A file is made, opened and closed.
 
-ghost use Rattle.std.specs.Prelude.{◌≡◌, ◌≢◌, ◌≤◌, true, false, Err, length, IsTrue, IsFalse, IfOk, IfErr, OnOk, OnErr};
+ghost use Rattle.std.specs.Prelude.{◌≤◌};
 ghost use Rattle.std.specs.NonZero.{non_zero_usize_get};
-ghost use Rattle.indexed_file.specs.File.{File};
-ghost use Rattle.page_store.specs.Moments.{Throughout};
-ghost use Rattle.page_store.specs.Gate.{WasOrRefused};
-ghost use Rattle.page_store.specs.ShelfState.{HasUnit, unit_file, FileGoes, KeepsOthers, FaultHasCause};
+ghost use Rattle.page_store.specs.ShelfState.{HasUnit};
 ghost use Rattle.file_header.specs.Bounds.{FitsItsBytes, IsHeader};
-ghost use Rattle.page_alloc.specs.Joining.{HasFailed};
-ghost use Rattle.page_alloc.specs.PagedFile.{StandsOrRefused};
-ghost use Rattle.open_file.specs.Faults.{IsCausedIn};
 ghost use Rattle.open_file.specs.Headers.{IsHeaderOf, Counts};
 ghost use Rattle.open_file.specs.Stands.{IsShaped};
-ghost use Rattle.shelf_file.specs.Standing.{IsReady, StandsFor, HasLimits};
-ghost use Rattle.shelf_file.specs.Shelves.{IsOpened, IsMade, Closes};
+ghost use Rattle.shelf_file.specs.Standing.{IsReady};
+ghost use Rattle.shelf_file.specs.Opening.{MakesHeld, OpensByHeader, ClosesHeld};
 
 use crate::shelf_file::ShelfFile;
 use file_header::Header;
@@ -42,18 +36,8 @@ impl ShelfFile {
     ) -> Result<ShelfFile, Fault>
         requires unit { HasUnit (S.state shelf.old) unit }
         requires limit { 16 ≤ limit }
-        ensures made { IfOk result (λ held. IsMade held unit limit schema.now (S.state shelf.new)) }
-        ensures limits { IfOk result (HasLimits limit (non_zero_usize_get frames)) }
-        ensures images { let old = unit_file (S.state shelf.old) unit in
-            IsTrue (S.state shelf.new).is_honest → Throughout (WasOrRefused old) old
-            (unit_file (S.state shelf.new) unit) }
-        ensures failed { OnErr result (IsTrue (S.state shelf.new).is_honest
-            → FileGoes unit (S.state shelf.old) (S.state shelf.new) StandsOrRefused) }
-        ensures others { KeepsOthers unit (S.state shelf.old) (S.state shelf.new) }
-        ensures count { S.fault_count shelf.old ≤ S.fault_count shelf.new }
-        ensures cause { IfErr result (IsCausedIn false
-            (HasFailed (S.fault_count shelf.old) (S.fault_count shelf.new)) ⊥) }
-        ensures damage { IsTrue (S.state shelf.new).is_honest → IfErr result (λ e. e ≢ Fault.Damage) }
+        ensures { MakesHeld S.state S.fault_count unit limit (non_zero_usize_get frames) schema.now
+            shelf.old shelf.new result }
     {
         // There are at most nine, so that each has a page for its tree.
         let _keys = schema.key_count();
@@ -80,11 +64,7 @@ impl ShelfFile {
         header: &Header,
     ) -> Result<ShelfFile, Fault>
         requires header { IsHeader header.now }
-        ensures opened { IfOk result (λ held. IsOpened held unit header.now) }
-        ensures counts { IfOk result (λ held. (held.pages.pager.count ≡ header.now.pages)
-            × (held.pages.pager.free ≡ header.now.free)) }
-        ensures limits { IfOk result (HasLimits limit (non_zero_usize_get frames)) }
-        ensures memory { OnErr result (result ≡ Err Fault.Memory) }
+        ensures { OpensByHeader unit limit (non_zero_usize_get frames) header.now result }
     {
         let store = Store {
             unit,
@@ -110,20 +90,7 @@ impl ShelfFile {
     /// Device, Memory, Broken.
     pub fn close<S: Shelf>(&mut self, shelf: &mut S) -> Result<(), Fault>
         requires ready { IsReady self.old (S.state shelf.old) }
-        ensures broken { IsTrue self.old.file.broken → result ≡ Err Fault.Broken }
-        ensures nothing { IsTrue self.old.file.broken → (S.state shelf.new).file ≡ (S.state shelf.old).file }
-        ensures unchanged { self.old.pages.changed ≡ false
-            → (S.state shelf.new).file ≡ (S.state shelf.old).file }
-        ensures closes { IsTrue (S.state shelf.new).is_honest → IsFalse self.old.file.broken
-            → self.old.pages.changed ≡ true
-            → (file : File) → StandsFor self.old (S.state shelf.old) file
-            → Closes self.old.file.schema file (unit_file (S.state shelf.old) self.old.pages.cache.store.unit)
-            (unit_file (S.state shelf.new) self.old.pages.cache.store.unit) result }
-        ensures others { KeepsOthers self.old.pages.cache.store.unit (S.state shelf.old) (S.state shelf.new) }
-        ensures count { S.fault_count shelf.old ≤ S.fault_count shelf.new }
-        ensures cause { IfErr result (IsCausedIn self.old.file.broken
-            (HasFailed (S.fault_count shelf.old) (S.fault_count shelf.new)) ⊥) }
-        ensures damage { IfErr result (λ e. e ≢ Fault.Damage) }
+        ensures { ClosesHeld S.state S.fault_count self.old shelf.old shelf.new result }
     {
         if self.file.broken {
             return Err(Fault::Broken);

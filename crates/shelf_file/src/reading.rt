@@ -1,14 +1,12 @@
 //! The calls that read records.
 
-ghost use Rattle.std.specs.Prelude.{◌≡◌, ◌<◌, length, option_map, IsTrue};
-ghost use Rattle.indexed_file.specs.File.{File};
-ghost use Rattle.indexed_file.specs.Rank.{has_value, admits, highest_of};
+ghost use Rattle.std.specs.Prelude.{◌<◌, length, IsTrue};
+ghost use Rattle.indexed_file.specs.Rank.{has_value, admits};
 ghost use Rattle.indexed_file.specs.Room.{most_to_read, most_to_seek};
 ghost use Rattle.pages.specs.Answer.{IsAnswer};
-ghost use Rattle.open_file.specs.Stands.{Stands};
-ghost use Rattle.open_file.specs.Reading.{FindsFirst, Seeks};
+ghost use Rattle.open_file.specs.Reading.{Seeks};
 ghost use Rattle.shelf_file.specs.Standing.{IsReady, live_of, room_in};
-ghost use Rattle.shelf_file.specs.Calls.{ReadsOnShelf, on_shelf};
+ghost use Rattle.shelf_file.specs.Calls.{IsReadyToRead, IsHighestPrime, WhereStands, FindsHeld, ReadsHeld};
 
 use crate::shelf_file::ShelfFile;
 use indexed_file::Found;
@@ -25,15 +23,11 @@ impl ShelfFile {
         key: &Key,
         area: &mut [u8],
     ) -> Result<Option<Found>, Fault>
-        requires ready { IsReady self.old (S.state shelf.old) }
-        requires key { k < length self.old.file.schema.keys }
-        requires area { length area.old ≡ self.old.file.schema.greatest }
-        ensures finds { FindsFirst (S.state shelf.new).is_honest self.old.file
-            (live_of self.old (S.state shelf.old)) k
-            (has_value self.old.file.schema k key.now.items) area.old area.new result }
-        ensures reads { ReadsOnShelf (most_to_read (room_in self.old) k)
-            (on_shelf self.old (S.state shelf.old) (S.fault_count shelf.old))
-            (on_shelf self.new (S.state shelf.new) (S.fault_count shelf.new)) result }
+        requires { IsReadyToRead self.old (S.state shelf.old) k area.old }
+        ensures finds { FindsHeld S.state k (has_value self.old.file.schema k key.now.items)
+            self.old shelf.old shelf.new area.old area.new result }
+        ensures reads { ReadsHeld S.state S.fault_count (most_to_read (room_in self.old) k)
+            self.old self.new shelf.old shelf.new result }
     {
         let mut pages = FilePages {
             file: &mut self.pages,
@@ -50,15 +44,11 @@ impl ShelfFile {
         position: &Position,
         area: &mut [u8],
     ) -> Result<Option<Found>, Fault>
-        requires ready { IsReady self.old (S.state shelf.old) }
-        requires key { k < length self.old.file.schema.keys }
-        requires area { length area.old ≡ self.old.file.schema.greatest }
-        ensures finds { FindsFirst (S.state shelf.new).is_honest self.old.file
-            (live_of self.old (S.state shelf.old)) k
-            (admits self.old.file.schema k position.now) area.old area.new result }
-        ensures reads { ReadsOnShelf (most_to_read (room_in self.old) k)
-            (on_shelf self.old (S.state shelf.old) (S.fault_count shelf.old))
-            (on_shelf self.new (S.state shelf.new) (S.fault_count shelf.new)) result }
+        requires { IsReadyToRead self.old (S.state shelf.old) k area.old }
+        ensures finds { FindsHeld S.state k (admits self.old.file.schema k position.now)
+            self.old shelf.old shelf.new area.old area.new result }
+        ensures reads { ReadsHeld S.state S.fault_count (most_to_read (room_in self.old) k)
+            self.old self.new shelf.old shelf.new result }
     {
         let mut pages = FilePages {
             file: &mut self.pages,
@@ -79,9 +69,8 @@ impl ShelfFile {
         requires key { k < length self.old.file.schema.keys }
         ensures found { IsTrue (S.state shelf.new).is_honest
             → Seeks self.old.file (live_of self.old (S.state shelf.old)) k relation operand.now result }
-        ensures reads { ReadsOnShelf (most_to_seek (room_in self.old) k)
-            (on_shelf self.old (S.state shelf.old) (S.fault_count shelf.old))
-            (on_shelf self.new (S.state shelf.new) (S.fault_count shelf.new)) result }
+        ensures reads { ReadsHeld S.state S.fault_count (most_to_seek (room_in self.old) k)
+            self.old self.new shelf.old shelf.new result }
     {
         let mut pages = FilePages {
             file: &mut self.pages,
@@ -93,13 +82,10 @@ impl ShelfFile {
     /// The greatest prime value.
     pub fn highest<S: Shelf>(&mut self, shelf: &mut S) -> Result<Option<Key>, Fault>
         requires ready { IsReady self.old (S.state shelf.old) }
-        ensures found { IsTrue (S.state shelf.new).is_honest → (file : File)
-            → Stands self.old.file (live_of self.old (S.state shelf.old)) file
-            → IsAnswer result (λ key. option_map (λ key.
-            key.items) key ≡ highest_of self.old.file.schema file.rows) }
-        ensures reads { ReadsOnShelf (most_to_seek (room_in self.old) 0)
-            (on_shelf self.old (S.state shelf.old) (S.fault_count shelf.old))
-            (on_shelf self.new (S.state shelf.new) (S.fault_count shelf.new)) result }
+        ensures found { WhereStands S.state self.old shelf.old shelf.new (λ file.
+            IsAnswer result (IsHighestPrime self.old.file.schema file.rows)) }
+        ensures reads { ReadsHeld S.state S.fault_count (most_to_seek (room_in self.old) 0)
+            self.old self.new shelf.old shelf.new result }
     {
         let mut pages = FilePages {
             file: &mut self.pages,

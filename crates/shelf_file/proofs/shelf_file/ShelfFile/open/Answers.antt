@@ -10,39 +10,37 @@ use Rattle.shelf_file.proofs.OpeningLemmas.{opened_free, opened_live}
 use Rattle.shelf_file.proofs.ReadOffLemmas.{reads_by_header}
 use Rattle.shelf_file.proofs.shelf_file.ShelfFile.open.Goals as goal
 
-pub returns-clause-opened : goal.returns-clause-opened
-returns-clause-opened c =
+pub returns : goal.returns
+returns c =
     let held = c.in_ok-pages.ensures in
     let header = c.args.header.now in
     let opened = c.from_header.result in
     let pages = c.in_ok-pages.pages in
     let unit = c.args.unit in
     record {
-      unit_is = ap (λ store. store.unit) held.store;
-      schema_is = c.from_header.ensures.header_is.schema_is;
-      unbroken = c.from_header.ensures.unbroken;
-      unchanged = held.changed;
-      asked = held.asked;
-      ready = λ shelf attached accepted. record {
-        over = held.ready shelf attached (λ honest. accepted_pages (unit_file shelf unit) header c.requires.header (accepted honest));
-        shaped = c.from_header.ensures.shaped;
+      opened = record {
+        unit_is = ap (λ store. store.unit) held.store;
+        schema_is = c.from_header.ensures.header_is.schema_is;
+        unbroken = c.from_header.ensures.unbroken;
+        unchanged = held.changed;
+        asked = held.asked;
+        ready = λ shelf attached accepted. record {
+          over = held.ready shelf attached (λ honest. accepted_pages (unit_file shelf unit) header c.requires.header (accepted honest));
+          shaped = c.from_header.ensures.shaped;
+        };
+        reads = λ shelf accepted.
+            ap (file_off opened) (opened_live pages shelf unit c.args.limit header held.pager held.store (held.pages shelf))
+            ∙ reads_by_header opened header (live_in header (content (unit_file shelf unit))) c.requires.header c.from_header.ensures;
+        stands = λ shelf file accepted is. record {
+          stands = subst (λ live. Stands opened live file)
+              (sym (opened_live pages shelf unit c.args.limit header held.pager held.store (held.pages shelf)))
+              (read_back is.opened opened header (live_in header (content (unit_file shelf unit))) file
+              is.stands is.by_header.shaped is.by_header.header_is c.from_header.ensures);
+          sound = subst (λ free. IsSome free)
+              (sym (opened_free pages shelf unit c.args.limit header held.pager held.store (held.pages shelf))) is.sound;
+        };
       };
-      reads = λ shelf accepted.
-          ap (file_off opened) (opened_live pages shelf unit c.args.limit header held.pager held.store (held.pages shelf))
-          ∙ reads_by_header opened header (live_in header (content (unit_file shelf unit))) c.requires.header c.from_header.ensures;
-      stands = λ shelf file accepted is. record {
-        stands = subst (λ live. Stands opened live file) (sym (opened_live pages shelf unit c.args.limit header held.pager held.store (held.pages shelf)))
-            (read_back is.opened opened header (live_in header (content (unit_file shelf unit))) file is.stands is.by_header.shaped is.by_header.header_is c.from_header.ensures);
-        sound = subst (λ free. IsSome free) (sym (opened_free pages shelf unit c.args.limit header held.pager held.store (held.pages shelf))) is.sound;
-      };
+      counts = (ap (λ pager. pager.count) held.pager, ap (λ pager. pager.free) held.pager);
+      limits = record { limit = ap (λ pager. pager.limit) held.pager; cap = held.frames };
+      memory = tt;
     }
-
-pub returns-clause-limits : goal.returns-clause-limits
-returns-clause-limits c =
-    let held = c.in_ok-pages.ensures in
-    record { limit = ap (λ pager. pager.limit) held.pager; cap = held.frames }
-
-pub returns-clause-counts : goal.returns-clause-counts
-returns-clause-counts c =
-    let held = c.in_ok-pages.ensures in
-    (ap (λ pager. pager.count) held.pager, ap (λ pager. pager.free) held.pager)

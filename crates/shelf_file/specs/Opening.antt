@@ -1,0 +1,71 @@
+-- What making a file, opening it and closing it leave of the file and of the shelf.
+use Rattle.std.specs.Prelude.{◌≡◌, ◌≢◌, ◌≤◌, ℕ, true, false, IsTrue, IsFalse, Result, Err, IfOk, IfErr, OnErr}
+use Rattle.io_state.specs.declared.fault.Fault.{Fault}
+use Rattle.io_state.specs.declared.fault.Fault.TheVariants.{Memory, Damage, Broken}
+use Rattle.indexed_file.specs.File.{File}
+use Rattle.record_layout.specs.Schema.{Schema}
+use Rattle.page_store.specs.Gate.{WasOrRefused}
+use Rattle.page_store.specs.Moments.{Throughout}
+use Rattle.page_store.specs.ShelfState.{ShelfState, FileGoes, KeepsOthers, unit_file}
+use Rattle.page_alloc.specs.Joining.{HasFailed}
+use Rattle.page_alloc.specs.PagedFile.{StandsOrRefused}
+use Rattle.file_header.specs.declared.header.Header.{Header}
+use Rattle.open_file.specs.Faults.{IsCausedIn}
+use Rattle.shelf_file.specs.declared.shelf_file.ShelfFile.{ShelfFile}
+use Rattle.shelf_file.specs.Standing.{StandsFor, HasLimits}
+use Rattle.shelf_file.specs.Shelves.{IsOpened, IsMade, Closes}
+
+-- a shelf whose device has failed so often
+pub record CountedShelf : Type 0 where
+  pub shelf : ShelfState
+  pub faults : ℕ
+
+abbrev pub counted : ShelfState → ℕ → CountedShelf
+counted shelf faults = record { shelf = shelf; faults = faults }
+
+-- a file was made in the place of whatever the unit's name stood for; a fault leaves that, or a refused file
+pub record MakesOnShelf (unit limit frames : ℕ) (schema : Schema) (old new : CountedShelf)
+    (result : Result ShelfFile Fault) : Type 0 where
+  pub made : IfOk result (λ held. IsMade held unit limit schema new.shelf)
+  pub limits : IfOk result (HasLimits limit frames)
+  pub images : IsTrue new.shelf.is_honest → Throughout (WasOrRefused (unit_file old.shelf unit))
+      (unit_file old.shelf unit) (unit_file new.shelf unit)
+  pub failed : OnErr result (IsTrue new.shelf.is_honest → FileGoes unit old.shelf new.shelf StandsOrRefused)
+  pub others : KeepsOthers unit old.shelf new.shelf
+  pub count : old.faults ≤ new.faults
+  pub cause : IfErr result (IsCausedIn false (HasFailed old.faults new.faults) ⊥)
+  pub damage : IsTrue new.shelf.is_honest → IfErr result (λ e. e ≢ Damage)
+
+-- the file of a unit was opened by this header, with nothing read; or memory was lacking
+pub record OpensByHeader (unit limit frames : ℕ) (header : Header)
+    (result : Result ShelfFile Fault) : Type 0 where
+  pub opened : IfOk result (λ held. IsOpened held unit header)
+  pub counts : IfOk result (λ held. (held.pages.pager.count ≡ header.pages)
+      × (held.pages.pager.free ≡ header.free))
+  pub limits : IfOk result (HasLimits limit frames)
+  pub memory : OnErr result (result ≡ Err Memory)
+
+-- a file was closed, with nothing written where it was broken or was not changed
+pub record ClosesOnShelf (held : ShelfFile) (old new : CountedShelf)
+    (result : Result (Unit {0}) Fault) : Type 0 where
+  pub broken : IsTrue held.file.broken → result ≡ Err Broken
+  pub nothing : IsTrue held.file.broken → new.shelf.file ≡ old.shelf.file
+  pub unchanged : held.pages.changed ≡ false → new.shelf.file ≡ old.shelf.file
+  pub closes : IsTrue new.shelf.is_honest → IsFalse held.file.broken → held.pages.changed ≡ true
+      → (file : File) → StandsFor held old.shelf file
+      → Closes held.file.schema file (unit_file old.shelf held.pages.cache.store.unit)
+      (unit_file new.shelf held.pages.cache.store.unit) result
+  pub others : KeepsOthers held.pages.cache.store.unit old.shelf new.shelf
+  pub count : old.faults ≤ new.faults
+  pub cause : IfErr result (IsCausedIn held.file.broken (HasFailed old.faults new.faults) ⊥)
+  pub damage : IfErr result (λ e. e ≢ Damage)
+
+-- on shelves that show this state and count their faults so
+module _ {H : Type 0} (state : H → ShelfState) (count : H → ℕ) where
+  abbrev pub MakesHeld : (unit limit frames : ℕ) → Schema → H → H → Result ShelfFile Fault → Type 0
+  MakesHeld unit limit frames schema old new result = MakesOnShelf unit limit frames schema
+      (counted (state old) (count old)) (counted (state new) (count new)) result
+
+  abbrev pub ClosesHeld : ShelfFile → H → H → Result (Unit {0}) Fault → Type 0
+  ClosesHeld held old new result = ClosesOnShelf held (counted (state old) (count old))
+      (counted (state new) (count new)) result
