@@ -4,9 +4,7 @@ use Rattle.record_layout.specs.Schema.{Schema}
 use Rattle.indexed_file.specs.File.{Row, File}
 use Rattle.indexed_file.specs.Change.{row_of}
 use Rattle.key_index.specs.declared.entry.PrimeEntry.{PrimeEntry}
-use Rattle.key_index.specs.declared.alt_index.AltIndex.{AltIndex}
 use Rattle.key_index.specs.Entries.{has_prime}
-use Rattle.record_heap.specs.declared.shape.Shape.{Shape}
 use Rattle.record_heap.specs.declared.shape.Place.{Place}
 use Rattle.record_heap.specs.Chain.{Slots}
 use Rattle.pages.specs.PageMap.{PageMap}
@@ -55,7 +53,7 @@ IsFoundIn {opened} {pages} {file} stands prime old bytes =
     old.place (row_with bytes old.stamps.items)
 
 -- it is as long as a record, and has a stamp for each alternate key
-pub record HasRecordLength (shape : Shape) (alternates : List AltIndex) (old : OldRecord) : Type 0 where
-  pub least : shape.stamps + shape.least ≤ old.end
-  pub greatest : old.end ≤ shape.stamps + shape.greatest
-  pub many : length old.stamps.items ≡ length alternates
+pub record HasRecordLength (file : OpenFile) (old : OldRecord) : Type 0 where
+  pub least : file.heap.shape.stamps + file.heap.shape.least ≤ old.end
+  pub greatest : old.end ≤ file.heap.shape.stamps + file.heap.shape.greatest
+  pub many : length old.stamps.items ≡ length file.alternates.items

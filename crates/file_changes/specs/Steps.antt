@@ -10,9 +10,16 @@ use Rattle.key_index.specs.declared.alt_index.AltIndex.{AltIndex}
 use Rattle.key_index.specs.Standing.{alt_height}
 use Rattle.open_file.specs.Stands.{Stands, IsShaped}
 use Rattle.open_file.specs.declared.open_file.OpenFile.{OpenFile}
-use Rattle.file_changes.specs.InPages.{FileInPages}
+use Rattle.file_changes.specs.InPages.{FileInPages, IsReadyIn}
 
 -- ---- what is asked for
+
+-- calls may be made on an open file, and the record is neither too short nor too long for it
+pub record CanTakeRecord {S : Type 0} (shown : ShownPages S) (held : FileInPages S)
+    (bytes : List ℕ) : Type 0 where
+  pub ready : IsReadyIn shown held
+  pub least : held.file.schema.least ≤ length bytes
+  pub greatest : length bytes ≤ held.file.schema.greatest
 
 -- calls may be made, and the record is long enough to have a value of each key
 pub record CanLookFor {S : Type 0} (shown : ShownPages S) (file : OpenFile) (pages : S)

@@ -12,7 +12,7 @@ ghost use Rattle.file_changes.specs.Changes.{Changes, MayBreak};
 ghost use Rattle.file_changes.specs.Contents.{TakesStep};
 ghost use Rattle.file_changes.specs.InPages.{in_pages, shown_in, IsReadyIn};
 ghost use Rattle.file_changes.specs.Adding.{levels_in, PutsRow, AddsRecord, new_slot, prime_added, entry_added, entries_added};
-ghost use Rattle.file_changes.specs.Steps.{CanLookFor, CanChangeWith, CanStore, HasRoomFor, AnswersFor, KeepsMade, ChangesHeap, ChangesPrime, ChangesAlternates, ChangesAlternate, TakesPages};
+ghost use Rattle.file_changes.specs.Steps.{CanTakeRecord, CanLookFor, CanChangeWith, CanStore, HasRoomFor, AnswersFor, KeepsMade, ChangesHeap, ChangesPrime, ChangesAlternates, ChangesAlternate, TakesPages};
 
 use crate::ending::breaks;
 use crate::room::is_full;
@@ -49,9 +49,7 @@ pub fn add<P: Pages>(opened: &mut OpenFile, pages: &mut P, bytes: &[u8]) -> Resu
 
 /// What `add` does on a file that is not broken.
 fn try_add<P: Pages>(opened: &mut OpenFile, pages: &mut P, bytes: &[u8]) -> Result<Added, Fault>
-    requires ready { IsReadyIn P.shown (in_pages opened.old pages.old) }
-    requires least { opened.old.schema.least ≤ length bytes.now }
-    requires greatest { length bytes.now ≤ opened.old.schema.greatest }
+    requires { CanTakeRecord P.shown (in_pages opened.old pages.old) bytes.now }
     ensures adds { Changes (shown_in P.shown) (addition opened.old.schema bytes.now)
         (in_pages opened.old pages.old) (in_pages opened.new pages.new) result }
     ensures cause { IfErr result (IsCaused (P.shown.HasFailed pages.old pages.new) ⊤) }

@@ -36,8 +36,7 @@ pub(crate) fn find_old<P: Pages>(
     requires { IsReadyIn P.shown (in_pages opened.now pages.old) }
     ensures found { AnswersFor P.shown opened.now pages.old pages.new
         (λ file stands. HasFoundIn stands prime.now slot.new) result }
-    ensures within { IfOk result (λ found. IfSome found
-        (HasRecordLength opened.now.heap.shape opened.now.alternates.items)) }
+    ensures within { IfOk result (λ found. IfSome found (HasRecordLength opened.now)) }
     ensures reads { ReadsPages P.shown (prime_height opened.now.prime + 1) pages.old pages.new result }
 {
     let Some(entry) = opened.prime.find(pages, prime)? else {
@@ -55,7 +54,7 @@ pub(crate) fn find_old<P: Pages>(
 /// Its bytes, in the slot in which it was found.
 pub(crate) fn record_in<'a>(opened: &OpenFile, old: &OldRecord, slot: &'a [u8]) -> &'a [u8]
     requires shaped { IsShaped opened.now }
-    requires within { HasRecordLength opened.now.heap.shape opened.now.alternates.items old.now }
+    requires within { HasRecordLength opened.now old.now }
     requires room { opened.now.heap.shape.stamps + opened.now.heap.shape.greatest ≤ length slot.now }
     ensures bytes { result.now ≡ slice_range slot.now
         (stamps_length (drop 1 opened.now.schema.keys)) old.now.end }

@@ -11,7 +11,7 @@ ghost use Rattle.file_changes.specs.Changes.{Changes, MayBreak};
 ghost use Rattle.file_changes.specs.Contents.{TakesStep};
 ghost use Rattle.file_changes.specs.InPages.{in_pages, shown_in, IsReadyIn};
 ghost use Rattle.file_changes.specs.Replacing.{ReplacesFound, AnswersReplacing, LeavesPutOver, row_put, slot_put, entries_put, entry_put, need_to_put, new_there};
-ghost use Rattle.file_changes.specs.Steps.{CanLookFor, CanChangeWith, CanStore, IsRowOf, HasRoomFor, AnswersFor, ChangesAlternates, ChangesAlternate};
+ghost use Rattle.file_changes.specs.Steps.{CanTakeRecord, CanLookFor, CanChangeWith, CanStore, IsRowOf, HasRoomFor, AnswersFor, ChangesAlternates, ChangesAlternate};
 
 use crate::adding::add_to_alternate;
 use crate::changed::{changed_stamps, differs, is_full_to_change, takes_stamp};
@@ -55,9 +55,7 @@ fn try_replace<P: Pages>(
     pages: &mut P,
     bytes: &[u8],
 ) -> Result<Replaced, Fault>
-    requires ready { IsReadyIn P.shown (in_pages opened.old pages.old) }
-    requires least { opened.old.schema.least ≤ length bytes.now }
-    requires greatest { length bytes.now ≤ opened.old.schema.greatest }
+    requires { CanTakeRecord P.shown (in_pages opened.old pages.old) bytes.now }
     ensures replaces { Changes (shown_in P.shown) (replacement opened.old.schema bytes.now)
         (in_pages opened.old pages.old) (in_pages opened.new pages.new) result }
     ensures cause { IfErr result (IsCaused (P.shown.HasFailed pages.old pages.new) ⊤) }
@@ -81,9 +79,8 @@ fn replace_old<P: Pages>(
     before: &[u8],
     bytes: &[u8],
 ) -> Result<Replaced, Fault>
-    requires can { CanLookFor P.shown opened.old pages.old bytes.now }
+    requires can { CanTakeRecord P.shown (in_pages opened.old pages.old) bytes.now }
     requires old { IsRowOf opened.old (row_with before.now old.now.stamps.items) }
-    requires greatest { length bytes.now ≤ opened.old.schema.greatest }
     ensures replaces { ReplacesFound P.shown old.now before.now bytes.now (in_pages opened.old pages.old)
         (in_pages opened.new pages.new) result }
     ensures some { IfOk result (λ answer. answer ≢ Replaced.Gone) }

@@ -28,7 +28,7 @@ returns-in_err-repeated-clause-replaces g c =
     let row = row_with c.args.before.now c.args.old.now.stamps.items in
     found_stopped _ _ _ _ _ _ c.from_residual.result _ c.from_residual.ensures.1 c.in_err-repeated.ensures.reads.cause.full
     (λ honest sound file stands at. (c.in_err-repeated.ensures.found honest file stands row at.is_row refl).no_damage)
-    (found_kept _ _ _ refl refl c.requires.can.shaped (g.met.P.Pages.writes_begins start now (g.met.P.Pages.reads_writes start now c.replacing.ensures.reads.step)) (omega (arith, c.replacing.ensures.reads.asked)))
+    (found_kept _ _ _ refl refl c.requires.can.ready.shaped (g.met.P.Pages.writes_begins start now (g.met.P.Pages.reads_writes start now c.replacing.ensures.reads.step)) (omega (arith, c.replacing.ensures.reads.asked)))
 
 pub returns-in_default-clause-replaces : goal.returns-in_default-clause-replaces
 returns-in_default-clause-replaces g c =
@@ -53,7 +53,7 @@ returns-in_default-clause-replaces g c =
           rw (clashed u.schema c.args.bytes.now file row told) refl;
       full = λ same. absurd (cc);
       lacks = λ same. absurd (cc);
-      keeps = found_kept _ _ _ refl refl c.requires.can.shaped (g.met.P.Pages.writes_begins start now (g.met.P.Pages.reads_writes start now step)) (omega (arith, c.replacing.ensures.reads.asked));
+      keeps = found_kept _ _ _ refl refl c.requires.can.ready.shaped (g.met.P.Pages.writes_begins start now (g.met.P.Pages.reads_writes start now step)) (omega (arith, c.replacing.ensures.reads.asked));
     }
 
 pub returns-then-is_full_to_change-clause-replaces : goal.returns-then-is_full_to_change-clause-replaces
@@ -74,10 +74,10 @@ returns-then-is_full_to_change-clause-replaces g c =
           let left : c.pages_left.result ≡ (g.P.Pages.shown.state start).available = c.pages_left.ensures ∙ g.met.P.Pages.reads_available start now step in
           let full = sym c.is_full_to_change.ensures ∙ c.if-is_full_to_change.true in (
             not_clashed u.schema c.args.bytes.now file row c.in-Done.repeated told,
-            full_is u (g.P.Pages.shown.state start).live c.args.bytes.now file row (g.P.Pages.shown.state start).available stands c.requires.can.shaped is
+            full_is u (g.P.Pages.shown.state start).live c.args.bytes.now file row (g.P.Pages.shown.state start).available stands c.requires.can.ready.shaped is
                 ∙ ap (λ n. is_full_for u n c.args.before.now c.args.bytes.now) (sym left) ∙ full,
           );
-      keeps = found_kept _ _ _ refl refl c.requires.can.shaped (g.met.P.Pages.writes_begins start now (g.met.P.Pages.reads_writes start now step)) (omega (arith, c.replacing.ensures.reads.asked));
+      keeps = found_kept _ _ _ refl refl c.requires.can.ready.shaped (g.met.P.Pages.writes_begins start now (g.met.P.Pages.reads_writes start now step)) (omega (arith, c.replacing.ensures.reads.asked));
     }
 
 pub returns-in_err-begin-clause-replaces : goal.returns-in_err-begin-clause-replaces
@@ -87,7 +87,7 @@ returns-in_err-begin-clause-replaces g c =
     let begun = c.begin.new.self in
     found_stopped _ _ _ _ _ _ c.from_residual-in_err-begin.result _ c.from_residual-in_err-begin.ensures.1 c.in_err-begin.ensures.cause.full
     (λ honest sound file stands at. c.in_err-begin.ensures.damage)
-    (found_kept _ _ _ refl refl c.requires.can.shaped (g.met.P.Pages.begins_on start looked begun (g.met.P.Pages.writes_begins start looked (g.met.P.Pages.reads_writes start looked c.replacing.ensures.reads.step)) c.begin.ensures.begins) (omega (arith, c.replacing.ensures.reads.asked, c.begin.ensures.asked)))
+    (found_kept _ _ _ refl refl c.requires.can.ready.shaped (g.met.P.Pages.begins_on start looked begun (g.met.P.Pages.writes_begins start looked (g.met.P.Pages.reads_writes start looked c.replacing.ensures.reads.step)) c.begin.ensures.begins) (omega (arith, c.replacing.ensures.reads.asked, c.begin.ensures.asked)))
 
 pub returns-in_err-put_over-clause-replaces : goal.returns-in_err-put_over-clause-replaces
 returns-in_err-put_over-clause-replaces g c =
@@ -105,8 +105,8 @@ returns-in_err-put_over-clause-replaces g c =
     let kept = c.begin.ensures.rests.sound h2 ∙ g.met.P.Pages.reads_sound start looked c.replacing.ensures.reads.step h1 ∙ sound in
     let told = (rw c.in-Done.is at c.in_ok-repeated.ensures.found h1 file stands row at.is_row refl).answer in
     let clash = not_clashed u.schema c.args.bytes.now file row c.in-Done.repeated told in
-    let change = is_change u c.args.bytes.now file row c.requires.can.shaped stands.sound c.requires.can.least c.requires.greatest at.is_row clash in
-    let can = can_put_over u (g.P.Pages.shown.state start).live c.args.bytes.now file c.args.old.now.place row stands c.requires.can.shaped at change in
+    let change = is_change u c.args.bytes.now file row c.requires.can.ready.shaped stands.sound c.requires.can.least c.requires.can.greatest at.is_row clash in
+    let can = can_put_over u (g.P.Pages.shown.state start).live c.args.bytes.now file c.args.old.now.place row stands c.requires.can.ready.shaped at change in
     let parts = parts_later stands live in
     (c.in_err-put_over.ensures.over honest kept stands.slots _ _ parts can).no_damage)
     (found_kept _ _ _ c.put_over.ensures.file.schema c.put_over.ensures.file.broken c.put_over.ensures.file.shaped (g.met.P.Pages.begins_on start begun last (g.met.P.Pages.begins_on start looked begun (g.met.P.Pages.writes_begins start looked (g.met.P.Pages.reads_writes start looked c.replacing.ensures.reads.step)) c.begin.ensures.begins) (g.met.P.Pages.writes_begins begun last c.put_over.ensures.writes.step)) (omega (arith, c.replacing.ensures.reads.asked, c.begin.ensures.asked, c.put_over.ensures.writes.asked, need_within u c.args.before.now c.args.bytes.now)))
@@ -133,21 +133,21 @@ returns-clause-replaces g c =
           let kept = c.begin.ensures.rests.sound h2 ∙ g.met.P.Pages.reads_sound start looked step h1 ∙ sound in
           let told = (rw c.in-Done.is at c.in_ok-repeated.ensures.found h1 file stands row at.is_row refl).answer in
           let clash = not_clashed u.schema c.args.bytes.now file row c.in-Done.repeated told in
-          let change = is_change u c.args.bytes.now file row c.requires.can.shaped stands.sound c.requires.can.least c.requires.greatest at.is_row clash in
-          let can = can_put_over u (g.P.Pages.shown.state start).live c.args.bytes.now file c.args.old.now.place row stands c.requires.can.shaped at change in
+          let change = is_change u c.args.bytes.now file row c.requires.can.ready.shaped stands.sound c.requires.can.least c.requires.can.greatest at.is_row clash in
+          let can = can_put_over u (g.P.Pages.shown.state start).live c.args.bytes.now file c.args.old.now.place row stands c.requires.can.ready.shaped at change in
           let parts = parts_later stands live in
           let limit = stamp_is u c.pages_left.result c.args.before.now c.args.bytes.now passes in
           let over = (c.in_ok-put_over.ensures.over honest kept stands.slots _ _ parts can).answer in
           record {
             answer = has_replaced u c.put_over.new.opened (g.P.Pages.shown.state start).live (g.P.Pages.shown.state last).live (IsTrue (g.P.Pages.shown.state last).is_sound) c.args.bytes.now file c.args.old.now.place row _ stands
-                c.requires.can.shaped c.put_over.ensures.file.shaped at change clash limit c.in_ok-put_over.ensures.file.rest told over;
+                c.requires.can.ready.shaped c.put_over.ensures.file.shaped at change clash limit c.in_ok-put_over.ensures.file.rest told over;
             no_damage = tt;
           };
       unmade = λ none. absurd (cc);
       begun = λ made. g.met.P.Pages.writes_changing begun last c.put_over.ensures.writes.step c.in_ok-begin.ensures.open;
       room = λ honest file stands is.
           let left : c.pages_left.result ≡ (g.P.Pages.shown.state start).available = c.pages_left.ensures ∙ g.met.P.Pages.reads_available start looked step in
-          let none = full_is u (g.P.Pages.shown.state start).live c.args.bytes.now file row (g.P.Pages.shown.state start).available stands c.requires.can.shaped is
+          let none = full_is u (g.P.Pages.shown.state start).live c.args.bytes.now file row (g.P.Pages.shown.state start).available stands c.requires.can.ready.shaped is
           ∙ ap (λ n. is_full_for u n c.args.before.now c.args.bytes.now) (sym left) ∙ passes in
           or_not (clashes_with_others u.schema c.args.bytes.now file) (is_full_to_replace (room_of u (g.P.Pages.shown.state start).available) u.schema c.args.bytes.now file) none;
       full = λ same. absurd (cc);
