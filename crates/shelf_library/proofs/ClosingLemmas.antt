@@ -82,7 +82,7 @@ module _ (u : ℕ) (file : ShelfFile) (result : Result (Unit {0}) Fault) (old ne
   is_ready = call.units.ready u file call.opened
 
   pub others_stay : KeepsOthers u old.shelf new.shelf
-  others_stay = subst (λ unit. KeepsOthers unit old.shelf new.shelf) is_ready.unit_is call.others
+  others_stay = subst (λ unit. KeepsOthers unit old.shelf new.shelf) is_ready.unit_is call.close.others
 
   pub changes : ChangesAt u Nothing old.shelf new.shelf old.held new.held
   changes = record { attached = call.attached; others = others_stay; holds = call.holds }
@@ -102,11 +102,11 @@ module _ (u : ℕ) (file : ShelfFile) (result : Result (Unit {0}) Fault) (old ne
     pub closes_here : file.pages.changed ≡ true → Closes file.file.schema known.rows (unit_file old.shelf u) (unit_file new.shelf u) result
     closes_here changed =
         subst (λ unit. Closes file.file.schema known.rows (unit_file old.shelf unit) (unit_file new.shelf unit) result) is_ready.unit_is
-        (call.closes honest works changed known.rows known.stands)
+        (call.close.closes honest works changed known.rows known.stands)
 
     was_closed : file.pages.changed ≡ false → AreClosed file.file.schema known.rows (content (unit_file new.shelf u))
     was_closed unchanged =
-        subst (λ (bytes : DeviceFile). AreClosed file.file.schema known.rows (content bytes)) (sym (still (call.unchanged unchanged))) (known.closed unchanged)
+        subst (λ (bytes : DeviceFile). AreClosed file.file.schema known.rows (content bytes)) (sym (still (call.close.unchanged unchanged))) (known.closed unchanged)
 
     -- after a success it is closed
     pub closed_after : OnOk result (AreClosed file.file.schema known.rows (content (unit_file new.shelf u)))
@@ -142,7 +142,7 @@ module _ (u : ℕ) (file : ShelfFile) (result : Result (Unit {0}) Fault) (old ne
     closed = λ header is.
         either file.file.broken (IsTrulyClosed (unit_file new.shelf u) header)
         (λ broken.
-        let same = still (call.nothing broken) in
+        let same = still (call.close.nothing broken) in
         subst (λ (bytes : DeviceFile). IsTrulyClosed bytes header) (sym same) (truly.closed header (ap (λ (bytes : DeviceFile). look_of bytes.seen) (sym same) ∙ is)))
         (λ works.
         let known = truly.opened file call.opened works in

@@ -62,13 +62,13 @@ pub limits_opened : (u : ℕ) (header : Header) (r : Result ShelfFile Fault) (ol
     → AreLimited new.limit new.frames old.held → AreLimited new.limit new.frames new.held
 limits_opened u header r old new call are =
     subst (λ (held : List Held). AreLimited new.limit new.frames held) (sym call.holds)
-    (limits_set new.limit new.frames old.held u call.attached are (held_open r) (open_has new.limit new.frames r call.limits))
+    (limits_set new.limit new.frames old.held u call.attached are (held_open r) (open_has new.limit new.frames r call.by_header.limits))
 
 pub limits_made : (u : ℕ) (schema : Schema) (r : Result ShelfFile Fault) (old new : LibraryState) → MakesAt u schema r old new
     → AreLimited new.limit new.frames old.held → AreLimited new.limit new.frames new.held
 limits_made u schema r old new call are =
     subst (λ (held : List Held). AreLimited new.limit new.frames held) (sym call.holds)
-    (limits_set new.limit new.frames old.held u call.attached are (held_open r) (open_has new.limit new.frames r call.limits))
+    (limits_set new.limit new.frames old.held u call.attached are (held_open r) (open_has new.limit new.frames r call.make.limits))
 
 -- no file is open in a unit that was looked at, shut or attached
 not_open : (r : Result Look Fault) (file : ShelfFile) → held_after r ≡ Opened file → ⊥

@@ -53,7 +53,7 @@ module _ (u limit : ℕ) (schema : Schema) (shelf : ShelfState) (file : ShelfFil
 
 module _ (u : ℕ) (schema : Schema) (r : Result ShelfFile Fault) (old new : LibraryState) (call : MakesAt u schema r old new) where
   changes : ChangesAt u (held_open r) old.shelf new.shelf old.held new.held
-  changes = record { attached = call.attached; others = call.others; holds = call.holds }
+  changes = record { attached = call.attached; others = call.make.others; holds = call.holds }
 
   fits : (x : Result ShelfFile Fault) → IfOk x (λ file. IsMade file u new.limit schema new.shelf) → FitsItsFile u (held_open x) new.shelf
   fits (Ok file) made = open_fits u file new.shelf (record { unit_is = made.unit_is; ready = made.ready })
@@ -68,10 +68,10 @@ module _ (u : ℕ) (schema : Schema) (r : Result ShelfFile Fault) (old new : Lib
   unbroken (Err fault) made = tt
 
   pub units_after : AreUnits new.shelf new.held
-  units_after = are_after u (held_open r) old.shelf new.shelf old.held new.held call.units changes (fits r call.made)
+  units_after = are_after u (held_open r) old.shelf new.shelf old.held new.held call.units changes (fits r call.make.made)
 
   pub make_opened : OnOk (answer_open r) (IsTrue (is_open (holding_at (world_of new.shelf new.held) u)) × (schema_at (world_of new.shelf new.held) u ≡ schema))
-  make_opened = is_opened (λ (x : LibraryState). x) u old new r call.units changes schema r refl (fine r call.made)
+  make_opened = is_opened (λ (x : LibraryState). x) u old new r call.units changes schema r refl (fine r call.make.made)
 
   -- ---- the unit's name
 
@@ -92,7 +92,7 @@ module _ (u : ℕ) (schema : Schema) (r : Result ShelfFile Fault) (old new : Lib
   failed_now (Err fault) honest failed = failed honest
 
   stays_or_refused : IsTrue new.shelf.is_honest → SameOrRefused (unit_file old.shelf u) (unit_file new.shelf u)
-  stays_or_refused honest = same_or_refused honest r call.made (failed_now r honest call.failed)
+  stays_or_refused honest = same_or_refused honest r call.make.made (failed_now r honest call.make.failed)
 
   either_way : (x : Result ShelfFile Fault) → (P : Type 0) → P → OnErr (answer_open x) P
   either_way (Ok file) P p = tt
@@ -122,7 +122,7 @@ module _ (u : ℕ) (schema : Schema) (r : Result ShelfFile Fault) (old new : Lib
   pub passed : IsTrue new.shelf.is_honest → Throughout (WasOrRefused (old.shelf.file (unit_name old.shelf u))) (old.shelf.file (unit_name old.shelf u)) (new.shelf.file (unit_name old.shelf u))
   passed honest =
       subst (λ (name : List ℕ). Throughout (WasOrRefused (unit_file old.shelf u)) (unit_file old.shelf u) (new.shelf.file name))
-      (name_same u (held_open r) old.shelf new.shelf old.held new.held call.units changes) (call.images honest)
+      (name_same u (held_open r) old.shelf new.shelf old.held new.held call.units changes) (call.make.images honest)
 
 -- ---- what the call promises
 
@@ -134,14 +134,14 @@ module _ {S : Type 0} (state : S → LibraryState) (u : ℕ) (schema : Schema) (
   make_opens answer is =
       subst (λ (x : Result (Unit {0}) Fault). OpensUnit (shown_by state) u unfinished old new x) (sym is)
       (opens_unit state u old new r call.units at unfinished
-      (unbroken u schema r (state old) (state new) call r call.made)
+      (unbroken u schema r (state old) (state new) call r call.make.made)
       (faults_are false (state new).shelf.is_honest (IsShownTruly (state old).shelf (state old).held (name_at (world_of (state old).shelf (state old).held) u)) (state old).faults (state new).faults r
-      call.cause (λ e. absurd (let clash : false ≡ true = e in cc)) (λ honest shown. call.damage honest))
+      call.make.cause (λ e. absurd (let clash : false ≡ true = e in cc)) (λ honest shown. call.make.damage honest))
       (λ honest shown. images_at state u (held_open r) old new call.units at unfinished
       (λ test passes all. was_or_refused test ((state old).shelf.file (unit_name (state old).shelf u)) ((state new).shelf.file (unit_name (state old).shelf u))
       (passed u schema r (state old) (state new) call honest) passes (and_parts _ _ all).0)
       tt)
-      (keeps_at state u (held_open r) old new call.units at call.limit call.frames call.count (truly u schema r (state old) (state new) call r call.made)))
+      (keeps_at state u (held_open r) old new call.units at call.limit call.frames call.make.count (truly u schema r (state old) (state new) call r call.make.made)))
 
   is_new : (x : Result ShelfFile Fault) → x ≡ r → IfOk x (λ file. IsMade file u (state new).limit schema (state new).shelf) → IsTrue (state new).shelf.is_honest
       → OnOk (answer_open x) (IsNew (shown_by state) u schema old new)
@@ -167,4 +167,4 @@ module _ {S : Type 0} (state : S → LibraryState) (u : ℕ) (schema : Schema) (
       }
 
   pub make_made : (answer : Result (Unit {0}) Fault) → answer ≡ answer_open r → IsTrue (state new).shelf.is_honest → OnOk answer (IsNew (shown_by state) u schema old new)
-  make_made answer is honest = subst (λ (x : Result (Unit {0}) Fault). OnOk x (IsNew (shown_by state) u schema old new)) (sym is) (is_new r refl call.made honest)
+  make_made answer is honest = subst (λ (x : Result (Unit {0}) Fault). OnOk x (IsNew (shown_by state) u schema old new)) (sym is) (is_new r refl call.make.made honest)

@@ -124,7 +124,7 @@ module _ (u : ℕ) (header : Header) (r : Result ShelfFile Fault) (old new : Lib
   same_file = ap (λ (s : ShelfState). unit_file s u) call.shelf
 
   pub units_after : AreUnits new.shelf new.held
-  units_after = are_after u (held_open r) old.shelf new.shelf old.held new.held call.units changes (opened_fits u new.shelf header has_unit accepted_now r call.opened)
+  units_after = are_after u (held_open r) old.shelf new.shelf old.held new.held call.units changes (opened_fits u new.shelf header has_unit accepted_now r call.by_header.opened)
 
   schema_before : schema_at (world_of old.shelf old.held) u ≡ header.schema
   schema_before = ap schema_in (holding_before u (held_open r) old.shelf new.shelf old.held new.held call.units changes ∙ ap (holding_of old.shelf) call.looked)
@@ -134,7 +134,7 @@ module _ (u : ℕ) (header : Header) (r : Result ShelfFile Fault) (old new : Lib
   open_opened =
       subst (λ (schema : Schema). OnOk (answer_open r) (IsTrue (is_open (holding_at (world_of new.shelf new.held) u)) × (schema_at (world_of new.shelf new.held) u ≡ schema)))
       (sym schema_before)
-      (is_opened (λ (x : LibraryState). x) u old new r call.units changes header.schema r refl (opened_fine u new.shelf header has_unit accepted_now r call.opened))
+      (is_opened (λ (x : LibraryState). x) u old new r call.units changes header.schema r refl (opened_fine u new.shelf header has_unit accepted_now r call.by_header.opened))
 
   pub open_named : named_at (world_of new.shelf new.held) u ≡ named_at (world_of old.shelf old.held) u
   open_named =
@@ -149,7 +149,7 @@ module _ (u : ℕ) (header : Header) (r : Result ShelfFile Fault) (old new : Lib
       subst (λ (h : Holding). OnOk (answer_open r) (h ≡ opened_from (named_at (world_of old.shelf old.held) u)))
       (sym (holding_after u (held_open r) old.shelf new.shelf old.held new.held call.units changes))
       (subst (λ (n : Named). OnOk (answer_open r) (holding_of new.shelf (held_open r) ≡ opened_from n)) named
-      (opened_reads u new.shelf header has_unit accepted_now r call.opened honest))
+      (opened_reads u new.shelf header has_unit accepted_now r call.by_header.opened honest))
 
   counts_after : (x : Result ShelfFile Fault) (seen : Option (List ℕ)) → IfOk x (λ held. (held.pages.pager.count ≡ header.pages) × (held.pages.pager.free ≡ header.free))
       → OnOk (answer_open x) (counts_of_held seen (held_open x) ≡ counts_by (Accepted header))
@@ -166,11 +166,11 @@ module _ (u : ℕ) (header : Header) (r : Result ShelfFile Fault) (old new : Lib
       ap (counts_of_held (unit_file old.shelf u).seen) call.looked ∙ ap counts_by (was.accepted was_honest) in
       subst (λ (one : Held). OnOk (answer_open r) (counts_of_held seen one ≡ counts_of_held (unit_file old.shelf u).seen (held_at old.held u)))
       (sym (held_here u (held_open r) old.shelf new.shelf old.held new.held call.units changes))
-      (subst (λ (pages : PageCounts). OnOk (answer_open r) (counts_of_held seen (held_open r) ≡ pages)) (sym before) (counts_after r seen call.counts))
+      (subst (λ (pages : PageCounts). OnOk (answer_open r) (counts_of_held seen (held_open r) ≡ pages)) (sym before) (counts_after r seen call.by_header.counts))
 
   truly_now : IsTrue new.shelf.is_honest → IsTrulyHeld u (held_at old.held u) old.shelf → IsTrulyHeld u (held_open r) new.shelf
   truly_now honest truly =
-      opened_truly u new.shelf header has_unit accepted_now r call.opened honest
+      opened_truly u new.shelf header has_unit accepted_now r call.by_header.opened honest
       (subst (λ (s : ShelfState). IsTrulyHeld u (Looked header) s) (sym call.shelf) (subst (λ (one : Held). IsTrulyHeld u one old.shelf) call.looked truly))
 
 -- nothing was read or written
@@ -180,8 +180,8 @@ open_opens {S} state u header r old new call answer is =
     let at = changes u header r (state old) (state new) call in
     let same = call.faults in
     subst (λ (x : Result (Unit {0}) Fault). OpensUnit (shown_by state) u untouched old new x) (sym is) (opens_unit state u old new r call.units at untouched
-    (opened_unbroken u (state new).shelf header (has_unit u header r (state old) (state new) call) (accepted_now u header r (state old) (state new) call) r call.opened)
-    (want_of_memory (state new).shelf.is_honest (IsShownTruly (state old).shelf (state old).held (name_at (world_of (state old).shelf (state old).held) u)) (state old).faults (state new).faults r call.memory)
+    (opened_unbroken u (state new).shelf header (has_unit u header r (state old) (state new) call) (accepted_now u header r (state old) (state new) call) r call.by_header.opened)
+    (want_of_memory (state new).shelf.is_honest (IsShownTruly (state old).shelf (state old).held (name_at (world_of (state old).shelf (state old).held) u)) (state old).faults (state new).faults r call.by_header.memory)
     (λ honest truly. images_at state u (held_open r) old new call.units at untouched
     (images_aside state old new (unit_name (state old).shelf u) (ap (λ (s : ShelfState). s.file (unit_name (state old).shelf u)) call.shelf)) tt)
     (keeps_at state u (held_open r) old new call.units at call.limit call.frames (omega (arith, same)) (truly_now u header r (state old) (state new) call)))

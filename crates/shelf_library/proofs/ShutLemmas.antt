@@ -81,7 +81,7 @@ module _ (u : ℕ) (file : ShelfFile) (result : Result (Unit {0}) Fault) (old ne
   pub shut_ok : IsTrue new.shelf.is_honest → IsShownTruly old.shelf old.held (name_at before u) → OnOk result (named_at after u ≡ Closed (schema_at before u) (file_at before u))
   shut_ok honest truly =
       either file.file.broken (OnOk result (named_at after u ≡ Closed (schema_at before u) (file_at before u)))
-      (λ broken. subst (λ (r : Result (Unit {0}) Fault). OnOk r (named_at after u ≡ Closed (schema_at before u) (file_at before u))) (sym (call.broken broken)) tt)
+      (λ broken. subst (λ (r : Result (Unit {0}) Fault). OnOk r (named_at after u ≡ Closed (schema_at before u) (file_at before u))) (sym (call.close.broken broken)) tt)
       (λ works. let known = shown_open truly works in on_more result _ _ (λ is. named_here ∙ is ∙ closed_is works known.rows known.stands) (named_closed u file result old new call honest works known))
 
   pub shut_err : IsTrue new.shelf.is_honest → IsShownTruly old.shelf old.held (name_at before u)
@@ -90,7 +90,7 @@ module _ (u : ℕ) (file : ShelfFile) (result : Result (Unit {0}) Fault) (old ne
       either file.file.broken (IfErr result (λ fault. fault ≢ BrokenUnit → (named_at after u ≡ Closed (schema_at before u) (file_at before u)) ⊎ (named_at after u ≡ Unsound)))
       (λ broken.
       subst (λ (r : Result (Unit {0}) Fault). IfErr r (λ fault. fault ≢ BrokenUnit → (named_at after u ≡ Closed (schema_at before u) (file_at before u)) ⊎ (named_at after u ≡ Unsound)))
-      (sym (call.broken broken)) (λ other. absurd (other refl)))
+      (sym (call.close.broken broken)) (λ other. absurd (other refl)))
       (λ works. if_any result _ (λ fault other.
       let known = shown_open truly works in
       by truly works (closing_named (unit_file new.shelf u).seen file.file.schema known.rows (ends_closed u file result old new call honest works known))))
@@ -105,14 +105,14 @@ module _ (u : ℕ) (file : ShelfFile) (result : Result (Unit {0}) Fault) (old ne
   broken_is = broken_shown u file old call.units call.attached call.opened
 
   pub shut_broken : IsTrue (is_broken (holding_at before u)) → (result ≡ Err BrokenUnit) × (named_at after u ≡ named_at before u)
-  shut_broken broken = let is = sym broken_is ∙ broken in (call.broken is, named_stays (call.nothing is))
+  shut_broken broken = let is = sym broken_is ∙ broken in (call.close.broken is, named_stays (call.close.nothing is))
 
   pub shut_unchanged : IsTrue new.shelf.is_honest → named_at before u ≡ Closed (schema_at before u) (file_at before u) → named_at after u ≡ named_at before u
   shut_unchanged honest closed = elim (cases_Bool file.pages.changed) [
     | inl changed ↦
         let clash : Unsound ≡ Closed (schema_at before u) (file_at before u) = sym (was_unsound u file result old new call changed honest) ∙ sym named_there ∙ closed in
         absurd (cc)
-    | inr unchanged ↦ named_stays (call.unchanged unchanged)
+    | inr unchanged ↦ named_stays (call.close.unchanged unchanged)
   ]
 
   -- ---- what a crash may leave
@@ -190,7 +190,7 @@ module _ {S : Type 0} (state : S → LibraryState) (u : ℕ) (file : ShelfFile) 
       → ImagesGo (shown_by state).Throughout name (trace_of_shut (named_at (world_of (state old).shelf (state old).held) u) (holding_at (world_of (state old).shelf (state old).held) u) result) old new
   images honest truly = elim (cases_Bool file.file.broken) [
     | inl broken ↦
-        subst (λ (t : Trace). ImagesGo (shown_by state).Throughout name t old new) (sym (trace_broken u file result (state old) (state new) call broken)) (go_untouched (call.nothing broken))
+        subst (λ (t : Trace). ImagesGo (shown_by state).Throughout name t old new) (sym (trace_broken u file result (state old) (state new) call broken)) (go_untouched (call.close.nothing broken))
     | inr works ↦ elim (cases_Bool file.pages.changed) [
       | inl changed ↦
           let known = shown_open u file result (state old) (state new) call truly works in
@@ -198,7 +198,7 @@ module _ {S : Type 0} (state : S → LibraryState) (u : ℕ) (file : ShelfFile) 
           (go_closed known.rows result (closes_here u file result (state old) (state new) call honest works known changed))
       | inr unchanged ↦
           subst (λ (t : Trace). ImagesGo (shown_by state).Throughout name t old new) (sym (trace_unchanged u file result (state old) (state new) call honest truly works unchanged))
-          (go_untouched (call.unchanged unchanged))
+          (go_untouched (call.close.unchanged unchanged))
     ]
   ]
 
@@ -209,7 +209,7 @@ module _ {S : Type 0} (state : S → LibraryState) (u : ℕ) (file : ShelfFile) 
     fault = subst (λ (b : Bool). IfErr result (MayFail b (state new).shelf.is_honest (IsShownTruly (state old).shelf (state old).held name) (state old).faults (state new).faults))
         (sym (broken_shown u file (state old) call.units call.attached call.opened))
         (faults_are file.file.broken (state new).shelf.is_honest (IsShownTruly (state old).shelf (state old).held name) (state old).faults (state new).faults result
-        call.cause call.broken (λ honest truly. call.damage));
+        call.close.cause call.close.broken (λ honest truly. call.close.damage));
     images = images;
-    keeps = keeps_at state u Nothing old new call.units changed_at call.limit call.frames call.count (closes_truly u file result (state old) (state new) call);
+    keeps = keeps_at state u Nothing old new call.units changed_at call.limit call.frames call.close.count (closes_truly u file result (state old) (state new) call);
   }

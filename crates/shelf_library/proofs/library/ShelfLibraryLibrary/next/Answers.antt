@@ -4,6 +4,9 @@ use Rattle.std.specs.NonZero.{non_zero_usize_get}
 use Rattle.indexed_file.specs.Rank.{admits}
 use Rattle.indexed_file.specs.Room.{most_to_read}
 use Rattle.record_layout.specs.Schema.{Schema}
+use Rattle.shelf_library.specs.State.{LibraryState}
+use Rattle.shelf_library.specs.declared.library.ShelfLibrary.{ShelfLibrary}
+use Rattle.shelf_library.specs.OneUnit.{AreUnits}
 use Rattle.shelf_library.specs.Units.{room_of_held}
 use Rattle.shelf_library.proofs.WorldLemmas.{is_held}
 use Rattle.shelf_library.proofs.OpenedLemmas.{must_be_open, schema_is, may_call, reads_at}
@@ -11,7 +14,21 @@ use Rattle.shelf_library.proofs.ReadingLemmas.{reads_units}
 use Rattle.shelf_library.proofs.ReadsLemmas.{reads_unit}
 use Rattle.shelf_library.proofs.FoundLemmas.{delivers_found, delivers_area, delivers_undamaged}
 use Rattle.shelf_library.proofs.LimitLemmas.{limits_read}
+use Rattle.shelf_library.proofs.library.ShelfLibraryLibrary.next.Given as given
 use Rattle.shelf_library.proofs.library.ShelfLibraryLibrary.next.Goals as goal
+
+-- a library, as it is seen
+abbrev state : (g : given.Over) → ShelfLibrary g.row.S.Denot g.S.Shelf → LibraryState
+state g library = record {
+  shelf = g.S.Shelf.state library.shelf;
+  held = library.units.items;
+  faults = g.S.Shelf.fault_count library.shelf;
+  limit = library.limit;
+  frames = non_zero_usize_get library.frames;
+}
+
+units : (g : given.Over) (s : ShelfLibrary g.row.S.Denot g.S.Shelf) → AreUnits (state g s).shelf (state g s).held
+units g s = record { many = s.many; distinct = s.distinct; looked = s.looked; ready = s.ready }
 
 pub index_mut-requires : goal.index_mut-requires
 index_mut-requires g c =
@@ -19,56 +36,63 @@ index_mut-requires g c =
     let within = is_held (g.S.Shelf.state s.shelf) s.units.items c.args.u s.many c.requires.attached in
     omega (arith, within, s.units.ok.0)
 
-pub next-requires-clause-ready : goal.next-requires-clause-ready
-next-requires-clause-ready g c =
+pub next-requires : goal.next-requires
+next-requires g c =
     let s = c.args.self.now in
-    may_call (g.S.Shelf.state s.shelf) s.units.items c.args.u c.index_mut.result.now s.many c.requires.attached c.index_mut.ensures.value c.in-Opened.file c.in-Opened.is
-    (record { many = s.many; distinct = s.distinct; looked = s.looked; ready = s.ready })
-
-pub next-requires-clause-key : goal.next-requires-clause-key
-next-requires-clause-key g c =
-    let s = c.args.self.now in
-    subst (λ (schema : Schema). c.args.k < length schema.keys)
-    (schema_is (g.S.Shelf.state s.shelf) s.units.items c.args.u c.index_mut.result.now s.many c.requires.attached c.index_mut.ensures.value c.in-Opened.file c.in-Opened.is)
-    c.requires.key
-
-pub next-requires-clause-area : goal.next-requires-clause-area
-next-requires-clause-area g c =
-    let s = c.args.self.now in
-    c.requires.length ∙ ap (λ (schema : Schema). schema.greatest)
-    (schema_is (g.S.Shelf.state s.shelf) s.units.items c.args.u c.index_mut.result.now s.many c.requires.attached c.index_mut.ensures.value c.in-Opened.file c.in-Opened.is)
+    let same = schema_is (g.S.Shelf.state s.shelf) s.units.items c.args.u c.index_mut.result.now s.many c.requires.attached
+    c.index_mut.ensures.value c.in-Opened.file c.in-Opened.is in
+    record {
+      ready = may_call (g.S.Shelf.state s.shelf) s.units.items c.args.u c.index_mut.result.now s.many c.requires.attached
+          c.index_mut.ensures.value c.in-Opened.file c.in-Opened.is (units g s);
+      key = subst (λ (schema : Schema). c.args.k < length schema.keys) same c.requires.key;
+      area = c.requires.length ∙ ap (λ (schema : Schema). schema.greatest) same;
+    }
 
 pub unreachable-requires : goal.unreachable-requires
 unreachable-requires g c =
     let s = c.args.self.now in
-    must_be_open (g.S.Shelf.state s.shelf) s.units.items c.args.u c.index_mut.result.now s.many c.requires.attached c.index_mut.ensures.value c.requires.opened c.in_default.not-Opened
+    must_be_open (g.S.Shelf.state s.shelf) s.units.items c.args.u c.index_mut.result.now s.many c.requires.attached
+    c.index_mut.ensures.value c.requires.opened c.in_default.not-Opened
 
 pub invariant_of-self : goal.invariant_of-self
 invariant_of-self g c =
     let s = c.args.self.now in
-    let call = reads_at (g.S.Shelf.state s.shelf) s.units.items c.args.u c.index_mut.result.now s.many c.requires.attached c.index_mut.ensures.value c.in-Opened.file c.in-Opened.is
-    c.next.new.self (g.S.Shelf.state c.next.new.shelf) (g.S.Shelf.fault_count s.shelf) (g.S.Shelf.fault_count c.next.new.shelf) s.limit (non_zero_usize_get s.frames)
-    (record { many = s.many; distinct = s.distinct; looked = s.looked; ready = s.ready }) c.next.ensures.reads.step
-    (g.met.S.Shelf.reads_an_image s.shelf) (g.met.S.Shelf.reads_an_image c.next.new.shelf) in
+    let call =
+    reads_at (g.S.Shelf.state s.shelf) s.units.items c.args.u c.index_mut.result.now s.many c.requires.attached
+    c.index_mut.ensures.value c.in-Opened.file c.in-Opened.is c.next.new.self (g.S.Shelf.state c.next.new.shelf)
+    (g.S.Shelf.fault_count s.shelf) (g.S.Shelf.fault_count c.next.new.shelf) s.limit (non_zero_usize_get s.frames) (units g s)
+    c.next.ensures.reads.step (g.met.S.Shelf.reads_an_image s.shelf) (g.met.S.Shelf.reads_an_image c.next.new.shelf) in
     let after = reads_units _ _ _ _ _ call in
-    record { room = s.room; many = after.many; distinct = after.distinct; looked = after.looked; ready = after.ready; limits = limits_read _ _ _ _ _ call _ _ s.limits }
+    record {
+      room = s.room;
+      many = after.many;
+      distinct = after.distinct;
+      looked = after.looked;
+      ready = after.ready;
+      limits = limits_read _ _ _ _ _ call _ _ s.limits;
+    }
 
 pub returns : goal.returns
 returns g c =
     let s = c.args.self.now in
-    let call = reads_at (g.S.Shelf.state s.shelf) s.units.items c.args.u c.index_mut.result.now s.many c.requires.attached c.index_mut.ensures.value c.in-Opened.file c.in-Opened.is
-    c.next.new.self (g.S.Shelf.state c.next.new.shelf) (g.S.Shelf.fault_count s.shelf) (g.S.Shelf.fault_count c.next.new.shelf) s.limit (non_zero_usize_get s.frames)
-    (record { many = s.many; distinct = s.distinct; looked = s.looked; ready = s.ready }) c.next.ensures.reads.step
-    (g.met.S.Shelf.reads_an_image s.shelf) (g.met.S.Shelf.reads_an_image c.next.new.shelf) in
+    let call =
+    reads_at (g.S.Shelf.state s.shelf) s.units.items c.args.u c.index_mut.result.now s.many c.requires.attached
+    c.index_mut.ensures.value c.in-Opened.file c.in-Opened.is c.next.new.self (g.S.Shelf.state c.next.new.shelf)
+    (g.S.Shelf.fault_count s.shelf) (g.S.Shelf.fault_count c.next.new.shelf) s.limit (non_zero_usize_get s.frames) (units g s)
+    c.next.ensures.reads.step (g.met.S.Shelf.reads_an_image s.shelf) (g.met.S.Shelf.reads_an_image c.next.new.shelf) in
     record {
       found = λ honest truly.
-          delivers_found _ _ _ _ _ call truly c.args.k (λ schema. admits schema c.args.k c.args.position.now) c.args.area.now c.next.new.area c.next.result c.next.ensures.reads.broken (c.next.ensures.finds.found honest);
+          delivers_found _ _ _ _ _ call truly c.args.k (λ schema. admits schema c.args.k c.args.position.now)
+          c.args.area.now c.next.new.area c.next.result c.next.ensures.reads.broken (c.next.ensures.finds.found honest);
       area = λ honest truly.
-          delivers_area _ _ _ _ _ call truly c.args.k (λ schema. admits schema c.args.k c.args.position.now) c.args.area.now c.next.new.area c.next.result c.next.ensures.reads.broken (c.next.ensures.finds.found honest);
+          delivers_area _ _ _ _ _ call truly c.args.k (λ schema. admits schema c.args.k c.args.position.now)
+          c.args.area.now c.next.new.area c.next.result c.next.ensures.reads.broken (c.next.ensures.finds.found honest);
       none = first_of (search rules, grind (arith, common_steps));
       err = first_of (search rules, grind (arith, common_steps));
-      reads = reads_unit (λ library. record { shelf = g.S.Shelf.state library.shelf; held = library.units.items; faults = g.S.Shelf.fault_count library.shelf; limit = library.limit; frames = non_zero_usize_get library.frames })
-          s _ c.args.u c.in-Opened.file c.next.new.self call
-          (λ one. most_to_read (room_of_held one) c.args.k) c.next.result c.next.ensures.reads.asked c.next.ensures.reads.broken c.next.ensures.reads.cause
-          (λ honest truly. delivers_undamaged _ _ _ _ _ call truly c.args.k (admits c.in-Opened.file.file.schema c.args.k c.args.position.now) c.args.area.now c.next.new.area c.next.result c.next.ensures.reads.broken (c.next.ensures.finds.found honest));
+      reads =
+          reads_unit (state g) s _ c.args.u c.in-Opened.file c.next.new.self call (λ one. most_to_read (room_of_held one) c.args.k)
+          c.next.result c.next.ensures.reads.asked c.next.ensures.reads.broken c.next.ensures.reads.cause
+          (λ honest truly. delivers_undamaged _ _ _ _ _ call truly c.args.k
+          (admits c.in-Opened.file.file.schema c.args.k c.args.position.now)
+          c.args.area.now c.next.new.area c.next.result c.next.ensures.reads.broken (c.next.ensures.finds.found honest));
     }

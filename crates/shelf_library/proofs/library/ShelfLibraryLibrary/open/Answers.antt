@@ -1,10 +1,11 @@
 use Rattle.std.proofs.Common.{◌≡◌, IsTrue, OnOk, Result, refl, sym, ap, subst, ◌∙◌, arith, slice_set}
 use Rattle.std.specs.NonZero.{non_zero_usize_get}
 use Rattle.io_state.specs.declared.fault.Fault.{Fault}
-use Rattle.indexed_file.specs.World.{Holding, is_open, is_looked, holding_at, named_at, schema_at, opened_from}
+use Rattle.indexed_file.specs.World.{World, Holding, is_open, is_looked, holding_at, named_at, schema_at, opened_from}
 use Rattle.shelf_library.specs.declared.library.ShelfLibrary.{ShelfLibrary}
 use Rattle.shelf_library.specs.State.{LibraryState, held_at}
 use Rattle.page_store.specs.ShelfState.{unit_file}
+use Rattle.shelf_library.specs.OneUnit.{AreUnits}
 use Rattle.shelf_library.specs.Units.{world_of, counts_of_held}
 use Rattle.shelf_library.specs.Opening.{OpensAt}
 use Rattle.shelf_library.proofs.WorldLemmas.{is_held, holding_now, set_twice}
@@ -12,7 +13,21 @@ use Rattle.shelf_library.proofs.OpenedLemmas.{is_one}
 use Rattle.shelf_library.proofs.OpensLemmas.{was_looked}
 use Rattle.shelf_library.proofs.OpeningLemmas.{units_after, open_opened, open_named, open_file, open_counts, open_opens}
 use Rattle.shelf_library.proofs.LimitLemmas.{limits_opened}
+use Rattle.shelf_library.proofs.library.ShelfLibraryLibrary.open.Given as given
 use Rattle.shelf_library.proofs.library.ShelfLibraryLibrary.open.Goals as goal
+
+-- a library, as it is seen
+abbrev state : (g : given.Over) → ShelfLibrary g.row.S.Denot g.S.Shelf → LibraryState
+state g library = record {
+  shelf = g.S.Shelf.state library.shelf;
+  held = library.units.items;
+  faults = g.S.Shelf.fault_count library.shelf;
+  limit = library.limit;
+  frames = non_zero_usize_get library.frames;
+}
+
+units : (g : given.Over) (s : ShelfLibrary g.row.S.Denot g.S.Shelf) → AreUnits (state g s).shelf (state g s).held
+units g s = record { many = s.many; distinct = s.distinct; looked = s.looked; ready = s.ready }
 
 pub index_mut-requires : goal.index_mut-requires
 index_mut-requires g c =
@@ -27,8 +42,11 @@ unreachable-requires g c =
     let held = s.units.items in
     let many = s.many in
     let within = is_held shelf held c.args.u many c.requires.attached in
-    let at : held_at held c.args.u ≡ c.replace.result = is_one shelf held c.args.u c.index_mut.result.now s.many c.requires.attached c.index_mut.ensures.value ∙ sym c.replace.ensures.value in
-    let looked = was_looked shelf (held_at held c.args.u) (subst (λ (h : Holding). IsTrue (is_looked h)) (holding_now shelf held c.args.u within many) c.requires.looked) in
+    let at : held_at held c.args.u ≡ c.replace.result =
+    is_one shelf held c.args.u c.index_mut.result.now s.many c.requires.attached c.index_mut.ensures.value
+    ∙ sym c.replace.ensures.value in
+    let looked = was_looked shelf (held_at held c.args.u)
+    (subst (λ (h : Holding). IsTrue (is_looked h)) (holding_now shelf held c.args.u within many) c.requires.looked) in
     c.in_default.not-Looked looked.0 (sym at ∙ looked.1)
 
 pub open-file-requires : goal.open-file-requires
@@ -36,7 +54,9 @@ open-file-requires g c =
     let s = c.args.self.now in
     let shelf = g.S.Shelf.state s.shelf in
     let held = s.units.items in
-    let at : held_at held c.args.u ≡ c.replace.result = is_one shelf held c.args.u c.index_mut.result.now s.many c.requires.attached c.index_mut.ensures.value ∙ sym c.replace.ensures.value in
+    let at : held_at held c.args.u ≡ c.replace.result =
+    is_one shelf held c.args.u c.index_mut.result.now s.many c.requires.attached c.index_mut.ensures.value
+    ∙ sym c.replace.ensures.value in
     record { header = (s.looked c.args.u c.in-Looked.header (at ∙ c.in-Looked.is)).allowed }
 
 pub index_mut-requires-2 : goal.index_mut-requires-2
@@ -48,160 +68,98 @@ index_mut-requires-2 g c =
 pub invariant_of-self : goal.invariant_of-self
 invariant_of-self g c =
     let s = c.args.self.now in
-    let shelf = g.S.Shelf.state s.shelf in
-    let faults = g.S.Shelf.fault_count s.shelf in
     let held = s.units.items in
     let u = c.args.u in
-    let within = is_held shelf held u s.many c.requires.attached in
-    let old : LibraryState = record { shelf = shelf; held = held; faults = faults; limit = s.limit; frames = non_zero_usize_get s.frames } in
-    let new : LibraryState = record { shelf = shelf; held = slice_set (slice_set held u c.replace.new.dest) u c.opened-held.result.0; faults = faults; limit = s.limit; frames = non_zero_usize_get s.frames } in
-    let call : OpensAt u c.in-Looked.header c.open-file.result old new = record {
-      units = record { many = s.many; distinct = s.distinct; looked = s.looked; ready = s.ready };
-      attached = within;
-      looked = is_one shelf held u c.index_mut.result.now s.many c.requires.attached c.index_mut.ensures.value ∙ sym c.replace.ensures.value ∙ c.in-Looked.is;
+    let header = c.in-Looked.header in
+    let old = state g s in
+    let new : LibraryState = record old { held = slice_set (slice_set held u c.replace.new.dest) u c.opened-held.result.0 } in
+    let call : OpensAt u header c.open-file.result old new = record {
+      units = units g s;
+      attached = is_held old.shelf held u s.many c.requires.attached;
+      looked = is_one old.shelf held u c.index_mut.result.now s.many c.requires.attached c.index_mut.ensures.value
+          ∙ sym c.replace.ensures.value ∙ c.in-Looked.is;
       holds = set_twice held u c.replace.new.dest c.opened-held.result.0 ∙ ap (slice_set held u) c.opened-held.ensures.held;
       shelf = refl;
       faults = refl;
       limit = refl;
       frames = refl;
-      opened = c.open-file.ensures.opened;
-      counts = c.open-file.ensures.counts;
-      limits = c.open-file.ensures.limits;
-      memory = c.open-file.ensures.memory;
+      by_header = c.open-file.ensures;
     } in
-    let after = units_after u c.in-Looked.header c.open-file.result old new call in
-    record { room = s.room; many = after.many; distinct = after.distinct; looked = after.looked; ready = after.ready; limits = limits_opened u c.in-Looked.header c.open-file.result old new call s.limits }
+    let after = units_after u header c.open-file.result old new call in
+    record {
+      room = s.room;
+      many = after.many;
+      distinct = after.distinct;
+      looked = after.looked;
+      ready = after.ready;
+      limits = limits_opened u header c.open-file.result old new call s.limits;
+    }
+
+-- the call, as the other goals have it
+module _ (g : given.Over) (c : goal.Joined-index_mut-held g) where
+  abbrev before : LibraryState
+  before = state g c.args.self.now
+
+  abbrev after : LibraryState
+  after = record {
+    shelf = g.S.Shelf.state c.args.self.now.shelf;
+    held = slice_set (slice_set c.args.self.now.units.items c.args.u c.replace.new.dest) c.args.u c.opened-held.result.0;
+    faults = g.S.Shelf.fault_count c.args.self.now.shelf;
+    limit = c.args.self.now.limit;
+    frames = non_zero_usize_get c.args.self.now.frames;
+  }
+
+  -- what the library shows before and after
+  abbrev first : World
+  first = world_of before.shelf before.held
+
+  abbrev last : World
+  last = world_of after.shelf after.held
+
+  call : OpensAt c.args.u c.in-Looked.header c.open-file.result before after
+  call =
+      let s = c.args.self.now in
+      let u = c.args.u in
+      let held = s.units.items in
+      let shelf = g.S.Shelf.state s.shelf in
+      record {
+        units = units g s;
+        attached = is_held shelf held u s.many c.requires.attached;
+        looked = is_one shelf held u c.index_mut.result.now s.many c.requires.attached c.index_mut.ensures.value
+            ∙ sym c.replace.ensures.value ∙ c.in-Looked.is;
+        holds = set_twice held u c.replace.new.dest c.opened-held.result.0 ∙ ap (slice_set held u) c.opened-held.ensures.held;
+        shelf = refl;
+        faults = refl;
+        limit = refl;
+        frames = refl;
+        by_header = c.open-file.ensures;
+      }
 
 pub returns-clause-opened : goal.returns-clause-opened
 returns-clause-opened g c =
-    let s = c.args.self.now in
-    let shelf = g.S.Shelf.state s.shelf in
-    let faults = g.S.Shelf.fault_count s.shelf in
-    let held = s.units.items in
-    let u = c.args.u in
-    let within = is_held shelf held u s.many c.requires.attached in
-    let old : LibraryState = record { shelf = shelf; held = held; faults = faults; limit = s.limit; frames = non_zero_usize_get s.frames } in
-    let new : LibraryState = record { shelf = shelf; held = slice_set (slice_set held u c.replace.new.dest) u c.opened-held.result.0; faults = faults; limit = s.limit; frames = non_zero_usize_get s.frames } in
-    let call : OpensAt u c.in-Looked.header c.open-file.result old new = record {
-      units = record { many = s.many; distinct = s.distinct; looked = s.looked; ready = s.ready };
-      attached = within;
-      looked = is_one shelf held u c.index_mut.result.now s.many c.requires.attached c.index_mut.ensures.value ∙ sym c.replace.ensures.value ∙ c.in-Looked.is;
-      holds = set_twice held u c.replace.new.dest c.opened-held.result.0 ∙ ap (slice_set held u) c.opened-held.ensures.held;
-      shelf = refl;
-      faults = refl;
-      limit = refl;
-      frames = refl;
-      opened = c.open-file.ensures.opened;
-      counts = c.open-file.ensures.counts;
-      limits = c.open-file.ensures.limits;
-      memory = c.open-file.ensures.memory;
-    } in
-    subst (λ (x : Result (Unit {0}) Fault). OnOk x (IsTrue (is_open (holding_at (world_of new.shelf new.held) u)) × (schema_at (world_of new.shelf new.held) u ≡ schema_at (world_of shelf held) u)))
-    (sym c.opened-held.ensures.answer) (open_opened u c.in-Looked.header c.open-file.result old new call)
+    subst (λ (x : Result (Unit {0}) Fault). OnOk x
+    (IsTrue (is_open (holding_at (last g c) c.args.u)) × (schema_at (last g c) c.args.u ≡ schema_at (first g c) c.args.u)))
+    (sym c.opened-held.ensures.answer)
+    (open_opened c.args.u c.in-Looked.header c.open-file.result (before g c) (after g c) (call g c))
 
 pub returns-clause-file : goal.returns-clause-file
 returns-clause-file g c honest =
-    let s = c.args.self.now in
-    let shelf = g.S.Shelf.state s.shelf in
-    let faults = g.S.Shelf.fault_count s.shelf in
-    let held = s.units.items in
-    let u = c.args.u in
-    let within = is_held shelf held u s.many c.requires.attached in
-    let old : LibraryState = record { shelf = shelf; held = held; faults = faults; limit = s.limit; frames = non_zero_usize_get s.frames } in
-    let new : LibraryState = record { shelf = shelf; held = slice_set (slice_set held u c.replace.new.dest) u c.opened-held.result.0; faults = faults; limit = s.limit; frames = non_zero_usize_get s.frames } in
-    let call : OpensAt u c.in-Looked.header c.open-file.result old new = record {
-      units = record { many = s.many; distinct = s.distinct; looked = s.looked; ready = s.ready };
-      attached = within;
-      looked = is_one shelf held u c.index_mut.result.now s.many c.requires.attached c.index_mut.ensures.value ∙ sym c.replace.ensures.value ∙ c.in-Looked.is;
-      holds = set_twice held u c.replace.new.dest c.opened-held.result.0 ∙ ap (slice_set held u) c.opened-held.ensures.held;
-      shelf = refl;
-      faults = refl;
-      limit = refl;
-      frames = refl;
-      opened = c.open-file.ensures.opened;
-      counts = c.open-file.ensures.counts;
-      limits = c.open-file.ensures.limits;
-      memory = c.open-file.ensures.memory;
-    } in
-    subst (λ (x : Result (Unit {0}) Fault). OnOk x (holding_at (world_of new.shelf new.held) u ≡ opened_from (named_at (world_of shelf held) u)))
-    (sym c.opened-held.ensures.answer) (open_file u c.in-Looked.header c.open-file.result old new call honest)
+    subst (λ (x : Result (Unit {0}) Fault). OnOk x
+    (holding_at (last g c) c.args.u ≡ opened_from (named_at (first g c) c.args.u)))
+    (sym c.opened-held.ensures.answer)
+    (open_file c.args.u c.in-Looked.header c.open-file.result (before g c) (after g c) (call g c) honest)
 
 pub returns-clause-named : goal.returns-clause-named
-returns-clause-named g c =
-    let s = c.args.self.now in
-    let shelf = g.S.Shelf.state s.shelf in
-    let faults = g.S.Shelf.fault_count s.shelf in
-    let held = s.units.items in
-    let u = c.args.u in
-    let within = is_held shelf held u s.many c.requires.attached in
-    let old : LibraryState = record { shelf = shelf; held = held; faults = faults; limit = s.limit; frames = non_zero_usize_get s.frames } in
-    let new : LibraryState = record { shelf = shelf; held = slice_set (slice_set held u c.replace.new.dest) u c.opened-held.result.0; faults = faults; limit = s.limit; frames = non_zero_usize_get s.frames } in
-    let call : OpensAt u c.in-Looked.header c.open-file.result old new = record {
-      units = record { many = s.many; distinct = s.distinct; looked = s.looked; ready = s.ready };
-      attached = within;
-      looked = is_one shelf held u c.index_mut.result.now s.many c.requires.attached c.index_mut.ensures.value ∙ sym c.replace.ensures.value ∙ c.in-Looked.is;
-      holds = set_twice held u c.replace.new.dest c.opened-held.result.0 ∙ ap (slice_set held u) c.opened-held.ensures.held;
-      shelf = refl;
-      faults = refl;
-      limit = refl;
-      frames = refl;
-      opened = c.open-file.ensures.opened;
-      counts = c.open-file.ensures.counts;
-      limits = c.open-file.ensures.limits;
-      memory = c.open-file.ensures.memory;
-    } in
-    open_named u c.in-Looked.header c.open-file.result old new call
+returns-clause-named g c = open_named c.args.u c.in-Looked.header c.open-file.result (before g c) (after g c) (call g c)
 
 pub returns-clause-pages : goal.returns-clause-pages
 returns-clause-pages g c honest =
-    let s = c.args.self.now in
-    let shelf = g.S.Shelf.state s.shelf in
-    let faults = g.S.Shelf.fault_count s.shelf in
-    let held = s.units.items in
-    let u = c.args.u in
-    let within = is_held shelf held u s.many c.requires.attached in
-    let old : LibraryState = record { shelf = shelf; held = held; faults = faults; limit = s.limit; frames = non_zero_usize_get s.frames } in
-    let new : LibraryState = record { shelf = shelf; held = slice_set (slice_set held u c.replace.new.dest) u c.opened-held.result.0; faults = faults; limit = s.limit; frames = non_zero_usize_get s.frames } in
-    let call : OpensAt u c.in-Looked.header c.open-file.result old new = record {
-      units = record { many = s.many; distinct = s.distinct; looked = s.looked; ready = s.ready };
-      attached = within;
-      looked = is_one shelf held u c.index_mut.result.now s.many c.requires.attached c.index_mut.ensures.value ∙ sym c.replace.ensures.value ∙ c.in-Looked.is;
-      holds = set_twice held u c.replace.new.dest c.opened-held.result.0 ∙ ap (slice_set held u) c.opened-held.ensures.held;
-      shelf = refl;
-      faults = refl;
-      limit = refl;
-      frames = refl;
-      opened = c.open-file.ensures.opened;
-      counts = c.open-file.ensures.counts;
-      limits = c.open-file.ensures.limits;
-      memory = c.open-file.ensures.memory;
-    } in
-    subst (λ (x : Result (Unit {0}) Fault). OnOk x (counts_of_held (unit_file new.shelf u).seen (held_at new.held u) ≡ counts_of_held (unit_file shelf u).seen (held_at held u)))
-    (sym c.opened-held.ensures.answer) (open_counts u c.in-Looked.header c.open-file.result old new call honest)
+    subst (λ (x : Result (Unit {0}) Fault). OnOk x
+    (counts_of_held (unit_file (after g c).shelf c.args.u).seen (held_at (after g c).held c.args.u)
+    ≡ counts_of_held (unit_file (before g c).shelf c.args.u).seen (held_at (before g c).held c.args.u)))
+    (sym c.opened-held.ensures.answer)
+    (open_counts c.args.u c.in-Looked.header c.open-file.result (before g c) (after g c) (call g c) honest)
 
 pub returns-clause-opens : goal.returns-clause-opens
 returns-clause-opens g c =
-    let s = c.args.self.now in
-    let shelf = g.S.Shelf.state s.shelf in
-    let faults = g.S.Shelf.fault_count s.shelf in
-    let held = s.units.items in
-    let u = c.args.u in
-    let within = is_held shelf held u s.many c.requires.attached in
-    let old : LibraryState = record { shelf = shelf; held = held; faults = faults; limit = s.limit; frames = non_zero_usize_get s.frames } in
-    let new : LibraryState = record { shelf = shelf; held = slice_set (slice_set held u c.replace.new.dest) u c.opened-held.result.0; faults = faults; limit = s.limit; frames = non_zero_usize_get s.frames } in
-    let call : OpensAt u c.in-Looked.header c.open-file.result old new = record {
-      units = record { many = s.many; distinct = s.distinct; looked = s.looked; ready = s.ready };
-      attached = within;
-      looked = is_one shelf held u c.index_mut.result.now s.many c.requires.attached c.index_mut.ensures.value ∙ sym c.replace.ensures.value ∙ c.in-Looked.is;
-      holds = set_twice held u c.replace.new.dest c.opened-held.result.0 ∙ ap (slice_set held u) c.opened-held.ensures.held;
-      shelf = refl;
-      faults = refl;
-      limit = refl;
-      frames = refl;
-      opened = c.open-file.ensures.opened;
-      counts = c.open-file.ensures.counts;
-      limits = c.open-file.ensures.limits;
-      memory = c.open-file.ensures.memory;
-    } in
-    let state : ShelfLibrary g.row.S.Denot g.S.Shelf → LibraryState = λ library. record { shelf = g.S.Shelf.state library.shelf; held = library.units.items; faults = g.S.Shelf.fault_count library.shelf; limit = library.limit; frames = non_zero_usize_get library.frames } in
-    open_opens state u c.in-Looked.header c.open-file.result s _ call _ c.opened-held.ensures.answer
+    open_opens (state g) c.args.u c.in-Looked.header c.open-file.result c.args.self.now _ (call g c) _ c.opened-held.ensures.answer

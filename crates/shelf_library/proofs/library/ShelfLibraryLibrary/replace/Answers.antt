@@ -3,6 +3,8 @@ use Rattle.std.specs.NonZero.{non_zero_usize_get}
 use Rattle.std.specs.Prelude.{slice_set}
 use Rattle.record_layout.specs.Schema.{Schema}
 use Rattle.indexed_file.specs.FileChange.{replacement}
+use Rattle.shelf_library.specs.declared.library.ShelfLibrary.{ShelfLibrary}
+use Rattle.shelf_library.specs.OneUnit.{AreUnits}
 use Rattle.shelf_library.specs.State.{LibraryState}
 use Rattle.shelf_library.specs.Changing.{MovesAt, ChangesFile}
 use Rattle.shelf_library.specs.declared.held.Held.TheVariants.{Opened}
@@ -12,7 +14,21 @@ use Rattle.shelf_library.proofs.MovingLemmas.{moves_at}
 use Rattle.shelf_library.proofs.ChangingLemmas.{units_after}
 use Rattle.shelf_library.proofs.ChangesLemmas.{changes_unit}
 use Rattle.shelf_library.proofs.LimitLemmas.{limits_moved}
+use Rattle.shelf_library.proofs.library.ShelfLibraryLibrary.replace.Given as given
 use Rattle.shelf_library.proofs.library.ShelfLibraryLibrary.replace.Goals as goal
+
+-- a library, as it is seen
+abbrev state : (g : given.Over) → ShelfLibrary g.row.S.Denot g.S.Shelf → LibraryState
+state g library = record {
+  shelf = g.S.Shelf.state library.shelf;
+  held = library.units.items;
+  faults = g.S.Shelf.fault_count library.shelf;
+  limit = library.limit;
+  frames = non_zero_usize_get library.frames;
+}
+
+units : (g : given.Over) (s : ShelfLibrary g.row.S.Denot g.S.Shelf) → AreUnits (state g s).shelf (state g s).held
+units g s = record { many = s.many; distinct = s.distinct; looked = s.looked; ready = s.ready }
 
 pub index_mut-requires : goal.index_mut-requires
 index_mut-requires g c =
@@ -20,66 +36,69 @@ index_mut-requires g c =
     let within = is_held (g.S.Shelf.state s.shelf) s.units.items c.args.u s.many c.requires.attached in
     omega (arith, within, s.units.ok.0)
 
-pub replace-requires-clause-ready : goal.replace-requires-clause-ready
-replace-requires-clause-ready g c =
+pub replace-requires : goal.replace-requires
+replace-requires g c =
     let s = c.args.self.now in
-    may_call (g.S.Shelf.state s.shelf) s.units.items c.args.u c.index_mut.result.now s.many c.requires.attached c.index_mut.ensures.value c.in-Opened.file c.in-Opened.is
-    (record { many = s.many; distinct = s.distinct; looked = s.looked; ready = s.ready })
-
-pub replace-requires-clause-least : goal.replace-requires-clause-least
-replace-requires-clause-least g c =
-    let s = c.args.self.now in
-    subst (λ (schema : Schema). schema.least ≤ length c.args.bytes.now)
-    (schema_is (g.S.Shelf.state s.shelf) s.units.items c.args.u c.index_mut.result.now s.many c.requires.attached c.index_mut.ensures.value c.in-Opened.file c.in-Opened.is)
-    c.requires.least
-
-pub replace-requires-clause-greatest : goal.replace-requires-clause-greatest
-replace-requires-clause-greatest g c =
-    let s = c.args.self.now in
-    subst (λ (schema : Schema). length c.args.bytes.now ≤ schema.greatest)
-    (schema_is (g.S.Shelf.state s.shelf) s.units.items c.args.u c.index_mut.result.now s.many c.requires.attached c.index_mut.ensures.value c.in-Opened.file c.in-Opened.is)
-    c.requires.greatest
+    let same = schema_is (g.S.Shelf.state s.shelf) s.units.items c.args.u c.index_mut.result.now s.many c.requires.attached
+    c.index_mut.ensures.value c.in-Opened.file c.in-Opened.is in
+    record {
+      ready = may_call (g.S.Shelf.state s.shelf) s.units.items c.args.u c.index_mut.result.now s.many c.requires.attached
+          c.index_mut.ensures.value c.in-Opened.file c.in-Opened.is (units g s);
+      least = subst (λ (schema : Schema). schema.least ≤ length c.args.bytes.now) same c.requires.least;
+      greatest = subst (λ (schema : Schema). length c.args.bytes.now ≤ schema.greatest) same c.requires.greatest;
+    }
 
 pub unreachable-requires : goal.unreachable-requires
 unreachable-requires g c =
     let s = c.args.self.now in
-    must_be_open (g.S.Shelf.state s.shelf) s.units.items c.args.u c.index_mut.result.now s.many c.requires.attached c.index_mut.ensures.value c.requires.opened c.in_default.not-Opened
+    must_be_open (g.S.Shelf.state s.shelf) s.units.items c.args.u c.index_mut.result.now s.many c.requires.attached
+    c.index_mut.ensures.value c.requires.opened c.in_default.not-Opened
 
 pub invariant_of-self : goal.invariant_of-self
 invariant_of-self g c =
     let s = c.args.self.now in
     let call =
-    moves_at (g.S.Shelf.state s.shelf) s.units.items c.args.u c.index_mut.result.now (record { many = s.many; distinct = s.distinct; looked = s.looked; ready = s.ready })
-    c.requires.attached c.index_mut.ensures.value c.in-Opened.file c.in-Opened.is c.replace.new.self (g.S.Shelf.state c.replace.new.shelf)
-    (g.S.Shelf.fault_count s.shelf) (g.S.Shelf.fault_count c.replace.new.shelf) s.limit (non_zero_usize_get s.frames) c.replace.ensures.replaces.keeps.begins c.replace.ensures.replaces.keeps.ready
+    moves_at (g.S.Shelf.state s.shelf) s.units.items c.args.u c.index_mut.result.now (units g s) c.requires.attached
+    c.index_mut.ensures.value c.in-Opened.file c.in-Opened.is c.replace.new.self (g.S.Shelf.state c.replace.new.shelf)
+    (g.S.Shelf.fault_count s.shelf) (g.S.Shelf.fault_count c.replace.new.shelf) s.limit (non_zero_usize_get s.frames)
+    c.replace.ensures.replaces.keeps.begins c.replace.ensures.replaces.keeps.ready
     (g.met.S.Shelf.reads_an_image s.shelf) (g.met.S.Shelf.reads_an_image c.replace.new.shelf) in
     let after = units_after _ _ _ _ _ call in
-    record { room = c.args.self.now.room; many = after.many; distinct = after.distinct; looked = after.looked; ready = after.ready; limits = limits_moved _ _ _ _ _ call _ _ s.limits }
+    record {
+      room = s.room;
+      many = after.many;
+      distinct = after.distinct;
+      looked = after.looked;
+      ready = after.ready;
+      limits = limits_moved _ _ _ _ _ call _ _ s.limits;
+    }
 
-abbrev before : (g : _) (c : goal.After-self-in-Opened-1 g) → LibraryState
-before g c = record { shelf = g.S.Shelf.state c.args.self.now.shelf; held = c.args.self.now.units.items; faults = g.S.Shelf.fault_count c.args.self.now.shelf; limit = c.args.self.now.limit; frames = non_zero_usize_get c.args.self.now.frames }
+-- the call, as the answer has it
+module _ (g : given.Over) (c : goal.After-self-in-Opened-1 g) where
+  abbrev before : LibraryState
+  before = state g c.args.self.now
 
-abbrev later : (g : _) (c : goal.After-self-in-Opened-1 g) → LibraryState
-later g c = record {
-  shelf = g.S.Shelf.state c.replace.new.shelf;
-  held = slice_set c.args.self.now.units.items c.args.u (Opened c.replace.new.self);
-  faults = g.S.Shelf.fault_count c.replace.new.shelf;
-  limit = c.args.self.now.limit;
-  frames = non_zero_usize_get c.args.self.now.frames;
-}
+  abbrev later : LibraryState
+  later = record {
+    shelf = g.S.Shelf.state c.replace.new.shelf;
+    held = slice_set c.args.self.now.units.items c.args.u (Opened c.replace.new.self);
+    faults = g.S.Shelf.fault_count c.replace.new.shelf;
+    limit = c.args.self.now.limit;
+    frames = non_zero_usize_get c.args.self.now.frames;
+  }
 
-call : (g : _) (c : goal.After-self-in-Opened-1 g) → MovesAt c.args.u c.in-Opened.file c.replace.new.self (before g c) (later g c)
-call g c =
-    let s = c.args.self.now in
-    moves_at (g.S.Shelf.state s.shelf) s.units.items c.args.u c.index_mut.result.now (record { many = s.many; distinct = s.distinct; looked = s.looked; ready = s.ready })
-    c.requires.attached c.index_mut.ensures.value c.in-Opened.file c.in-Opened.is c.replace.new.self (g.S.Shelf.state c.replace.new.shelf)
-    (g.S.Shelf.fault_count s.shelf) (g.S.Shelf.fault_count c.replace.new.shelf) s.limit (non_zero_usize_get s.frames) c.replace.ensures.replaces.keeps.begins c.replace.ensures.replaces.keeps.ready
-    (g.met.S.Shelf.reads_an_image s.shelf) (g.met.S.Shelf.reads_an_image c.replace.new.shelf)
+  call : MovesAt c.args.u c.in-Opened.file c.replace.new.self before later
+  call =
+      let s = c.args.self.now in
+      moves_at (g.S.Shelf.state s.shelf) s.units.items c.args.u c.index_mut.result.now (units g s) c.requires.attached
+      c.index_mut.ensures.value c.in-Opened.file c.in-Opened.is c.replace.new.self (g.S.Shelf.state c.replace.new.shelf)
+      (g.S.Shelf.fault_count s.shelf) (g.S.Shelf.fault_count c.replace.new.shelf) s.limit (non_zero_usize_get s.frames)
+      c.replace.ensures.replaces.keeps.begins c.replace.ensures.replaces.keeps.ready
+      (g.met.S.Shelf.reads_an_image s.shelf) (g.met.S.Shelf.reads_an_image c.replace.new.shelf)
 
-change : (g : _) (c : goal.After-self-in-Opened-1 g) → ChangesFile (λ schema. replacement schema c.args.bytes.now) c.in-Opened.file c.replace.new.self (before g c) (later g c) c.replace.result
-change g c = record { changes = c.replace.ensures.replaces; breaks = c.replace.ensures.breaks }
+  change : ChangesFile (λ schema. replacement schema c.args.bytes.now) c.in-Opened.file c.replace.new.self before later c.replace.result
+  change = record { changes = c.replace.ensures.replaces; breaks = c.replace.ensures.breaks }
 
 pub returns : goal.returns
 returns g c =
-    changes_unit (λ library. record { shelf = g.S.Shelf.state library.shelf; held = library.units.items; faults = g.S.Shelf.fault_count library.shelf; limit = library.limit; frames = non_zero_usize_get library.frames })
-    c.args.self.now _ c.args.u c.in-Opened.file c.replace.new.self (call g c) _ c.replace.result (change g c)
+    changes_unit (state g) c.args.self.now _ c.args.u c.in-Opened.file c.replace.new.self (call g c) _ c.replace.result (change g c)
