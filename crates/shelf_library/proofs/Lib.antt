@@ -1,4 +1,5 @@
 pub mod WorldLemmas
+pub mod StateLemmas
 pub mod AsideLemmas
 pub mod CountLemmas
 pub mod RefusedLemmas

@@ -1,62 +1,36 @@
 -- What a call that may open the gate leaves of its unit.
-use Rattle.std.proofs.Common.{◌≡◌, ◌⊎◌, inl, inr, ℕ, ◌<◌, true, false, List, Option, length, IsTrue, refl, sym, ap, subst, ◌∙◌, bytes_eq}
+use Rattle.std.proofs.Common.{◌≡◌, ◌⊎◌, inl, inr, ℕ, true, false, List, Option, IsTrue, sym, ap, subst, ◌∙◌, bytes_eq}
 use Rattle.std.proofs.lemmas.Slice.Eq.{bytes_eq-Decides}
 use Rattle.indexed_file.specs.Images.{Trace, LibraryMayLeave, LeavesOnly, ImagesGo, unfinished}
 use Rattle.indexed_file.specs.Moments.{Test}
 use Rattle.indexed_file.specs.World.{Unsound, name_at}
-use Rattle.std.specs.Prelude.{slice_set, slice_index_or}
 use Rattle.std.proofs.lemmas.Bool.{and_parts}
 use Rattle.page_store.specs.DeviceFile.{DeviceFile, bytes_or_none}
-use Rattle.page_store.specs.Images.{Leaves}
 use Rattle.page_store.specs.Moments.{Throughout}
 use Rattle.page_store.proofs.MomentLemmas.{throughout_weaker, throughout_first}
 use Rattle.page_store.proofs.OpenLemmas.{refused_open}
 use Rattle.page_store.specs.Gate.{AllOpen, SameOrRefused, WasOrRefused}
-use Rattle.page_store.specs.ShelfState.{ShelfState, KeepsOthers, unit_name, unit_file}
+use Rattle.page_store.specs.ShelfState.{KeepsOthers, unit_name, unit_file}
 use Rattle.page_alloc.specs.PagedFile.{StandsOrRefused}
-use Rattle.page_alloc.specs.Steps.{Moves}
 use Rattle.file_header.specs.declared.header.Header.{Header}
 use Rattle.shelf_file.specs.declared.look.Look.TheVariants.{Accepted}
 use Rattle.shelf_file.specs.declared.shelf_file.ShelfFile.{ShelfFile}
 use Rattle.shelf_file.specs.Calls.{OnlyReadsFile}
-use Rattle.shelf_file.specs.Standing.{IsReady}
 use Rattle.shelf_file.specs.Named.{look_of, named_of, StandsIn}
 use Rattle.shelf_library.specs.State.{LibraryState, IsReadyAt}
 use Rattle.shelf_library.specs.Truth.{IsTrulyClosed}
 use Rattle.shelf_library.specs.Crashes.{Passes}
 use Rattle.shelf_library.specs.Library.{shown_by}
 use Rattle.shelf_library.specs.Units.{world_of}
-use Rattle.shelf_library.specs.OneUnit.{AreUnits, ChangesAt, FitsItsFile}
+use Rattle.shelf_library.specs.OneUnit.{ChangesAt, FitsItsFile}
 use Rattle.shelf_library.specs.Reading.{ReadsAt}
 use Rattle.shelf_library.specs.Changing.{MovesAt}
-use Rattle.shelf_library.specs.declared.held.Held.{Held}
 use Rattle.shelf_library.specs.declared.held.Held.TheVariants.{Opened}
-use Rattle.shelf_library.proofs.WorldLemmas.{is_held}
-use Rattle.shelf_library.proofs.OpenedLemmas.{opened_at}
 use Rattle.shelf_library.proofs.AsideLemmas.{name_before, name_same, images_aside}
 use Rattle.shelf_library.proofs.RefusedLemmas.{refused_look, refused_named, refused_passes}
 
 opened_is : (a b : ShelfFile) → Opened a ≡ Opened b → a ≡ b
 opened_is a b e = cc
-
--- a call on the file that a unit holds
-pub moves_at :
-    (shelf : ShelfState) (held : List Held) (u : ℕ) (one : Held) (units : AreUnits shelf held) (attached : u < length (world_of shelf held).units) (read : one ≡ slice_index_or held u one)
-    (file : ShelfFile) (is : one ≡ Opened file) (after : ShelfFile) (later : ShelfState) (failed fails limit frames : ℕ) → Moves file.pages after.pages shelf later failed fails → IsReady after later
-    → ((name : List ℕ) → IsTrue shelf.is_honest → Leaves (shelf.file name) (shelf.file name).seen) → ((name : List ℕ) → IsTrue later.is_honest → Leaves (later.file name) (later.file name).seen)
-    → MovesAt u file after (record { shelf = shelf; held = held; faults = failed; limit = limit; frames = frames }) (record { shelf = later; held = slice_set held u (Opened after); faults = fails; limit = limit; frames = frames })
-moves_at shelf held u one units attached read file is after later failed fails limit frames moves ready before after_it = record {
-  units = units;
-  attached = is_held shelf held u units.many attached;
-  opened = opened_at shelf held u one units.many attached read file is;
-  holds = refl;
-  limit = refl;
-  frames = refl;
-  moves = moves;
-  ready = ready;
-  image_before = before (unit_name shelf u);
-  image_after = after_it (unit_name later u);
-}
 
 -- images that a crash could leave before, and refused ones
 pub was_or_refused : (test : Test) (old new : DeviceFile) → Throughout (WasOrRefused old) old new → Throughout (Passes test) old old → IsTrue (test Unsound) → Throughout (Passes test) old new

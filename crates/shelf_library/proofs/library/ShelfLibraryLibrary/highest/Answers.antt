@@ -1,13 +1,10 @@
 use Rattle.std.proofs.Common.{arith, slice_set}
-use Rattle.std.specs.NonZero.{non_zero_usize_get}
 use Rattle.indexed_file.specs.Room.{most_to_seek}
 use Rattle.shelf_library.specs.State.{LibraryState}
-use Rattle.shelf_library.specs.declared.library.ShelfLibrary.{ShelfLibrary}
-use Rattle.shelf_library.specs.OneUnit.{AreUnits}
 use Rattle.shelf_library.specs.Units.{room_of_held}
 use Rattle.shelf_library.specs.Reading.{ReadsAt}
 use Rattle.shelf_library.specs.declared.held.Held.TheVariants.{Opened}
-use Rattle.shelf_library.proofs.WorldLemmas.{is_held}
+use Rattle.shelf_library.proofs.StateLemmas.{library_state, state_left, is_within}
 use Rattle.shelf_library.proofs.OpenedLemmas.{must_be_open, may_call, reads_at}
 use Rattle.shelf_library.proofs.ReadingLemmas.{reads_units}
 use Rattle.shelf_library.proofs.ReadsLemmas.{reads_unit}
@@ -16,48 +13,32 @@ use Rattle.shelf_library.proofs.LimitLemmas.{limits_read}
 use Rattle.shelf_library.proofs.library.ShelfLibraryLibrary.highest.Given as given
 use Rattle.shelf_library.proofs.library.ShelfLibraryLibrary.highest.Goals as goal
 
--- a library, as it is seen
-abbrev state : (g : given.Over) → ShelfLibrary g.row.S.Denot g.S.Shelf → LibraryState
-state g library = record {
-  shelf = g.S.Shelf.state library.shelf;
-  held = library.units.items;
-  faults = g.S.Shelf.fault_count library.shelf;
-  limit = library.limit;
-  frames = non_zero_usize_get library.frames;
-}
-
-units : (g : given.Over) (s : ShelfLibrary g.row.S.Denot g.S.Shelf) → AreUnits (state g s).shelf (state g s).held
-units g s = record { many = s.many; distinct = s.distinct; looked = s.looked; ready = s.ready }
-
 pub index_mut-requires : goal.index_mut-requires
 index_mut-requires g c =
     let s = c.args.self.now in
-    let within = is_held (g.S.Shelf.state s.shelf) s.units.items c.args.u s.many c.requires.attached in
+    let within = is_within g.S.Shelf s c.args.u c.requires.attached in
     omega (arith, within, s.units.ok.0)
 
 pub highest-requires : goal.highest-requires
 highest-requires g c =
     let s = c.args.self.now in
     record {
-      ready = may_call (g.S.Shelf.state s.shelf) s.units.items c.args.u c.index_mut.result.now s.many c.requires.attached
-          c.index_mut.ensures.value c.in-Opened.file c.in-Opened.is
-          (units g s);
+      ready = may_call g.S.Shelf s c.args.u c.requires.attached c.index_mut.result.now c.index_mut.ensures.value
+          c.in-Opened.file c.in-Opened.is;
     }
 
 pub unreachable-requires : goal.unreachable-requires
 unreachable-requires g c =
     let s = c.args.self.now in
-    must_be_open (g.S.Shelf.state s.shelf) s.units.items c.args.u c.index_mut.result.now s.many c.requires.attached
-    c.index_mut.ensures.value c.requires.opened c.in_default.not-Opened
+    must_be_open g.S.Shelf s c.args.u c.requires.attached c.index_mut.result.now c.index_mut.ensures.value
+    c.requires.opened c.in_default.not-Opened
 
 pub invariant_of-self : goal.invariant_of-self
 invariant_of-self g c =
     let s = c.args.self.now in
     let call =
-    reads_at (g.S.Shelf.state s.shelf) s.units.items c.args.u c.index_mut.result.now s.many c.requires.attached
-    c.index_mut.ensures.value c.in-Opened.file c.in-Opened.is c.highest.new.self (g.S.Shelf.state c.highest.new.shelf)
-    (g.S.Shelf.fault_count s.shelf) (g.S.Shelf.fault_count c.highest.new.shelf) s.limit (non_zero_usize_get s.frames) (units g s)
-    c.highest.ensures.reads.step (g.met.S.Shelf.reads_an_image s.shelf) (g.met.S.Shelf.reads_an_image c.highest.new.shelf) in
+    reads_at g.S.Shelf s c.args.u c.requires.attached c.index_mut.result.now c.index_mut.ensures.value c.in-Opened.file c.in-Opened.is
+    c.highest.new.self c.highest.new.shelf c.highest.ensures.reads.step g.met.S.Shelf.reads_an_image in
     let after = reads_units _ _ _ _ _ call in
     record {
       room = s.room;
@@ -71,24 +52,17 @@ invariant_of-self g c =
 -- the call, as the other goals have it
 module _ (g : given.Over) (c : goal.After-self-in-Opened-1 g) where
   abbrev before : LibraryState
-  before = state g c.args.self.now
+  before = library_state g.S.Shelf c.args.self.now
 
   abbrev after : LibraryState
-  after = record {
-    shelf = g.S.Shelf.state c.highest.new.shelf;
-    held = slice_set c.args.self.now.units.items c.args.u (Opened c.highest.new.self);
-    faults = g.S.Shelf.fault_count c.highest.new.shelf;
-    limit = c.args.self.now.limit;
-    frames = non_zero_usize_get c.args.self.now.frames;
-  }
+  after = state_left g.S.Shelf c.args.self.now c.highest.new.shelf
+      (slice_set c.args.self.now.units.items c.args.u (Opened c.highest.new.self))
 
   call : ReadsAt c.args.u c.in-Opened.file c.highest.new.self before after
   call =
       let s = c.args.self.now in
-      reads_at (g.S.Shelf.state s.shelf) s.units.items c.args.u c.index_mut.result.now s.many c.requires.attached
-      c.index_mut.ensures.value c.in-Opened.file c.in-Opened.is c.highest.new.self (g.S.Shelf.state c.highest.new.shelf)
-      (g.S.Shelf.fault_count s.shelf) (g.S.Shelf.fault_count c.highest.new.shelf) s.limit (non_zero_usize_get s.frames) (units g s)
-      c.highest.ensures.reads.step (g.met.S.Shelf.reads_an_image s.shelf) (g.met.S.Shelf.reads_an_image c.highest.new.shelf)
+      reads_at g.S.Shelf s c.args.u c.requires.attached c.index_mut.result.now c.index_mut.ensures.value c.in-Opened.file c.in-Opened.is
+      c.highest.new.self c.highest.new.shelf c.highest.ensures.reads.step g.met.S.Shelf.reads_an_image
 
 pub returns-clause-found : goal.returns-clause-found
 returns-clause-found g c honest truly =
@@ -96,7 +70,7 @@ returns-clause-found g c honest truly =
 
 pub returns-clause-reads : goal.returns-clause-reads
 returns-clause-reads g c =
-    reads_unit (state g) c.args.self.now _ c.args.u c.in-Opened.file c.highest.new.self (call g c)
+    reads_unit (library_state g.S.Shelf) c.args.self.now _ c.args.u c.in-Opened.file c.highest.new.self (call g c)
     (λ one. most_to_seek (room_of_held one) 0)
     c.highest.result c.highest.ensures.reads.asked c.highest.ensures.reads.broken c.highest.ensures.reads.cause
     (λ honest truly. highest_undamaged _ _ _ _ _ (call g c) truly c.highest.result

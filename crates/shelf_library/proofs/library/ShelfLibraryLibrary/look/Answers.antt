@@ -1,14 +1,12 @@
-use Rattle.std.proofs.Common.{◌≡◌, IfOk, Result, refl, sym, ap, subst, arith, slice_set}
-use Rattle.std.specs.NonZero.{non_zero_usize_get}
+use Rattle.std.proofs.Common.{◌≡◌, IfOk, Result, sym, subst, arith, slice_set}
 use Rattle.io_state.specs.declared.fault.Fault.{Fault}
 use Rattle.indexed_file.specs.declared.answer.Seen.{Seen}
 use Rattle.indexed_file.specs.Answers.{seen_of, looked_at}
 use Rattle.indexed_file.specs.World.{holding_at, named_at}
-use Rattle.shelf_library.specs.declared.library.ShelfLibrary.{ShelfLibrary}
 use Rattle.shelf_library.specs.State.{LibraryState}
 use Rattle.shelf_library.specs.Units.{world_of}
 use Rattle.shelf_library.specs.Looking.{LooksAt}
-use Rattle.shelf_library.proofs.WorldLemmas.{is_held}
+use Rattle.shelf_library.proofs.StateLemmas.{library_state, state_left, is_within, looks_at}
 use Rattle.shelf_library.proofs.LookingLemmas.{units_looked, look_named, look_seen, look_holding, look_opens}
 use Rattle.shelf_library.proofs.LimitLemmas.{limits_looked}
 use Rattle.shelf_library.proofs.library.ShelfLibraryLibrary.look.Given as given
@@ -16,80 +14,60 @@ use Rattle.shelf_library.proofs.library.ShelfLibraryLibrary.look.Goals as goal
 
 pub look_at-requires : goal.look_at-requires
 look_at-requires g c =
-    let within = is_held (g.S.Shelf.state c.args.self.now.shelf) c.args.self.now.units.items c.args.u c.args.self.now.many c.requires.attached in
-    record { unit = record { attached = omega (arith, within, c.args.self.now.many) } }
+    let s = c.args.self.now in
+    let within = is_within g.S.Shelf s c.args.u c.requires.attached in
+    record { unit = record { attached = omega (arith, within, s.many) } }
 
 pub index_mut-requires : goal.index_mut-requires
 index_mut-requires g c =
-    let within = is_held (g.S.Shelf.state c.args.self.now.shelf) c.args.self.now.units.items c.args.u c.args.self.now.many c.requires.attached in
-    omega (arith, within, c.args.self.now.units.ok.0)
+    let s = c.args.self.now in
+    let within = is_within g.S.Shelf s c.args.u c.requires.attached in
+    omega (arith, within, s.units.ok.0)
 
 pub invariant_of-self : goal.invariant_of-self
 invariant_of-self g c =
-    let shelf = g.S.Shelf.state c.args.self.now.shelf in
-    let held = c.args.self.now.units.items in
-    let u = c.args.u in
-    let within = is_held shelf held u c.args.self.now.many c.requires.attached in
-    let old : LibraryState = record { shelf = shelf; held = held; faults = g.S.Shelf.fault_count c.args.self.now.shelf; limit = c.args.self.now.limit; frames = non_zero_usize_get c.args.self.now.frames } in
-    let new : LibraryState = record { shelf = g.S.Shelf.state c.look_at.new.shelf; held = slice_set held u c.told-held.result.0; faults = g.S.Shelf.fault_count c.look_at.new.shelf; limit = c.args.self.now.limit; frames = non_zero_usize_get c.args.self.now.frames } in
-    let call : LooksAt u c.look_at.result old new = record {
-      units = record { many = c.args.self.now.many; distinct = c.args.self.now.distinct; looked = c.args.self.now.looked; ready = c.args.self.now.ready };
-      attached = within;
-      holds = ap (slice_set held u) c.told-held.ensures.held;
-      limit = refl;
-      frames = refl;
-      found = c.look_at.ensures.found;
-      header = c.look_at.ensures.header;
-      only = c.look_at.ensures.only;
-      cause = c.look_at.ensures.cause;
-    } in
-    let after = units_looked u c.look_at.result old new call in
-    record { room = c.args.self.now.room; many = after.many; distinct = after.distinct; looked = after.looked; ready = after.ready; limits = limits_looked u c.look_at.result old new call _ _ c.args.self.now.limits }
+    let s = c.args.self.now in
+    let call = looks_at g.S.Shelf s c.args.u c.requires.attached c.look_at.result c.look_at.new.shelf c.told-held.result.0
+    c.told-held.ensures.held c.look_at.ensures.found c.look_at.ensures.header c.look_at.ensures.only c.look_at.ensures.cause in
+    let after = units_looked _ _ _ _ call in
+    record {
+      room = s.room;
+      many = after.many;
+      distinct = after.distinct;
+      looked = after.looked;
+      ready = after.ready;
+      limits = limits_looked _ _ _ _ call _ _ s.limits;
+    }
 
 -- the call, as the other goals have it
 module _ (g : given.Over) (c : goal.Joined-index_mut-held g) where
-  state : ShelfLibrary g.row.S.Denot g.S.Shelf → LibraryState
-  state library = record { shelf = g.S.Shelf.state library.shelf; held = library.units.items; faults = g.S.Shelf.fault_count library.shelf; limit = library.limit; frames = non_zero_usize_get library.frames }
+  abbrev before : LibraryState
+  before = library_state g.S.Shelf c.args.self.now
 
-  after : LibraryState
-  after = record {
-    shelf = g.S.Shelf.state c.look_at.new.shelf;
-    held = slice_set c.args.self.now.units.items c.args.u c.told-held.result.0;
-    faults = g.S.Shelf.fault_count c.look_at.new.shelf;
-    limit = c.args.self.now.limit;
-    frames = non_zero_usize_get c.args.self.now.frames;
-  }
+  abbrev after : LibraryState
+  after = state_left g.S.Shelf c.args.self.now c.look_at.new.shelf
+      (slice_set c.args.self.now.units.items c.args.u c.told-held.result.0)
 
-  call : LooksAt c.args.u c.look_at.result (state c.args.self.now) after
-  unfolding state after
-  call = record {
-    units = record { many = c.args.self.now.many; distinct = c.args.self.now.distinct; looked = c.args.self.now.looked; ready = c.args.self.now.ready };
-    attached = is_held (g.S.Shelf.state c.args.self.now.shelf) c.args.self.now.units.items c.args.u c.args.self.now.many c.requires.attached;
-    holds = ap (slice_set c.args.self.now.units.items c.args.u) c.told-held.ensures.held;
-    limit = refl;
-    frames = refl;
-    found = c.look_at.ensures.found;
-    header = c.look_at.ensures.header;
-    only = c.look_at.ensures.only;
-    cause = c.look_at.ensures.cause;
-  }
+  call : LooksAt c.args.u c.look_at.result before after
+  call = looks_at g.S.Shelf c.args.self.now c.args.u c.requires.attached c.look_at.result c.look_at.new.shelf c.told-held.result.0
+      c.told-held.ensures.held c.look_at.ensures.found c.look_at.ensures.header c.look_at.ensures.only c.look_at.ensures.cause
 
 pub returns-clause-seen : goal.returns-clause-seen
-unfolding state after
 returns-clause-seen g c honest =
-    subst (λ (told : Result Seen Fault). IfOk told (λ seen. seen ≡ seen_of (named_at (world_of (state g c c.args.self.now).shelf (state g c c.args.self.now).held) c.args.u))) (sym c.told-held.ensures.seen)
-    (look_seen c.args.u c.look_at.result (state g c c.args.self.now) (after g c) (call g c) honest)
+    subst (λ (told : Result Seen Fault). IfOk told (λ seen.
+    seen ≡ seen_of (named_at (world_of (before g c).shelf (before g c).held) c.args.u)))
+    (sym c.told-held.ensures.seen) (look_seen c.args.u c.look_at.result (before g c) (after g c) (call g c) honest)
 
 pub returns-clause-holding : goal.returns-clause-holding
-unfolding state after
 returns-clause-holding g c =
-    subst (λ (told : Result Seen Fault). IfOk told (λ seen. holding_at (world_of (after g c).shelf (after g c).held) c.args.u ≡ looked_at seen)) (sym c.told-held.ensures.seen)
-    (look_holding c.args.u c.look_at.result (state g c c.args.self.now) (after g c) (call g c))
+    subst (λ (told : Result Seen Fault). IfOk told (λ seen.
+    holding_at (world_of (after g c).shelf (after g c).held) c.args.u ≡ looked_at seen))
+    (sym c.told-held.ensures.seen) (look_holding c.args.u c.look_at.result (before g c) (after g c) (call g c))
 
 pub returns-clause-named : goal.returns-clause-named
-unfolding state after
-returns-clause-named g c = look_named c.args.u c.look_at.result (state g c c.args.self.now) (after g c) (call g c)
+returns-clause-named g c = look_named c.args.u c.look_at.result (before g c) (after g c) (call g c)
 
 pub returns-clause-opens : goal.returns-clause-opens
-unfolding state after
-returns-clause-opens g c = look_opens (state g c) c.args.u c.look_at.result c.args.self.now _ (call g c) c.told-held.result.1 c.told-held.ensures.seen
+returns-clause-opens g c =
+    look_opens (library_state g.S.Shelf) c.args.u c.look_at.result c.args.self.now _ (call g c)
+    c.told-held.result.1 c.told-held.ensures.seen

@@ -1,49 +1,31 @@
 use Rattle.std.proofs.Common.{◌<◌, length, subst, ap, ◌∙◌, rules, arith}
 use Rattle.std.proofs.lemmas.Grind.{common_steps}
-use Rattle.std.specs.NonZero.{non_zero_usize_get}
 use Rattle.indexed_file.specs.Rank.{admits}
 use Rattle.indexed_file.specs.Room.{most_to_read}
 use Rattle.record_layout.specs.Schema.{Schema}
-use Rattle.shelf_library.specs.State.{LibraryState}
-use Rattle.shelf_library.specs.declared.library.ShelfLibrary.{ShelfLibrary}
-use Rattle.shelf_library.specs.OneUnit.{AreUnits}
 use Rattle.shelf_library.specs.Units.{room_of_held}
-use Rattle.shelf_library.proofs.WorldLemmas.{is_held}
+use Rattle.shelf_library.proofs.StateLemmas.{library_state, is_within}
 use Rattle.shelf_library.proofs.OpenedLemmas.{must_be_open, schema_is, may_call, reads_at}
 use Rattle.shelf_library.proofs.ReadingLemmas.{reads_units}
 use Rattle.shelf_library.proofs.ReadsLemmas.{reads_unit}
 use Rattle.shelf_library.proofs.FoundLemmas.{delivers_found, delivers_area, delivers_undamaged}
 use Rattle.shelf_library.proofs.LimitLemmas.{limits_read}
-use Rattle.shelf_library.proofs.library.ShelfLibraryLibrary.next.Given as given
 use Rattle.shelf_library.proofs.library.ShelfLibraryLibrary.next.Goals as goal
-
--- a library, as it is seen
-abbrev state : (g : given.Over) → ShelfLibrary g.row.S.Denot g.S.Shelf → LibraryState
-state g library = record {
-  shelf = g.S.Shelf.state library.shelf;
-  held = library.units.items;
-  faults = g.S.Shelf.fault_count library.shelf;
-  limit = library.limit;
-  frames = non_zero_usize_get library.frames;
-}
-
-units : (g : given.Over) (s : ShelfLibrary g.row.S.Denot g.S.Shelf) → AreUnits (state g s).shelf (state g s).held
-units g s = record { many = s.many; distinct = s.distinct; looked = s.looked; ready = s.ready }
 
 pub index_mut-requires : goal.index_mut-requires
 index_mut-requires g c =
     let s = c.args.self.now in
-    let within = is_held (g.S.Shelf.state s.shelf) s.units.items c.args.u s.many c.requires.attached in
+    let within = is_within g.S.Shelf s c.args.u c.requires.attached in
     omega (arith, within, s.units.ok.0)
 
 pub next-requires : goal.next-requires
 next-requires g c =
     let s = c.args.self.now in
-    let same = schema_is (g.S.Shelf.state s.shelf) s.units.items c.args.u c.index_mut.result.now s.many c.requires.attached
-    c.index_mut.ensures.value c.in-Opened.file c.in-Opened.is in
+    let same = schema_is g.S.Shelf s c.args.u c.requires.attached c.index_mut.result.now c.index_mut.ensures.value
+    c.in-Opened.file c.in-Opened.is in
     record {
-      ready = may_call (g.S.Shelf.state s.shelf) s.units.items c.args.u c.index_mut.result.now s.many c.requires.attached
-          c.index_mut.ensures.value c.in-Opened.file c.in-Opened.is (units g s);
+      ready = may_call g.S.Shelf s c.args.u c.requires.attached c.index_mut.result.now c.index_mut.ensures.value
+          c.in-Opened.file c.in-Opened.is;
       key = subst (λ (schema : Schema). c.args.k < length schema.keys) same c.requires.key;
       area = c.requires.length ∙ ap (λ (schema : Schema). schema.greatest) same;
     }
@@ -51,17 +33,15 @@ next-requires g c =
 pub unreachable-requires : goal.unreachable-requires
 unreachable-requires g c =
     let s = c.args.self.now in
-    must_be_open (g.S.Shelf.state s.shelf) s.units.items c.args.u c.index_mut.result.now s.many c.requires.attached
-    c.index_mut.ensures.value c.requires.opened c.in_default.not-Opened
+    must_be_open g.S.Shelf s c.args.u c.requires.attached c.index_mut.result.now c.index_mut.ensures.value
+    c.requires.opened c.in_default.not-Opened
 
 pub invariant_of-self : goal.invariant_of-self
 invariant_of-self g c =
     let s = c.args.self.now in
     let call =
-    reads_at (g.S.Shelf.state s.shelf) s.units.items c.args.u c.index_mut.result.now s.many c.requires.attached
-    c.index_mut.ensures.value c.in-Opened.file c.in-Opened.is c.next.new.self (g.S.Shelf.state c.next.new.shelf)
-    (g.S.Shelf.fault_count s.shelf) (g.S.Shelf.fault_count c.next.new.shelf) s.limit (non_zero_usize_get s.frames) (units g s)
-    c.next.ensures.reads.step (g.met.S.Shelf.reads_an_image s.shelf) (g.met.S.Shelf.reads_an_image c.next.new.shelf) in
+    reads_at g.S.Shelf s c.args.u c.requires.attached c.index_mut.result.now c.index_mut.ensures.value c.in-Opened.file c.in-Opened.is
+    c.next.new.self c.next.new.shelf c.next.ensures.reads.step g.met.S.Shelf.reads_an_image in
     let after = reads_units _ _ _ _ _ call in
     record {
       room = s.room;
@@ -76,10 +56,8 @@ pub returns : goal.returns
 returns g c =
     let s = c.args.self.now in
     let call =
-    reads_at (g.S.Shelf.state s.shelf) s.units.items c.args.u c.index_mut.result.now s.many c.requires.attached
-    c.index_mut.ensures.value c.in-Opened.file c.in-Opened.is c.next.new.self (g.S.Shelf.state c.next.new.shelf)
-    (g.S.Shelf.fault_count s.shelf) (g.S.Shelf.fault_count c.next.new.shelf) s.limit (non_zero_usize_get s.frames) (units g s)
-    c.next.ensures.reads.step (g.met.S.Shelf.reads_an_image s.shelf) (g.met.S.Shelf.reads_an_image c.next.new.shelf) in
+    reads_at g.S.Shelf s c.args.u c.requires.attached c.index_mut.result.now c.index_mut.ensures.value c.in-Opened.file c.in-Opened.is
+    c.next.new.self c.next.new.shelf c.next.ensures.reads.step g.met.S.Shelf.reads_an_image in
     record {
       found = λ honest truly.
           delivers_found _ _ _ _ _ call truly c.args.k (λ schema. admits schema c.args.k c.args.position.now)
@@ -90,8 +68,9 @@ returns g c =
       none = first_of (search rules, grind (arith, common_steps));
       err = first_of (search rules, grind (arith, common_steps));
       reads =
-          reads_unit (state g) s _ c.args.u c.in-Opened.file c.next.new.self call (λ one. most_to_read (room_of_held one) c.args.k)
-          c.next.result c.next.ensures.reads.asked c.next.ensures.reads.broken c.next.ensures.reads.cause
+          reads_unit (library_state g.S.Shelf) s _ c.args.u c.in-Opened.file c.next.new.self call
+          (λ one. most_to_read (room_of_held one) c.args.k) c.next.result
+          c.next.ensures.reads.asked c.next.ensures.reads.broken c.next.ensures.reads.cause
           (λ honest truly. delivers_undamaged _ _ _ _ _ call truly c.args.k
           (admits c.in-Opened.file.file.schema c.args.k c.args.position.now)
           c.args.area.now c.next.new.area c.next.result c.next.ensures.reads.broken (c.next.ensures.finds.found honest));

@@ -1,14 +1,13 @@
-use Rattle.std.proofs.Common.{◌≡◌, IsTrue, OnOk, Result, refl, sym, ap, subst, ◌∙◌, arith, slice_set}
-use Rattle.std.specs.NonZero.{non_zero_usize_get}
+use Rattle.std.proofs.Common.{◌≡◌, IsTrue, OnOk, Result, sym, subst, ◌∙◌, arith, slice_set}
 use Rattle.io_state.specs.declared.fault.Fault.{Fault}
 use Rattle.indexed_file.specs.World.{World, Holding, is_open, is_looked, holding_at, named_at, schema_at, opened_from}
-use Rattle.shelf_library.specs.declared.library.ShelfLibrary.{ShelfLibrary}
-use Rattle.shelf_library.specs.State.{LibraryState, held_at}
 use Rattle.page_store.specs.ShelfState.{unit_file}
-use Rattle.shelf_library.specs.OneUnit.{AreUnits}
+use Rattle.shelf_library.specs.declared.held.Held.TheVariants.{Looked}
+use Rattle.shelf_library.specs.State.{LibraryState, held_at}
 use Rattle.shelf_library.specs.Units.{world_of, counts_of_held}
 use Rattle.shelf_library.specs.Opening.{OpensAt}
-use Rattle.shelf_library.proofs.WorldLemmas.{is_held, holding_now, set_twice}
+use Rattle.shelf_library.proofs.WorldLemmas.{holding_now}
+use Rattle.shelf_library.proofs.StateLemmas.{library_state, state_left, is_within, opens_at}
 use Rattle.shelf_library.proofs.OpenedLemmas.{is_one}
 use Rattle.shelf_library.proofs.OpensLemmas.{was_looked}
 use Rattle.shelf_library.proofs.OpeningLemmas.{units_after, open_opened, open_named, open_file, open_counts, open_opens}
@@ -16,23 +15,10 @@ use Rattle.shelf_library.proofs.LimitLemmas.{limits_opened}
 use Rattle.shelf_library.proofs.library.ShelfLibraryLibrary.open.Given as given
 use Rattle.shelf_library.proofs.library.ShelfLibraryLibrary.open.Goals as goal
 
--- a library, as it is seen
-abbrev state : (g : given.Over) → ShelfLibrary g.row.S.Denot g.S.Shelf → LibraryState
-state g library = record {
-  shelf = g.S.Shelf.state library.shelf;
-  held = library.units.items;
-  faults = g.S.Shelf.fault_count library.shelf;
-  limit = library.limit;
-  frames = non_zero_usize_get library.frames;
-}
-
-units : (g : given.Over) (s : ShelfLibrary g.row.S.Denot g.S.Shelf) → AreUnits (state g s).shelf (state g s).held
-units g s = record { many = s.many; distinct = s.distinct; looked = s.looked; ready = s.ready }
-
 pub index_mut-requires : goal.index_mut-requires
 index_mut-requires g c =
     let s = c.args.self.now in
-    let within = is_held (g.S.Shelf.state s.shelf) s.units.items c.args.u s.many c.requires.attached in
+    let within = is_within g.S.Shelf s c.args.u c.requires.attached in
     omega (arith, within, s.units.ok.0)
 
 pub unreachable-requires : goal.unreachable-requires
@@ -40,74 +26,54 @@ unreachable-requires g c =
     let s = c.args.self.now in
     let shelf = g.S.Shelf.state s.shelf in
     let held = s.units.items in
-    let many = s.many in
-    let within = is_held shelf held c.args.u many c.requires.attached in
-    let at : held_at held c.args.u ≡ c.replace.result =
-    is_one shelf held c.args.u c.index_mut.result.now s.many c.requires.attached c.index_mut.ensures.value
+    let within = is_within g.S.Shelf s c.args.u c.requires.attached in
+    let at : held_at s.units.items c.args.u ≡ c.replace.result =
+    is_one g.S.Shelf s c.args.u c.requires.attached c.index_mut.result.now c.index_mut.ensures.value
     ∙ sym c.replace.ensures.value in
     let looked = was_looked shelf (held_at held c.args.u)
-    (subst (λ (h : Holding). IsTrue (is_looked h)) (holding_now shelf held c.args.u within many) c.requires.looked) in
+    (subst (λ (h : Holding). IsTrue (is_looked h)) (holding_now shelf held c.args.u within s.many) c.requires.looked) in
     c.in_default.not-Looked looked.0 (sym at ∙ looked.1)
 
 pub open-file-requires : goal.open-file-requires
 open-file-requires g c =
     let s = c.args.self.now in
-    let shelf = g.S.Shelf.state s.shelf in
-    let held = s.units.items in
-    let at : held_at held c.args.u ≡ c.replace.result =
-    is_one shelf held c.args.u c.index_mut.result.now s.many c.requires.attached c.index_mut.ensures.value
+    let at : held_at s.units.items c.args.u ≡ c.replace.result =
+    is_one g.S.Shelf s c.args.u c.requires.attached c.index_mut.result.now c.index_mut.ensures.value
     ∙ sym c.replace.ensures.value in
     record { header = (s.looked c.args.u c.in-Looked.header (at ∙ c.in-Looked.is)).allowed }
 
 pub index_mut-requires-2 : goal.index_mut-requires-2
 index_mut-requires-2 g c =
     let s = c.args.self.now in
-    let within = is_held (g.S.Shelf.state s.shelf) s.units.items c.args.u s.many c.requires.attached in
+    let within = is_within g.S.Shelf s c.args.u c.requires.attached in
     omega (arith, within, s.units.ok.0)
 
 pub invariant_of-self : goal.invariant_of-self
 invariant_of-self g c =
     let s = c.args.self.now in
-    let held = s.units.items in
-    let u = c.args.u in
-    let header = c.in-Looked.header in
-    let old = state g s in
-    let new : LibraryState = record old { held = slice_set (slice_set held u c.replace.new.dest) u c.opened-held.result.0 } in
-    let call : OpensAt u header c.open-file.result old new = record {
-      units = units g s;
-      attached = is_held old.shelf held u s.many c.requires.attached;
-      looked = is_one old.shelf held u c.index_mut.result.now s.many c.requires.attached c.index_mut.ensures.value
-          ∙ sym c.replace.ensures.value ∙ c.in-Looked.is;
-      holds = set_twice held u c.replace.new.dest c.opened-held.result.0 ∙ ap (slice_set held u) c.opened-held.ensures.held;
-      shelf = refl;
-      faults = refl;
-      limit = refl;
-      frames = refl;
-      by_header = c.open-file.ensures;
-    } in
-    let after = units_after u header c.open-file.result old new call in
+    let at : held_at s.units.items c.args.u ≡ Looked c.in-Looked.header =
+    is_one g.S.Shelf s c.args.u c.requires.attached c.index_mut.result.now c.index_mut.ensures.value
+    ∙ sym c.replace.ensures.value ∙ c.in-Looked.is in
+    let call = opens_at g.S.Shelf s c.args.u c.requires.attached c.in-Looked.header at c.open-file.result c.replace.new.dest
+    c.opened-held.result.0 c.opened-held.ensures.held c.open-file.ensures in
+    let after = units_after _ _ _ _ _ call in
     record {
       room = s.room;
       many = after.many;
       distinct = after.distinct;
       looked = after.looked;
       ready = after.ready;
-      limits = limits_opened u header c.open-file.result old new call s.limits;
+      limits = limits_opened _ _ _ _ _ call s.limits;
     }
 
 -- the call, as the other goals have it
 module _ (g : given.Over) (c : goal.Joined-index_mut-held g) where
   abbrev before : LibraryState
-  before = state g c.args.self.now
+  before = library_state g.S.Shelf c.args.self.now
 
   abbrev after : LibraryState
-  after = record {
-    shelf = g.S.Shelf.state c.args.self.now.shelf;
-    held = slice_set (slice_set c.args.self.now.units.items c.args.u c.replace.new.dest) c.args.u c.opened-held.result.0;
-    faults = g.S.Shelf.fault_count c.args.self.now.shelf;
-    limit = c.args.self.now.limit;
-    frames = non_zero_usize_get c.args.self.now.frames;
-  }
+  after = state_left g.S.Shelf c.args.self.now c.args.self.now.shelf
+      (slice_set (slice_set c.args.self.now.units.items c.args.u c.replace.new.dest) c.args.u c.opened-held.result.0)
 
   -- what the library shows before and after
   abbrev first : World
@@ -119,21 +85,11 @@ module _ (g : given.Over) (c : goal.Joined-index_mut-held g) where
   call : OpensAt c.args.u c.in-Looked.header c.open-file.result before after
   call =
       let s = c.args.self.now in
-      let u = c.args.u in
-      let held = s.units.items in
-      let shelf = g.S.Shelf.state s.shelf in
-      record {
-        units = units g s;
-        attached = is_held shelf held u s.many c.requires.attached;
-        looked = is_one shelf held u c.index_mut.result.now s.many c.requires.attached c.index_mut.ensures.value
-            ∙ sym c.replace.ensures.value ∙ c.in-Looked.is;
-        holds = set_twice held u c.replace.new.dest c.opened-held.result.0 ∙ ap (slice_set held u) c.opened-held.ensures.held;
-        shelf = refl;
-        faults = refl;
-        limit = refl;
-        frames = refl;
-        by_header = c.open-file.ensures;
-      }
+      let at : held_at s.units.items c.args.u ≡ Looked c.in-Looked.header =
+      is_one g.S.Shelf s c.args.u c.requires.attached c.index_mut.result.now c.index_mut.ensures.value
+      ∙ sym c.replace.ensures.value ∙ c.in-Looked.is in
+      opens_at g.S.Shelf s c.args.u c.requires.attached c.in-Looked.header at c.open-file.result c.replace.new.dest
+      c.opened-held.result.0 c.opened-held.ensures.held c.open-file.ensures
 
 pub returns-clause-opened : goal.returns-clause-opened
 returns-clause-opened g c =
@@ -162,4 +118,5 @@ returns-clause-pages g c honest =
 
 pub returns-clause-opens : goal.returns-clause-opens
 returns-clause-opens g c =
-    open_opens (state g) c.args.u c.in-Looked.header c.open-file.result c.args.self.now _ (call g c) _ c.opened-held.ensures.answer
+    open_opens (library_state g.S.Shelf) c.args.u c.in-Looked.header c.open-file.result c.args.self.now _ (call g c) _
+    c.opened-held.ensures.answer

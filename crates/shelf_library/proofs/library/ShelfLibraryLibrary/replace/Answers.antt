@@ -1,49 +1,32 @@
 use Rattle.std.proofs.Common.{◌≤◌, length, subst, arith}
-use Rattle.std.specs.NonZero.{non_zero_usize_get}
 use Rattle.std.specs.Prelude.{slice_set}
 use Rattle.record_layout.specs.Schema.{Schema}
 use Rattle.indexed_file.specs.FileChange.{replacement}
-use Rattle.shelf_library.specs.declared.library.ShelfLibrary.{ShelfLibrary}
-use Rattle.shelf_library.specs.OneUnit.{AreUnits}
 use Rattle.shelf_library.specs.State.{LibraryState}
 use Rattle.shelf_library.specs.Changing.{MovesAt, ChangesFile}
 use Rattle.shelf_library.specs.declared.held.Held.TheVariants.{Opened}
-use Rattle.shelf_library.proofs.WorldLemmas.{is_held}
-use Rattle.shelf_library.proofs.OpenedLemmas.{must_be_open, schema_is, may_call}
-use Rattle.shelf_library.proofs.MovingLemmas.{moves_at}
+use Rattle.shelf_library.proofs.StateLemmas.{library_state, state_left, is_within}
+use Rattle.shelf_library.proofs.OpenedLemmas.{must_be_open, schema_is, may_call, moves_at}
 use Rattle.shelf_library.proofs.ChangingLemmas.{units_after}
 use Rattle.shelf_library.proofs.ChangesLemmas.{changes_unit}
 use Rattle.shelf_library.proofs.LimitLemmas.{limits_moved}
 use Rattle.shelf_library.proofs.library.ShelfLibraryLibrary.replace.Given as given
 use Rattle.shelf_library.proofs.library.ShelfLibraryLibrary.replace.Goals as goal
 
--- a library, as it is seen
-abbrev state : (g : given.Over) → ShelfLibrary g.row.S.Denot g.S.Shelf → LibraryState
-state g library = record {
-  shelf = g.S.Shelf.state library.shelf;
-  held = library.units.items;
-  faults = g.S.Shelf.fault_count library.shelf;
-  limit = library.limit;
-  frames = non_zero_usize_get library.frames;
-}
-
-units : (g : given.Over) (s : ShelfLibrary g.row.S.Denot g.S.Shelf) → AreUnits (state g s).shelf (state g s).held
-units g s = record { many = s.many; distinct = s.distinct; looked = s.looked; ready = s.ready }
-
 pub index_mut-requires : goal.index_mut-requires
 index_mut-requires g c =
     let s = c.args.self.now in
-    let within = is_held (g.S.Shelf.state s.shelf) s.units.items c.args.u s.many c.requires.attached in
+    let within = is_within g.S.Shelf s c.args.u c.requires.attached in
     omega (arith, within, s.units.ok.0)
 
 pub replace-requires : goal.replace-requires
 replace-requires g c =
     let s = c.args.self.now in
-    let same = schema_is (g.S.Shelf.state s.shelf) s.units.items c.args.u c.index_mut.result.now s.many c.requires.attached
-    c.index_mut.ensures.value c.in-Opened.file c.in-Opened.is in
+    let same = schema_is g.S.Shelf s c.args.u c.requires.attached c.index_mut.result.now c.index_mut.ensures.value
+    c.in-Opened.file c.in-Opened.is in
     record {
-      ready = may_call (g.S.Shelf.state s.shelf) s.units.items c.args.u c.index_mut.result.now s.many c.requires.attached
-          c.index_mut.ensures.value c.in-Opened.file c.in-Opened.is (units g s);
+      ready = may_call g.S.Shelf s c.args.u c.requires.attached c.index_mut.result.now c.index_mut.ensures.value
+          c.in-Opened.file c.in-Opened.is;
       least = subst (λ (schema : Schema). schema.least ≤ length c.args.bytes.now) same c.requires.least;
       greatest = subst (λ (schema : Schema). length c.args.bytes.now ≤ schema.greatest) same c.requires.greatest;
     }
@@ -51,18 +34,16 @@ replace-requires g c =
 pub unreachable-requires : goal.unreachable-requires
 unreachable-requires g c =
     let s = c.args.self.now in
-    must_be_open (g.S.Shelf.state s.shelf) s.units.items c.args.u c.index_mut.result.now s.many c.requires.attached
-    c.index_mut.ensures.value c.requires.opened c.in_default.not-Opened
+    must_be_open g.S.Shelf s c.args.u c.requires.attached c.index_mut.result.now c.index_mut.ensures.value
+    c.requires.opened c.in_default.not-Opened
 
 pub invariant_of-self : goal.invariant_of-self
 invariant_of-self g c =
     let s = c.args.self.now in
     let call =
-    moves_at (g.S.Shelf.state s.shelf) s.units.items c.args.u c.index_mut.result.now (units g s) c.requires.attached
-    c.index_mut.ensures.value c.in-Opened.file c.in-Opened.is c.replace.new.self (g.S.Shelf.state c.replace.new.shelf)
-    (g.S.Shelf.fault_count s.shelf) (g.S.Shelf.fault_count c.replace.new.shelf) s.limit (non_zero_usize_get s.frames)
-    c.replace.ensures.replaces.keeps.begins c.replace.ensures.replaces.keeps.ready
-    (g.met.S.Shelf.reads_an_image s.shelf) (g.met.S.Shelf.reads_an_image c.replace.new.shelf) in
+    moves_at g.S.Shelf s c.args.u c.requires.attached c.index_mut.result.now c.index_mut.ensures.value c.in-Opened.file c.in-Opened.is
+    c.replace.new.self c.replace.new.shelf c.replace.ensures.replaces.keeps.begins c.replace.ensures.replaces.keeps.ready
+    g.met.S.Shelf.reads_an_image in
     let after = units_after _ _ _ _ _ call in
     record {
       room = s.room;
@@ -76,29 +57,23 @@ invariant_of-self g c =
 -- the call, as the answer has it
 module _ (g : given.Over) (c : goal.After-self-in-Opened-1 g) where
   abbrev before : LibraryState
-  before = state g c.args.self.now
+  before = library_state g.S.Shelf c.args.self.now
 
   abbrev later : LibraryState
-  later = record {
-    shelf = g.S.Shelf.state c.replace.new.shelf;
-    held = slice_set c.args.self.now.units.items c.args.u (Opened c.replace.new.self);
-    faults = g.S.Shelf.fault_count c.replace.new.shelf;
-    limit = c.args.self.now.limit;
-    frames = non_zero_usize_get c.args.self.now.frames;
-  }
+  later = state_left g.S.Shelf c.args.self.now c.replace.new.shelf
+      (slice_set c.args.self.now.units.items c.args.u (Opened c.replace.new.self))
 
   call : MovesAt c.args.u c.in-Opened.file c.replace.new.self before later
   call =
       let s = c.args.self.now in
-      moves_at (g.S.Shelf.state s.shelf) s.units.items c.args.u c.index_mut.result.now (units g s) c.requires.attached
-      c.index_mut.ensures.value c.in-Opened.file c.in-Opened.is c.replace.new.self (g.S.Shelf.state c.replace.new.shelf)
-      (g.S.Shelf.fault_count s.shelf) (g.S.Shelf.fault_count c.replace.new.shelf) s.limit (non_zero_usize_get s.frames)
-      c.replace.ensures.replaces.keeps.begins c.replace.ensures.replaces.keeps.ready
-      (g.met.S.Shelf.reads_an_image s.shelf) (g.met.S.Shelf.reads_an_image c.replace.new.shelf)
+      moves_at g.S.Shelf s c.args.u c.requires.attached c.index_mut.result.now c.index_mut.ensures.value c.in-Opened.file c.in-Opened.is
+      c.replace.new.self c.replace.new.shelf c.replace.ensures.replaces.keeps.begins c.replace.ensures.replaces.keeps.ready
+      g.met.S.Shelf.reads_an_image
 
   change : ChangesFile (λ schema. replacement schema c.args.bytes.now) c.in-Opened.file c.replace.new.self before later c.replace.result
   change = record { changes = c.replace.ensures.replaces; breaks = c.replace.ensures.breaks }
 
 pub returns : goal.returns
 returns g c =
-    changes_unit (state g) c.args.self.now _ c.args.u c.in-Opened.file c.replace.new.self (call g c) _ c.replace.result (change g c)
+    changes_unit (library_state g.S.Shelf) c.args.self.now _ c.args.u c.in-Opened.file c.replace.new.self (call g c)
+    _ c.replace.result (change g c)

@@ -1,11 +1,10 @@
 use Rattle.std.proofs.Common.{◌≡◌, refl, ap, sym, ◌∙◌, arith, slice_set}
-use Rattle.std.specs.NonZero.{non_zero_usize_get}
 use Rattle.page_cache.specs.declared.cache.Cache.{Cache}
 use Rattle.shelf_file.specs.declared.shelf_file.ShelfFile.{ShelfFile}
 use Rattle.shelf_library.specs.declared.held.Held.TheVariants.{Opened}
 use Rattle.shelf_library.specs.State.{held_at}
 use Rattle.shelf_library.specs.OneUnit.{AreUnits, ChangesAt}
-use Rattle.shelf_library.proofs.WorldLemmas.{is_held}
+use Rattle.shelf_library.proofs.StateLemmas.{library_state, are_units, is_within}
 use Rattle.shelf_library.proofs.AsideLemmas.{are_after}
 use Rattle.shelf_library.proofs.CountLemmas.{rests, read_held, recount, recount_none, recount_fits, recounts}
 use Rattle.shelf_library.proofs.LimitLemmas.{limits_set, limits_after}
@@ -13,7 +12,7 @@ use Rattle.shelf_library.proofs.library.ShelfLibraryLibrary.restart_count.Goals 
 
 pub index_mut-requires : goal.index_mut-requires
 index_mut-requires g c =
-    let within = is_held (g.S.Shelf.state c.args.self.now.shelf) c.args.self.now.units.items c.args.u c.args.self.now.many c.requires.attached in
+    let within = is_within g.S.Shelf c.args.self.now c.args.u c.requires.attached in
     omega (arith, within, c.args.self.now.units.ok.0)
 
 pub invariant_of-self : goal.invariant_of-self
@@ -21,51 +20,99 @@ invariant_of-self g c =
     let shelf = g.S.Shelf.state c.args.self.now.shelf in
     let held = c.args.self.now.units.items in
     let u = c.args.u in
-    let are : AreUnits shelf held = record { many = c.args.self.now.many; distinct = c.args.self.now.distinct; looked = c.args.self.now.looked; ready = c.args.self.now.ready } in
-    let within = is_held shelf held u are.many c.requires.attached in
-    let at : held_at held u ≡ Opened c.in-Opened.file = read_held held u c.index_mut.result.now within c.index_mut.ensures.value ∙ c.in-Opened.is in
-    let file : ShelfFile = record { file = c.in-Opened.file.file; pages = record { cache = c.restart_count.new.self; pager = c.in-Opened.file.pages.pager; changed = c.in-Opened.file.pages.changed } } in
+    let are : AreUnits shelf held = are_units g.S.Shelf c.args.self.now in
+    let within = is_within g.S.Shelf c.args.self.now u c.requires.attached in
+    let at : held_at held u ≡ Opened c.in-Opened.file = read_held held u c.index_mut.result.now within c.index_mut.ensures.value
+    ∙ c.in-Opened.is in
+    let file : ShelfFile = record {
+      file = c.in-Opened.file.file;
+      pages = record {
+        cache = c.restart_count.new.self;
+        pager = c.in-Opened.file.pages.pager;
+        changed = c.in-Opened.file.pages.changed;
+      };
+    } in
     let is : Opened file ≡ recount (held_at held u) =
-    ap (λ cache. Opened (record { file = c.in-Opened.file.file; pages = record { cache = cache; pager = c.in-Opened.file.pages.pager; changed = c.in-Opened.file.pages.changed } })) c.restart_count.ensures ∙ sym (ap recount at) in
-    let call : ChangesAt u (recount (held_at held u)) shelf shelf held (slice_set held u (Opened file)) = record { attached = within; others = rests shelf u; holds = ap (λ one. slice_set held u one) is } in
-    let after = are_after u (recount (held_at held u)) shelf shelf held (slice_set held u (Opened file)) are call (recount_fits shelf held u (held_at held u) are refl) in
-    record { room = c.args.self.now.room; many = after.many; distinct = after.distinct; looked = after.looked; ready = after.ready; limits = limits_after _ _ held u within c.args.self.now.limits c.in-Opened.file file at refl (ap (λ (cache : Cache). cache.frames.cap) c.restart_count.ensures) }
+    ap (λ cache. Opened (record {
+      file = c.in-Opened.file.file;
+      pages = record { cache = cache; pager = c.in-Opened.file.pages.pager; changed = c.in-Opened.file.pages.changed };
+    }))
+    c.restart_count.ensures ∙ sym (ap recount at) in
+    let call : ChangesAt u (recount (held_at held u)) shelf shelf held (slice_set held u (Opened file)) =
+    record { attached = within; others = rests shelf u; holds = ap (λ one. slice_set held u one) is } in
+    let after = are_after u (recount (held_at held u)) shelf shelf held (slice_set held u (Opened file)) are call
+    (recount_fits shelf held u (held_at held u) are refl) in
+    record {
+      room = c.args.self.now.room;
+      many = after.many;
+      distinct = after.distinct;
+      looked = after.looked;
+      ready = after.ready;
+      limits = limits_after _ _ held u within c.args.self.now.limits c.in-Opened.file file at refl
+          (ap (λ (cache : Cache). cache.frames.cap) c.restart_count.ensures);
+    }
 
 pub invariant_of-self-in_default : goal.invariant_of-self-in_default
 invariant_of-self-in_default g c =
     let shelf = g.S.Shelf.state c.args.self.now.shelf in
     let held = c.args.self.now.units.items in
     let u = c.args.u in
-    let are : AreUnits shelf held = record { many = c.args.self.now.many; distinct = c.args.self.now.distinct; looked = c.args.self.now.looked; ready = c.args.self.now.ready } in
-    let within = is_held shelf held u are.many c.requires.attached in
+    let are : AreUnits shelf held = are_units g.S.Shelf c.args.self.now in
+    let within = is_within g.S.Shelf c.args.self.now u c.requires.attached in
     let at : held_at held u ≡ c.index_mut.result.now = read_held held u c.index_mut.result.now within c.index_mut.ensures.value in
-    let is : c.index_mut.result.now ≡ recount (held_at held u) = sym (recount_none c.index_mut.result.now c.in_default.not-Opened) ∙ sym (ap recount at) in
-    let call : ChangesAt u (recount (held_at held u)) shelf shelf held (slice_set held u c.index_mut.result.now) = record { attached = within; others = rests shelf u; holds = ap (λ one. slice_set held u one) is } in
-    let after = are_after u (recount (held_at held u)) shelf shelf held (slice_set held u c.index_mut.result.now) are call (recount_fits shelf held u (held_at held u) are refl) in
-    record { room = c.args.self.now.room; many = after.many; distinct = after.distinct; looked = after.looked; ready = after.ready; limits = limits_set _ _ held u within c.args.self.now.limits c.index_mut.result.now (λ file same. absurd (c.in_default.not-Opened file same)) }
+    let is : c.index_mut.result.now ≡ recount (held_at held u) =
+    sym (recount_none c.index_mut.result.now c.in_default.not-Opened) ∙ sym (ap recount at) in
+    let call : ChangesAt u (recount (held_at held u)) shelf shelf held (slice_set held u c.index_mut.result.now) =
+    record { attached = within; others = rests shelf u; holds = ap (λ one. slice_set held u one) is } in
+    let after = are_after u (recount (held_at held u)) shelf shelf held (slice_set held u c.index_mut.result.now) are call
+    (recount_fits shelf held u (held_at held u) are refl) in
+    record {
+      room = c.args.self.now.room;
+      many = after.many;
+      distinct = after.distinct;
+      looked = after.looked;
+      ready = after.ready;
+      limits = limits_set _ _ held u within c.args.self.now.limits c.index_mut.result.now
+          (λ file same. absurd (c.in_default.not-Opened file same));
+    }
 
 pub returns-in-Opened : goal.returns-in-Opened
 returns-in-Opened g c =
     let shelf = g.S.Shelf.state c.args.self.now.shelf in
     let held = c.args.self.now.units.items in
     let u = c.args.u in
-    let are : AreUnits shelf held = record { many = c.args.self.now.many; distinct = c.args.self.now.distinct; looked = c.args.self.now.looked; ready = c.args.self.now.ready } in
-    let within = is_held shelf held u are.many c.requires.attached in
-    let at : held_at held u ≡ Opened c.in-Opened.file = read_held held u c.index_mut.result.now within c.index_mut.ensures.value ∙ c.in-Opened.is in
-    let file : ShelfFile = record { file = c.in-Opened.file.file; pages = record { cache = c.restart_count.new.self; pager = c.in-Opened.file.pages.pager; changed = c.in-Opened.file.pages.changed } } in
+    let are : AreUnits shelf held = are_units g.S.Shelf c.args.self.now in
+    let within = is_within g.S.Shelf c.args.self.now u c.requires.attached in
+    let at : held_at held u ≡ Opened c.in-Opened.file = read_held held u c.index_mut.result.now within c.index_mut.ensures.value
+    ∙ c.in-Opened.is in
+    let file : ShelfFile = record {
+      file = c.in-Opened.file.file;
+      pages = record {
+        cache = c.restart_count.new.self;
+        pager = c.in-Opened.file.pages.pager;
+        changed = c.in-Opened.file.pages.changed;
+      };
+    } in
     let is : Opened file ≡ recount (held_at held u) =
-    ap (λ cache. Opened (record { file = c.in-Opened.file.file; pages = record { cache = cache; pager = c.in-Opened.file.pages.pager; changed = c.in-Opened.file.pages.changed } })) c.restart_count.ensures ∙ sym (ap recount at) in
-    recounts (λ library. record { shelf = g.S.Shelf.state library.shelf; held = library.units.items; faults = g.S.Shelf.fault_count library.shelf; limit = library.limit; frames = non_zero_usize_get library.frames })
-    u c.args.self.now _ are (record { attached = within; others = rests shelf u; holds = ap (λ one. slice_set held u one) is }) refl refl refl refl
+    ap (λ cache. Opened (record {
+      file = c.in-Opened.file.file;
+      pages = record { cache = cache; pager = c.in-Opened.file.pages.pager; changed = c.in-Opened.file.pages.changed };
+    }))
+    c.restart_count.ensures ∙ sym (ap recount at) in
+    recounts (library_state g.S.Shelf)
+    u c.args.self.now _ are (record { attached = within; others = rests shelf u; holds = ap (λ one. slice_set held u one) is }) refl
+    refl refl refl
 
 pub returns-in_default : goal.returns-in_default
 returns-in_default g c =
     let shelf = g.S.Shelf.state c.args.self.now.shelf in
     let held = c.args.self.now.units.items in
     let u = c.args.u in
-    let are : AreUnits shelf held = record { many = c.args.self.now.many; distinct = c.args.self.now.distinct; looked = c.args.self.now.looked; ready = c.args.self.now.ready } in
-    let within = is_held shelf held u are.many c.requires.attached in
+    let are : AreUnits shelf held = are_units g.S.Shelf c.args.self.now in
+    let within = is_within g.S.Shelf c.args.self.now u c.requires.attached in
     let at : held_at held u ≡ c.index_mut.result.now = read_held held u c.index_mut.result.now within c.index_mut.ensures.value in
-    let is : c.index_mut.result.now ≡ recount (held_at held u) = sym (recount_none c.index_mut.result.now c.in_default.not-Opened) ∙ sym (ap recount at) in
-    recounts (λ library. record { shelf = g.S.Shelf.state library.shelf; held = library.units.items; faults = g.S.Shelf.fault_count library.shelf; limit = library.limit; frames = non_zero_usize_get library.frames })
-    u c.args.self.now _ are (record { attached = within; others = rests shelf u; holds = ap (λ one. slice_set held u one) is }) refl refl refl refl
+    let is : c.index_mut.result.now ≡ recount (held_at held u) =
+    sym (recount_none c.index_mut.result.now c.in_default.not-Opened) ∙ sym (ap recount at) in
+    recounts (library_state g.S.Shelf)
+    u c.args.self.now _ are (record { attached = within; others = rests shelf u; holds = ap (λ one. slice_set held u one) is }) refl
+    refl refl refl
