@@ -10,7 +10,8 @@ use Rattle.record_heap.specs.declared.heap.Heap.{Heap}
 use Rattle.open_file.specs.Stored.{stamps_length}
 use Rattle.open_file.specs.ReadOff.{rows_off}
 use Rattle.open_file.specs.Headers.{tree_at}
-use Rattle.file_header.proofs.LengthLemmas.{at_least, at_most, is_key_length, entry_longer, entry_short, tree_low, in_order, has_room}
+use Rattle.file_header.proofs.LengthLemmas.{at_least, at_most, is_key_length, entry_longer, entry_short}
+use Rattle.file_header.proofs.LengthLemmas.{tree_low, in_order, has_room}
 
 -- Lengths, and numbers of levels, kept within what a header may have. (Where it is accepted they
 -- are so already.)

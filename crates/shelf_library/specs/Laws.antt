@@ -1,5 +1,6 @@
 -- The laws of a library over a shelf.
-use Rattle.std.proofs.Common.{◌≡◌, ℕ, ◌+◌, ◌-◌, ◌<◌, ◌≤◌, List, [], length, Option, Some, None, IsTrue, IsFalse, refl, sym, ap, ◌∙◌, subst, arith, inl, inr}
+use Rattle.std.proofs.Common.{◌≡◌, ℕ, ◌+◌, ◌-◌, ◌<◌, ◌≤◌, List, [], length, Option, Some, None, IsTrue}
+use Rattle.std.proofs.Common.{IsFalse, refl, sym, ap, ◌∙◌, subst, arith, inl, inr}
 use Rattle.std.specs.Prelude.{nat_lt}
 use Rattle.std.proofs.lemmas.Bool.{cases_Bool, ltb-true, ltb-false}
 use Rattle.std.proofs.lemmas.List.{get_or_past}
@@ -8,10 +9,12 @@ use Rattle.indexed_file.specs.Moments.{Test}
 use Rattle.indexed_file.specs.Room.{IsFilled, available_under, available_in}
 use Rattle.indexed_file.specs.Sound.{is_file}
 use Rattle.indexed_file.specs.SoundWorld.{ShowsFiles, ShowsFilesAt, is_sound_named, is_sound_holding}
-use Rattle.indexed_file.specs.World.{FileUnit, Named, Absent, Closed, Unsound, Holding, Shut, Broken, Opened as HasOpened, unit_at, holding_at, name_at, is_open}
+use Rattle.indexed_file.specs.World.{FileUnit, Named, Absent, Closed, Unsound, Holding, Shut, Broken}
+use Rattle.indexed_file.specs.World.{Opened as HasOpened, unit_at, holding_at, name_at, is_open}
 use Rattle.record_layout.specs.Schema.{Schema}
 use Rattle.page_store.specs.DeviceFile.{DeviceFile, content}
-use Rattle.page_store.proofs.MomentLemmas.{throughout_then, throughout_last, throughout_none, throughout_weaker}
+use Rattle.page_store.proofs.MomentLemmas.{throughout_then, throughout_last, throughout_none}
+use Rattle.page_store.proofs.MomentLemmas.{throughout_weaker}
 use Rattle.page_store.specs.ShelfState.{ShelfState, unit_name, unit_file}
 use Rattle.page_alloc.specs.Joining.{available_of}
 use Rattle.file_header.specs.declared.header.Header.{Header}
@@ -21,7 +24,8 @@ use Rattle.shelf_file.specs.declared.shelf_file.ShelfFile.{ShelfFile}
 use Rattle.shelf_file.specs.Named.{look_of, named_of, named_by}
 use Rattle.shelf_file.specs.Standing.{file_in, live_of, room_in}
 use Rattle.shelf_library.specs.State.{held_at, AreReady, AreLimited}
-use Rattle.shelf_library.specs.Units.{world_of, units_of, holding_of, room_of_held, counts_of_held, frames_of_held, asked_of}
+use Rattle.shelf_library.specs.Units.{world_of, units_of, holding_of, room_of_held, counts_of_held}
+use Rattle.shelf_library.specs.Units.{frames_of_held, asked_of}
 use Rattle.shelf_library.specs.Truth.{IsShownTruly, IsTrulyClosed}
 use Rattle.shelf_library.specs.Crashes.{Passes, PassesBy, AllPass}
 use Rattle.shelf_library.specs.WorldLaws.{named_anywhere, name_now, holding_now, named_now, units_long}

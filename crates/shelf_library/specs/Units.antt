@@ -3,7 +3,8 @@
 use Rattle.std.specs.Prelude.{ℕ, List, [], ◌∷◌, Option, None, Some, bytes_eq, if◌then◌else◌}
 use Rattle.std.specs.List.{list_any}
 use Rattle.indexed_file.specs.Room.{Room, PageCounts, Endless}
-use Rattle.indexed_file.specs.World.{World, FileUnit, Named, Absent, Holding, Shut, Looked as HasLooked, Opened as HasOpened, Broken}
+use Rattle.indexed_file.specs.World.{World, FileUnit, Named, Absent, Holding, Shut, Looked as HasLooked}
+use Rattle.indexed_file.specs.World.{Opened as HasOpened, Broken}
 use Rattle.page_store.specs.ShelfState.{ShelfState}
 use Rattle.page_alloc.specs.declared.pager.Pager.{Pager}
 use Rattle.shelf_file.specs.declared.look.Look.{Look}

@@ -1,10 +1,12 @@
 -- What is read off a library's units, for the laws of a library.
-use Rattle.std.proofs.Common.{◌≡◌, ℕ, zero, suc, ◌<◌, List, [], ◌∷◌, length, refl, ap, ◌∙◌, arith, bytes_eq, get_or}
+use Rattle.std.proofs.Common.{◌≡◌, ℕ, zero, suc, ◌<◌, List, [], ◌∷◌, length, refl, ap, ◌∙◌, arith}
+use Rattle.std.proofs.Common.{bytes_eq, get_or}
 use Rattle.std.specs.Prelude.{slice_index_or, if◌then◌else◌}
 use Rattle.std.specs.List.{list_any}
 use Rattle.std.proofs.lemmas.Slice.Eq.{bytes_eq-Decides}
 use Rattle.indexed_file.proofs.TestLemmas.{either}
-use Rattle.indexed_file.specs.World.{FileUnit, Named, Absent, Shut, name_in, named_in, unit_at, holding_at, named_at, name_at}
+use Rattle.indexed_file.specs.World.{FileUnit, Named, Absent, Shut, name_in, named_in, unit_at}
+use Rattle.indexed_file.specs.World.{holding_at, named_at, name_at}
 use Rattle.page_store.specs.ShelfState.{ShelfState, unit_name, unit_file}
 use Rattle.shelf_file.specs.Named.{named_of}
 use Rattle.shelf_library.specs.State.{held_at}

@@ -1,6 +1,7 @@
 //! The library.
 
-ghost use Rattle.std.specs.Prelude.{◌≡◌, ◌≤◌, ℕ, List, [], length, map, slice_index, replicate, bytes_eq, Ok, Err, IsTrue, IfOk, IsOkUnless};
+ghost use Rattle.std.specs.Prelude.{◌≡◌, ◌≤◌, ℕ, List, [], length, map, slice_index, replicate, bytes_eq};
+ghost use Rattle.std.specs.Prelude.{Ok, Err, IsTrue, IfOk, IsOkUnless};
 ghost use Rattle.std.specs.List.{IsDistinct};
 ghost use Rattle.std.specs.NonZero.{non_zero_usize_get};
 ghost use Rattle.std.proofs.Props.{props};
@@ -135,7 +136,8 @@ impl<S: Shelf> ShelfLibrary<S> {
 
 impl<S: Shelf> Library for ShelfLibrary<S> {
     ghost use Rattle.shelf_library.specs.Library.{shown_by};
-    ghost use Rattle.shelf_library.specs.Laws.{joins, ends, widens, shows_files, fills, room_within, frames_within, none_counted};
+    ghost use Rattle.shelf_library.specs.Laws.{joins, ends, widens, shows_files, fills};
+    ghost use Rattle.shelf_library.specs.Laws.{room_within, frames_within, none_counted};
 
     ghost shown = { shown_by (λ library. record {
       shelf = S.state library.shelf;
@@ -145,22 +147,28 @@ impl<S: Shelf> Library for ShelfLibrary<S> {
       frames = non_zero_usize_get library.frames;
     }) };
 
-    ghost joins = { λ test first then last name. joins test (S.state first.shelf) (S.state then.shelf) (S.state last.shelf) name };
+    ghost joins = { λ test first then last name. joins test (S.state first.shelf) (S.state then.shelf)
+        (S.state last.shelf) name };
 
     ghost ends = { λ test old new name. ends test (S.state old.shelf) (S.state new.shelf) name };
 
     ghost widens = { λ test wider old new name. widens test wider (S.state old.shelf) (S.state new.shelf) name };
 
-    ghost shows_files = { λ library name. shows_files (S.state library.shelf) library.units.items name library.many };
+    ghost shows_files = { λ library name. shows_files (S.state library.shelf) library.units.items name
+        library.many };
 
-    ghost fills = { λ library u schema file honest. fills (S.state library.shelf) library.units.items u schema file library.many library.ready };
+    ghost fills = { λ library u schema file honest. fills (S.state library.shelf) library.units.items u
+        schema file library.many library.ready };
 
     ghost limits = { λ library u opened. record {
-      room = room_within (S.state library.shelf) library.units.items library.limit (non_zero_usize_get library.frames) u library.many library.limits opened;
-      frames = frames_within (S.state library.shelf) library.units.items library.limit (non_zero_usize_get library.frames) u library.many library.limits opened;
+      room = room_within (S.state library.shelf) library.units.items library.limit
+          (non_zero_usize_get library.frames) u library.many library.limits opened;
+      frames = frames_within (S.state library.shelf) library.units.items library.limit
+          (non_zero_usize_get library.frames) u library.many library.limits opened;
     } };
 
-    ghost counts = { λ library u closed. none_counted (S.state library.shelf) library.units.items u library.many closed };
+    ghost counts = { λ library u closed. none_counted (S.state library.shelf) library.units.items u
+        library.many closed };
 
     fn attach(&mut self, names: &[FileName]) -> Result<(), Fault> {
         let units = nothing_held(self.alloc, names.len())?;
