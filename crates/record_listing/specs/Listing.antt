@@ -5,7 +5,7 @@ use Rattle.io_state.specs.declared.fault.Fault.{Fault}
 use Rattle.io_state.specs.declared.fault.Fault.TheVariants.{Device, Memory as NoMemory, Full, Damage, Broken}
 use Rattle.record_layout.specs.Schema.{Schema}
 use Rattle.indexed_file.specs.File.{Row, File}
-use Rattle.indexed_file.specs.World.{Named, Absent as NoFile, Closed, Unsound as Refused, OnlyAt, name_at, named_at, holding_at, is_open}
+use Rattle.indexed_file.specs.World.{World, Named, Absent as NoFile, Closed, Unsound as Refused, OnlyAt, name_at, named_at, named_in, holding_at, schema_at, file_at, is_open}
 use Rattle.indexed_file.specs.Calls.{Keeps, HasRisen}
 use Rattle.indexed_file.specs.Shown.{Shown}
 use Rattle.record_listing.specs.declared.asked.Asked.{Asked}
@@ -85,10 +85,42 @@ TellsWhy shown name old new (Ok Damaged) = IsTrue (shown.is_honest new) → show
 TellsWhy shown name old new (Ok end) = Unit {0}
 
 -- unit 0 is closed, and its name stands for what it stood for where the library is honest, what it
--- showed was true, and a premise holds
-pub record Leaves {S : Type 0} (shown : Shown S) (Premise : Type 0) (old new : S) : Type 0 where
+-- showed was true, and a premise holds; why the list ended so
+pub record Leaves {S : Type 0} (shown : Shown S) (Premise : Type 0) (old new : S)
+    (result : Result ListEnd ListFault) : Type 0 where
+  pub cause : TellsWhy shown (name_at (shown.world old) 0) old new result
   pub only : OnlyAt 0 (shown.world old) (shown.world new)
   pub named : IsTrue (shown.is_honest new) → shown.IsShownTruly old (name_at (shown.world old) 0) → Premise
       → named_at (shown.world new) 0 ≡ named_at (shown.world old) 0
   pub closed : IsFalse (is_open (holding_at (shown.world new) 0))
   pub keeps : Keeps shown old new
+
+-- what the name of unit 0 stands for once its open file is closed
+abbrev pub file_when_closed : {S : Type 0} → Shown S → S → Named
+file_when_closed shown library = Closed (schema_at (shown.world library) 0) (file_at (shown.world library) 0)
+
+-- a list of unit 0 ends so, where its name stands for a file of this schema
+abbrev pub EndsWhereSound : {S : Type 0} → Shown S → S → Form → Asked → Schema
+    → (before behind : Option (List ℕ)) → Result ListEnd ListFault → Type 0
+EndsWhereSound shown library form asked schema before behind result =
+    (file : File) → named_at (shown.world library) 0 ≡ Closed schema file
+    → Ends form asked (Closed schema file) before behind result
+
+-- unit 0 is attached, and not open
+pub record HasShutUnit {S : Type 0} (shown : Shown S) (library : S) : Type 0 where
+  pub attached : 0 < length (shown.world library).units
+  pub closed : IsFalse (is_open (holding_at (shown.world library) 0))
+
+-- it is so where the library is honest after a call, and what the name showed before it was true
+abbrev pub TrueFor : {S : Type 0} → Shown S → (name : List ℕ) → (old new : S) → Type 0 → Type 0
+TrueFor shown name old new fact = IsTrue (shown.is_honest new) → shown.IsShownTruly old name → fact
+
+-- a list of what a name stands for in a library ends so
+abbrev pub EndsFor : {S : Type 0} → Shown S → (name : List ℕ) → S → Form → Asked
+    → (before behind : Option (List ℕ)) → Result ListEnd ListFault → Type 0
+EndsFor shown name library form asked before behind result =
+    Ends form asked (named_in (shown.world library) name) before behind result
+
+-- each name stands for what it stood for
+abbrev pub NamesStay : (old new : World) → Type 0
+NamesStay old new = (name : List ℕ) → named_in new name ≡ named_in old name

@@ -1,5 +1,5 @@
 -- The rows of an open file, one after another, and the text on its way to the writer.
-use Rattle.std.specs.Prelude.{◌≡◌, ℕ, zero, suc, ◌+◌, List, [], ◌∷◌, ◌++◌, take, Option, Some, None, Result, Ok, Err, if◌then◌else◌}
+use Rattle.std.specs.Prelude.{◌≡◌, ◌<◌, ◌≤◌, ℕ, zero, suc, ◌+◌, List, [], ◌∷◌, ◌++◌, length, take, false, Option, Some, None, Result, Ok, Err, IsTrue, IfErr, if◌then◌else◌}
 use Rattle.std.specs.Option.{option_map_or}
 use Rattle.std.specs.Io.KnownBytes.{Appends}
 use Rattle.arrayvec.specs.ArrayVec.{ArrayVec}
@@ -9,9 +9,11 @@ use Rattle.io_state.specs.declared.position.Position.TheVariants.{From, After}
 use Rattle.record_layout.specs.Schema.{Schema, value_of}
 use Rattle.indexed_file.specs.declared.answer.Found.{Found}
 use Rattle.indexed_file.specs.File.{Row, File, stamp_of}
+use Rattle.indexed_file.specs.World.{holding_at, schema_at, file_at, is_open, is_broken}
 use Rattle.indexed_file.specs.Rank.{least, admits}
 use Rattle.indexed_file.specs.Answers.{key_of_row}
 use Rattle.indexed_file.specs.Calls.{OnlyReads, Keeps, MayAnswerShut}
+use Rattle.indexed_file.specs.Believed.{Believed}
 use Rattle.indexed_file.specs.Shown.{Shown}
 use Rattle.record_listing.specs.declared.asked.Asked.{Asked}
 use Rattle.record_listing.specs.declared.rows.Stop.{Stop}
@@ -20,6 +22,19 @@ use Rattle.record_listing.specs.Listed.{is_past}
 use Rattle.record_forms.specs.declared.form.Form.{Form}
 use Rattle.held_text.specs.Output.{AppendsFront, Holds}
 use Rattle.record_listing.specs.Lines.{lines_of}
+
+-- unit 0 has an open file that is not broken, which has key k and records of so many bytes at most
+pub record HasOpenFile {S : Type 0} (shown : Shown S) (library : S) (k greatest : ℕ) : Type 0 where
+  pub attached : 0 < length (shown.world library).units
+  pub opened : IsTrue (is_open (holding_at (shown.world library) 0))
+  pub unbroken : is_broken (holding_at (shown.world library) 0) ≡ false
+  pub key : k < length (schema_at (shown.world library) 0).keys
+  pub greatest_is : greatest ≡ (schema_at (shown.world library) 0).greatest
+
+-- and none of its records is longer than a record can be
+pub record CanListFile {S : Type 0} (shown : Shown S) (library : S) (k greatest : ℕ) : Type 0 where
+  pub file : HasOpenFile shown library k greatest
+  pub short : greatest ≤ 4000
 
 -- unit 0 was only read
 pub record Reads {S : Type 0} (shown : Shown S) (old new : S) : Type 0 where
@@ -55,6 +70,12 @@ pub record ComesNext (schema : Schema) (file : File) (k : ℕ) (to : Option (Arr
 abbrev pub GoesOn : Schema → File → ℕ → Option (ArrayVec ℕ) → Position → List ℕ → Option Found → Type 0
 GoesOn schema file k to position area None = (n : ℕ) → rows_from schema file k to n position ≡ []
 GoesOn schema file k to position area (Some found) = ComesNext schema file k to position area found
+
+-- so they go on in the open file of unit 0
+abbrev pub GoesOnIn : {S : Type 0} → Shown S → S → ℕ → Option (ArrayVec ℕ) → Position → List ℕ → Option Found
+    → Type 0
+GoesOnIn shown library k to position area found =
+    GoesOn (schema_at (shown.world library) 0) (file_at (shown.world library) 0) k to position area found
 
 -- of the lines of these rows all are on their way but those of the rest: the writer took some
 -- bytes, and the others are held
@@ -100,3 +121,18 @@ HoldsLine before now held held_after line (Err NotTaken) = AppendsFront before n
 abbrev pub MayStop : {S : Type 0} → Shown S → S → S → Stop → Type 0
 MayStop shown old new (GaveUp fault) = MayAnswerShut shown 0 old new fault
 MayStop shown old new NotTaken = Unit {0}
+
+-- the rows of unit 0 that are asked for were read, and this came of them
+pub record ReadsRows {S : Type 0} (shown : Shown S) (asked : Asked) (old new : S)
+    (Comes : List Row → Type 0) (result : Result Unit Stop) : Type 0 where
+  pub reads : Reads shown old new
+  pub rows : Believed shown 0 old new
+      (Comes (rows_asked (schema_at (shown.world old) 0) (file_at (shown.world old) 0) asked))
+  pub cause : IfErr result (MayStop shown old new)
+
+-- the lines of rows that came out so far are written, once those that are held are handed over
+abbrev pub HandsOver : (old new : Option (List ℕ)) → (held : List ℕ) → (came result : Result Unit Stop)
+    → Type 0
+HandsOver old new held came result =
+    (form : Form) (rows : List Row) (before : Option (List ℕ)) → ComesOut form rows before old held came
+    → IsWritten (lines_of form rows) before new result

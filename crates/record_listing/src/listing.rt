@@ -1,10 +1,11 @@
 //! The list of a file.
-ghost use Rattle.std.specs.Prelude.{◌≡◌, ◌≤◌, ◌<◌, ℕ, List, length, false, IsTrue, IsFalse, OnOk};
+ghost use Rattle.std.specs.Prelude.{◌≡◌, ◌<◌, length, IsTrue, IsFalse, OnOk};
 ghost use Rattle.indexed_file.specs.File.{File};
-ghost use Rattle.indexed_file.specs.World.{Closed, name_at, named_at, named_in, holding_at, schema_at, file_at, is_open, is_looked, is_broken};
+ghost use Rattle.indexed_file.specs.World.{Closed, named_at, holding_at, schema_at, is_open, is_looked};
 ghost use Rattle.indexed_file.specs.Believed.{Believed};
 ghost use Rattle.indexed_file.specs.Calls.{Keeps, NamesFile};
-ghost use Rattle.record_listing.specs.Listing.{end_of, Ends, Leaves, TellsWhy};
+ghost use Rattle.record_listing.specs.Listing.{end_of, file_when_closed, Ends, EndsFor, EndsWhereSound, HasShutUnit, Leaves, NamesStay, TellsWhy, TrueFor};
+ghost use Rattle.record_listing.specs.Reading.{CanListFile};
 
 use crate::asked::Asked;
 use crate::end::{ListEnd, ListFault, end_by};
@@ -39,18 +40,11 @@ fn list_open<L: Library, W: Write>(
     greatest: u16,
     out: &mut W,
 ) -> Result<ListEnd, ListFault>
-    requires attached { 0 < length (L.shown.world lib.old).units }
-    requires opened { IsTrue (is_open (holding_at (L.shown.world lib.old) 0)) }
-    requires unbroken { is_broken (holding_at (L.shown.world lib.old) 0) ≡ false }
-    requires key { asked.key < length (schema_at (L.shown.world lib.old) 0).keys }
-    requires length { greatest ≡ (schema_at (L.shown.world lib.old) 0).greatest }
-    requires short { greatest ≤ 4000 }
-    ensures ends { Believed L.shown 0 lib.old lib.new (
-        Ends form.now asked (Closed (schema_at (L.shown.world lib.old) 0)
-        (file_at (L.shown.world lib.old) 0)) (W.contents out.old) (W.contents out.new) result) }
-    ensures cause { TellsWhy L.shown (name_at (L.shown.world lib.old) 0) lib.old lib.new result }
+    requires { CanListFile L.shown lib.old asked.key greatest }
+    ensures ends { Believed L.shown 0 lib.old lib.new (Ends form.now asked
+        (file_when_closed L.shown lib.old) (W.contents out.old) (W.contents out.new) result) }
     ensures leaves { Leaves L.shown (NamesFile 0 (L.shown.world lib.old) (L.shown.world lib.old)) lib.old
-        lib.new }
+        lib.new result }
 {
     let written = write_rows(alloc, lib, asked, form, greatest, out);
     let shut = lib.shut(0);
@@ -69,12 +63,10 @@ fn list_sound<L: Library, W: Write>(
     requires attached { 0 < length (L.shown.world lib.old).units }
     requires looked { IsTrue (is_looked (holding_at (L.shown.world lib.old) 0)) }
     requires schema { schema_at (L.shown.world lib.old) 0 ≡ schema.now }
-    ensures ends { Believed L.shown 0 lib.old lib.new ((file : File)
-        → named_at (L.shown.world lib.old) 0 ≡ Closed schema.now file
-        → Ends form.now asked (Closed schema.now file) (W.contents out.old) (W.contents out.new) result) }
-    ensures cause { TellsWhy L.shown (name_at (L.shown.world lib.old) 0) lib.old lib.new result }
+    ensures ends { Believed L.shown 0 lib.old lib.new (EndsWhereSound L.shown lib.old form.now asked
+        schema.now (W.contents out.old) (W.contents out.new) result) }
     ensures leaves { Leaves L.shown ((file : File)
-        × (named_at (L.shown.world lib.old) 0 ≡ Closed schema.now file)) lib.old lib.new }
+        × (named_at (L.shown.world lib.old) 0 ≡ Closed schema.now file)) lib.old lib.new result }
 {
     if usize::from(asked.key) >= schema.key_count() {
         return Ok(ListEnd::NoKey);
@@ -93,13 +85,10 @@ fn list_attached<L: Library, W: Write>(
     form: &Form,
     out: &mut W,
 ) -> Result<ListEnd, ListFault>
-    requires attached { 0 < length (L.shown.world lib.old).units }
-    requires closed { IsFalse (is_open (holding_at (L.shown.world lib.old) 0)) }
-    ensures ends { Believed L.shown 0 lib.old lib.new
-        (Ends form.now asked (named_at (L.shown.world lib.old) 0) (W.contents out.old)
-        (W.contents out.new) result) }
-    ensures cause { TellsWhy L.shown (name_at (L.shown.world lib.old) 0) lib.old lib.new result }
-    ensures leaves { Leaves L.shown (Unit {0}) lib.old lib.new }
+    requires { HasShutUnit L.shown lib.old }
+    ensures ends { Believed L.shown 0 lib.old lib.new (Ends form.now asked
+        (named_at (L.shown.world lib.old) 0) (W.contents out.old) (W.contents out.new) result) }
+    ensures leaves { Leaves L.shown (Unit {0}) lib.old lib.new result }
 {
     match lib.look(0) {
         Ok(Seen::Absent) => Ok(ListEnd::Absent),
@@ -122,11 +111,10 @@ pub fn list_records<L: Library, W: Write>(
     form: &Form,
     out: &mut W,
 ) -> Result<ListEnd, ListFault>
-    ensures ends { IsTrue (L.shown.is_honest lib.new) → L.shown.IsShownTruly lib.old name.bytes
-        → Ends form.now asked (named_in (L.shown.world lib.old) name.bytes) (W.contents out.old)
-        (W.contents out.new) result }
-    ensures named { IsTrue (L.shown.is_honest lib.new) → L.shown.IsShownTruly lib.old name.bytes
-        → (other : List ℕ) → named_in (L.shown.world lib.new) other ≡ named_in (L.shown.world lib.old) other }
+    ensures ends { TrueFor L.shown name.bytes lib.old lib.new (EndsFor L.shown name.bytes lib.old
+        form.now asked (W.contents out.old) (W.contents out.new) result) }
+    ensures named { TrueFor L.shown name.bytes lib.old lib.new
+        (NamesStay (L.shown.world lib.old) (L.shown.world lib.new)) }
     ensures closed { OnOk result (IsFalse (is_open (holding_at (L.shown.world lib.new) 0))) }
     ensures cause { TellsWhy L.shown name.bytes lib.old lib.new result }
     ensures keeps { Keeps L.shown lib.old lib.new }

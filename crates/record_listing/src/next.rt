@@ -1,9 +1,8 @@
 //! The next record.
-ghost use Rattle.std.specs.Prelude.{◌≡◌, ◌<◌, length, IfOk, IfErr, IsTrue, false};
-ghost use Rattle.indexed_file.specs.World.{holding_at, schema_at, file_at, is_open, is_broken};
+ghost use Rattle.std.specs.Prelude.{length, IfOk, IfErr};
 ghost use Rattle.indexed_file.specs.Calls.{MayAnswerShut};
 ghost use Rattle.indexed_file.specs.Believed.{Believed};
-ghost use Rattle.record_listing.specs.Reading.{Reads, GoesOn};
+ghost use Rattle.record_listing.specs.Reading.{HasOpenFile, Reads, GoesOnIn};
 
 use crate::asked::is_past;
 use indexed_file::{Found, Library};
@@ -18,15 +17,10 @@ pub fn next_record<L: Library>(
     position: &Position,
     area: &mut [u8],
 ) -> Result<Option<Found>, Fault>
-    requires attached { 0 < length (L.shown.world lib.old).units }
-    requires opened { IsTrue (is_open (holding_at (L.shown.world lib.old) 0)) }
-    requires unbroken { is_broken (holding_at (L.shown.world lib.old) 0) ≡ false }
-    requires key { k < length (schema_at (L.shown.world lib.old) 0).keys }
-    requires length { length area.old ≡ (schema_at (L.shown.world lib.old) 0).greatest }
+    requires { HasOpenFile L.shown lib.old k (length area.old) }
     ensures reads { Reads L.shown lib.old lib.new }
-    ensures goes { Believed L.shown 0 lib.old lib.new (IfOk result (λ found.
-        GoesOn (schema_at (L.shown.world lib.old) 0) (file_at (L.shown.world lib.old) 0) k to.now
-        position.now area.new found)) }
+    ensures goes { Believed L.shown 0 lib.old lib.new (IfOk result
+        (GoesOnIn L.shown lib.old k to.now position.now area.new)) }
     ensures fault { IfErr result (MayAnswerShut L.shown 0 lib.old lib.new) }
 {
     match lib.next(0, k, position, area) {

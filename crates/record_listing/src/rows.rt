@@ -1,12 +1,8 @@
 //! The records of an open file, one after another.
-ghost use Rattle.std.specs.Prelude.{◌≡◌, ◌≤◌, ◌<◌, ◌⊎◌, [], ℕ, List, take, length, Option, Result, replicate, IsTrue, OnOk, OnErr, IfOk, IfErr, true, false};
-ghost use Rattle.indexed_file.specs.World.{holding_at, schema_at, file_at, is_open, is_broken};
-ghost use Rattle.indexed_file.specs.File.{Row};
-ghost use Rattle.indexed_file.specs.Believed.{Believed};
-ghost use Rattle.record_forms.specs.declared.form.Form.{Form};
+ghost use Rattle.std.specs.Prelude.{◌≡◌, ◌⊎◌, [], take, length, IfOk, IfErr, true, false};
 ghost use Rattle.record_forms.specs.Lines.{line_in, header_in};
-ghost use Rattle.record_listing.specs.Lines.{lines_of, list_of};
-ghost use Rattle.record_listing.specs.Reading.{Reads, rows_asked, IsWritten, HoldsLine, ComesOut, MayStop};
+ghost use Rattle.record_listing.specs.Lines.{list_of};
+ghost use Rattle.record_listing.specs.Reading.{CanListFile, ReadsRows, IsWritten, HandsOver, HoldsLine, ComesOut};
 
 use crate::asked::Asked;
 use crate::next::next_record;
@@ -59,18 +55,10 @@ fn hold_rows<L: Library, W: Write>(
     lines: &mut HeldText,
     out: &mut W,
 ) -> Result<(), Stop>
-    requires attached { 0 < length (L.shown.world lib.old).units }
-    requires opened { IsTrue (is_open (holding_at (L.shown.world lib.old) 0)) }
-    requires unbroken { is_broken (holding_at (L.shown.world lib.old) 0) ≡ false }
-    requires key { asked.key < length (schema_at (L.shown.world lib.old) 0).keys }
-    requires length { length area.old ≡ (schema_at (L.shown.world lib.old) 0).greatest }
-    requires short { length area.old ≤ 4000 }
+    requires can { CanListFile L.shown lib.old asked.key (length area.old) }
     requires empty { lines.old ≡ [] }
-    ensures reads { Reads L.shown lib.old lib.new }
-    ensures rows { Believed L.shown 0 lib.old lib.new (ComesOut form.now
-        (rows_asked (schema_at (L.shown.world lib.old) 0) (file_at (L.shown.world lib.old) 0) asked)
-        (W.contents out.old) (W.contents out.new) lines.new result) }
-    ensures cause { IfErr result (MayStop L.shown lib.old lib.new) }
+    ensures { ReadsRows L.shown asked lib.old lib.new (λ rows. ComesOut form.now rows
+        (W.contents out.old) (W.contents out.new) lines.new result) result }
 {
     let Asked {
         key,
@@ -112,9 +100,7 @@ fn hand_over<W: Write>(
     lines: &mut HeldText,
     out: &mut W,
 ) -> Result<(), Stop>
-    ensures written { (form : Form) (rows : List Row) (before : Option (List ℕ))
-        → ComesOut form rows before (W.contents out.old) lines.old held
-        → IsWritten (lines_of form rows) before (W.contents out.new) result }
+    ensures written { HandsOver (W.contents out.old) (W.contents out.new) lines.old held result }
     ensures cause { (result ≡ held) ⊎ (result ≡ Err Stop.Output) }
 {
     if is_refused(held) {
@@ -160,18 +146,9 @@ pub fn write_rows<L: Library, W: Write>(
     greatest: u16,
     out: &mut W,
 ) -> Result<(), Stop>
-    requires attached { 0 < length (L.shown.world lib.old).units }
-    requires opened { IsTrue (is_open (holding_at (L.shown.world lib.old) 0)) }
-    requires unbroken { is_broken (holding_at (L.shown.world lib.old) 0) ≡ false }
-    requires key { asked.key < length (schema_at (L.shown.world lib.old) 0).keys }
-    requires length { greatest ≡ (schema_at (L.shown.world lib.old) 0).greatest }
-    requires short { greatest ≤ 4000 }
-    ensures reads { Reads L.shown lib.old lib.new }
-    ensures rows { Believed L.shown 0 lib.old lib.new (IsWritten
-        (list_of form.now (rows_asked (schema_at (L.shown.world lib.old) 0)
-        (file_at (L.shown.world lib.old) 0) asked))
-        (W.contents out.old) (W.contents out.new) result) }
-    ensures cause { IfErr result (MayStop L.shown lib.old lib.new) }
+    requires { CanListFile L.shown lib.old asked.key greatest }
+    ensures { ReadsRows L.shown asked lib.old lib.new (λ rows. IsWritten (list_of form.now rows)
+        (W.contents out.old) (W.contents out.new) result) result }
 {
     let Ok(mut area) = blank_area(alloc, greatest) else {
         return Err(Stop::Library(Fault::Memory));

@@ -14,9 +14,9 @@ returns-clause-ends g c honest truly =
     let keeps = c.shut-shut.ensures.shuts.keeps in
     let world = shown.world a in
     let files = g.met.L.Library.shows_files a (name_at world 0) truly in
-    let sound = file_is_sound (holding_at world 0) c.requires.opened (files.units 0 refl).holding in
+    let sound = file_is_sound (holding_at world 0) c.requires.file.opened (files.units 0 refl).holding in
     subst (Ends c.args.form.now c.args.asked (Closed (schema_at world 0) (file_at world 0)) (g.W.Write.contents c.args.out.now) (g.W.Write.contents c.write_rows-written.new.out)) (sym c.end_of.ensures)
     (ends shown a d honest truly c.args.form.now (schema_at world 0) (file_at world 0) c.args.asked (g.W.Write.contents c.args.out.now) (g.W.Write.contents c.write_rows-written.new.out)
-    c.write_rows-written.result c.shut-shut.result c.requires.key sound (c.write_rows-written.ensures.rows (keeps.honest honest) truly)
+    c.write_rows-written.result c.shut-shut.result c.requires.file.key sound (c.write_rows-written.ensures.rows (keeps.honest honest) truly)
     (stop_before shown a b d c.write_rows-written.result keeps c.write_rows-written.ensures.cause)
-    (shut_after shown a b d c.shut-shut.result c.requires.attached c.write_rows-written.ensures.reads keeps c.requires.unbroken c.shut-shut.ensures.shuts.fault))
+    (shut_after shown a b d c.shut-shut.result c.requires.file.attached c.write_rows-written.ensures.reads keeps c.requires.file.unbroken c.shut-shut.ensures.shuts.fault))
