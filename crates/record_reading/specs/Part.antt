@@ -1,10 +1,14 @@
 -- A part of a record that is read of a text. All of this is ours.
-use Rattle.std.specs.Prelude.{◌≡◌, ◌≤◌, ℕ, ◌+◌, List, ◌∷◌, ◌++◌, length, take, drop, ⊤}
+use Rattle.std.specs.Prelude.{◌≡◌, ◌≤◌, ℕ, ◌+◌, Bool, true, List, ◌∷◌, ◌++◌, length, map, take, drop, ⊤}
+use Rattle.record_forms.specs.declared.column.Column.{Column}
 use Rattle.record_forms.specs.declared.form.Form.{Form}
-use Rattle.record_forms.specs.Lines.{line_in}
+use Rattle.record_forms.specs.Columns.{value_of}
+use Rattle.record_forms.specs.Csv.{csv_line}
+use Rattle.record_forms.specs.Json.{json_line}
+use Rattle.record_forms.specs.Lines.{line_in, member_of}
 use Rattle.record_reading.specs.declared.quoted.Quoting.{Quoting}
 use Rattle.record_reading.specs.ReadLine.{AreBytes}
-use Rattle.record_reading.specs.Quoted.{inside, BeginsWithNoByte}
+use Rattle.record_reading.specs.Quoted.{inside, value_text, values_text, BeginsWithNoByte}
 
 -- bytes were read into the area from one place up to another one, and no other bytes give the text;
 -- `text_of` is the text that bytes give, with what is behind it, of which `MayFollow` is so
@@ -36,6 +40,32 @@ inside_text quoting bytes behind = inside quoting bytes ++ behind
 -- what is behind a quote that ends a value
 abbrev pub EndsValue : Quoting → List ℕ → Type 0
 EndsValue quoting behind = BeginsWithNoByte quoting (34 ∷ behind)
+
+-- the value of a column was read into the area, from one place on and not past another one
+abbrev pub ReadsValue : Quoting → (is_first : Bool) → (name text area : List ℕ) → (from to : ℕ)
+    → (area_after : List ℕ) → (at : ℕ) → (behind : List ℕ) → Type 0
+ReadsValue quoting is_first name text area from to area_after at behind =
+    ReadsPart (value_text quoting is_first name) (EndsValue quoting) text area from to area_after at behind
+
+-- the values of columns were read into the area, from its first place on
+abbrev pub ReadsValues : Quoting → List Column → (text area area_after : List ℕ) → (at : ℕ)
+    → (behind : List ℕ) → Type 0
+ReadsValues quoting columns text area area_after at behind =
+    ReadsPart (values_text quoting true columns) (EndsValue quoting) text area 0 (length area) area_after
+    at behind
+
+-- the area reaches up to a place, and another one is not past that
+pub record HasPlaces (area : List ℕ) (from to : ℕ) : Type 0 where
+  pub order : from ≤ to
+  pub room : to ≤ length area
+
+-- a line of CSV
+abbrev pub csv_text : List Column → List ℕ → List ℕ → List ℕ
+csv_text columns bytes behind = csv_line (map (value_of bytes) columns) ++ behind
+
+-- a line of JSON
+abbrev pub json_text : List Column → List ℕ → List ℕ → List ℕ
+json_text columns bytes behind = json_line (map (member_of bytes) columns) ++ behind
 
 -- a line
 abbrev pub line_text : Form → List ℕ → List ℕ → List ℕ

@@ -1,10 +1,11 @@
 -- The values of a record's columns, in quotes, as CSV and JSON have them in a line. All of this is ours.
-use Rattle.std.specs.Prelude.{◌≡◌, ℕ, ◌+◌, ◌==◌, ◌<◌, Bool, true, false, List, [], ◌∷◌, ◌++◌, flat_map, take, drop, if◌then◌else◌}
+use Rattle.std.specs.Prelude.{◌≡◌, ℕ, ◌+◌, ◌==◌, ◌<◌, Bool, true, false, List, [], ◌∷◌, ◌++◌, flat_map, take, drop, length, Option, None, IfSome, ◌≤◌, if◌then◌else◌}
 use Rattle.deck_runner.specs.Line.{shown_byte}
 use Rattle.record_forms.specs.declared.column.Column.{Column}
 use Rattle.record_forms.specs.Csv.{doubled}
 use Rattle.record_forms.specs.Json.{escaped}
 use Rattle.record_reading.specs.declared.quoted.Quoting.{Quoting}
+use Rattle.record_reading.specs.declared.shown.ShownByte.{ShownByte}
 use Rattle.record_reading.specs.declared.quoted.Quoting.TheVariants.{Doubled, Escaped}
 
 -- a byte of a record, as it stands in quotes
@@ -20,6 +21,17 @@ inside quoting bytes = flat_map (quoted_byte quoting) bytes
 abbrev pub BeginsWithNoByte : Quoting → List ℕ → Type 0
 BeginsWithNoByte quoting text = (byte : ℕ) (rest : List ℕ) → byte < 256
     → text ≡ quoted_byte quoting byte ++ rest → ⊥
+
+-- the byte that a text begins with was read, as it stands in quotes; or none stands there
+pub record ReadsByte (quoting : Quoting) (text : List ℕ) (result : Option ShownByte) : Type 0 where
+  pub byte : IfSome result (λ first. first.byte < 256)
+  pub shown : IfSome result (λ first. (text ≡ quoted_byte quoting first.byte ++ drop first.size text)
+      × (first.size ≤ length text))
+  pub none : result ≡ None → BeginsWithNoByte quoting text
+
+-- a text does not begin so, whatever is behind
+abbrev pub LacksFront : (List ℕ → List ℕ) → List ℕ → Type 0
+LacksFront front text = (behind : List ℕ) → text ≡ front behind → ⊥
 
 -- a comma, if this is not the first column, and what is behind it
 abbrev pub behind_comma : (is_first : Bool) → List ℕ → List ℕ

@@ -1,7 +1,6 @@
 //! The bytes in quotes.
-ghost use Rattle.std.specs.Prelude.{◌≤◌, length};
 ghost use Rattle.record_reading.specs.Quoted.{BeginsWithNoByte};
-ghost use Rattle.record_reading.specs.Part.{ReadsPart, inside_text};
+ghost use Rattle.record_reading.specs.Part.{ReadsPart, HasPlaces, inside_text};
 
 use crate::quoted::{Quoting, first_quoted};
 
@@ -21,8 +20,7 @@ pub fn read_cell<'a>(
     from: usize,
     to: usize,
 ) -> Cell<'a>
-    requires order { from ≤ to }
-    requires room { to ≤ length area.old }
+    requires { HasPlaces area.old from to }
     ensures { ReadsPart (inside_text quoting) (BeginsWithNoByte quoting) text.now area.old from to area.new
         result.at result.behind.now }
 {

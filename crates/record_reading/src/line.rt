@@ -1,13 +1,9 @@
 //! The reading of a line.
-ghost use Rattle.std.specs.Prelude.{◌≡◌, ◌∷◌, ◌++◌, ◌≤◌, length, map, IfSome, None};
-ghost use Rattle.record_forms.specs.Columns.{value_of};
-ghost use Rattle.record_forms.specs.Csv.{csv_line};
-ghost use Rattle.record_forms.specs.Json.{json_line};
-ghost use Rattle.record_forms.specs.Lines.{member_of};
+ghost use Rattle.std.specs.Prelude.{◌≡◌, length, map, IfSome, None};
 ghost use Rattle.record_forms.specs.Parts.{part_of};
 ghost use Rattle.record_reading.specs.ReadLine.{ReadsRecord, BeginsWithNoRecord};
 ghost use Rattle.record_reading.specs.Whole.{AreTiled, IsWhole};
-ghost use Rattle.record_reading.specs.Part.{ReadsPart, HasNoPart, Anything, line_text};
+ghost use Rattle.record_reading.specs.Part.{ReadsPart, HasNoPart, Anything, csv_text, json_text, line_text};
 
 use crate::passed::passed;
 use crate::quoted::Quoting;
@@ -25,11 +21,9 @@ pub struct Line<'a> {
 /// Reads the record whose line of CSV a text begins with.
 fn read_csv<'a>(text: &'a [u8], columns: &[Column], area: &mut [u8]) -> Option<Line<'a>>
     requires whole { AreTiled 0 (map part_of columns.now) (length area.old) }
-    ensures read { IfSome result (λ line. ReadsPart
-        (λ bytes behind. csv_line (map (value_of bytes) columns.now) ++ behind) Anything
-        text.now area.old 0 (length area.old) area.new line.length line.behind.now) }
-    ensures none { result ≡ None → HasNoPart (λ bytes behind.
-        csv_line (map (value_of bytes) columns.now) ++ behind) Anything text.now 0 (length area.old) }
+    ensures read { IfSome result (λ line. ReadsPart (csv_text columns.now) Anything text.now area.old 0
+        (length area.old) area.new line.length line.behind.now) }
+    ensures none { result ≡ None → HasNoPart (csv_text columns.now) Anything text.now 0 (length area.old) }
 {
     let cell = read_values(Quoting::Doubled, columns, text, area)?;
     let ended = passed(cell.behind, b'\r')?;
@@ -43,11 +37,9 @@ fn read_csv<'a>(text: &'a [u8], columns: &[Column], area: &mut [u8]) -> Option<L
 /// Reads the record whose line of JSON a text begins with.
 fn read_json<'a>(text: &'a [u8], columns: &[Column], area: &mut [u8]) -> Option<Line<'a>>
     requires whole { AreTiled 0 (map part_of columns.now) (length area.old) }
-    ensures read { IfSome result (λ line. ReadsPart
-        (λ bytes behind. json_line (map (member_of bytes) columns.now) ++ behind) Anything
-        text.now area.old 0 (length area.old) area.new line.length line.behind.now) }
-    ensures none { result ≡ None → HasNoPart (λ bytes behind.
-        json_line (map (member_of bytes) columns.now) ++ behind) Anything text.now 0 (length area.old) }
+    ensures read { IfSome result (λ line. ReadsPart (json_text columns.now) Anything text.now area.old 0
+        (length area.old) area.new line.length line.behind.now) }
+    ensures none { result ≡ None → HasNoPart (json_text columns.now) Anything text.now 0 (length area.old) }
 {
     let opened = passed(text, b'{')?;
     let cell = read_values(Quoting::Escaped, columns, opened, area)?;

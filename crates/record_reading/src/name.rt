@@ -1,6 +1,7 @@
 //! The name of a column, in JSON.
-ghost use Rattle.std.specs.Prelude.{◌≡◌, ◌∷◌, ◌++◌, [], List, ℕ, IfSome, None};
-ghost use Rattle.record_reading.specs.Quoted.{inside, behind_label};
+ghost use Rattle.std.specs.Prelude.{◌≡◌, IfSome, None};
+ghost use Rattle.record_reading.specs.Quoted.{behind_label, LacksFront};
+ghost use Rattle.record_reading.specs.Part.{inside_text};
 ghost use Rattle.record_reading.specs.declared.quoted.Quoting.TheVariants.{Escaped};
 
 use crate::passed::passed;
@@ -9,8 +10,8 @@ use io_state::Name;
 
 /// What is behind these bytes as they stand in quotes. None where the text does not begin with them.
 fn passed_bytes<'a>(text: &'a [u8], bytes: &[u8]) -> Option<&'a [u8]>
-    ensures some { IfSome result (λ behind. text.now ≡ inside Escaped bytes.now ++ behind.now) }
-    ensures none { result ≡ None → (behind : List ℕ) → text.now ≡ inside Escaped bytes.now ++ behind → ⊥ }
+    ensures some { IfSome result (λ behind. text.now ≡ inside_text Escaped bytes.now behind.now) }
+    ensures none { result ≡ None → LacksFront (inside_text Escaped bytes.now) text.now }
 {
     let mut rest = text;
     let mut left = bytes;
@@ -29,8 +30,7 @@ fn passed_bytes<'a>(text: &'a [u8], bytes: &[u8]) -> Option<&'a [u8]>
 /// What is behind the name of a column in quotes, and a colon.
 fn passed_name<'a>(text: &'a [u8], name: &Name) -> Option<&'a [u8]>
     ensures some { IfSome result (λ behind. text.now ≡ behind_label Escaped name.now.bytes behind.now) }
-    ensures none { result ≡ None → (behind : List ℕ)
-        → text.now ≡ behind_label Escaped name.now.bytes behind → ⊥ }
+    ensures none { result ≡ None → LacksFront (behind_label Escaped name.now.bytes) text.now }
 {
     let opened = passed(text, b'"')?;
     let named = passed_bytes(opened, name.as_str().as_bytes())?;
@@ -41,8 +41,7 @@ fn passed_name<'a>(text: &'a [u8], name: &Name) -> Option<&'a [u8]>
 /// What is behind the name of a column, which CSV does not have in a record's line.
 pub fn passed_label<'a>(quoting: Quoting, text: &'a [u8], name: &Name) -> Option<&'a [u8]>
     ensures some { IfSome result (λ behind. text.now ≡ behind_label quoting name.now.bytes behind.now) }
-    ensures none { result ≡ None → (behind : List ℕ)
-        → text.now ≡ behind_label quoting name.now.bytes behind → ⊥ }
+    ensures none { result ≡ None → LacksFront (behind_label quoting name.now.bytes) text.now }
 {
     match quoting {
         Quoting::Doubled => Some(text),

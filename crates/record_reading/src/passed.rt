@@ -1,11 +1,11 @@
 //! Characters that have to stand at the front of a text are passed by.
-ghost use Rattle.std.specs.Prelude.{◌≡◌, ◌∷◌, List, ℕ, IfSome, None};
-ghost use Rattle.record_reading.specs.Quoted.{behind_comma};
+ghost use Rattle.std.specs.Prelude.{◌≡◌, ◌∷◌, IfSome, None};
+ghost use Rattle.record_reading.specs.Quoted.{behind_comma, LacksFront};
 
 /// What is behind this character. None where the text does not begin with it.
 pub fn passed(text: &[u8], byte: u8) -> Option<&[u8]>
     ensures some { IfSome result (λ behind. text.now ≡ byte ∷ behind.now) }
-    ensures none { result ≡ None → (behind : List ℕ) → text.now ≡ byte ∷ behind → ⊥ }
+    ensures none { result ≡ None → LacksFront (λ behind. byte ∷ behind) text.now }
 {
     if text.is_empty() || text[0] != byte {
         return None;
@@ -16,7 +16,7 @@ pub fn passed(text: &[u8], byte: u8) -> Option<&[u8]>
 /// What is behind the comma before a column, which the first one does not have.
 pub fn passed_comma(is_first: bool, text: &[u8]) -> Option<&[u8]>
     ensures some { IfSome result (λ behind. text.now ≡ behind_comma is_first behind.now) }
-    ensures none { result ≡ None → (behind : List ℕ) → text.now ≡ behind_comma is_first behind → ⊥ }
+    ensures none { result ≡ None → LacksFront (behind_comma is_first) text.now }
 {
     if is_first {
         Some(text)

@@ -1,6 +1,6 @@
 //! The byte that a text begins with, as it stands in quotes.
-ghost use Rattle.std.specs.Prelude.{◌≡◌, ◌<◌, ◌≤◌, ◌++◌, ◌∷◌, ℕ, List, drop, length, true, false, IfSome, None};
-ghost use Rattle.record_reading.specs.Quoted.{quoted_byte, BeginsWithNoByte};
+ghost use Rattle.std.specs.Prelude.{◌≡◌, ◌∷◌, drop, true, false};
+ghost use Rattle.record_reading.specs.Quoted.{LacksFront, ReadsByte};
 ghost use Rattle.record_reading.specs.declared.quoted.Quoting.TheVariants.{Doubled, Escaped};
 
 use crate::passed::passed;
@@ -18,17 +18,14 @@ pub enum Quoting {
 /// Whether these two bytes come first.
 fn is_pair(text: &[u8], one: u8, two: u8) -> bool
     ensures yes { result ≡ true → text.now ≡ one ∷ two ∷ drop 2 text.now }
-    ensures no { result ≡ false → (behind : List ℕ) → text.now ≡ one ∷ two ∷ behind → ⊥ }
+    ensures no { result ≡ false → LacksFront (λ behind. one ∷ two ∷ behind) text.now }
 {
     text.len() >= 2 && text[0] == one && text[1] == two
 }
 
 /// The byte that the front of a text is in CSV. None where it is the front of no byte.
 fn first_doubled(text: &[u8]) -> Option<ShownByte>
-    ensures byte { IfSome result (λ first. first.byte < 256) }
-    ensures shown { IfSome result (λ first. (text.now ≡ quoted_byte Doubled first.byte
-        ++ drop first.size text.now) × (first.size ≤ length text.now)) }
-    ensures none { result ≡ None → BeginsWithNoByte Doubled text.now }
+    ensures { ReadsByte Doubled text.now result }
 {
     if is_pair(text, b'"', b'"') {
         return Some(ShownByte {
@@ -45,11 +42,8 @@ fn first_doubled(text: &[u8]) -> Option<ShownByte>
 
 /// The byte that the front of a text is in JSON, where that is no backslash: it stands as itself.
 fn first_itself(text: &[u8]) -> Option<ShownByte>
-    requires { (behind : List ℕ) → text.now ≡ 92 ∷ behind → ⊥ }
-    ensures byte { IfSome result (λ first. first.byte < 256) }
-    ensures shown { IfSome result (λ first. (text.now ≡ quoted_byte Escaped first.byte
-        ++ drop first.size text.now) × (first.size ≤ length text.now)) }
-    ensures none { result ≡ None → BeginsWithNoByte Escaped text.now }
+    requires { LacksFront (λ behind. 92 ∷ behind) text.now }
+    ensures { ReadsByte Escaped text.now result }
 {
     let first = first_byte(text)?;
     if first.byte == b'"' {
@@ -63,10 +57,7 @@ fn first_itself(text: &[u8]) -> Option<ShownByte>
 
 /// The byte that the front of a text is in JSON. None where it is the front of no byte.
 fn first_escaped(text: &[u8]) -> Option<ShownByte>
-    ensures byte { IfSome result (λ first. first.byte < 256) }
-    ensures shown { IfSome result (λ first. (text.now ≡ quoted_byte Escaped first.byte
-        ++ drop first.size text.now) × (first.size ≤ length text.now)) }
-    ensures none { result ≡ None → BeginsWithNoByte Escaped text.now }
+    ensures { ReadsByte Escaped text.now result }
 {
     if is_pair(text, b'\\', b'"') {
         return Some(ShownByte {
@@ -89,10 +80,7 @@ fn first_escaped(text: &[u8]) -> Option<ShownByte>
 
 /// The byte that the front of a text is in quotes. None where it is the front of no byte.
 pub fn first_quoted(quoting: Quoting, text: &[u8]) -> Option<ShownByte>
-    ensures byte { IfSome result (λ first. first.byte < 256) }
-    ensures shown { IfSome result (λ first. (text.now ≡ quoted_byte quoting first.byte
-        ++ drop first.size text.now) × (first.size ≤ length text.now)) }
-    ensures none { result ≡ None → BeginsWithNoByte quoting text.now }
+    ensures { ReadsByte quoting text.now result }
 {
     match quoting {
         Quoting::Doubled => first_doubled(text),

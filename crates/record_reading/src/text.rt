@@ -1,6 +1,7 @@
 //! The reading of a line of text.
-ghost use Rattle.std.specs.Prelude.{◌≡◌, ◌∷◌, ◌≤◌, ℕ, List, length, drop, true, false, IfSome, None};
+ghost use Rattle.std.specs.Prelude.{◌≡◌, ◌∷◌, length, drop, true, false, IfSome, None};
 ghost use Rattle.record_forms.specs.declared.form.Form.TheVariants.{Text};
+ghost use Rattle.record_reading.specs.Quoted.{LacksFront};
 ghost use Rattle.record_reading.specs.ReadLine.{ReadsLine, BeginsWithNoLine};
 
 use crate::line::Line;
@@ -9,7 +10,7 @@ use crate::shown::first_byte;
 /// Whether the record of a line ends there.
 fn is_end(text: &[u8]) -> bool
     ensures yes { result ≡ true → text.now ≡ 93 ∷ 10 ∷ drop 2 text.now }
-    ensures no { result ≡ false → (behind : List ℕ) → text.now ≡ 93 ∷ 10 ∷ behind → ⊥ }
+    ensures no { result ≡ false → LacksFront (λ behind. 93 ∷ 10 ∷ behind) text.now }
 {
     text.len() >= 2 && text[0] == b']' && text[1] == b'\n'
 }

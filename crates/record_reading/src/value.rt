@@ -1,7 +1,7 @@
 //! The value of a column.
-ghost use Rattle.std.specs.Prelude.{◌≡◌, ◌≤◌, ℕ, List, length, IfSome, None};
-ghost use Rattle.record_reading.specs.Quoted.{value_front, value_text};
-ghost use Rattle.record_reading.specs.Part.{ReadsPart, HasNoPart, EndsValue};
+ghost use Rattle.std.specs.Prelude.{◌≡◌, IfSome, None};
+ghost use Rattle.record_reading.specs.Quoted.{value_front, value_text, LacksFront};
+ghost use Rattle.record_reading.specs.Part.{ReadsValue, HasNoPart, HasPlaces, EndsValue};
 
 use crate::cell::{Cell, read_cell};
 use crate::name::passed_label;
@@ -18,8 +18,7 @@ fn passed_front<'a>(
 ) -> Option<&'a [u8]>
     ensures some { IfSome result (λ behind. text.now ≡ value_front quoting is_first name.now.bytes
         behind.now) }
-    ensures none { result ≡ None → (behind : List ℕ)
-        → text.now ≡ value_front quoting is_first name.now.bytes behind → ⊥ }
+    ensures none { result ≡ None → LacksFront (value_front quoting is_first name.now.bytes) text.now }
 {
     let column = passed_comma(is_first, text)?;
     let value = passed_label(quoting, column, name)?;
@@ -37,10 +36,9 @@ pub fn read_value<'a>(
     from: usize,
     to: usize,
 ) -> Option<Cell<'a>>
-    requires order { from ≤ to }
-    requires room { to ≤ length area.old }
-    ensures read { IfSome result (λ cell. ReadsPart (value_text quoting is_first name.now.bytes)
-        (EndsValue quoting) text.now area.old from to area.new cell.at cell.behind.now) }
+    requires { HasPlaces area.old from to }
+    ensures read { IfSome result (λ cell. ReadsValue quoting is_first name.now.bytes text.now
+        area.old from to area.new cell.at cell.behind.now) }
     ensures none { result ≡ None → HasNoPart (value_text quoting is_first name.now.bytes)
         (EndsValue quoting) text.now from to }
 {

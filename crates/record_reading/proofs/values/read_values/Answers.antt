@@ -5,12 +5,15 @@ use Rattle.record_reading.specs.Part.{ReadsPart, HasNoPart, EndsValue}
 use Rattle.record_reading.proofs.ValuesLemmas.{AreReadUpTo, no_columns, room, no_values, column_read, all_read}
 use Rattle.record_reading.proofs.values.read_values.Goals as goal
 
-pub read_value-requires-clause-room : goal.read_value-requires-clause-room
-read_value-requires-clause-room c =
+pub read_value-requires : goal.read_value-requires
+read_value-requires c =
     let m = c.more in
     let read = subst (λ (l : List Column). AreReadUpTo c.args.quoting c.args.columns.now c.args.text.now c.args.area.now m.is_first l m.area m.at m.rest.now) c.in-Some.ensures.cases.0 m.invariant in
-    subst (λ (n : ℕ). n ≤ length m.area) (sym c.end_of-to.ensures)
-    (room c.args.quoting c.args.columns.now c.args.text.now c.args.area.now m.is_first m.area m.at m.rest.now c.in-Some.column.now c.in-Some.after.now read)
+    record {
+      order = search rules;
+      room = subst (λ (n : ℕ). n ≤ length m.area) (sym c.end_of-to.ensures)
+          (room c.args.quoting c.args.columns.now c.args.text.now c.args.area.now m.is_first m.area m.at m.rest.now c.in-Some.column.now c.in-Some.after.now read);
+    }
 
 pub returns-in_err-cell-clause-none : goal.returns-in_err-cell-clause-none
 returns-in_err-cell-clause-none c _ =
