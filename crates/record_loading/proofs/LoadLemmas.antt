@@ -33,16 +33,17 @@ opens_at_start shown schema copied mode start begun connector opened status copy
 
 module _ {S : Type 0} (shown : Shown S) (schema : Schema) (mode : OpenMode) (list : Listing) (area : List ℕ) (start begun : S) (opened : Held) (status : Status)
     (opens : IsPerformedWithoutRecord shown 0 (Open mode) (in_memory (at_start schema) start []) status (in_memory opened begun [])) where
+  pub goes_open : GoesOn shown (in_memory (at_start schema) start []) (in_memory opened begun [])
+  goes_open = goes_performed shown (Open mode) 0 (in_memory (at_start schema) start []) (silent status) (in_memory opened begun []) (opens 0 [])
+
   -- OPEN was no success
   pub not_opened : is_successful status ≡ false → Believed shown 0 start begun (LoadsUnit shown schema mode list area start (NotOpened status) begun)
   not_opened failed honest truly = record {
     after = state_in shown 0 (in_memory opened begun area);
     loads = (failed, (opens 0 area).step honest truly tt);
     named = refl;
+    real = goes_open.real honest truly tt;
   }
-
-  pub goes_open : GoesOn shown (in_memory (at_start schema) start []) (in_memory opened begun [])
-  goes_open = goes_performed shown (Open mode) 0 (in_memory (at_start schema) start []) (silent status) (in_memory opened begun []) (opens 0 [])
 
   -- the lines were written, and the file was closed
   module _ (joins : JoinsStretches shown.Throughout) (ends : EndsNow shown.Throughout) (some : 0 < length (shown.world start).units) (success : is_successful status ≡ true) (between end : S) (written closed : Held) (lines : LinesEnd) (answer : Status)
@@ -77,4 +78,5 @@ module _ {S : Type 0} (shown : Shown S) (schema : Schema) (mode : OpenMode) (lis
                 (closes 0 lines_are.0).step honest truly tt;
           };
           named = refl;
+          real = goes_all.real honest truly tt;
         }

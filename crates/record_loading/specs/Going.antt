@@ -1,5 +1,5 @@
 -- The parts of a load, on unit 0 of a library.
-use Rattle.std.specs.Prelude.{◌≡◌, ℕ, false, List}
+use Rattle.std.specs.Prelude.{◌≡◌, ◌≤◌, ℕ, false, List, [], length}
 use Rattle.io_state.specs.declared.modes.Access.TheVariants.{Dynamic}
 use Rattle.io_state.specs.declared.modes.OpenMode.{OpenMode}
 use Rattle.record_layout.specs.Schema.{Schema}
@@ -10,10 +10,26 @@ use Rattle.verbs.specs.Connector.{FileState}
 use Rattle.verbs.specs.Fits.{Fits}
 use Rattle.verbs.specs.Held.{state_of, held_at_start}
 use Rattle.verbs.specs.Performed.{FileInMemory, StaysStanding, Trusted, in_memory, state_in}
+use Rattle.record_forms.specs.declared.form.Form.{Form}
+use Rattle.record_reading.specs.Whole.{IsWhole}
 use Rattle.record_loading.specs.declared.end.LinesEnd.{LinesEnd}
 use Rattle.record_loading.specs.declared.end.LoadEnd.{LoadEnd}
 use Rattle.record_loading.specs.Loading.{Listing, LinesLeave, Loads}
 use Rattle.record_loading.specs.Real.{AllStayReal}
+
+-- the area is as long as the greatest record, of which the columns of the form are the whole
+pub record HasAreaFor (form : Form) (schema : Schema) (area : List ℕ) : Type 0 where
+  pub length_is : length area ≡ schema.greatest
+  pub whole : IsWhole form (length area)
+
+-- records of lines in a form can be written: the connector goes with its unit, this is the least
+-- length of its records, and the area fits
+pub record TakesLines {S : Type 0} (shown : Shown S) (form : Form) (shortest : ℕ)
+    (before : FileInMemory S) : Type 0 where
+  pub fits : Fits before.held (shown.world before.library) 0
+  pub least : shortest ≡ before.held.connector.schema.least
+  pub room : HasAreaFor form before.held.connector.schema before.area
+  pub short : length before.area ≤ 4000
 
 -- every part: the connector goes with its unit and keeps its schema, nothing else is changed, the
 -- library keeps what every call of it does, what the connector keeps stays true, and no image
@@ -33,10 +49,18 @@ LeavesLines shown list lines before after =
     (area : List ℕ) × LinesLeave before.held.connector.schema list (state_in shown 0 before) lines
     (state_in shown 0 (in_memory after.held after.library area))
 
--- a load leaves the file of unit 0 so, which was closed
+-- the lines of a text were written, up to this end
+pub record WritesListing {S : Type 0} (shown : Shown S) (list : Listing) (before after : FileInMemory S)
+    (end : LinesEnd) : Type 0 where
+  pub goes : GoesOn shown (in_memory before.held before.library []) after
+  pub lines : Trusted shown 0 (in_memory before.held before.library []) after
+      (LeavesLines shown list end before after)
+
+-- a load leaves the file of unit 0 so, which was closed, and no image becomes a false one
 pub record LoadsUnit {S : Type 0} (shown : Shown S) (schema : Schema) (mode : OpenMode) (list : Listing)
     (area : List ℕ) (old : S) (end : LoadEnd) (new : S) : Type 0 where
   pub after : FileState
   pub loads : Loads schema mode list (state_of (held_at_start Dynamic false schema)
       (shown.world old) 0 area) end after
   pub named : named_at (shown.world new) 0 ≡ after.named
+  pub real : AllStayReal shown old new

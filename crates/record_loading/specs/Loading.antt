@@ -1,5 +1,5 @@
 -- The records of a text, written into a file one after another. All of this is ours.
-use Rattle.std.specs.Prelude.{◌≡◌, ◌⊎◌, ◌<◌, ℕ, ◌+◌, false, List, [], ◌∷◌, ◌++◌, length, drop, replicate, flat_map, None, IsTrue}
+use Rattle.std.specs.Prelude.{◌≡◌, ◌⊎◌, ◌<◌, ℕ, ◌+◌, false, List, [], ◌∷◌, ◌++◌, length, drop, replicate, flat_map, None, IsTrue, bytes_eq}
 use Rattle.io_state.specs.Status.{is_successful}
 use Rattle.io_state.specs.declared.modes.Access.TheVariants.{Dynamic}
 use Rattle.io_state.specs.declared.modes.OpenMode.{OpenMode}
@@ -8,6 +8,8 @@ use Rattle.io_state.specs.declared.status.Status.{Status}
 use Rattle.io_state.specs.declared.statement.FileStatement.TheVariants.{Open, Close, Write}
 use Rattle.record_layout.specs.Schema.{Schema}
 use Rattle.indexed_file.specs.World.{World, named_in}
+use Rattle.indexed_file.specs.Shown.{Shown}
+use Rattle.record_listing.specs.Listing.{TrueFor}
 use Rattle.verbs.specs.Connector.{FileState, Outcome, closed_connector, answers}
 use Rattle.verbs.specs.Fits.{IsRecordOf}
 use Rattle.verbs.specs.Marred.{Step}
@@ -132,3 +134,14 @@ pub record LoadsNamed (name : List ℕ) (schema : Schema) (mode : OpenMode) (lis
   pub after : FileState
   pub loads : Loads schema mode list (file_before old name schema) end after
   pub named : named_in new name ≡ after.named
+
+-- so it does, where the library is honest after it, and what the name showed before it was true
+abbrev pub LoadsTruly : {S : Type 0} → Shown S → (name : List ℕ) → Schema → OpenMode → Listing → (old new : S)
+    → LoadEnd → Type 0
+LoadsTruly shown name schema mode list old new end =
+    TrueFor shown name old new (LoadsNamed name schema mode list (shown.world old) end (shown.world new))
+
+-- every other name stands for what it stood for
+abbrev pub OthersStay : (name : List ℕ) → (old new : World) → Type 0
+OthersStay name old new = (other : List ℕ) → bytes_eq name other ≡ false
+    → named_in new other ≡ named_in old other

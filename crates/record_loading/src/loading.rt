@@ -1,13 +1,14 @@
 //! The loading of records into a file.
-ghost use Rattle.std.specs.Prelude.{◌≡◌, ◌<◌, ◌≤◌, ℕ, List, length, replicate, false, IsTrue, IsFalse, OnErr, IfOk, bytes_eq};
-ghost use Rattle.indexed_file.specs.World.{named_in, holding_at, is_open, OnlyAt};
+ghost use Rattle.std.specs.Prelude.{◌≡◌, replicate, OnErr, IfOk};
+ghost use Rattle.indexed_file.specs.World.{OnlyAt};
 ghost use Rattle.indexed_file.specs.Believed.{Believed};
 ghost use Rattle.indexed_file.specs.Calls.{Keeps};
 ghost use Rattle.deck_runner.specs.Beginning.{IsUntouched};
 ghost use Rattle.record_forms.specs.Lines.{header_in};
 ghost use Rattle.record_reading.specs.Whole.{IsWhole};
-ghost use Rattle.record_loading.specs.Loading.{listing, mode_of, LoadsNamed};
-ghost use Rattle.record_loading.specs.Going.{LoadsUnit};
+ghost use Rattle.record_listing.specs.Listing.{HasShutUnit, TrueFor};
+ghost use Rattle.record_loading.specs.Loading.{listing, mode_of, LoadsTruly, OthersStay};
+ghost use Rattle.record_loading.specs.Going.{HasAreaFor, LoadsUnit};
 ghost use Rattle.record_loading.specs.Real.{AllStayReal};
 
 use crate::end::{Load, LoadEnd, LoadFault, mode_of};
@@ -49,14 +50,11 @@ fn load_attached<L: Library, P: Progress>(
     text: &[u8],
     progress: &mut P,
 ) -> LoadEnd
-    requires attached { 0 < length (L.shown.world lib.old).units }
-    requires closed { IsFalse (is_open (holding_at (L.shown.world lib.old) 0)) }
-    requires area { length area.old ≡ schema.now.greatest }
-    requires whole { IsWhole form.now (length area.old) }
+    requires unit { HasShutUnit L.shown lib.old }
+    requires area { HasAreaFor form.now schema.now area.old }
     requires header { header.now ≡ header_in form.now }
     ensures loads { Believed L.shown 0 lib.old lib.new
         (LoadsUnit L.shown schema.now mode (listing form.now text.now) area.old lib.old result lib.new) }
-    ensures real { Believed L.shown 0 lib.old lib.new (AllStayReal L.shown lib.old lib.new) }
     ensures only { OnlyAt 0 (L.shown.world lib.old) (L.shown.world lib.new) }
     ensures keeps { Keeps L.shown lib.old lib.new }
 {
@@ -99,14 +97,10 @@ pub fn load_records<L: Library, P: Progress>(
     progress: &mut P,
 ) -> Result<LoadEnd, LoadFault>
     requires whole { IsWhole form.now schema.now.greatest }
-    ensures loads { IfOk result (λ end. IsTrue (L.shown.is_honest lib.new)
-        → L.shown.IsShownTruly lib.old name.bytes
-        → LoadsNamed name.bytes schema.now (mode_of load) (listing form.now text.now)
-        (L.shown.world lib.old) end (L.shown.world lib.new)) }
-    ensures real { IsTrue (L.shown.is_honest lib.new) → L.shown.IsShownTruly lib.old name.bytes
-        → AllStayReal L.shown lib.old lib.new }
-    ensures others { (other : List ℕ) → bytes_eq name.bytes other ≡ false
-        → named_in (L.shown.world lib.new) other ≡ named_in (L.shown.world lib.old) other }
+    ensures loads { IfOk result (LoadsTruly L.shown name.bytes schema.now (mode_of load)
+        (listing form.now text.now) lib.old lib.new) }
+    ensures real { TrueFor L.shown name.bytes lib.old lib.new (AllStayReal L.shown lib.old lib.new) }
+    ensures others { OthersStay name.bytes (L.shown.world lib.old) (L.shown.world lib.new) }
     ensures memory { OnErr result (IsUntouched L.shown lib.old lib.new) }
     ensures keeps { Keeps L.shown lib.old lib.new }
 {

@@ -1,11 +1,9 @@
 //! The records of lines are written into an open file.
-ghost use Rattle.std.specs.Prelude.{◌≡◌, ◌≤◌, ◌++◌, length, []};
+ghost use Rattle.std.specs.Prelude.{◌≡◌, ◌++◌, []};
 ghost use Rattle.record_forms.specs.Lines.{header_in};
-ghost use Rattle.verbs.specs.Fits.{Fits};
-ghost use Rattle.verbs.specs.Performed.{Trusted, in_memory};
-ghost use Rattle.record_reading.specs.Whole.{IsWhole};
+ghost use Rattle.verbs.specs.Performed.{in_memory};
 ghost use Rattle.record_loading.specs.Loading.{listing};
-ghost use Rattle.record_loading.specs.Going.{GoesOn, LeavesLines};
+ghost use Rattle.record_loading.specs.Going.{TakesLines, WritesListing};
 
 use crate::end::LinesEnd;
 use indexed_file::Library;
@@ -33,17 +31,10 @@ fn write_lines<L: Library, P: Progress>(
     lines: &[u8],
     progress: &mut P,
 ) -> LinesEnd
-    requires fits { Fits connector.old (L.shown.world lib.old) 0 }
-    requires least { least ≡ connector.old.connector.schema.least }
-    requires area { length area.old ≡ connector.old.connector.schema.greatest }
-    requires whole { IsWhole form.now (length area.old) }
-    requires short { length area.old ≤ 4000 }
+    requires takes { TakesLines L.shown form.now least (in_memory connector.old lib.old area.old) }
     requires lines { text.now ≡ header_in form.now ++ lines.now }
-    ensures goes { GoesOn L.shown (in_memory connector.old lib.old []) (in_memory connector.new lib.new []) }
-    ensures lines { Trusted L.shown 0 (in_memory connector.old lib.old [])
-        (in_memory connector.new lib.new [])
-        (LeavesLines L.shown (listing form.now text.now) result (in_memory connector.old lib.old area.old)
-        (in_memory connector.new lib.new [])) }
+    ensures { WritesListing L.shown (listing form.now text.now) (in_memory connector.old lib.old area.old)
+        (in_memory connector.new lib.new []) result }
 {
     let mut rest = lines;
     let mut records = 0;
@@ -82,17 +73,10 @@ pub fn write_listing<L: Library, P: Progress>(
     text: &[u8],
     progress: &mut P,
 ) -> LinesEnd
-    requires fits { Fits connector.old (L.shown.world lib.old) 0 }
-    requires least { least ≡ connector.old.connector.schema.least }
-    requires area { length area.old ≡ connector.old.connector.schema.greatest }
-    requires whole { IsWhole form.now (length area.old) }
-    requires short { length area.old ≤ 4000 }
+    requires takes { TakesLines L.shown form.now least (in_memory connector.old lib.old area.old) }
     requires header { header.now ≡ header_in form.now }
-    ensures goes { GoesOn L.shown (in_memory connector.old lib.old []) (in_memory connector.new lib.new []) }
-    ensures lines { Trusted L.shown 0 (in_memory connector.old lib.old [])
-        (in_memory connector.new lib.new [])
-        (LeavesLines L.shown (listing form.now text.now) result (in_memory connector.old lib.old area.old)
-        (in_memory connector.new lib.new [])) }
+    ensures { WritesListing L.shown (listing form.now text.now) (in_memory connector.old lib.old area.old)
+        (in_memory connector.new lib.new []) result }
 {
     let Some(lines) = behind_header(text, header) else {
         return LinesEnd::NoRecord { line: 1 };

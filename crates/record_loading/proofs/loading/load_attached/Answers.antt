@@ -1,4 +1,4 @@
-use Rattle.std.proofs.Common.{[], sym, ap, ◌∙◌}
+use Rattle.std.proofs.Common.{rules, [], sym, ap, ◌∙◌}
 use Rattle.record_loading.specs.Loading.{listing}
 use Rattle.record_loading.proofs.LoadLemmas.{opens_at_start, not_opened, goes_open, goes_all, loaded}
 use Rattle.record_loading.proofs.loading.load_attached.Goals as goal
@@ -10,29 +10,21 @@ returns-then-not-is_success-clause-loads g c =
     let opens = opens_at_start shown schema c.copy.result c.args.mode c.args.lib.now c.open-opened.new.lib c.new-connector.result c.open-opened.new.self c.open-opened.result c.copy.ensures c.new-connector.ensures c.open-opened.ensures in
     not_opened shown schema c.args.mode (listing c.args.form.now c.args.text.now) c.args.area.now c.args.lib.now c.open-opened.new.lib c.open-opened.new.self c.open-opened.result opens (sym c.is_success.ensures ∙ c.if-not-is_success.true)
 
-pub returns-then-not-is_success-clause-real : goal.returns-then-not-is_success-clause-real
-returns-then-not-is_success-clause-real g c honest truly =
-    let shown = g.L.Library.shown in
-    let schema = c.args.schema.now in
-    let opens = opens_at_start shown schema c.copy.result c.args.mode c.args.lib.now c.open-opened.new.lib c.new-connector.result c.open-opened.new.self c.open-opened.result c.copy.ensures c.new-connector.ensures c.open-opened.ensures in
-    (goes_open shown schema c.args.mode (listing c.args.form.now c.args.text.now) c.args.area.now c.args.lib.now c.open-opened.new.lib c.open-opened.new.self c.open-opened.result opens).real honest truly tt
-
 pub returns-then-not-is_success-clause-only : goal.returns-then-not-is_success-clause-only
 returns-then-not-is_success-clause-only g c = (c.open-opened.ensures 0 []).only
 
 pub returns-then-not-is_success-clause-keeps : goal.returns-then-not-is_success-clause-keeps
 returns-then-not-is_success-clause-keeps g c = (c.open-opened.ensures 0 []).keeps
 
-pub write_listing-lines-requires-clause-fits : goal.write_listing-lines-requires-clause-fits
-write_listing-lines-requires-clause-fits g c = (c.open-opened.ensures 0 []).fits
-
-pub write_listing-lines-requires-clause-least : goal.write_listing-lines-requires-clause-least
-write_listing-lines-requires-clause-least g c =
-    c.least-least.ensures.least ∙ ap (λ s. s.least) (sym ((c.open-opened.ensures 0 []).schema ∙ ap (λ h. h.connector.schema) c.new-connector.ensures ∙ c.copy.ensures))
-
-pub write_listing-lines-requires-clause-area : goal.write_listing-lines-requires-clause-area
-write_listing-lines-requires-clause-area g c =
-    c.requires.area ∙ ap (λ s. s.greatest) (sym ((c.open-opened.ensures 0 []).schema ∙ ap (λ h. h.connector.schema) c.new-connector.ensures ∙ c.copy.ensures))
+pub write_listing-lines-requires-clause-takes : goal.write_listing-lines-requires-clause-takes
+write_listing-lines-requires-clause-takes g c =
+    let same = (c.open-opened.ensures 0 []).schema ∙ ap (λ h. h.connector.schema) c.new-connector.ensures ∙ c.copy.ensures in
+    record {
+      fits = (c.open-opened.ensures 0 []).fits;
+      least = c.least-least.ensures.least ∙ ap (λ s. s.least) (sym same);
+      room = record { length_is = c.requires.area.length_is ∙ ap (λ s. s.greatest) (sym same); whole = c.requires.area.whole };
+      short = search rules;
+    }
 
 pub returns-clause-loads : goal.returns-clause-loads
 returns-clause-loads g c =
@@ -40,7 +32,7 @@ returns-clause-loads g c =
     let schema = c.args.schema.now in
     let opens = opens_at_start shown schema c.copy.result c.args.mode c.args.lib.now c.open-opened.new.lib c.new-connector.result c.open-opened.new.self c.open-opened.result c.copy.ensures c.new-connector.ensures c.open-opened.ensures in
     loaded shown schema c.args.mode (listing c.args.form.now c.args.text.now) c.args.area.now c.args.lib.now c.open-opened.new.lib c.open-opened.new.self c.open-opened.result opens
-    g.met.L.Library.joins g.met.L.Library.ends c.requires.attached (sym c.is_success.ensures ∙ c.if-not-is_success.false) c.write_listing-lines.new.lib c.close-closed.new.lib c.write_listing-lines.new.connector c.close-closed.new.self c.write_listing-lines.result c.close-closed.result
+    g.met.L.Library.joins g.met.L.Library.ends c.requires.unit.attached (sym c.is_success.ensures ∙ c.if-not-is_success.false) c.write_listing-lines.new.lib c.close-closed.new.lib c.write_listing-lines.new.connector c.close-closed.new.self c.write_listing-lines.result c.close-closed.result
     c.write_listing-lines.ensures.goes c.write_listing-lines.ensures.lines c.close-closed.ensures.performed
 
 pub returns-clause-only : goal.returns-clause-only
@@ -49,17 +41,8 @@ returns-clause-only g c =
     let schema = c.args.schema.now in
     let opens = opens_at_start shown schema c.copy.result c.args.mode c.args.lib.now c.open-opened.new.lib c.new-connector.result c.open-opened.new.self c.open-opened.result c.copy.ensures c.new-connector.ensures c.open-opened.ensures in
     (goes_all shown schema c.args.mode (listing c.args.form.now c.args.text.now) c.args.area.now c.args.lib.now c.open-opened.new.lib c.open-opened.new.self c.open-opened.result opens
-    g.met.L.Library.joins g.met.L.Library.ends c.requires.attached (sym c.is_success.ensures ∙ c.if-not-is_success.false) c.write_listing-lines.new.lib c.close-closed.new.lib c.write_listing-lines.new.connector c.close-closed.new.self c.write_listing-lines.result c.close-closed.result
+    g.met.L.Library.joins g.met.L.Library.ends c.requires.unit.attached (sym c.is_success.ensures ∙ c.if-not-is_success.false) c.write_listing-lines.new.lib c.close-closed.new.lib c.write_listing-lines.new.connector c.close-closed.new.self c.write_listing-lines.result c.close-closed.result
     c.write_listing-lines.ensures.goes c.write_listing-lines.ensures.lines c.close-closed.ensures.performed).only
-
-pub returns-clause-real : goal.returns-clause-real
-returns-clause-real g c honest truly =
-    let shown = g.L.Library.shown in
-    let schema = c.args.schema.now in
-    let opens = opens_at_start shown schema c.copy.result c.args.mode c.args.lib.now c.open-opened.new.lib c.new-connector.result c.open-opened.new.self c.open-opened.result c.copy.ensures c.new-connector.ensures c.open-opened.ensures in
-    (goes_all shown schema c.args.mode (listing c.args.form.now c.args.text.now) c.args.area.now c.args.lib.now c.open-opened.new.lib c.open-opened.new.self c.open-opened.result opens
-    g.met.L.Library.joins g.met.L.Library.ends c.requires.attached (sym c.is_success.ensures ∙ c.if-not-is_success.false) c.write_listing-lines.new.lib c.close-closed.new.lib c.write_listing-lines.new.connector c.close-closed.new.self c.write_listing-lines.result c.close-closed.result
-    c.write_listing-lines.ensures.goes c.write_listing-lines.ensures.lines c.close-closed.ensures.performed).real honest truly tt
 
 pub returns-clause-keeps : goal.returns-clause-keeps
 returns-clause-keeps g c =
@@ -67,5 +50,5 @@ returns-clause-keeps g c =
     let schema = c.args.schema.now in
     let opens = opens_at_start shown schema c.copy.result c.args.mode c.args.lib.now c.open-opened.new.lib c.new-connector.result c.open-opened.new.self c.open-opened.result c.copy.ensures c.new-connector.ensures c.open-opened.ensures in
     (goes_all shown schema c.args.mode (listing c.args.form.now c.args.text.now) c.args.area.now c.args.lib.now c.open-opened.new.lib c.open-opened.new.self c.open-opened.result opens
-    g.met.L.Library.joins g.met.L.Library.ends c.requires.attached (sym c.is_success.ensures ∙ c.if-not-is_success.false) c.write_listing-lines.new.lib c.close-closed.new.lib c.write_listing-lines.new.connector c.close-closed.new.self c.write_listing-lines.result c.close-closed.result
+    g.met.L.Library.joins g.met.L.Library.ends c.requires.unit.attached (sym c.is_success.ensures ∙ c.if-not-is_success.false) c.write_listing-lines.new.lib c.close-closed.new.lib c.write_listing-lines.new.connector c.close-closed.new.self c.write_listing-lines.result c.close-closed.result
     c.write_listing-lines.ensures.goes c.write_listing-lines.ensures.lines c.close-closed.ensures.performed).keeps
