@@ -115,11 +115,9 @@ pub record HasShutUnit {S : Type 0} (shown : Shown S) (library : S) : Type 0 whe
 abbrev pub TrueFor : {S : Type 0} → Shown S → (name : List ℕ) → (old new : S) → Type 0 → Type 0
 TrueFor shown name old new fact = IsTrue (shown.is_honest new) → shown.IsShownTruly old name → fact
 
--- a list of what a name stands for in a library ends so
-abbrev pub EndsFor : {S : Type 0} → Shown S → (name : List ℕ) → S → Form → Asked
-    → (before behind : Option (List ℕ)) → Result ListEnd ListFault → Type 0
-EndsFor shown name library form asked before behind result =
-    Ends form asked (named_in (shown.world library) name) before behind result
+-- the same of what the name stood for
+abbrev pub TrueOf : {S : Type 0} → Shown S → (name : List ℕ) → (old new : S) → (Named → Type 0) → Type 0
+TrueOf shown name old new fact = TrueFor shown name old new (fact (named_in (shown.world old) name))
 
 -- each name stands for what it stood for
 abbrev pub NamesStay : (old new : World) → Type 0

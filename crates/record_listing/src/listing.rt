@@ -4,7 +4,7 @@ ghost use Rattle.indexed_file.specs.File.{File};
 ghost use Rattle.indexed_file.specs.World.{Closed, named_at, holding_at, schema_at, is_open, is_looked};
 ghost use Rattle.indexed_file.specs.Believed.{Believed};
 ghost use Rattle.indexed_file.specs.Calls.{Keeps, NamesFile};
-ghost use Rattle.record_listing.specs.Listing.{end_of, file_when_closed, Ends, EndsFor, EndsWhereSound, HasShutUnit, Leaves, NamesStay, TellsWhy, TrueFor};
+ghost use Rattle.record_listing.specs.Listing.{end_of, file_when_closed, Ends, EndsWhereSound, HasShutUnit, Leaves, NamesStay, TellsWhy, TrueFor, TrueOf};
 ghost use Rattle.record_listing.specs.Reading.{CanListFile};
 
 use crate::asked::Asked;
@@ -111,8 +111,8 @@ pub fn list_records<L: Library, W: Write>(
     form: &Form,
     out: &mut W,
 ) -> Result<ListEnd, ListFault>
-    ensures ends { TrueFor L.shown name.bytes lib.old lib.new (EndsFor L.shown name.bytes lib.old
-        form.now asked (W.contents out.old) (W.contents out.new) result) }
+    ensures ends { TrueOf L.shown name.bytes lib.old lib.new (λ named. Ends form.now asked named
+        (W.contents out.old) (W.contents out.new) result) }
     ensures named { TrueFor L.shown name.bytes lib.old lib.new
         (NamesStay (L.shown.world lib.old) (L.shown.world lib.new)) }
     ensures closed { OnOk result (IsFalse (is_open (holding_at (L.shown.world lib.new) 0))) }

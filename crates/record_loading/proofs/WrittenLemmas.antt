@@ -14,7 +14,6 @@ use Rattle.verbs.specs.Faults.{is_unclean}
 use Rattle.verbs.specs.Marred.{Step}
 use Rattle.verbs.specs.Verbs.{perform}
 use Rattle.deck_runner.proofs.CleanLemmas.{clean_step}
-use Rattle.record_forms.specs.declared.form.Form.{Form}
 use Rattle.record_forms.specs.Lines.{line_in, header_in}
 use Rattle.record_reading.specs.ReadLine.{ReadsRecord}
 use Rattle.record_loading.specs.Loading.{Listing, CanBeRecord, with_record, write_of, AreWritten, IsWrittenUpTo, IsRefusedAt}

@@ -1,5 +1,5 @@
 -- Bytes in quotes are read into an area, one after another.
-use Rattle.std.proofs.Common.{◌≡◌, ◌<◌, ◌≤◌, ℕ, ◌+◌, List, [], ◌∷◌, ◌++◌, length, take, drop, slice_set, flat_map, refl, sym, ap, ◌∙◌, arith, append_assoc, append-nil, length-append, length-set, drop-drop}
+use Rattle.std.proofs.Common.{◌≡◌, ◌<◌, ◌≤◌, ℕ, ◌+◌, List, [], ◌∷◌, ◌++◌, length, take, drop, slice_set, refl, sym, ap, ◌∙◌, arith, append_assoc, append-nil, length-append, length-set, drop-drop}
 use Rattle.std.proofs.lemmas.List.{take_more_set, drop-set-lt}
 use Rattle.std.proofs.lemmas.List.Concat.{flat_map-append}
 use Rattle.record_reading.specs.declared.quoted.Quoting.{Quoting}

@@ -1,19 +1,18 @@
 -- The lines of CSV and JSON, as the values of columns that stand one behind the other.
-use Rattle.std.proofs.Common.{◌≡◌, ◌≢◌, ◌<◌, ◌≤◌, ℕ, ◌+◌, true, false, List, [], ◌∷◌, ◌++◌, length, take, drop, map, flat_map, refl, sym, ap, ◌∙◌, subst, arith, append_assoc, drop-drop}
+use Rattle.std.proofs.Common.{◌≡◌, ◌<◌, ◌≤◌, ℕ, ◌+◌, true, false, List, [], ◌∷◌, ◌++◌, length, take, drop, map, flat_map, refl, sym, ap, ◌∙◌, subst, arith, append_assoc, drop-drop}
 use Rattle.std.proofs.lemmas.List.Concat.{flat_map-append}
 use Rattle.deck_runner.specs.Line.{shown_byte}
 use Rattle.record_forms.specs.declared.column.Column.{Column}
 use Rattle.record_forms.specs.declared.form.Form.{Form}
 use Rattle.record_forms.specs.Columns.{text_of, cell_of, value_of, name_of}
 use Rattle.record_forms.specs.Csv.{doubled, field, fields, csv_line}
-use Rattle.record_forms.specs.Json.{escaped, string, member, members, json_line}
+use Rattle.record_forms.specs.Json.{escaped, member, members, json_line}
 use Rattle.record_forms.specs.Lines.{line_in, member_of}
 use Rattle.record_forms.specs.Parts.{part_of}
-use Rattle.record_reading.specs.declared.quoted.Quoting.{Quoting}
 use Rattle.record_reading.specs.declared.quoted.Quoting.TheVariants.{Doubled, Escaped}
-use Rattle.record_reading.specs.ReadLine.{AreBytes, ReadsLine, ReadsRecord, BeginsWithNoRecord}
+use Rattle.record_reading.specs.ReadLine.{AreBytes, ReadsRecord, BeginsWithNoRecord}
 use Rattle.record_reading.specs.Whole.{AreTiled}
-use Rattle.record_reading.specs.Quoted.{inside, value_text, values_text}
+use Rattle.record_reading.specs.Quoted.{inside, values_text}
 use Rattle.record_reading.specs.Part.{ReadsPart, HasNoPart, EndsValue, Anything, line_text}
 use Rattle.record_reading.proofs.QuotedLemmas.{no_byte_in_csv, no_byte_in_json}
 

@@ -1,5 +1,5 @@
 -- Bytes of a name, as they stand in JSON, are passed by one after another.
-use Rattle.std.proofs.Common.{◌≡◌, ◌≢◌, ◌<◌, ℕ, suc, Fits, w8, get_or, arith, List, ◌∷◌, ◌++◌, sym, ap, ◌∙◌, append_assoc}
+use Rattle.std.proofs.Common.{◌≡◌, ◌≢◌, ℕ, suc, Fits, w8, get_or, arith, List, ◌∷◌, ◌++◌, sym, ap, ◌∙◌, append_assoc}
 use Rattle.record_reading.specs.declared.quoted.Quoting.TheVariants.{Escaped}
 use Rattle.std.proofs.lemmas.List.{append_cancel_left}
 use Rattle.record_reading.specs.Quoted.{quoted_byte, inside, behind_label, BeginsWithNoByte}

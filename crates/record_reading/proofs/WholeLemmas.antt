@@ -1,6 +1,6 @@
 -- The columns of the elementary items of a record are the whole of it.
-use Rattle.std.proofs.Common.{◌≡◌, ℕ, ◌+◌, true, false, List, [], ◌∷◌, ◌++◌, refl, sym, ap, ◌∙◌, subst, arith, append-nil}
-use Rattle.record_layout.specs.Layout.{Entry, Placed, Structure, Nothing, Elementary, Group, width, is_nothing, is_one, places, IsLayout, length_of}
+use Rattle.std.proofs.Common.{◌≡◌, ℕ, ◌+◌, true, List, [], ◌∷◌, ◌++◌, refl, sym, ap, subst, arith}
+use Rattle.record_layout.specs.Layout.{Structure, Nothing, Elementary, Group, width, is_nothing, is_one, places, length_of}
 use Rattle.record_forms.specs.Parts.{Part, item_parts, elementary_parts}
 use Rattle.record_forms.proofs.ItemLemmas.{elementary}
 use Rattle.record_reading.specs.Whole.{AreTiled, AreItemsWhole}

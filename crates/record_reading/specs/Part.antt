@@ -73,3 +73,9 @@ line_text form bytes behind = line_in form bytes ++ behind
 
 abbrev pub Anything : List ℕ → Type 0
 Anything behind = ⊤
+
+-- the record at the front of a text was read into the front of the area, whatever is behind it
+abbrev pub ReadsFront : (List ℕ → List ℕ → List ℕ) → (text area area_after : List ℕ) → (n : ℕ)
+    → (behind : List ℕ) → Type 0
+ReadsFront text_of text area area_after n behind =
+    ReadsPart text_of Anything text area 0 (length area) area_after n behind

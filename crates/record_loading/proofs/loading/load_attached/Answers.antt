@@ -1,6 +1,6 @@
 use Rattle.std.proofs.Common.{rules, [], sym, ap, ◌∙◌}
 use Rattle.record_loading.specs.Loading.{listing}
-use Rattle.record_loading.proofs.LoadLemmas.{opens_at_start, not_opened, goes_open, goes_all, loaded}
+use Rattle.record_loading.proofs.LoadLemmas.{opens_at_start, not_opened, goes_all, loaded}
 use Rattle.record_loading.proofs.loading.load_attached.Goals as goal
 
 pub returns-then-not-is_success-clause-loads : goal.returns-then-not-is_success-clause-loads

@@ -6,7 +6,7 @@ use Rattle.record_reading.specs.ReadLine.{ReadsRecord}
 use Rattle.record_reading.specs.Whole.{IsWhole}
 use Rattle.record_loading.specs.Loading.{listing}
 use Rattle.record_loading.proofs.HeaderLemmas.{shorter, lines_before}
-use Rattle.record_loading.proofs.GoingLemmas.{goes_self, nothing_read, goes_both, goes_performed, written, refused}
+use Rattle.record_loading.proofs.GoingLemmas.{goes_self, goes_both, goes_performed, written, refused}
 use Rattle.record_loading.proofs.writing.write_lines.Goals as goal
 
 pub more-init : goal.more-init

@@ -1,4 +1,4 @@
-use Rattle.std.proofs.Common.{length, arith, sym, refl}
+use Rattle.std.proofs.Common.{arith, sym, refl}
 use Rattle.record_reading.proofs.LineLemmas.{line_read, none_long, none_read}
 use Rattle.record_reading.proofs.line.read_record.Goals as goal
 

@@ -1,4 +1,4 @@
-use Rattle.std.proofs.Common.{rules, List, ℕ, ◌≡◌, ◌++◌, ◌∷◌, sym, ap, ◌∙◌, refl, drop}
+use Rattle.std.proofs.Common.{rules, ◌≡◌, ◌++◌, ◌∷◌, sym, ◌∙◌, refl}
 use Rattle.deck_runner.specs.Line.{shown_byte}
 use Rattle.record_reading.proofs.QuotedLemmas.{no_escaped, no_backslash}
 use Rattle.record_reading.proofs.quoted.first_escaped.Goals as goal

@@ -1,7 +1,5 @@
-use Rattle.std.proofs.Common.{rules, List, ℕ, ◌++◌, ◌∷◌, sym, ap, ◌∙◌, refl, drop}
-use Rattle.deck_runner.specs.Line.{is_plain}
-use Rattle.record_reading.proofs.ShownLemmas.{shown_apart}
-use Rattle.record_reading.proofs.QuotedLemmas.{no_escaped, shown_plain, escaped_plain}
+use Rattle.std.proofs.Common.{rules, List, ℕ, ◌++◌, ◌∷◌, sym, ap, ◌∙◌, refl}
+use Rattle.record_reading.proofs.QuotedLemmas.{no_escaped, shown_plain}
 use Rattle.record_reading.proofs.quoted.first_itself.Goals as goal
 
 -- a text that does not begin with a backslash begins with a byte that stands as itself, or with none

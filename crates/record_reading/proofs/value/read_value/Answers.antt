@@ -1,4 +1,4 @@
-use Rattle.std.proofs.Common.{refl, sym, ◌∙◌}
+use Rattle.std.proofs.Common.{refl}
 use Rattle.record_reading.proofs.ValueLemmas.{value_part, no_value}
 use Rattle.record_reading.proofs.value.read_value.Goals as goal
 
