@@ -1,5 +1,5 @@
 -- What a load over the files of a shelf leaves. All of this is ours.
-use Rattle.std.specs.Prelude.{◌≡◌, ℕ, List, Option, None, is_some, bytes_eq, false, replicate, IsTrue, Result, Ok, Err}
+use Rattle.std.specs.Prelude.{◌≡◌, ℕ, List, Option, None, is_some, bytes_eq, false, replicate, IsTrue, IfOk, OnErr, Result, Ok, Err}
 use Rattle.io_state.specs.declared.fault.Fault.{Fault}
 use Rattle.io_state.specs.declared.fault.Fault.TheVariants.{Device, Memory as NoMemory, Full, Damage, Broken}
 use Rattle.io_state.specs.declared.modes.Access.TheVariants.{Dynamic}
@@ -8,7 +8,7 @@ use Rattle.indexed_file.specs.World.{Named, Absent, named_in}
 use Rattle.page_store.specs.ShelfState.{ShelfState}
 use Rattle.verbs.specs.Connector.{FileState, closed_connector}
 use Rattle.shelf_run.specs.Files.{files_of, reads_of, Represents, AllSound, AreSoundThroughout}
-use Rattle.shelf_run.specs.ShelfRun.{StaysSound}
+use Rattle.shelf_run.specs.ShelfRun.{LeavesFiles, StaysSound}
 use Rattle.record_loading.specs.Loading.{Listing, Loads, mode_of}
 use Rattle.record_loading.specs.declared.end.Load.{Load}
 use Rattle.record_loading.specs.declared.end.Load.TheVariants.{New, Into}
@@ -92,3 +92,11 @@ pub record IsSafe (name : List ℕ) (old new : ShelfState) : Type 0 where
   pub honest : IsTrue new.is_honest → IsTrue old.is_honest
   pub sound : StaysSound old new
   pub no_false_file : IsTrue new.is_honest → AllSound (old.file name) → AreSoundThroughout old new
+
+-- a load into the file of a name: it ended so, or nothing was changed; and what it keeps either way
+pub record LoadsInto (name : List ℕ) (EndsSo : ShelfState → ShelfEnd → ShelfState → Type 0)
+    (old new : ShelfState) (result : Result ShelfEnd ShelfFault) : Type 0 where
+  pub ends : IfOk result (λ end. EndsSo old end new)
+  pub nothing : OnErr result (LeavesFiles old new)
+  pub others : KeepsOthers name old new
+  pub safe : IsSafe name old new

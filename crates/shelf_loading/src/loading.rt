@@ -1,9 +1,8 @@
 //! The loading.
-ghost use Rattle.std.specs.Prelude.{◌≡◌, ◌≤◌, [], is_some, IsTrue, IfOk, OnOk, OnErr};
-ghost use Rattle.shelf_run.specs.ShelfRun.{LeavesFiles};
+ghost use Rattle.std.specs.Prelude.{◌≡◌, ◌≤◌, [], is_some, IsTrue, IfOk, OnOk};
 ghost use Rattle.record_reading.specs.Whole.{IsWhole};
 ghost use Rattle.record_loading.specs.Loading.{listing};
-ghost use Rattle.shelf_loading.specs.Loaded.{Ends, EndsAnyhow, KeepsOthers, IsSafe};
+ghost use Rattle.shelf_loading.specs.Loaded.{Ends, EndsAnyhow, LoadsInto};
 
 use crate::end::{ShelfEnd, ShelfFault, end_of, fault_by};
 use io_state::{Fault, FileName};
@@ -46,11 +45,8 @@ fn load_over<S: Shelf, P: Progress>(
     requires names { (S.state shelf).names ≡ [] }
     requires limit { 16 ≤ limit }
     requires whole { IsWhole form.now schema.now.greatest }
-    ensures ends { IfOk result.1 (λ end. EndsAnyhow name.bytes schema.now load (listing form.now text.now)
-        (S.state shelf) end (S.state result.0)) }
-    ensures nothing { OnErr result.1 (LeavesFiles (S.state shelf) (S.state result.0)) }
-    ensures others { KeepsOthers name.bytes (S.state shelf) (S.state result.0) }
-    ensures safe { IsSafe name.bytes (S.state shelf) (S.state result.0) }
+    ensures { LoadsInto name.bytes (EndsAnyhow name.bytes schema.now load (listing form.now text.now))
+        (S.state shelf) (S.state result.0) result.1 }
 {
     let mut library = ShelfLibrary::new(alloc, shelf, limit, frames);
     let end = load_records(
@@ -80,11 +76,8 @@ fn load_new<S: Shelf, P: Progress>(
 ) -> (S, Result<ShelfEnd, ShelfFault>)
     requires limit { 16 ≤ limit }
     requires whole { IsWhole form.now schema.now.greatest }
-    ensures ends { IfOk result.1 (λ end. Ends name.bytes schema.now Load.New (listing form.now text.now)
-        (S.state shelf) end (S.state result.0)) }
-    ensures nothing { OnErr result.1 (LeavesFiles (S.state shelf) (S.state result.0)) }
-    ensures others { KeepsOthers name.bytes (S.state shelf) (S.state result.0) }
-    ensures safe { IsSafe name.bytes (S.state shelf) (S.state result.0) }
+    ensures { LoadsInto name.bytes (Ends name.bytes schema.now Load.New (listing form.now text.now))
+        (S.state shelf) (S.state result.0) result.1 }
 {
     let mut shelf = shelf;
     match is_there(&mut shelf, name) {
@@ -131,11 +124,8 @@ pub fn load_on_shelf<S: Shelf, P: Progress>(
     requires names { (S.state shelf).names ≡ [] }
     requires limit { 16 ≤ limit }
     requires whole { IsWhole form.now schema.now.greatest }
-    ensures ends { IfOk result.1 (λ end. Ends name.bytes schema.now load (listing form.now text.now)
-        (S.state shelf) end (S.state result.0)) }
-    ensures nothing { OnErr result.1 (LeavesFiles (S.state shelf) (S.state result.0)) }
-    ensures others { KeepsOthers name.bytes (S.state shelf) (S.state result.0) }
-    ensures safe { IsSafe name.bytes (S.state shelf) (S.state result.0) }
+    ensures { LoadsInto name.bytes (Ends name.bytes schema.now load (listing form.now text.now))
+        (S.state shelf) (S.state result.0) result.1 }
 {
     match load {
         Load::New => load_new(

@@ -53,34 +53,24 @@ module _ (g : given.Over) (c : goal.After-end_of g) where
   unfolding state old
   an_image = g.met.S.Shelf.reads_an_image c.new-library.result.shelf
 
-pub returns-clause-ends : goal.returns-clause-ends
+pub returns : goal.returns
 unfolding state old new
-returns-clause-ends g c =
+returns g c =
     let name = c.args.name.bytes in
-    subst (λ (r : Result ShelfEnd ShelfFault). IfOk r (λ end. EndsAnyhow name c.args.schema.now c.args.load (listing c.args.form.now c.args.text.now) (g.S.Shelf.state c.args.shelf) end (g.S.Shelf.state c.into_shelf.result)))
-    (sym c.end_of.ensures)
-    (carried g c (λ first last. IfOk (end_of c.load_records-end.result) (λ end. EndsAnyhow name c.args.schema.now c.args.load (listing c.args.form.now c.args.text.now) (g.S.Shelf.state first) end (g.S.Shelf.state last)))
-    (ends_by c.load_records-end.result _ _
-    (λ end. leaves (old g c) (new g c) (none g c) (empty g c) (many g c) (keeps g c) (an_image g c) name c.args.schema.now c.args.load (listing c.args.form.now c.args.text.now) end)
-    c.load_records-end.ensures.loads))
-
-pub returns-clause-nothing : goal.returns-clause-nothing
-unfolding state old new
-returns-clause-nothing g c =
-    subst (λ (r : Result ShelfEnd ShelfFault). OnErr r (LeavesFiles (g.S.Shelf.state c.args.shelf) (g.S.Shelf.state c.into_shelf.result))) (sym c.end_of.ensures)
-    (carried g c (λ first last. OnErr (end_of c.load_records-end.result) (LeavesFiles (g.S.Shelf.state first) (g.S.Shelf.state last)))
-    (nothing_by c.load_records-end.result (IsUntouched (shown_by (state g c)) c.new-library.result c.load_records-end.new.lib) _
-    (λ is. leaves_files (old g c) (new g c) (none g c) (empty g c) (many g c) (keeps g c) (an_image g c) (untouched_in (state g c) c.new-library.result c.load_records-end.new.lib is))
-    c.load_records-end.ensures.memory))
-
-pub returns-clause-others : goal.returns-clause-others
-unfolding state old new
-returns-clause-others g c =
-    carried g c (λ first last. KeepsOthers c.args.name.bytes (g.S.Shelf.state first) (g.S.Shelf.state last))
-    (others (old g c) (new g c) (none g c) (empty g c) (many g c) (keeps g c) (an_image g c) c.args.name.bytes c.load_records-end.ensures.others)
-
-pub returns-clause-safe : goal.returns-clause-safe
-unfolding state old new
-returns-clause-safe g c =
-    carried g c (λ first last. IsSafe c.args.name.bytes (g.S.Shelf.state first) (g.S.Shelf.state last))
-    (safe (old g c) (new g c) (none g c) (empty g c) (many g c) (keeps g c) (an_image g c) c.args.name.bytes c.load_records-end.ensures.real)
+    record {
+      ends = subst (λ (r : Result ShelfEnd ShelfFault). IfOk r (λ end. EndsAnyhow name c.args.schema.now c.args.load (listing c.args.form.now c.args.text.now) (g.S.Shelf.state c.args.shelf) end (g.S.Shelf.state c.into_shelf.result)))
+          (sym c.end_of.ensures)
+          (carried g c (λ first last. IfOk (end_of c.load_records-end.result) (λ end. EndsAnyhow name c.args.schema.now c.args.load (listing c.args.form.now c.args.text.now) (g.S.Shelf.state first) end (g.S.Shelf.state last)))
+          (ends_by c.load_records-end.result _ _
+          (λ end. leaves (old g c) (new g c) (none g c) (empty g c) (many g c) (keeps g c) (an_image g c) name c.args.schema.now c.args.load (listing c.args.form.now c.args.text.now) end)
+          c.load_records-end.ensures.loads));
+      nothing = subst (λ (r : Result ShelfEnd ShelfFault). OnErr r (LeavesFiles (g.S.Shelf.state c.args.shelf) (g.S.Shelf.state c.into_shelf.result))) (sym c.end_of.ensures)
+          (carried g c (λ first last. OnErr (end_of c.load_records-end.result) (LeavesFiles (g.S.Shelf.state first) (g.S.Shelf.state last)))
+          (nothing_by c.load_records-end.result (IsUntouched (shown_by (state g c)) c.new-library.result c.load_records-end.new.lib) _
+          (λ is. leaves_files (old g c) (new g c) (none g c) (empty g c) (many g c) (keeps g c) (an_image g c) (untouched_in (state g c) c.new-library.result c.load_records-end.new.lib is))
+          c.load_records-end.ensures.memory));
+      others = carried g c (λ first last. KeepsOthers name (g.S.Shelf.state first) (g.S.Shelf.state last))
+          (others (old g c) (new g c) (none g c) (empty g c) (many g c) (keeps g c) (an_image g c) name c.load_records-end.ensures.others);
+      safe = carried g c (λ first last. IsSafe name (g.S.Shelf.state first) (g.S.Shelf.state last))
+          (safe (old g c) (new g c) (none g c) (empty g c) (many g c) (keeps g c) (an_image g c) name c.load_records-end.ensures.real);
+    }
