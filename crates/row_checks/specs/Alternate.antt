@@ -11,15 +11,17 @@ use Rattle.key_index.specs.declared.alt_index.AltIndex.{AltIndex}
 use Rattle.key_index.specs.Standing.{alt_key}
 use Rattle.key_index.specs.Stored.{alt_bytes, IsAltEntry}
 use Rattle.open_file.specs.InOrder.{alt_entries}
+use Rattle.open_file.specs.Stands.{IsShaped}
 use Rattle.open_file.specs.declared.open_file.OpenFile.{OpenFile}
 use Rattle.row_checks.specs.Rows.{rows_in}
 
--- the index is one for an alternate key of this schema
-pub record IsIndexFor (schema : Schema) (index : AltIndex) : Type 0 where
+-- the parts of the file are made for its schema, and the index is one for an alternate key of it
+pub record IsIndexFor (opened : OpenFile) (index : AltIndex) : Type 0 where
+  pub shaped : IsShaped opened
   pub some : 1 ≤ alt_key index
-  pub within : alt_key index < length schema.keys
-  pub width : index.width ≡ (key_at schema (alt_key index)).length
-  pub prime : index.prime ≡ (key_at schema 0).length
+  pub within : alt_key index < length opened.schema.keys
+  pub width : index.width ≡ (key_at opened.schema (alt_key index)).length
+  pub prime : index.prime ≡ (key_at opened.schema 0).length
 
 -- no two rows have one rank by key k
 abbrev pub RanksDiffer : Schema → ℕ → List Row → Type 0

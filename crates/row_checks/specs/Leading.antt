@@ -2,30 +2,42 @@
 use Rattle.std.specs.Prelude.{◌≡◌, ℕ, ◌+◌, ◌≤◌, ◌<◌, Bool, true, List, drop, length, take, Some, IsSome, IsTrue, find}
 use Rattle.page_bytes.specs.Each.{Each}
 use Rattle.record_layout.specs.Schema.{prime_of}
+use Rattle.indexed_file.specs.File.{Row}
 use Rattle.indexed_file.specs.Sound.{is_row}
 use Rattle.page_marks.specs.Marks.{marked_in}
 use Rattle.page_marks.specs.PageList.{pages_in}
 use Rattle.page_walks.specs.declared.spot.Spot.{Spot}
-use Rattle.page_walks.specs.Spots.{entry_at}
+use Rattle.page_walks.specs.declared.leaf.Leaf.{Leaf}
+use Rattle.page_walks.specs.Spots.{entry_at, spots_below}
 use Rattle.record_heap.specs.declared.shape.Place.{Place}
 use Rattle.record_heap.specs.Slot.{room}
 use Rattle.record_heap.specs.Chain.{IsOneOf}
 use Rattle.record_heap.specs.Standing.{slot_off}
+use Rattle.record_heap.specs.Walk.{slots_of}
 use Rattle.key_index.specs.declared.alt_index.AltIndex.{AltIndex}
 use Rattle.key_index.specs.Standing.{alt_key}
 use Rattle.key_index.specs.Stored.{alt_entry_in}
 use Rattle.open_file.specs.InOrder.{alt_entry as entry_of}
 use Rattle.open_file.specs.Stored.{stamps_length}
 use Rattle.open_file.specs.ReadOff.{row_off}
-use Rattle.open_file.specs.Stands.{is_same}
+use Rattle.open_file.specs.Stands.{IsShaped, is_same}
 use Rattle.open_file.specs.declared.open_file.OpenFile.{OpenFile}
 use Rattle.row_checks.specs.Rows.{prime_at, place_at, places_in, row_at}
 
--- stamps, and a record of a length that the file has
+-- this is so of each entry of the leaf
+abbrev pub OfEachEntry : (Spot → Type 0) → Leaf → Type 0
+OfEachEntry fact leaf = Each fact (spots_below leaf.page leaf.count)
+
+-- in a file whose parts are made for the schema: stamps, and a record of a length that the file has
 pub record IsStoredRecord (opened : OpenFile) (stored : List ℕ) : Type 0 where
+  pub shaped : IsShaped opened
   pub least : stamps_length (drop 1 opened.schema.keys) + opened.schema.least ≤ length stored
   pub greatest : length stored ≤ stamps_length (drop 1 opened.schema.keys) + opened.schema.greatest
   pub bytes : Each (λ b. b < 256) stored
+
+-- the row of stamps and a record
+abbrev pub stored_row : OpenFile → List ℕ → Row
+stored_row opened stored = row_off opened.schema (Some stored)
 
 -- the entry leads to a row that has its value, in one of the marked pages
 pub record LeadsToRow (opened : OpenFile) (list : List (List ℕ)) (marks : List Bool)
@@ -37,14 +49,30 @@ pub record LeadsToRow (opened : OpenFile) (list : List (List ℕ)) (marks : List
   pub fits : IsStoredRecord opened stored
   pub own : marked_in marks (place_at opened list spot).page ≡ true
   pub within : (place_at opened list spot).slot < room opened.heap.shape
-  pub row : IsTrue (is_row opened.schema opened.next_stamp (row_off opened.schema (Some stored)))
+  pub row : IsTrue (is_row opened.schema opened.next_stamp (stored_row opened stored))
   pub value : take opened.prime.width (prime_at opened list spot) ≡ prime_of opened.schema
-      (row_off opened.schema (Some stored)).bytes
+      (stored_row opened stored).bytes
 
 -- where a slot is in use, an entry of the prime index leads to it
 abbrev pub HasEntry : OpenFile → List (List ℕ) → List Spot → Place → Type 0
 HasEntry opened list primes place = IsSome (slot_off opened.heap (pages_in list) place)
     → IsSome (find (is_same place) (places_in opened list primes))
+
+-- each slot of page n that is in use has its entry
+abbrev pub PageHasEntries : OpenFile → List (List ℕ) → List Spot → ℕ → Type 0
+PageHasEntries opened list primes n = (p : Place) → p.page ≡ n → p.slot < room opened.heap.shape
+    → HasEntry opened list primes p
+
+-- each slot of these pages that is in use has its entry
+abbrev pub PagesHaveEntries : OpenFile → List (List ℕ) → List Spot → List ℕ → Type 0
+PagesHaveEntries opened list primes own = (p : Place)
+    → IsSome (slots_of opened.heap.shape (pages_in list) own p)
+    → IsSome (find (is_same p) (places_in opened list primes))
+
+-- these bytes are the entry that the index has of the row that the leader leads to
+abbrev pub IsEntryOf : OpenFile → List (List ℕ) → AltIndex → List ℕ → Spot → Type 0
+IsEntryOf opened list index bytes leader = alt_entry_in index.width bytes
+    ≡ entry_of opened.schema (alt_key index) (row_at opened list leader)
 
 -- the entry is the one that the index has of a row that the prime index leads to
 pub record HasRow (opened : OpenFile) (list : List (List ℕ)) (primes : List Spot) (index : AltIndex)
@@ -53,5 +81,4 @@ pub record HasRow (opened : OpenFile) (list : List (List ℕ)) (primes : List Sp
   pub bytes : Each (λ b. b < 256) (entry_at index.tree.shape list spot)
   pub leader : Spot
   pub one : IsOneOf primes leader
-  pub is : alt_entry_in index.width (entry_at index.tree.shape list spot) ≡ entry_of opened.schema
-      (alt_key index) (row_at opened list leader)
+  pub is : IsEntryOf opened list index (entry_at index.tree.shape list spot) leader

@@ -2,6 +2,7 @@
 use Rattle.std.specs.Prelude.{◌≡◌, List, [], ◌∷◌, map, IsTrue, ⊤, ℕ}
 use Rattle.std.specs.Ordering.{is_lt}
 use Rattle.page_bytes.specs.Each.{Each}
+use Rattle.tree_node.specs.Order.{Ascends}
 use Rattle.record_layout.specs.Schema.{Schema, prime_of}
 use Rattle.indexed_file.specs.File.{Row}
 use Rattle.indexed_file.specs.Rank.{value_cmp}
@@ -36,6 +37,10 @@ places_in opened list spots = map (place_at opened list) spots
 
 abbrev pub rows_in : OpenFile → List (List ℕ) → List Spot → List Row
 rows_in opened list spots = map (row_at opened list) spots
+
+-- the entries of the prime index at these places rise by their values
+abbrev pub EntriesRise : OpenFile → List (List ℕ) → List Spot → Type 0
+EntriesRise opened list spots = Ascends opened.prime.width (entries_at opened.prime.tree.shape list spots)
 
 -- the prime values rise
 abbrev pub PrimesRise : Schema → List Row → Type 0

@@ -1,16 +1,10 @@
 //! The entries of an alternate key, and the rows.
 
 ghost use Rattle.std.specs.Prelude.{◌≡◌, OnOk, IsTrue, All, length};
-ghost use Rattle.page_bytes.specs.Each.{Each};
 ghost use Rattle.tree_node.specs.Order.{Ascends};
-ghost use Rattle.page_walks.specs.Spots.{entries_at, spots_below, spots_in};
-ghost use Rattle.key_index.specs.Standing.{alt_key};
-ghost use Rattle.key_index.specs.Stored.{alt_entry_in};
-ghost use Rattle.open_file.specs.InOrder.{alt_entry as entry_of};
-ghost use Rattle.open_file.specs.Stands.{IsShaped};
-ghost use Rattle.row_checks.specs.Rows.{row_at};
+ghost use Rattle.page_walks.specs.Spots.{entries_at, spots_in};
 ghost use Rattle.row_checks.specs.Alternate.{IsIndexFor, AlternateStands};
-ghost use Rattle.row_checks.specs.Leading.{HasRow};
+ghost use Rattle.row_checks.specs.Leading.{HasRow, IsEntryOf, OfEachEntry};
 
 use crate::entry::{entry, entry_near, place_in};
 use crate::record::stored_at;
@@ -33,11 +27,9 @@ fn is_of_row(
     entry_bytes: &[u8],
     leader: Spot,
 ) -> bool
-    requires shaped { IsShaped file.now }
-    requires index { IsIndexFor file.now.schema index }
+    requires index { IsIndexFor file.now index }
     requires long { length entry_bytes.now ≡ index.tree.shape.entry }
-    ensures { IsTrue result → alt_entry_in index.width entry_bytes.now ≡ entry_of file.now.schema
-        (alt_key index) (row_at file.now pages.now leader) }
+    ensures { IsTrue result → IsEntryOf file.now pages.now index entry_bytes.now leader }
 {
     let Some(prime) = entry(pages, file.prime.tree.shape, leader) else {
         return false;
@@ -60,8 +52,7 @@ fn has_row(
     index: AltIndex,
     spot: Spot,
 ) -> bool
-    requires shaped { IsShaped file.now }
-    requires index { IsIndexFor file.now.schema index }
+    requires { IsIndexFor file.now index }
     ensures { IsTrue result → HasRow file.now pages.now (spots_in primes.now) index spot }
 {
     let Some(entry) = entry(pages, index.tree.shape, spot) else {
@@ -81,10 +72,8 @@ fn check_leaf(
     index: AltIndex,
     leaf: Leaf,
 ) -> Result<(), RowFault>
-    requires shaped { IsShaped file.now }
-    requires index { IsIndexFor file.now.schema index }
-    ensures { OnOk result (Each (HasRow file.now pages.now (spots_in primes.now) index)
-        (spots_below leaf.page leaf.count)) }
+    requires { IsIndexFor file.now index }
+    ensures { OnOk result (OfEachEntry (HasRow file.now pages.now (spots_in primes.now) index) leaf) }
 {
     for place in 0..leaf.count {
         let spot = Spot {
@@ -106,10 +95,9 @@ fn check_leaves(
     index: AltIndex,
     leaves: &[Leaf],
 ) -> Result<(), RowFault>
-    requires shaped { IsShaped file.now }
-    requires index { IsIndexFor file.now.schema index }
-    ensures { OnOk result (All (λ leaf. Each (HasRow file.now pages.now (spots_in primes.now) index)
-        (spots_below leaf.page leaf.count)) leaves.now) }
+    requires { IsIndexFor file.now index }
+    ensures { OnOk result
+        (All (OfEachEntry (HasRow file.now pages.now (spots_in primes.now) index)) leaves.now) }
 {
     for &leaf in leaves {
         check_leaf(pages, file, primes, index, leaf)?;
@@ -129,8 +117,7 @@ pub fn check_alternate(
     index: AltIndex,
     leaves: &[Leaf],
 ) -> Result<(), RowFault>
-    requires shaped { IsShaped file.now }
-    requires index { IsIndexFor file.now.schema index }
+    requires index { IsIndexFor file.now index }
     requires many { length (spots_in leaves.now) ≡ length (spots_in primes.now) }
     requires rises { Ascends index.tree.shape.width
         (entries_at index.tree.shape pages.now (spots_in leaves.now)) }

@@ -1,14 +1,10 @@
 //! The slots of the heap, each of which an entry of the prime index leads to, if it is in use.
 
-ghost use Rattle.std.specs.Prelude.{◌≡◌, ◌<◌, ℕ, IsTrue, IsSome, OnOk, find};
-ghost use Rattle.record_heap.specs.declared.shape.Place.{Place};
-ghost use Rattle.record_heap.specs.Slot.{room};
-ghost use Rattle.record_heap.specs.Walk.{slots_of};
-ghost use Rattle.page_marks.specs.PageList.{pages_in};
+ghost use Rattle.std.specs.Prelude.{◌≡◌, IsTrue, OnOk};
 ghost use Rattle.page_walks.specs.Spots.{spots_in};
-ghost use Rattle.open_file.specs.Stands.{IsShaped, is_same};
-ghost use Rattle.row_checks.specs.Rows.{place_at, places_in};
-ghost use Rattle.row_checks.specs.Leading.{HasEntry};
+ghost use Rattle.open_file.specs.Stands.{IsShaped};
+ghost use Rattle.row_checks.specs.Rows.{place_at};
+ghost use Rattle.row_checks.specs.Leading.{HasEntry, PageHasEntries, PagesHaveEntries};
 
 use crate::entry::{entry, entry_near, place_in};
 use crate::record::stored_at;
@@ -51,8 +47,7 @@ fn check_page(
     n: u32,
 ) -> Result<(), RowFault>
     requires { IsShaped file.now }
-    ensures { OnOk result ((p : Place) → p.page ≡ n → p.slot < room file.now.heap.shape
-        → HasEntry file.now pages.now (spots_in primes.now) p) }
+    ensures { OnOk result (PageHasEntries file.now pages.now (spots_in primes.now) n) }
 {
     for i in 0..file.heap.shape.room() {
         let place = Place {
@@ -74,8 +69,7 @@ pub fn check_slots(
     own: &[u32],
 ) -> Result<(), RowFault>
     requires { IsShaped file.now }
-    ensures { OnOk result ((p : Place) → IsSome (slots_of file.now.heap.shape (pages_in pages.now) own.now p)
-        → IsSome (find (is_same p) (places_in file.now pages.now (spots_in primes.now)))) }
+    ensures { OnOk result (PagesHaveEntries file.now pages.now (spots_in primes.now) own.now) }
 {
     for &n in own {
         check_page(pages, file, primes, n)?;

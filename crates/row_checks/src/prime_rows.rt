@@ -1,14 +1,12 @@
 //! The rows that the prime index leads to.
 
 ghost use Rattle.std.specs.Prelude.{◌≡◌, ℕ, true, false, All, IfOk, OnOk, IsTrue};
-ghost use Rattle.page_bytes.specs.Each.{Each};
-ghost use Rattle.tree_node.specs.Order.{Ascends};
 ghost use Rattle.page_marks.specs.Marks.{marked_in};
-ghost use Rattle.page_walks.specs.Spots.{entries_at, spots_below, spots_in};
+ghost use Rattle.page_walks.specs.Spots.{spots_in};
 ghost use Rattle.record_heap.specs.Walk.{is_one_of};
 ghost use Rattle.open_file.specs.Stands.{IsShaped};
-ghost use Rattle.row_checks.specs.Rows.{RowsStand};
-ghost use Rattle.row_checks.specs.Leading.{LeadsToRow};
+ghost use Rattle.row_checks.specs.Rows.{EntriesRise, RowsStand};
+ghost use Rattle.row_checks.specs.Leading.{LeadsToRow, OfEachEntry};
 
 use crate::entry::{entry, place_in};
 use crate::heap_slots::check_slots;
@@ -73,8 +71,7 @@ fn check_leaf(
     leaf: Leaf,
 ) -> Result<(), RowFault>
     requires { IsShaped file.now }
-    ensures { OnOk result (Each (LeadsToRow file.now pages.now marks.now)
-        (spots_below leaf.page leaf.count)) }
+    ensures { OnOk result (OfEachEntry (LeadsToRow file.now pages.now marks.now) leaf) }
 {
     for place in 0..leaf.count {
         let spot = Spot {
@@ -97,8 +94,7 @@ fn check_leaves(
     primes: &[Leaf],
 ) -> Result<(), RowFault>
     requires { IsShaped file.now }
-    ensures { OnOk result (All (λ leaf. Each (LeadsToRow file.now pages.now marks.now)
-        (spots_below leaf.page leaf.count)) primes.now) }
+    ensures { OnOk result (All (OfEachEntry (LeadsToRow file.now pages.now marks.now)) primes.now) }
 {
     for &leaf in primes {
         check_leaf(pages, file, marks, leaf)?;
@@ -115,8 +111,7 @@ fn compare(
     marks: &mut [bool],
 ) -> Result<(), RowFault>
     requires shaped { IsShaped file.now }
-    requires rises { Ascends file.now.prime.width (entries_at file.now.prime.tree.shape pages.now
-        (spots_in primes.now)) }
+    requires rises { EntriesRise file.now pages.now (spots_in primes.now) }
     requires none { (n : ℕ) → marked_in marks.old n ≡ false }
     ensures { OnOk result (RowsStand file.now pages.now own.now (spots_in primes.now)) }
 {
@@ -139,8 +134,7 @@ pub fn check_rows(
     primes: &[Leaf],
 ) -> Result<(), RowFault>
     requires shaped { IsShaped file.now }
-    requires rises { Ascends file.now.prime.width (entries_at file.now.prime.tree.shape pages.now
-        (spots_in primes.now)) }
+    requires rises { EntriesRise file.now pages.now (spots_in primes.now) }
     ensures { OnOk result (RowsStand file.now pages.now own.now (spots_in primes.now)) }
 {
     let mut marks = no_marks(alloc, pages.len())?;

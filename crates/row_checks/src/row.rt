@@ -1,21 +1,18 @@
 //! A row: stamps, and the record behind them.
 
-ghost use Rattle.std.specs.Prelude.{◌≡◌, ◌≤◌, ◌<◌, drop, length, IsTrue, Some};
+ghost use Rattle.std.specs.Prelude.{◌≡◌, ◌≤◌, ◌<◌, drop, length, IsTrue};
 ghost use Rattle.record_layout.specs.Schema.{value_of};
 ghost use Rattle.indexed_file.specs.File.{stamp_of};
 ghost use Rattle.indexed_file.specs.Sound.{is_row};
 ghost use Rattle.open_file.specs.Stored.{stamps_length};
-ghost use Rattle.open_file.specs.ReadOff.{row_off};
-ghost use Rattle.open_file.specs.Stands.{IsShaped};
-ghost use Rattle.row_checks.specs.Leading.{IsStoredRecord};
+ghost use Rattle.row_checks.specs.Leading.{IsStoredRecord, stored_row};
 
 use crate::stamps::{are_stamps, stamp_at};
 use open_file::OpenFile;
 
 /// The record behind the stamps.
 fn record_of<'a>(file: &OpenFile, stored: &'a [u8]) -> &'a [u8]
-    requires shaped { IsShaped file.now }
-    requires fits { IsStoredRecord file.now stored.now }
+    requires { IsStoredRecord file.now stored.now }
     ensures value { result.now ≡ drop (stamps_length (drop 1 file.now.schema.keys)) stored.now }
     ensures least { file.now.schema.least ≤ length result.now }
 {
@@ -24,31 +21,28 @@ fn record_of<'a>(file: &OpenFile, stored: &'a [u8]) -> &'a [u8]
 
 /// Stamps and record are those of a row of the file.
 pub fn is_row(file: &OpenFile, stored: &[u8]) -> bool
-    requires shaped { IsShaped file.now }
-    requires fits { IsStoredRecord file.now stored.now }
-    ensures { IsTrue result → IsTrue (is_row file.now.schema file.now.next_stamp
-        (row_off file.now.schema (Some stored.now))) }
+    requires { IsStoredRecord file.now stored.now }
+    ensures { IsTrue result
+        → IsTrue (is_row file.now.schema file.now.next_stamp (stored_row file.now stored.now)) }
 {
     are_stamps(&file.schema.keys()[1..], stored, file.next_stamp)
 }
 
 /// The value of key k.
 pub fn value<'a>(file: &OpenFile, stored: &'a [u8], k: u8) -> &'a [u8]
-    requires shaped { IsShaped file.now }
     requires fits { IsStoredRecord file.now stored.now }
     requires key { k < length file.now.schema.keys }
-    ensures { result.now ≡ value_of file.now.schema k (row_off file.now.schema (Some stored.now)).bytes }
+    ensures { result.now ≡ value_of file.now.schema k (stored_row file.now stored.now).bytes }
 {
     file.schema.value(record_of(file, stored), k)
 }
 
 /// The stamp in alternate key k, 0 in a unique one.
 pub fn stamp(file: &OpenFile, stored: &[u8], k: u8) -> u64
-    requires shaped { IsShaped file.now }
     requires fits { IsStoredRecord file.now stored.now }
     requires some { 1 ≤ k }
     requires key { k < length file.now.schema.keys }
-    ensures { result ≡ stamp_of k (row_off file.now.schema (Some stored.now)) }
+    ensures { result ≡ stamp_of k (stored_row file.now stored.now) }
 {
     stamp_at(&file.schema.keys()[1..], stored, k as usize - 1)
 }

@@ -8,5 +8,5 @@ pub returns : goal.returns
 returns c = λ yes.
     let schema = c.args.file.now.schema in
     let keys = c.requires.shaped.keys in
-    row_fits schema c.args.file.now.next_stamp c.args.stored.now (omega (arith, keys)) c.requires.fits.least c.requires.fits.greatest
+    row_fits schema c.args.file.now.next_stamp c.args.stored.now (omega (arith, keys)) c.requires.least c.requires.greatest
     (subst (λ (ks : List KeyPart). Fit c.args.file.now.next_stamp ks c.args.stored.now) (rest_from 1 c.keys.result.now ∙ ap (drop 1) c.keys.ensures) (c.are_stamps.ensures yes))
