@@ -3,14 +3,15 @@ use Rattle.std.proofs.Common.{◌≡◌, ◌≤◌, ◌<◌, ◌+◌, ◌-◌, �
 use Rattle.std.proofs.lemmas.List.{take-append-le, take_at, length-take-le}
 use Rattle.std.proofs.lemmas.Grind.{flat_map-append}
 use Rattle.std.proofs.Math.Seq.{take-append-add, drop-append-add}
-use Rattle.std.specs.Prelude.{Result, Ok, Err, IfErr, IsErrAnd}
+use Rattle.std.specs.Prelude.{Bool, Result, Ok, Err, IfErr, IsErrAnd}
 use Rattle.file_checker.specs.declared.verdict.CheckFault.{CheckFault}
+use Rattle.file_checker.specs.declared.verdict.CheckFault.TheVariants.{Input}
 use borrow.Rule.Slice.PartMut.{put_mid, post_of}
 use Rattle.std.specs.Io.KnownBytes.{Consumes, Keeps}
 use Rattle.page_bytes.specs.Each.{Each}
 use Rattle.page_marks.proofs.EachLemmas.{each_join}
 use Rattle.page_store.specs.Pages.{page_of}
-use Rattle.file_checker.specs.Bytes.{HasLess, HasGiven, HasGivenLess, HasGivenPages, bytes_of, AreRead, AreFirstPages}
+use Rattle.file_checker.specs.Bytes.{HasLess, HasGiven, HasGivenLess, HasGivenPages, bytes_of, AreRead, AreFirstPages, ReadsOrEnds}
 
 -- bytes that came, and then these
 pub consumes_on : (a b c : Option (List ℕ)) (xs ys zs : List ℕ) → Consumes a b xs → Consumes b c ys → zs ≡ xs ++ ys → Consumes a c zs
@@ -46,6 +47,12 @@ less_given a b c xs m n came less sum = record {
 pub on_fault : {X : Type 0} (r : Result X CheckFault) (fault : CheckFault) (P : CheckFault → Type 0) → IsErrAnd r (λ e. e ≡ fault) → P fault → IfErr r P
 on_fault (Ok x) fault P is p = tt
 on_fault (Err e) fault P is p = subst P (sym is) p
+
+-- and then no answer is told
+pub no_answer : (r : Result Bool CheckFault) (fault : CheckFault) {n : ℕ} {Came : Option (List ℕ) → Option (List ℕ) → Type 0} {before after : Option (List ℕ)} → IsErrAnd r (λ e. e ≡ fault)
+    → fault ≡ Input → HasGivenLess before after n → ReadsOrEnds n Came before after r
+no_answer (Ok x) fault is input less = absurd is
+no_answer (Err e) fault is input less = record { whole = tt; short = tt; end = tt; input = (is ∙ input, less) }
 
 -- ---- a page
 

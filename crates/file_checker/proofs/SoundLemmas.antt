@@ -2,6 +2,7 @@
 use Rattle.std.proofs.Common.{◌≡◌, ℕ, ◌+◌, ◌-◌, ◌*◌, ◌≤◌, ◌<◌, false, ltb, nat_lt, List, [], ◌∷◌, ◌++◌, length, slice_index, Option, Some, None, IsSome, inr, refl, sym, ap, subst, ◌∙◌, append-nil, length-append, arith}
 use Rattle.std.proofs.lemmas.List.{take_at, get_or_append_left}
 use Rattle.std.proofs.lemmas.Bool.{le-ltb, ltb-true, and_parts}
+use Rattle.std.specs.Prelude.{Result, Ok, Err, IsErrAnd}
 use Rattle.std.specs.Option.{IfSome}
 use Rattle.std.specs.Io.KnownBytes.{Consumes}
 use Rattle.pages.specs.PageMap.{PageMap}
@@ -25,13 +26,23 @@ use Rattle.file_checker.specs.Later.{IsMetIn}
 use Rattle.file_checker.specs.Parts.{PagesStand}
 use Rattle.file_checker.specs.declared.verdict.CheckFault.{CheckFault}
 use Rattle.file_checker.specs.declared.verdict.CheckFault.TheVariants.{Input, Memory}
-use Rattle.file_checker.specs.Sound.{IsSound, IsLong, HasPages, HasReason, GivesUp, counted_in, asked_in}
+use Rattle.file_checker.specs.Sound.{IsSound, IsLong, HasPages, HasReason, GivesUp, ExaminesBehind, counted_in, asked_in}
 use Rattle.file_checker.proofs.ReadLemmas.{consumes_on, less_given, pages_long}
 
 -- what holds of the bytes that are known, if they are
 pub of_known : (known : Option (List ℕ)) (P : List ℕ → Type 0) → ((bytes : List ℕ) → known ≡ Some bytes → P bytes) → IfSome known P
 of_known None P f = tt
 of_known (Some bytes) P f = f bytes refl
+
+-- a fault is told as it was met, and nothing else
+pub no_verdict : {X : Type 0} {first : List ℕ} {verdict : X → Verdict} {before after : Option (List ℕ)} (r : Result X CheckFault) (fault : CheckFault) → IsErrAnd r (λ e. e ≡ fault)
+    → ((bytes : List ℕ) → Consumes (Some bytes) before first → GivesUp bytes after fault) → ExaminesBehind first verdict before after r
+no_verdict (Ok x) fault is up = absurd is
+no_verdict {after = after} (Err e) fault is up = record {
+  right = λ bytes came. tt;
+  read = λ bytes came. tt;
+  fault = λ bytes came. subst (GivesUp bytes after) (sym is) (up bytes came);
+}
 
 -- ---- the first page
 

@@ -1,5 +1,5 @@
 -- A file whose parts were walked and compared stands.
-use Rattle.std.proofs.Common.{◌≡◌, ◌≢◌, ◌≤◌, ℕ, zero, suc, ◌+◌, ◌<◌, Bool, true, false, List, [], ◌∷◌, ◌++◌, length, slice_index_or, Option, refl, sym, ap, subst, ◌∙◌, arith}
+use Rattle.std.proofs.Common.{◌≡◌, ◌≢◌, ℕ, zero, suc, ◌+◌, ◌<◌, Bool, true, false, List, [], ◌∷◌, ◌++◌, length, slice_index_or, Option, refl, sym, ap, subst, ◌∙◌, arith}
 use Rattle.std.proofs.lemmas.List.{length-map}
 use Rattle.pages.specs.PageMap.{PageMap}
 use Rattle.bplus_tree.specs.declared.tree.Tree.{Tree}
@@ -32,7 +32,7 @@ use Rattle.row_checks.specs.Alternate.{RanksDiffer}
 use Rattle.row_checks.specs.Laws.{RowsMakeAFile}
 use Rattle.row_checks.specs.Rows.{RowsStand, places_in, rows_in, row_at}
 use Rattle.file_checker.specs.Parts.{AlternatesFound, PagesStand}
-use Rattle.file_checker.specs.Lost.{IsTreeIn, LeavesOut}
+use Rattle.file_checker.specs.Lost.{LeavesOut}
 use Rattle.file_checker.proofs.AlternateLemmas.{spots_many}
 
 -- what is found of a file before all its pages are known to be reached

@@ -1,7 +1,8 @@
 -- The pages of a file that were read into a list, one after another.
-use Rattle.std.specs.Prelude.{◌≡◌, ℕ, ◌<◌, ◌≤◌, ◌*◌, List, [], Option, length, flat_map, slice_index_or}
+use Rattle.std.specs.Prelude.{◌≡◌, ℕ, ◌<◌, ◌≤◌, ◌*◌, Bool, true, false, List, [], Option, Result}
+use Rattle.std.specs.Prelude.{IfOk, IfErr, length, flat_map, slice_index_or}
 use Rattle.std.specs.Option.{IfSome}
-use Rattle.std.specs.Io.KnownBytes.{Consumes}
+use Rattle.std.specs.Io.KnownBytes.{Consumes, IsAtEnd}
 use Rattle.page_bytes.specs.Each.{Each}
 use Rattle.page_store.specs.Pages.{page_of}
 use Rattle.file_checker.specs.declared.verdict.CheckFault.{CheckFault}
@@ -22,6 +23,15 @@ pub record HasGivenLess (before after : Option (List ℕ)) (n : ℕ) : Type 0 wh
   pub bytes : List ℕ
   pub given : Consumes before after bytes
   pub few : length bytes < n
+
+-- What a call leaves that is to read n bytes: they came, as it tells of them, or there were too few,
+-- and no more are left; for want of input, fewer were read.
+pub record ReadsOrEnds (n : ℕ) (Came : Option (List ℕ) → Option (List ℕ) → Type 0)
+    (before after : Option (List ℕ)) (result : Result Bool CheckFault) : Type 0 where
+  pub whole : IfOk result (λ whole. whole ≡ true → Came before after)
+  pub short : IfOk result (λ whole. whole ≡ false → HasLess n before)
+  pub end : IfOk result (λ whole. whole ≡ false → IsAtEnd after)
+  pub input : IfErr result (λ fault. (fault ≡ Input) × HasGivenLess before after n)
 
 -- it had some whole pages, so many at most, that were read
 pub record HasGivenPages (before after : Option (List ℕ)) (most : ℕ) : Type 0 where
@@ -44,6 +54,14 @@ bytes_of list = flat_map (λ page. page) list
 pub record AreRead (before after : Option (List ℕ)) (list : List (List ℕ)) : Type 0 where
   pub given : Consumes before after (bytes_of list)
   pub whole : Each (λ page. length page ≡ 4096) list
+
+-- where these pages are all that came before, this is so of what there was
+abbrev pub WhereRead : Option (List ℕ) → List (List ℕ) → (Option (List ℕ) → Type 0) → Type 0
+WhereRead after list fact = (known : Option (List ℕ)) → AreRead known after list → fact known
+
+-- where the first list is of all pages that came before, the second is of all that came until now
+abbrev pub ReadsOn : Option (List ℕ) → Option (List ℕ) → List (List ℕ) → List (List ℕ) → Type 0
+ReadsOn before after list more = WhereRead before list (λ known. AreRead known after more)
 
 -- these are the first pages of a file
 pub record AreFirstPages (bytes : List ℕ) (list : List (List ℕ)) : Type 0 where

@@ -1,17 +1,23 @@
 -- Why the walks of a file that can be opened stop.
-use Rattle.std.specs.Prelude.{◌≡◌, ℕ, List, ⊤}
+use Rattle.std.specs.Prelude.{ℕ, List, ⊤, Result, OnOk, IfErr}
 use Rattle.page_marks.specs.declared.page_fault.PageFault.{PageFault}
-use Rattle.page_marks.specs.declared.page_fault.PageFault.TheVariants.{Shared as SharedPage, Node as WrongNode, Order as WrongOrder, Chain, Count}
+use Rattle.page_marks.specs.declared.page_fault.PageFault.TheVariants.{Shared as SharedPage}
+use Rattle.page_marks.specs.declared.page_fault.PageFault.TheVariants.{Node as WrongNode}
+use Rattle.page_marks.specs.declared.page_fault.PageFault.TheVariants.{Order as WrongOrder, Chain}
+use Rattle.page_marks.specs.declared.page_fault.PageFault.TheVariants.{Count}
 use Rattle.page_marks.specs.declared.walk_fault.WalkFault.{WalkFault}
 use Rattle.page_marks.specs.declared.walk_fault.WalkFault.TheVariants.{Memory as NoMemory, At}
 use Rattle.row_checks.specs.declared.row_fault.RowFault.{RowFault}
 use Rattle.row_checks.specs.declared.row_fault.RowFault.TheVariants.{Memory as NoRoom, Index as WrongIndex}
 use Rattle.file_header.specs.declared.header.Header.{Header}
 use Rattle.file_checker.specs.declared.verdict.Reason.{Reason}
-use Rattle.file_checker.specs.declared.verdict.Reason.TheVariants.{Short, Gate, Header as NoHeader, Shared, Node, Order, Heap, Index, Lost}
+use Rattle.file_checker.specs.declared.verdict.Reason.TheVariants.{Short, Gate, Header as NoHeader}
+use Rattle.file_checker.specs.declared.verdict.Reason.TheVariants.{Shared, Node, Order, Heap, Index}
+use Rattle.file_checker.specs.declared.verdict.Reason.TheVariants.{Lost}
 use Rattle.file_checker.specs.declared.stop.Stop.{Stop}
 use Rattle.file_checker.specs.declared.stop.Stop.TheVariants.{Memory, Unsound}
 use Rattle.file_checker.specs.Lost.{HasLostPage}
+use Rattle.file_checker.specs.Parts.{PagesStand}
 
 -- the reason by which what is wrong with a page is told
 abbrev pub reason_by_walk : PageFault → Reason
@@ -62,3 +68,8 @@ IsMetIn header list Lost = HasLostPage header list
 abbrev pub StopsIn : Header → List (List ℕ) → Stop → Type 0
 StopsIn header list Memory = ⊤
 StopsIn header list (Unsound reason place) = IsMetIn header list reason
+
+-- what a check of the pages tells: that they stand, or why it stops
+pub record ChecksPages (header : Header) (list : List (List ℕ)) (result : Result Unit Stop) : Type 0 where
+  pub stand : OnOk result (PagesStand header list)
+  pub stop : IfErr result (StopsIn header list)

@@ -1,7 +1,8 @@
 -- The numbers by which reasons are told. They are ours.
 use Rattle.std.specs.Prelude.{ℕ}
 use Rattle.file_checker.specs.declared.verdict.Reason.{Reason}
-use Rattle.file_checker.specs.declared.verdict.Reason.TheVariants.{Short, Gate, Header, Shared, Node, Order, Heap, Index, Lost}
+use Rattle.file_checker.specs.declared.verdict.Reason.TheVariants.{Short, Gate, Header, Shared}
+use Rattle.file_checker.specs.declared.verdict.Reason.TheVariants.{Node, Order, Heap, Index, Lost}
 
 abbrev pub number_of : Reason → ℕ
 number_of Short = 1

@@ -1,7 +1,7 @@
 -- What is found of the parts of a file whose pages were read into a list.
 use Rattle.std.specs.Prelude.{◌≡◌, ℕ, ◌<◌, Bool, List, IsSome, length, slice_index_or}
 use Rattle.indexed_file.specs.File.{File}
-use Rattle.page_marks.specs.Marks.{Marks}
+use Rattle.page_marks.specs.Marks.{Marks, marked_in}
 use Rattle.page_marks.specs.PageList.{pages_in}
 use Rattle.page_marks.specs.Parted.{own_at, all_of}
 use Rattle.page_alloc.specs.Chain.{chain}
@@ -32,6 +32,16 @@ pub record AlternatesFound (opened : OpenFile) (list : List (List ℕ)) (primes 
   pub marks : Marks before after (all_of owns)
   pub each : (j : ℕ) (index : AltIndex) → j < count → index ≡ slice_index_or opened.alternates.items j index
       → AlternateFound opened list primes index (own_at owns j)
+
+-- each alternate index has so many entries
+abbrev pub AlternatesCount : OpenFile → ℕ → Type 0
+AlternatesCount opened n = (j : ℕ) (index : AltIndex) → j < length opened.alternates.items
+    → index ≡ slice_index_or opened.alternates.items j index → index.tree.count ≡ n
+
+-- all of them stand so, and their pages were marked now
+abbrev pub AllFound : OpenFile → List (List ℕ) → List Spot → List Bool → List Bool → Type 0
+AllFound opened list primes before after = AlternatesFound opened list primes
+    (length opened.alternates.items) (marked_in before) (marked_in after)
 
 -- the pages of a file, all that its header counts, stand for as many records as the header tells
 pub record PagesStand (header : Header) (list : List (List ℕ)) : Type 0 where

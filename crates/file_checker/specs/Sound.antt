@@ -1,6 +1,8 @@
 -- What a check says of the bytes of a file.
-use Rattle.std.specs.Prelude.{◌≡◌, ◌≢◌, ◌⊎◌, ℕ, ◌+◌, ◌-◌, ◌*◌, ◌≤◌, ◌<◌, List, length, slice_index, Option, Some, None}
-use Rattle.std.specs.Io.KnownBytes.{IsAtEnd}
+use Rattle.std.specs.Prelude.{◌≡◌, ◌≢◌, ◌⊎◌, ℕ, ◌+◌, ◌-◌, ◌*◌, ◌≤◌, ◌<◌, List, length, slice_index}
+use Rattle.std.specs.Prelude.{Option, Some, None, Result, IfOk, IfErr}
+use Rattle.std.specs.Option.{IfSome}
+use Rattle.std.specs.Io.KnownBytes.{Consumes, IsAtEnd}
 use Rattle.indexed_file.specs.File.{File}
 use Rattle.page_store.specs.Pages.{page_of}
 use Rattle.file_header.specs.declared.header.Header.{Header}
@@ -8,7 +10,9 @@ use Rattle.file_header.specs.Reading.{header_in, number_in}
 use Rattle.shelf_file.specs.declared.look.Look.TheVariants.{Accepted}
 use Rattle.shelf_file.specs.Named.{look_of, StandsIn}
 use Rattle.file_checker.specs.declared.verdict.Reason.{Reason}
-use Rattle.file_checker.specs.declared.verdict.Reason.TheVariants.{Short, Gate, Header as NoHeader, Shared, Node, Order, Heap, Index, Lost}
+use Rattle.file_checker.specs.declared.verdict.Reason.TheVariants.{Short, Gate, Header as NoHeader}
+use Rattle.file_checker.specs.declared.verdict.Reason.TheVariants.{Shared, Node, Order, Heap, Index}
+use Rattle.file_checker.specs.declared.verdict.Reason.TheVariants.{Lost}
 use Rattle.file_checker.specs.declared.verdict.Verdict.{Verdict}
 use Rattle.file_checker.specs.declared.verdict.Verdict.TheVariants.{Sound, Unsound}
 use Rattle.file_checker.specs.declared.verdict.CheckFault.{CheckFault}
@@ -81,3 +85,20 @@ abbrev pub GivesUp : List ℕ → Option (List ℕ) → CheckFault → Type 0
 GivesUp bytes after Input = HasGivenLess (Some bytes) after (asked_in bytes)
 GivesUp bytes after Memory = HasGivenPages (Some bytes) after (counted_in bytes)
     × ((header : Header) × (header_in (page_of bytes 0) ≡ Some header))
+
+-- What a call tells of a file whose bytes are known, where what it finds tells the verdict: it is
+-- right, and what was read is what it asks for; a fault tells where the reading ended.
+pub record Examines {X : Type 0} (verdict : X → Verdict) (before after : Option (List ℕ))
+    (result : Result X CheckFault) : Type 0 where
+  pub right : IfSome before (λ bytes. IfOk result (λ found. IsRight bytes (verdict found)))
+  pub read : IfSome before (λ bytes. IfOk result (λ found. IsReadFor bytes after (verdict found)))
+  pub fault : IfSome before (λ bytes. IfErr result (GivesUp bytes after))
+
+-- the same where the first page was read already
+pub record ExaminesBehind {X : Type 0} (first : List ℕ) (verdict : X → Verdict)
+    (before after : Option (List ℕ)) (result : Result X CheckFault) : Type 0 where
+  pub right : (bytes : List ℕ) → Consumes (Some bytes) before first
+      → IfOk result (λ found. IsRight bytes (verdict found))
+  pub read : (bytes : List ℕ) → Consumes (Some bytes) before first
+      → IfOk result (λ found. IsReadFor bytes after (verdict found))
+  pub fault : (bytes : List ℕ) → Consumes (Some bytes) before first → IfErr result (GivesUp bytes after)

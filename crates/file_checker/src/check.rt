@@ -1,11 +1,9 @@
 //! The check of a file.
 
-ghost use Rattle.std.specs.Prelude.{◌≡◌, ◌≢◌, List, ℕ, Some, None, IfOk, IfErr};
-ghost use Rattle.std.specs.Option.{IfSome};
-ghost use Rattle.std.specs.Io.KnownBytes.{Consumes};
+ghost use Rattle.std.specs.Prelude.{◌≡◌, None};
 ghost use Rattle.file_header.specs.Reading.{header_in, IsFirstPage};
 ghost use Rattle.file_checker.specs.Findings.{verdict_of};
-ghost use Rattle.file_checker.specs.Sound.{HasReason, IsRight, IsReadFor, GivesUp};
+ghost use Rattle.file_checker.specs.Sound.{Examines, ExaminesBehind};
 
 use crate::finding::Finding;
 use crate::parts::check_pages;
@@ -30,12 +28,8 @@ const CLOSED: u8 = b'C';
 /// Why a file is refused by its first page, behind which the reader stands.
 fn refusal<R: Read>(reader: &mut R, first: &[u8; PAGE_SIZE]) -> Result<Reason, CheckFault>
     requires { header_in first.now ≡ None }
-    ensures reason { (bytes : List ℕ) → Consumes (Some bytes) (R.remaining reader.old) first.now
-        → IfOk result (HasReason bytes) }
-    ensures read { (bytes : List ℕ) → Consumes (Some bytes) (R.remaining reader.old) first.now
-        → IfOk result (λ reason. IsReadFor bytes (R.remaining reader.new) (Verdict.Unsound reason)) }
-    ensures fault { (bytes : List ℕ) → Consumes (Some bytes) (R.remaining reader.old) first.now
-        → IfErr result (GivesUp bytes (R.remaining reader.new)) }
+    ensures { ExaminesBehind first.now (λ reason. Verdict.Unsound reason)
+        (R.remaining reader.old) (R.remaining reader.new) result }
 {
     let pages = BigEndian::read_u32(&first[PAGES..PAGES_END]);
     if !skip_pages(reader, pages.saturating_sub(1))? {
@@ -55,12 +49,8 @@ fn examine_accepted<R: Read>(
     header: &Header,
 ) -> Result<Finding, CheckFault>
     requires { IsFirstPage header.now first.now }
-    ensures right { (bytes : List ℕ) → Consumes (Some bytes) (R.remaining reader.old) first.now
-        → IfOk result (λ finding. IsRight bytes (verdict_of finding)) }
-    ensures read { (bytes : List ℕ) → Consumes (Some bytes) (R.remaining reader.old) first.now
-        → IfOk result (λ finding. IsReadFor bytes (R.remaining reader.new) (verdict_of finding)) }
-    ensures fault { (bytes : List ℕ) → Consumes (Some bytes) (R.remaining reader.old) first.now
-        → IfErr result (GivesUp bytes (R.remaining reader.new)) }
+    ensures { ExaminesBehind first.now verdict_of
+        (R.remaining reader.old) (R.remaining reader.new) result }
 {
     let mut pages = Vec::new(alloc);
     push_page(&mut pages, *first)?;
@@ -80,12 +70,7 @@ fn examine_accepted<R: Read>(
 /// Examines a file: answers what `check_file` answers of it, and where a reason was met. It reads
 /// as `check_file` does, and has its faults.
 pub fn examine_file<R: Read>(alloc: Global, reader: &mut R) -> Result<Finding, CheckFault>
-    ensures right { IfSome (R.remaining reader.old)
-        (λ bytes. IfOk result (λ finding. IsRight bytes (verdict_of finding))) }
-    ensures read { IfSome (R.remaining reader.old)
-        (λ bytes. IfOk result (λ finding. IsReadFor bytes (R.remaining reader.new) (verdict_of finding))) }
-    ensures fault { IfSome (R.remaining reader.old)
-        (λ bytes. IfErr result (GivesUp bytes (R.remaining reader.new))) }
+    ensures { Examines verdict_of (R.remaining reader.old) (R.remaining reader.new) result }
 {
     let mut first = [0; PAGE_SIZE];
     if !read_page(reader, &mut first)? {
@@ -103,11 +88,7 @@ pub fn examine_file<R: Read>(alloc: Global, reader: &mut R) -> Result<Finding, C
 ///
 /// Input where the reader fails, or is interrupted a thousand times in a row; Memory.
 pub fn check_file<R: Read>(alloc: Global, reader: &mut R) -> Result<Verdict, CheckFault>
-    ensures right { IfSome (R.remaining reader.old) (λ bytes. IfOk result (IsRight bytes)) }
-    ensures read { IfSome (R.remaining reader.old)
-        (λ bytes. IfOk result (IsReadFor bytes (R.remaining reader.new))) }
-    ensures fault { IfSome (R.remaining reader.old)
-        (λ bytes. IfErr result (GivesUp bytes (R.remaining reader.new))) }
+    ensures { Examines (λ verdict. verdict) (R.remaining reader.old) (R.remaining reader.new) result }
 {
     let finding = examine_file(alloc, reader)?;
     Ok(finding.verdict())

@@ -1,14 +1,13 @@
 //! The parts of a file whose pages were read into a list.
 
-ghost use Rattle.std.specs.Prelude.{◌≡◌, ℕ, ◌<◌, true, false, IfErr, OnOk, IsTrue, length, slice_index_or};
+ghost use Rattle.std.specs.Prelude.{◌≡◌, ℕ, ◌<◌, true, false, IfErr, OnOk, IsTrue, length};
 ghost use Rattle.page_marks.specs.Marks.{marked_in};
 ghost use Rattle.page_walks.specs.Spots.{spots_in};
 ghost use Rattle.file_header.specs.Bounds.{IsHeader};
-ghost use Rattle.key_index.specs.declared.alt_index.AltIndex.{AltIndex};
 ghost use Rattle.open_file.specs.Stands.{IsShaped};
-ghost use Rattle.file_checker.specs.Later.{StopsIn, StopsWalk};
+ghost use Rattle.file_checker.specs.Later.{ChecksPages, StopsWalk};
 ghost use Rattle.file_checker.specs.Lost.{HasUnmarked};
-ghost use Rattle.file_checker.specs.Parts.{AlternatesFound, PagesStand};
+ghost use Rattle.file_checker.specs.Parts.{AllFound, AlternatesCount};
 
 use crate::stop::Stop;
 use crate::verdict::Reason;
@@ -31,12 +30,9 @@ fn check_alternates(
     reached: &mut [bool],
 ) -> Result<(), Stop>
     requires shaped { IsShaped file.now }
-    requires many { (j : ℕ) (index : AltIndex) → j < length file.now.alternates.items
-        → index ≡ slice_index_or file.now.alternates.items j index
-        → index.tree.count ≡ length (spots_in primes.now) }
-    ensures found { OnOk result (AlternatesFound file.now pages.now (spots_in primes.now)
-        (length file.now.alternates.items)
-        (marked_in reached.old) (marked_in reached.new)) }
+    requires many { AlternatesCount file.now (length (spots_in primes.now)) }
+    ensures found { OnOk result
+        (AllFound file.now pages.now (spots_in primes.now) reached.old reached.new) }
     ensures stop { IfErr result StopsWalk }
 {
     for &index in file.alternates.as_slice() {
@@ -73,8 +69,7 @@ fn check_parts(
     requires header { IsHeader header.now }
     requires clear { (n : ℕ) → marked_in reached.old n ≡ false }
     requires many { length reached.old ≡ length pages.now }
-    ensures stand { OnOk result (PagesStand header.now pages.now) }
-    ensures stop { IfErr result (StopsIn header.now pages.now) }
+    ensures { ChecksPages header.now pages.now result }
 {
     let file = OpenFile::from_header(header);
     mark(reached, 0)?;
@@ -92,8 +87,7 @@ fn check_parts(
 /// Checks the pages of a file, all that its header counts.
 pub fn check_pages(alloc: Global, pages: &[[u8; PAGE_SIZE]], header: &Header) -> Result<(), Stop>
     requires { IsHeader header.now }
-    ensures stand { OnOk result (PagesStand header.now pages.now) }
-    ensures stop { IfErr result (StopsIn header.now pages.now) }
+    ensures { ChecksPages header.now pages.now result }
 {
     let mut reached = match vec![in alloc; false; pages.len()] {
         Ok(reached) => reached,

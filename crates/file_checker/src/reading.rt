@@ -1,8 +1,9 @@
 //! The pages of a file, as a reader gives them.
 
-ghost use Rattle.std.specs.Prelude.{◌≡◌, ◌≤◌, ◌<◌, ◌*◌, Option, List, ℕ, true, false, [], ◌∷◌, ◌++◌, IfOk, IfErr, OnOk, length, take};
+ghost use Rattle.std.specs.Prelude.{◌≡◌, ◌≤◌, ◌<◌, ◌*◌, true, false, [], ◌∷◌, ◌++◌, IfOk, IfErr};
+ghost use Rattle.std.specs.Prelude.{OnOk, length, take};
 ghost use Rattle.std.specs.Io.KnownBytes.{Consumes, IsAtEnd, Keeps};
-ghost use Rattle.file_checker.specs.Bytes.{HasLess, HasGiven, HasGivenLess, AreRead, BreaksOff};
+ghost use Rattle.file_checker.specs.Bytes.{HasLess, HasGiven, BreaksOff, ReadsOn, ReadsOrEnds, WhereRead};
 
 use crate::verdict::CheckFault;
 use page_bytes::PAGE_SIZE;
@@ -36,12 +37,8 @@ fn read_part<R: Read>(reader: &mut R, part: &mut [u8]) -> Result<usize, CheckFau
 
 /// Reads a page, and answers whether there were enough bytes for it.
 pub fn read_page<R: Read>(reader: &mut R, page: &mut [u8; PAGE_SIZE]) -> Result<bool, CheckFault>
-    ensures whole { IfOk result (λ whole. whole ≡ true
-        → Consumes (R.remaining reader.old) (R.remaining reader.new) page.new) }
-    ensures short { IfOk result (λ whole. whole ≡ false → HasLess 4096 (R.remaining reader.old)) }
-    ensures end { IfOk result (λ whole. whole ≡ false → IsAtEnd (R.remaining reader.new)) }
-    ensures input { IfErr result (λ fault. (fault ≡ CheckFault.Input)
-        × HasGivenLess (R.remaining reader.old) (R.remaining reader.new) 4096) }
+    ensures { ReadsOrEnds 4096 (λ before after. Consumes before after page.new)
+        (R.remaining reader.old) (R.remaining reader.new) result }
 {
     let mut at = 0;
     'more: while at < PAGE_SIZE {
@@ -56,12 +53,8 @@ pub fn read_page<R: Read>(reader: &mut R, page: &mut [u8; PAGE_SIZE]) -> Result<
 
 /// Reads so many pages, which nobody keeps, and answers whether there were enough bytes for them.
 pub fn skip_pages<R: Read>(reader: &mut R, count: u32) -> Result<bool, CheckFault>
-    ensures whole { IfOk result (λ whole. whole ≡ true
-        → HasGiven (R.remaining reader.old) (R.remaining reader.new) (4096 * count)) }
-    ensures short { IfOk result (λ whole. whole ≡ false → HasLess (4096 * count) (R.remaining reader.old)) }
-    ensures end { IfOk result (λ whole. whole ≡ false → IsAtEnd (R.remaining reader.new)) }
-    ensures input { IfErr result (λ fault. (fault ≡ CheckFault.Input)
-        × HasGivenLess (R.remaining reader.old) (R.remaining reader.new) (4096 * count)) }
+    ensures { ReadsOrEnds (4096 * count) (λ before after. HasGiven before after (4096 * count))
+        (R.remaining reader.old) (R.remaining reader.new) result }
 {
     let mut page = [0; PAGE_SIZE];
     for _ in 0..count {
@@ -104,16 +97,14 @@ pub fn read_pages<R: Read>(
     pages: &mut Vec<[u8; PAGE_SIZE]>,
 ) -> Result<bool, CheckFault>
     requires { length pages.old.items ≤ count }
-    ensures read { IfOk result (λ whole. whole ≡ true → (known : Option (List ℕ))
-        → AreRead known (R.remaining reader.old) pages.old.items
-        → AreRead known (R.remaining reader.new) pages.new.items) }
+    ensures read { IfOk result (λ whole. whole ≡ true
+        → ReadsOn (R.remaining reader.old) (R.remaining reader.new) pages.old.items pages.new.items) }
     ensures many { IfOk result (λ whole. whole ≡ true → length pages.new.items ≡ count) }
-    ensures short { IfOk result (λ whole. whole ≡ false → (known : Option (List ℕ))
-        → AreRead known (R.remaining reader.old) pages.old.items → HasLess (4096 * count) known) }
+    ensures short { IfOk result (λ whole. whole ≡ false
+        → WhereRead (R.remaining reader.old) pages.old.items (HasLess (4096 * count))) }
     ensures end { IfOk result (λ whole. whole ≡ false → IsAtEnd (R.remaining reader.new)) }
-    ensures fault { IfErr result (λ fault. (known : Option (List ℕ))
-        → AreRead known (R.remaining reader.old) pages.old.items
-        → BreaksOff known (R.remaining reader.new) count fault) }
+    ensures fault { IfErr result (λ fault. WhereRead (R.remaining reader.old) pages.old.items
+        (λ known. BreaksOff known (R.remaining reader.new) count fault)) }
 {
     let wanted = count as usize;
     let mut page = [0; PAGE_SIZE];

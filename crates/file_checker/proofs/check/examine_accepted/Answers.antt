@@ -4,8 +4,8 @@ use Rattle.file_checker.specs.Parts.{PagesStand}
 use Rattle.file_checker.specs.Later.{StopsIn}
 use Rattle.file_checker.specs.Sound.{GivesUp, HasPages}
 use Rattle.file_checker.specs.declared.verdict.CheckFault.TheVariants.{Memory}
-use Rattle.file_checker.proofs.ReadLemmas.{first_pages, on_fault}
-use Rattle.file_checker.proofs.SoundLemmas.{first_is, first_read_alone, too_few, all_pages, is_sound, shown, not_short, gives_up, one_given, all_given, pages_read}
+use Rattle.file_checker.proofs.ReadLemmas.{first_pages}
+use Rattle.file_checker.proofs.SoundLemmas.{no_verdict, first_is, first_read_alone, too_few, all_pages, is_sound, shown, not_short, gives_up, one_given, all_given, pages_read}
 use Rattle.file_checker.proofs.check.examine_accepted.Goals as goal
 
 pub returns-then-not-branch : goal.returns-then-not-branch
@@ -66,29 +66,34 @@ returns-in-Err-Unsound g c =
       fault = λ bytes came. tt;
     }
 
-pub returns-in_err-push_page-clause-fault : goal.returns-in_err-push_page-clause-fault
-returns-in_err-push_page-clause-fault g c bytes came =
+pub returns-in_err-push_page : goal.returns-in_err-push_page
+returns-in_err-push_page g c =
     let end = g.R.Read.remaining c.args.reader.now in
+    no_verdict c.from_residual.result _ c.from_residual.ensures.1 (λ bytes came.
     let page = first_is bytes c.args.first.now end came c.told-first in
-    on_fault c.from_residual.result _ (GivesUp bytes end) c.from_residual.ensures.1
-    (subst (GivesUp bytes end) (sym c.in_err-push_page.ensures.memory)
+    subst (GivesUp bytes end) (sym c.in_err-push_page.ensures.memory)
     (gives_up bytes c.args.first.now c.args.header.now page c.requires end Memory (one_given bytes c.args.first.now c.args.header.now page c.requires end came c.told-first)))
 
-pub returns-in_err-read_pages-clause-fault : goal.returns-in_err-read_pages-clause-fault
-returns-in_err-read_pages-clause-fault g c bytes came =
+pub returns-in_err-read_pages : goal.returns-in_err-read_pages
+returns-in_err-read_pages g c =
     let items : c.push_page.new.pages.items ≡ c.args.first.now ∷ [] = search rules in
     let end = g.R.Read.remaining c.read_pages.new.reader in
+    no_verdict c.from_residual-in_err-read_pages.result _ c.from_residual-in_err-read_pages.ensures.1 (λ bytes came.
     let alone = first_read_alone bytes c.args.first.now (g.R.Read.remaining c.args.reader.now) came c.told-first in
-    on_fault c.from_residual-in_err-read_pages.result _ (GivesUp bytes end) c.from_residual-in_err-read_pages.ensures.1
-    (gives_up bytes c.args.first.now c.args.header.now (first_is bytes c.args.first.now (g.R.Read.remaining c.args.reader.now) came c.told-first) c.requires end _
+    gives_up bytes c.args.first.now c.args.header.now (first_is bytes c.args.first.now (g.R.Read.remaining c.args.reader.now) came c.told-first) c.requires end _
     (c.in_err-read_pages.ensures.fault (Some bytes) (subst (AreRead (Some bytes) (g.R.Read.remaining c.args.reader.now)) (sym items) alone)))
 
-pub returns-clause-fault : goal.returns-clause-fault
-returns-clause-fault g c bytes came =
+pub returns : goal.returns
+returns g c =
     let items : c.push_page.new.pages.items ≡ c.args.first.now ∷ [] = search rules in
     let many = c.in_ok-read_pages.ensures.many c.if-not-branch.false in
     let end = g.R.Read.remaining c.read_pages.new.reader in
-    let page = first_is bytes c.args.first.now (g.R.Read.remaining c.args.reader.now) came c.told-first in
-    let alone = first_read_alone bytes c.args.first.now (g.R.Read.remaining c.args.reader.now) came c.told-first in
-    let all = c.in_ok-read_pages.ensures.read c.if-not-branch.false (Some bytes) (subst (AreRead (Some bytes) (g.R.Read.remaining c.args.reader.now)) (sym items) alone) in
-    gives_up bytes c.args.first.now c.args.header.now page c.requires end Memory (all_given bytes c.args.first.now c.args.header.now page c.requires end c.read_pages.new.pages.items all many)
+    record {
+      right = λ bytes came. tt;
+      read = λ bytes came. tt;
+      fault = λ bytes came.
+          let page = first_is bytes c.args.first.now (g.R.Read.remaining c.args.reader.now) came c.told-first in
+          let alone = first_read_alone bytes c.args.first.now (g.R.Read.remaining c.args.reader.now) came c.told-first in
+          let all = c.in_ok-read_pages.ensures.read c.if-not-branch.false (Some bytes) (subst (AreRead (Some bytes) (g.R.Read.remaining c.args.reader.now)) (sym items) alone) in
+          gives_up bytes c.args.first.now c.args.header.now page c.requires end Memory (all_given bytes c.args.first.now c.args.header.now page c.requires end c.read_pages.new.pages.items all many);
+    }

@@ -1,11 +1,19 @@
-use Rattle.std.proofs.Common.{List, ℕ, Option, subst}
+use Rattle.std.proofs.Common.{◌≡◌, List, ℕ, Option, Some, subst}
 use Rattle.std.specs.Io.KnownBytes.{Consumes}
-use Rattle.file_checker.specs.Sound.{HasReason}
+use Rattle.file_checker.specs.Sound.{HasReason, IsReadFor}
+use Rattle.file_checker.specs.declared.verdict.Verdict.TheVariants.{Unsound}
 use Rattle.file_checker.proofs.SoundLemmas.{of_known}
 use Rattle.file_checker.proofs.check.examine_file.Goals as goal
 
-pub returns-in_ok-refusal-in-None-clause-right : goal.returns-in_ok-refusal-in-None-clause-right
-returns-in_ok-refusal-in-None-clause-right g c =
-    of_known (g.R.Read.remaining c.args.reader.now) (λ bytes. HasReason bytes c.in_ok-refusal-in-None.field-0)
-    (λ bytes is. c.in_ok-refusal-in-None.ensures.reason bytes
-    (subst (λ (known : Option (List ℕ)). Consumes known (g.R.Read.remaining c.read_page.new.reader) c.read_page.new.page) is (c.in_ok-read_page.ensures.whole c.if-not-branch.false)))
+pub returns-in_ok-refusal-in-None : goal.returns-in_ok-refusal-in-None
+returns-in_ok-refusal-in-None g c =
+    let known = g.R.Read.remaining c.args.reader.now in
+    let first = c.in_ok-read_page.ensures.whole c.if-not-branch.false in
+    let came = λ (bytes : List ℕ) (is : known ≡ Some bytes).
+    subst (λ (known : Option (List ℕ)). Consumes known (g.R.Read.remaining c.read_page.new.reader) c.read_page.new.page) is first in
+    record {
+      right = of_known known (λ bytes. HasReason bytes c.in_ok-refusal-in-None.field-0) (λ bytes is. c.in_ok-refusal-in-None.ensures.right bytes (came bytes is));
+      read = of_known known (λ bytes. IsReadFor bytes (g.R.Read.remaining c.refusal.new.reader) (Unsound c.in_ok-refusal-in-None.field-0))
+          (λ bytes is. c.in_ok-refusal-in-None.ensures.read bytes (came bytes is));
+      fault = of_known known _ (λ bytes is. tt);
+    }

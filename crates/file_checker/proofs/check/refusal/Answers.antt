@@ -1,14 +1,13 @@
-use Rattle.std.proofs.Common.{◌≡◌, ◌*◌, ℕ, refl, ap, sym, subst, ◌∙◌}
+use Rattle.std.proofs.Common.{◌*◌, ℕ, refl, ap, sym, subst, ◌∙◌}
 use Rattle.file_checker.specs.Bytes.{HasLess, HasGiven, HasGivenLess}
 use Rattle.file_checker.specs.Sound.{GivesUp}
-use Rattle.file_checker.proofs.ReadLemmas.{on_fault}
-use Rattle.file_checker.proofs.SoundLemmas.{is_short, is_long, first_byte, first_is, read_whole, read_less}
+use Rattle.file_checker.proofs.SoundLemmas.{no_verdict, is_short, is_long, first_byte, first_is, read_whole, read_less}
 use Rattle.file_header.specs.Reading.{header_in}
 use Rattle.file_checker.proofs.check.refusal.Goals as goal
 
 pub returns-then-not-branch : goal.returns-then-not-branch
 returns-then-not-branch g c = record {
-  reason = λ bytes came.
+  right = λ bytes came.
       is_short bytes c.args.first.now (g.R.Read.remaining c.args.reader.now) (g.R.Read.remaining c.skip_pages.new.reader) c.read_u32-pages.result came c.told-first c.read_u32-pages.ensures
       (subst (λ (n : ℕ). HasLess (4096 * n) (g.R.Read.remaining c.args.reader.now)) c.saturating_sub.ensures (c.in_ok-skip_pages.ensures.short c.if-not-branch.true));
   read = λ bytes came. record { whole = λ other. absurd (other refl); short = λ is. c.in_ok-skip_pages.ensures.end c.if-not-branch.true };
@@ -19,7 +18,7 @@ pub returns-then-first-ne-CLOSED : goal.returns-then-first-ne-CLOSED
 returns-then-first-ne-CLOSED g c =
     let given = subst (λ (n : ℕ). HasGiven (g.R.Read.remaining c.args.reader.now) (g.R.Read.remaining c.skip_pages.new.reader) (4096 * n)) c.saturating_sub.ensures (c.in_ok-skip_pages.ensures.whole c.if-not-branch.false) in
     record {
-      reason = λ bytes came. (
+      right = λ bytes came. (
         is_long bytes c.args.first.now (g.R.Read.remaining c.args.reader.now) (g.R.Read.remaining c.skip_pages.new.reader) c.read_u32-pages.result came c.told-first c.read_u32-pages.ensures given,
         (λ closed. c.if-first-ne-CLOSED.true (sym (first_byte bytes c.args.first.now (g.R.Read.remaining c.args.reader.now) came c.told-first) ∙ closed)),
       );
@@ -34,7 +33,7 @@ pub returns : goal.returns
 returns g c =
     let given = subst (λ (n : ℕ). HasGiven (g.R.Read.remaining c.args.reader.now) (g.R.Read.remaining c.skip_pages.new.reader) (4096 * n)) c.saturating_sub.ensures (c.in_ok-skip_pages.ensures.whole c.if-not-branch.false) in
     record {
-      reason = λ bytes came. (
+      right = λ bytes came. (
         is_long bytes c.args.first.now (g.R.Read.remaining c.args.reader.now) (g.R.Read.remaining c.skip_pages.new.reader) c.read_u32-pages.result came c.told-first c.read_u32-pages.ensures given,
         first_byte bytes c.args.first.now (g.R.Read.remaining c.args.reader.now) came c.told-first ∙ c.if-first-ne-CLOSED.false,
         ap header_in (first_is bytes c.args.first.now (g.R.Read.remaining c.args.reader.now) came c.told-first) ∙ c.requires,
@@ -46,10 +45,10 @@ returns g c =
       fault = λ bytes came. tt;
     }
 
-pub returns-in_err-skip_pages-clause-fault : goal.returns-in_err-skip_pages-clause-fault
-returns-in_err-skip_pages-clause-fault g c bytes came =
+pub returns-in_err-skip_pages : goal.returns-in_err-skip_pages
+returns-in_err-skip_pages g c =
     let end = g.R.Read.remaining c.skip_pages.new.reader in
-    on_fault c.from_residual.result _ (GivesUp bytes end) c.from_residual.ensures.1
-    (subst (GivesUp bytes end) (sym c.in_err-skip_pages.ensures.input.0)
+    no_verdict c.from_residual.result _ c.from_residual.ensures.1 (λ bytes came.
+    subst (GivesUp bytes end) (sym c.in_err-skip_pages.ensures.input.0)
     (read_less bytes c.args.first.now (g.R.Read.remaining c.args.reader.now) end c.read_u32-pages.result came c.told-first c.read_u32-pages.ensures
     (subst (λ (n : ℕ). HasGivenLess (g.R.Read.remaining c.args.reader.now) end (4096 * n)) c.saturating_sub.ensures c.in_err-skip_pages.ensures.input.1)))

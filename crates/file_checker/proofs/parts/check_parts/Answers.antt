@@ -26,8 +26,8 @@ check_alternates-requires-clause-many c j index within is =
     opened.counts j index within is ∙ sym opened.header_is.records
     ∙ sym (ap (λ (primes : List Leaf). length (spots_in primes)) c.deref-3.ensures.value ∙ spots_many tree c.args.pages.now (marked_in c.walk_heap.new.reached) (marked_in c.walk_tree.new.reached) (spots_in c.in_ok-primes.primes.items) c.in_ok-primes.ensures)
 
-pub returns-clause-stand : goal.returns-clause-stand
-returns-clause-stand c =
+pub returns : goal.returns
+returns c =
     let file = c.from_header-file.result in
     let list = c.args.pages.now in
     let rows : RowsStand file list c.in_ok-own.own.items (spots_in c.in_ok-primes.primes.items) =
@@ -51,11 +51,14 @@ returns-clause-stand c =
     let all : (n : ℕ) → n < length list → marked_in c.check_alternates.new.reached n ≡ true = λ n within.
     c.is_page_lost.ensures.none c.if-is_page_lost.false n (let a = c.mark.auto.reached in let b = c.walk_free.auto.reached in let d = c.walk_heap.auto.reached in let e = c.walk_tree.auto.reached in
     let f = c.check_alternates.auto.reached in let many = c.requires.many in omega arith) in
-    pages_stand c.args.header.now list file c.in_ok-own.own.items (spots_in c.in_ok-primes.primes.items) (marked_in c.args.reached.now) (marked_in c.mark.new.reached) (marked_in c.walk_free.new.reached)
-    (marked_in c.walk_heap.new.reached) (marked_in c.walk_tree.new.reached) (marked_in c.check_alternates.new.reached) c.requires.header c.from_header-file.ensures found all make_a_file
+    record {
+      stand = pages_stand c.args.header.now list file c.in_ok-own.own.items (spots_in c.in_ok-primes.primes.items) (marked_in c.args.reached.now) (marked_in c.mark.new.reached) (marked_in c.walk_free.new.reached)
+          (marked_in c.walk_heap.new.reached) (marked_in c.walk_tree.new.reached) (marked_in c.check_alternates.new.reached) c.requires.header c.from_header-file.ensures found all make_a_file;
+      stop = tt;
+    }
 
-pub returns-then-is_page_lost-clause-stop : goal.returns-then-is_page_lost-clause-stop
-returns-then-is_page_lost-clause-stop c =
+pub returns-then-is_page_lost : goal.returns-then-is_page_lost
+returns-then-is_page_lost c =
     let file = c.from_header-file.result in
     let list = c.args.pages.now in
     let rows : RowsStand file list c.in_ok-own.own.items (spots_in c.in_ok-primes.primes.items) =
@@ -78,8 +81,12 @@ returns-then-is_page_lost-clause-stop c =
     } in
     let lost = c.is_page_lost.ensures.lost c.if-is_page_lost.true in
     let within : lost.0 < length list = (let some = lost.1 in let a = c.mark.auto.reached in let b = c.walk_free.auto.reached in let d = c.walk_heap.auto.reached in let e = c.walk_tree.auto.reached in
-    let f = c.check_alternates.auto.reached in let many = c.requires.many in omega arith) in (
-      lost.0,
-      leaves_out c.args.header.now list file c.in_ok-own.own.items (spots_in c.in_ok-primes.primes.items) (marked_in c.args.reached.now) (marked_in c.mark.new.reached) (marked_in c.walk_free.new.reached)
-          (marked_in c.walk_heap.new.reached) (marked_in c.walk_tree.new.reached) (marked_in c.check_alternates.new.reached) c.requires.header c.from_header-file.ensures found lost.0 within lost.2,
-    )
+    let f = c.check_alternates.auto.reached in let many = c.requires.many in omega arith) in
+    record {
+      stand = tt;
+      stop = (
+        lost.0,
+        leaves_out c.args.header.now list file c.in_ok-own.own.items (spots_in c.in_ok-primes.primes.items) (marked_in c.args.reached.now) (marked_in c.mark.new.reached) (marked_in c.walk_free.new.reached)
+            (marked_in c.walk_heap.new.reached) (marked_in c.walk_tree.new.reached) (marked_in c.check_alternates.new.reached) c.requires.header c.from_header-file.ensures found lost.0 within lost.2,
+      );
+    }
