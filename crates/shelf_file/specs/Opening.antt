@@ -1,4 +1,4 @@
--- What making a file, opening it and closing it leave of the file and of the shelf.
+-- What looking at a file, making it, opening it and closing it leave of the file and of the shelf.
 use Rattle.std.specs.Prelude.{◌≡◌, ◌≢◌, ◌≤◌, ℕ, true, false, IsTrue, IsFalse, Result, Err, IfOk, IfErr, OnErr}
 use Rattle.io_state.specs.declared.fault.Fault.{Fault}
 use Rattle.io_state.specs.declared.fault.Fault.TheVariants.{Memory, Damage, Broken}
@@ -6,14 +6,17 @@ use Rattle.indexed_file.specs.File.{File}
 use Rattle.record_layout.specs.Schema.{Schema}
 use Rattle.page_store.specs.Gate.{WasOrRefused}
 use Rattle.page_store.specs.Moments.{Throughout}
-use Rattle.page_store.specs.ShelfState.{ShelfState, FileGoes, KeepsOthers, unit_file}
+use Rattle.page_store.specs.ShelfState.{ShelfState, FileGoes, KeepsOthers, OnlyAnswers, FaultHasCause}
+use Rattle.page_store.specs.ShelfState.{unit_file}
 use Rattle.page_alloc.specs.Joining.{HasFailed}
 use Rattle.page_alloc.specs.PagedFile.{StandsOrRefused}
 use Rattle.file_header.specs.declared.header.Header.{Header}
 use Rattle.open_file.specs.Faults.{IsCausedIn}
+use Rattle.shelf_file.specs.declared.look.Look.{Look}
 use Rattle.shelf_file.specs.declared.shelf_file.ShelfFile.{ShelfFile}
+use Rattle.shelf_file.specs.Named.{look_of}
 use Rattle.shelf_file.specs.Standing.{StandsFor, HasLimits}
-use Rattle.shelf_file.specs.Shelves.{IsOpened, IsMade, Closes}
+use Rattle.shelf_file.specs.Shelves.{HasHeader, IsOpened, IsMade, Closes}
 
 -- a shelf whose device has failed so often
 pub record CountedShelf : Type 0 where
@@ -22,6 +25,14 @@ pub record CountedShelf : Type 0 where
 
 abbrev pub counted : ShelfState → ℕ → CountedShelf
 counted shelf faults = record { shelf = shelf; faults = faults }
+
+-- a unit's file was looked at, and nothing was written
+pub record LooksOnShelf (unit : ℕ) (old new : CountedShelf) (result : Result Look Fault) : Type 0 where
+  pub found : IsTrue new.shelf.is_honest
+      → IfOk result (λ look. look ≡ look_of (unit_file old.shelf unit).seen)
+  pub header : IfOk result HasHeader
+  pub only : OnlyAnswers old.shelf new.shelf
+  pub cause : FaultHasCause old.faults new.faults result
 
 -- a file was made in the place of whatever the unit's name stood for; a fault leaves that, or a refused file
 pub record MakesOnShelf (unit limit frames : ℕ) (schema : Schema) (old new : CountedShelf)
@@ -60,12 +71,19 @@ pub record ClosesOnShelf (held : ShelfFile) (old new : CountedShelf)
   pub cause : IfErr result (IsCausedIn held.file.broken (HasFailed old.faults new.faults) ⊥)
   pub damage : IfErr result (λ e. e ≢ Damage)
 
--- on shelves that show this state and count their faults so
+-- the same, of shelves that show this state and count their faults so
 module _ {H : Type 0} (state : H → ShelfState) (count : H → ℕ) where
+  -- a unit's file was looked at
+  abbrev pub LooksAtUnit : ℕ → H → H → Result Look Fault → Type 0
+  LooksAtUnit unit old new result = LooksOnShelf unit (counted (state old) (count old))
+      (counted (state new) (count new)) result
+
+  -- a file was made
   abbrev pub MakesHeld : (unit limit frames : ℕ) → Schema → H → H → Result ShelfFile Fault → Type 0
   MakesHeld unit limit frames schema old new result = MakesOnShelf unit limit frames schema
       (counted (state old) (count old)) (counted (state new) (count new)) result
 
+  -- a file was closed
   abbrev pub ClosesHeld : ShelfFile → H → H → Result (Unit {0}) Fault → Type 0
   ClosesHeld held old new result = ClosesOnShelf held (counted (state old) (count old))
       (counted (state new) (count new)) result

@@ -1,10 +1,11 @@
 //! What a look at the first page finds.
 
-ghost use Rattle.std.specs.Prelude.{◌≡◌, ℕ, List, length, IsTrue, IfSome, IfOk};
-ghost use Rattle.page_store.specs.ShelfState.{HasUnit, unit_file, OnlyAnswers, FaultHasCause};
+ghost use Rattle.std.specs.Prelude.{◌≡◌, ℕ, List, length, IfSome};
+ghost use Rattle.page_store.specs.ShelfState.{HasUnit};
 ghost use Rattle.file_header.specs.Bounds.{IsHeader};
-ghost use Rattle.shelf_file.specs.Named.{look_of, look_by};
+ghost use Rattle.shelf_file.specs.Named.{look_by};
 ghost use Rattle.shelf_file.specs.Shelves.{HasHeader};
+ghost use Rattle.shelf_file.specs.Opening.{LooksAtUnit};
 
 use file_header::Header;
 use io_state::Fault;
@@ -25,11 +26,7 @@ pub enum Look {
 /// Device, Memory.
 pub fn look_at<S: Shelf>(shelf: &mut S, unit: usize) -> Result<Look, Fault>
     requires unit { HasUnit (S.state shelf.old) unit }
-    ensures found { IsTrue (S.state shelf.new).is_honest
-        → IfOk result (λ look. look ≡ look_of (unit_file (S.state shelf.old) unit).seen) }
-    ensures header { IfOk result HasHeader }
-    ensures only { OnlyAnswers (S.state shelf.old) (S.state shelf.new) }
-    ensures cause { FaultHasCause (S.fault_count shelf.old) (S.fault_count shelf.new) result }
+    ensures { LooksAtUnit S.state S.fault_count unit shelf.old shelf.new result }
 {
     if !shelf.exists(unit)? {
         return Ok(Look::NoFile);
