@@ -69,20 +69,20 @@ module _ (u : ℕ) (look : Result Look Fault) (old new : LibraryState) (call : L
   look_changes : ChangesAt u (held_after look) old.shelf new.shelf old.held new.held
   look_changes = record {
     attached = call.attached;
-    others = record { names = call.only.names; others = λ name other. ap (λ file. file name) call.only.file; honest = call.only.honest };
+    others = record { names = call.looks.only.names; others = λ name other. ap (λ file. file name) call.looks.only.file; honest = call.looks.only.honest };
     holds = call.holds;
   }
 
   same_file : unit_file new.shelf u ≡ unit_file old.shelf u
-  same_file = λ i. (call.only.file i) (unit_name (record { names = call.only.names i; file = call.only.file i; is_honest = false }) u)
+  same_file = λ i. (call.looks.only.file i) (unit_name (record { names = call.looks.only.names i; file = call.looks.only.file i; is_honest = false }) u)
 
   fits : FitsItsFile u (held_after look) new.shelf
   fits = record {
     looked = λ header is.
         let found = looked_by look header is in
         record {
-          allowed = subst (λ l. IfOk l HasHeader) found call.header;
-          accepted = λ honest. ap (λ (file : DeviceFile). look_of file.seen) same_file ∙ sym (subst (λ l. IfOk l (λ look. look ≡ look_of (unit_file old.shelf u).seen)) found (call.found honest));
+          allowed = subst (λ l. IfOk l HasHeader) found call.looks.header;
+          accepted = λ honest. ap (λ (file : DeviceFile). look_of file.seen) same_file ∙ sym (subst (λ l. IfOk l (λ look. look ≡ look_of (unit_file old.shelf u).seen)) found (call.looks.found honest));
         };
     ready = λ file is. absurd (no_file look file is);
   }
@@ -106,7 +106,7 @@ module _ (u : ℕ) (look : Result Look Fault) (old new : LibraryState) (call : L
       ∙ sym (named_before u (held_after look) old.shelf new.shelf old.held new.held call.units look_changes)
 
   pub look_seen : IsTrue new.shelf.is_honest → IfOk (seen_after look) (λ seen. seen ≡ seen_of (named_at (world_of old.shelf old.held) u))
-  look_seen honest = by_found look (call.found honest)
+  look_seen honest = by_found look (call.looks.found honest)
     where
       by_found : (l : Result Look Fault) → IfOk l (λ look. look ≡ look_of (unit_file old.shelf u).seen) → IfOk (seen_after l) (λ seen. seen ≡ seen_of (named_at (world_of old.shelf old.held) u))
       by_found (Ok found) is =
@@ -132,10 +132,10 @@ look_opens {S} state u look old new call told is =
       err = shut look (holds_now u look (state old) (state new) call);
       unbroken = unbroken look (holds_now u look (state old) (state new) call);
       only = only_here u one (state old).shelf (state new).shelf (state old).held (state new).held call.units changes;
-      fault = look_fault (state new).shelf.is_honest _ (state old).faults (state new).faults look call.cause;
+      fault = look_fault (state new).shelf.is_honest _ (state old).faults (state new).faults look call.looks.cause;
       images = λ honest truly.
-          images_at state u one old new call.units changes untouched (images_aside state old new name (ap (λ file. file name) call.only.file)) tt;
-      keeps = keeps_at state u one old new call.units changes call.limit call.frames call.cause.no_fewer (λ honest truly. still_true u look (state old) (state new) call truly);
+          images_at state u one old new call.units changes untouched (images_aside state old new name (ap (λ file. file name) call.looks.only.file)) tt;
+      keeps = keeps_at state u one old new call.units changes call.limit call.frames call.looks.cause.no_fewer (λ honest truly. still_true u look (state old) (state new) call truly);
     })
   where
     shut : (l : Result Look Fault) → holding_at (world_of (state new).shelf (state new).held) u ≡ holding_of (state new).shelf (held_after l)

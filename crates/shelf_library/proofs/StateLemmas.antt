@@ -1,19 +1,17 @@
 -- A library over a shelf, as the definitions see it: before a call, behind one, and what the calls on units did.
-use Rattle.std.proofs.Common.{◌≡◌, ℕ, ◌<◌, List, length, bytes_eq, IsTrue, IfOk, Result, refl, ap, ◌∙◌}
+use Rattle.std.proofs.Common.{◌≡◌, ℕ, ◌<◌, List, length, bytes_eq, IsTrue, Result, refl, ap, ◌∙◌}
 use Rattle.std.specs.List.{IsDistinct}
 use Rattle.std.specs.Prelude.{slice_set, replicate}
 use Rattle.std.specs.NonZero.{non_zero_usize_get}
 use Rattle.io_state.specs.declared.fault.Fault.{Fault}
 use Rattle.record_layout.specs.Schema.{Schema}
 use Rattle.page_store.specs.Images.{Leaves}
-use Rattle.page_store.specs.ShelfState.{OnlyAnswers, FaultHasCause, unit_name, unit_file}
+use Rattle.page_store.specs.ShelfState.{unit_name}
 use Rattle.page_store.specs.declared.shelf.Shelf.{Ghosts}
 use Rattle.file_header.specs.declared.header.Header.{Header}
 use Rattle.shelf_file.specs.declared.shelf_file.ShelfFile.{ShelfFile}
 use Rattle.shelf_file.specs.declared.look.Look.{Look}
-use Rattle.shelf_file.specs.Named.{look_of}
-use Rattle.shelf_file.specs.Shelves.{HasHeader}
-use Rattle.shelf_file.specs.Opening.{MakesOnShelf, OpensByHeader, ClosesOnShelf, CountedShelf, counted}
+use Rattle.shelf_file.specs.Opening.{LooksOnShelf, MakesOnShelf, OpensByHeader, ClosesOnShelf, CountedShelf, counted}
 use Rattle.shelf_library.specs.State.{LibraryState, held_at}
 use Rattle.shelf_library.specs.Told.{held_open, held_after}
 use Rattle.shelf_library.specs.Units.{world_of}
@@ -109,20 +107,15 @@ module _ {S : Type 0} (shelf : Ghosts S) where
     }
 
     pub looks_at : (look : Result Look Fault) (now : S) (one : Held) → one ≡ held_after look
-        → (IsTrue (shelf.state now).is_honest → IfOk look (λ look. look ≡ look_of (unit_file (shelf.state s.shelf) u).seen))
-        → IfOk look HasHeader
-        → OnlyAnswers (shelf.state s.shelf) (shelf.state now) → FaultHasCause (shelf.fault_count s.shelf) (shelf.fault_count now) look
+        → LooksOnShelf u (at_shelf s.shelf) (at_shelf now) look
         → LooksAt u look (library_state s) (state_left s now (slice_set s.units.items u one))
-    looks_at look now one is found header only cause = record {
+    looks_at look now one is looks = record {
       units = are_units s;
       attached = is_within s u attached;
       holds = ap (slice_set s.units.items u) is;
       limit = refl;
       frames = refl;
-      found = found;
-      header = header;
-      only = only;
-      cause = cause;
+      looks = looks;
     }
 
   pub attaches : (s : ShelfLibrary S shelf) (names : List (List ℕ)) (count : ℕ) (now : S) (held : List Held)

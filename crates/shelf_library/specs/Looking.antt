@@ -1,10 +1,8 @@
 -- What a look leaves of a library.
-use Rattle.std.specs.Prelude.{◌≡◌, ℕ, ◌<◌, length, slice_set, Result, IfOk, IsTrue}
+use Rattle.std.specs.Prelude.{◌≡◌, ℕ, ◌<◌, length, slice_set, Result}
 use Rattle.io_state.specs.declared.fault.Fault.{Fault}
-use Rattle.page_store.specs.ShelfState.{OnlyAnswers, FaultHasCause, unit_file}
 use Rattle.shelf_file.specs.declared.look.Look.{Look}
-use Rattle.shelf_file.specs.Named.{look_of}
-use Rattle.shelf_file.specs.Shelves.{HasHeader}
+use Rattle.shelf_file.specs.Opening.{LooksOnShelf, counted}
 use Rattle.shelf_library.specs.State.{LibraryState}
 use Rattle.shelf_library.specs.Told.{held_after}
 use Rattle.shelf_library.specs.OneUnit.{AreUnits}
@@ -16,8 +14,4 @@ pub record LooksAt (u : ℕ) (look : Result Look Fault) (old new : LibraryState)
   pub holds : new.held ≡ slice_set old.held u (held_after look)
   pub limit : new.limit ≡ old.limit
   pub frames : new.frames ≡ old.frames
-  -- what the shelf answered
-  pub found : IsTrue new.shelf.is_honest → IfOk look (λ look. look ≡ look_of (unit_file old.shelf u).seen)
-  pub header : IfOk look HasHeader
-  pub only : OnlyAnswers old.shelf new.shelf
-  pub cause : FaultHasCause old.faults new.faults look
+  pub looks : LooksOnShelf u (counted old.shelf old.faults) (counted new.shelf new.faults) look

@@ -152,7 +152,8 @@ impl<S: Shelf> Library for ShelfLibrary<S> {
 
     ghost ends = { λ test old new name. ends test (S.state old.shelf) (S.state new.shelf) name };
 
-    ghost widens = { λ test wider old new name. widens test wider (S.state old.shelf) (S.state new.shelf) name };
+    ghost widens = { λ test wider old new name. widens test wider (S.state old.shelf)
+        (S.state new.shelf) name };
 
     ghost shows_files = { λ library name. shows_files (S.state library.shelf) library.units.items name
         library.many };

@@ -28,7 +28,7 @@ pub invariant_of-self : goal.invariant_of-self
 invariant_of-self g c =
     let s = c.args.self.now in
     let call = looks_at g.S.Shelf s c.args.u c.requires.attached c.look_at.result c.look_at.new.shelf c.told-held.result.0
-    c.told-held.ensures.held c.look_at.ensures.found c.look_at.ensures.header c.look_at.ensures.only c.look_at.ensures.cause in
+    c.told-held.ensures.held c.look_at.ensures in
     let after = units_looked _ _ _ _ call in
     record {
       room = s.room;
@@ -50,7 +50,7 @@ module _ (g : given.Over) (c : goal.Joined-index_mut-held g) where
 
   call : LooksAt c.args.u c.look_at.result before after
   call = looks_at g.S.Shelf c.args.self.now c.args.u c.requires.attached c.look_at.result c.look_at.new.shelf c.told-held.result.0
-      c.told-held.ensures.held c.look_at.ensures.found c.look_at.ensures.header c.look_at.ensures.only c.look_at.ensures.cause
+      c.told-held.ensures.held c.look_at.ensures
 
 pub returns-clause-seen : goal.returns-clause-seen
 returns-clause-seen g c honest =
