@@ -3,9 +3,10 @@
 # `make test` proves and tests everything,
 # runs the examples, the cases and some of them out of memory, and checks the documents;
 # `make gnucobol` runs COBOL programs over it, where cobc is there;
+# `make bench` measures its verbs beside those of GnuCOBOL, where cobc is there;
 # `make install` puts the program that `make run` or `make test` built into PREFIX/bin, its manual page,
 # its completion for bash and its line for file(1) into PREFIX/share.
-.PHONY: try run test install gnucobol
+.PHONY: try run test install gnucobol bench
 
 SHELL = /bin/bash -o pipefail
 DECK = examples/payroll.deck
@@ -37,6 +38,11 @@ test:
 gnucobol: $(PROGRAM)
 	cases/cobol $(PROGRAM)
 	gnucobol/test $(PROGRAM)
+
+# Each work load by turns with 64 frames, and with so many that all pages are held.
+bench: $(PROGRAM)
+	benchmarks/decks/run $(PROGRAM) 10000 20 5 64
+	benchmarks/decks/run $(PROGRAM) 10000 20 5 4096
 
 install: $(PROGRAM)
 	install -D $(PROGRAM) $(PREFIX)/bin/cobix

@@ -73,6 +73,16 @@ where
         if matches!(self.open.get(unit), Some(Some(_))) {
             return Ok(());
         }
+        self.open_unit(unit, name)
+    }
+
+    // Opens the unit's file, if it can be read. It is apart from `reach`, which each page that is read
+    // or written asks: a call of the system has a path of 4 KiB in its frame, filled at its entry.
+    #[inline(never)]
+    fn open_unit(&mut self, unit: usize, name: &FileName) -> Result<(), Fault>
+        ensures calls { self.new.calls.events ≡ self.old.calls.events }
+        ensures only_memory { IsOkUnless result Memory }
+    {
         let path = self.path_of(name)?;
         if let Some(file) = system_files::open(&self.rt, path.as_str()) {
             self.keep(unit, file);
