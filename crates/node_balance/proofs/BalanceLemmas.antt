@@ -10,37 +10,45 @@ use Rattle.node_balance.specs.Balance.{ChangesSeparator, LeavesShared, InnersSha
 pub lengths : {X : Type 0} (a b c d : List X) → a ++ b ≡ c ++ d → length a + length b ≡ length c + length d
 lengths a b c d e = sym (length-append a b) ∙ ap length e ∙ length-append c d
 
--- the left one had less
-pub left_filled : (shape : Shape) (left right left_now right_now : List ℕ) → LeavesInOrder shape left right left_now right_now
-    → length (leaf_entries shape left_now) ≡ length (leaf_entries shape left) + 1
-    → 2 * (leaf_room shape / 2) ≤ length (leaf_entries shape left) + length (leaf_entries shape right) → length (leaf_entries shape left) < length (leaf_entries shape right)
+-- n is half of what the second number is greater by, rounded up
+abbrev pub IsHalf : ℕ → ℕ → ℕ → Type 0
+IsHalf n less more = (1 ≤ n) × (more ≤ less + 2 * n) × (less + 2 * n ≤ more + 1)
+
+-- the left one had less, and took half of what the right one had more
+pub left_filled : (shape : Shape) (n : ℕ) (left right left_now right_now : List ℕ) → LeavesInOrder shape left right left_now right_now
+    → length (leaf_entries shape left_now) ≡ length (leaf_entries shape left) + n → IsHalf n (length (leaf_entries shape left)) (length (leaf_entries shape right))
+    → 2 * (leaf_room shape / 2) ≤ length (leaf_entries shape left) + length (leaf_entries shape right)
     → LeavesShared shape left right left_now right_now (take shape.width (slice_index_or (leaf_entries shape right_now) 0 []))
-left_filled shape left right left_now right_now in_order more enough fewer =
+left_filled shape n left right left_now right_now in_order more half enough =
     let same = lengths (leaf_entries shape left_now) (leaf_entries shape right_now) (leaf_entries shape left) (leaf_entries shape right) in_order.has in
     let room = leaf_room_some shape in
+    let (some, least, most) = half in
     record {
       lower = in_order.lower;
       upper = in_order.upper;
       has = in_order.has;
       between = refl;
       some = (omega arith, omega arith);
+      even = (omega arith, omega arith);
       fill = λ a b. (omega arith, omega arith);
     }
 
 -- the right one had less
-pub right_filled : (shape : Shape) (left right left_now right_now : List ℕ) → LeavesInOrder shape left right left_now right_now
-    → length (leaf_entries shape right_now) ≡ length (leaf_entries shape right) + 1
-    → 2 * (leaf_room shape / 2) ≤ length (leaf_entries shape left) + length (leaf_entries shape right) → length (leaf_entries shape right) < length (leaf_entries shape left)
+pub right_filled : (shape : Shape) (n : ℕ) (left right left_now right_now : List ℕ) → LeavesInOrder shape left right left_now right_now
+    → length (leaf_entries shape right_now) ≡ length (leaf_entries shape right) + n → IsHalf n (length (leaf_entries shape right)) (length (leaf_entries shape left))
+    → 2 * (leaf_room shape / 2) ≤ length (leaf_entries shape left) + length (leaf_entries shape right)
     → LeavesShared shape left right left_now right_now (take shape.width (slice_index_or (leaf_entries shape right_now) 0 []))
-right_filled shape left right left_now right_now in_order more enough fewer =
+right_filled shape n left right left_now right_now in_order more half enough =
     let same = lengths (leaf_entries shape left_now) (leaf_entries shape right_now) (leaf_entries shape left) (leaf_entries shape right) in_order.has in
     let room = leaf_room_some shape in
+    let (some, least, most) = half in
     record {
       lower = in_order.lower;
       upper = in_order.upper;
       has = in_order.has;
       between = refl;
       some = (omega arith, omega arith);
+      even = (omega arith, omega arith);
       fill = λ a b. (omega arith, omega arith);
     }
 

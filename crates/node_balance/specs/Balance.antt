@@ -1,7 +1,7 @@
 -- Two nodes side by side below one node: one of them takes from the other, or they become one.
 use Rattle.std.specs.Prelude.{◌≡◌, ℕ, zero, suc, ◌+◌, ◌*◌, ◌≤◌, Bool, true, false, List, ◌∷◌, [], ◌++◌, take, length, remove, slice_set, slice_index_or, Some, None, Option}
 use Rattle.tree_node.specs.declared.shape.Shape.{Shape}
-use Rattle.tree_node.specs.Leaf.{IsLeaf, leaf_entries}
+use Rattle.tree_node.specs.Leaf.{IsLeaf, leaf_entries, leaf_room}
 use Rattle.tree_node.specs.Inner.{IsInner, separators, children}
 use Rattle.node_balance.specs.Fill.{least}
 
@@ -22,8 +22,9 @@ pub record LeavesJoined (shape : Shape) (left right left_now : List ℕ) : Type 
   pub leaf : IsLeaf shape left_now
   pub has : leaf_entries shape left_now ≡ leaf_entries shape left ++ leaf_entries shape right
 
--- both leaves have entries, together those that they had, and neither is short, where neither
--- lacked more than one; the key is the first of the second leaf
+-- both leaves have entries, together those that they had, and one has at most one more than the
+-- other; neither is short, where neither lacked more than one; the key is the first of the second
+-- leaf
 pub record LeavesShared (shape : Shape) (left right left_now right_now key : List ℕ) : Type 0 where
   pub lower : IsLeaf shape left_now
   pub upper : IsLeaf shape right_now
@@ -31,6 +32,8 @@ pub record LeavesShared (shape : Shape) (left right left_now right_now key : Lis
       ++ leaf_entries shape right
   pub between : key ≡ take shape.width (slice_index_or (leaf_entries shape right_now) 0 [])
   pub some : (1 ≤ length (leaf_entries shape left_now)) × (1 ≤ length (leaf_entries shape right_now))
+  pub even : (length (leaf_entries shape left_now) ≤ length (leaf_entries shape right_now) + 1)
+      × (length (leaf_entries shape right_now) ≤ length (leaf_entries shape left_now) + 1)
   pub fill : least shape 0 ≤ length (leaf_entries shape left) + 1
       → least shape 0 ≤ length (leaf_entries shape right) + 1
       → (least shape 0 ≤ length (leaf_entries shape left_now))
@@ -54,6 +57,13 @@ pub record InnersShared (shape : Shape) (between left right left_now right_now k
       → least shape 1 ≤ length (separators shape right) + 1
       → (least shape 1 ≤ length (separators shape left_now))
       × (least shape 1 ≤ length (separators shape right_now))
+
+-- a leaf has room for n entries of another one, which has them to give
+pub record CanTake (shape : Shape) (n : ℕ) (page other : List ℕ) : Type 0 where
+  pub leaf : IsLeaf shape page
+  pub other_leaf : IsLeaf shape other
+  pub some : n ≤ length (leaf_entries shape other)
+  pub room : length (leaf_entries shape page) + n ≤ leaf_room shape
 
 -- nodes with this many levels below them
 abbrev pub IsNode : Shape → ℕ → List ℕ → Type 0

@@ -1,9 +1,9 @@
 //! Two nodes side by side, of which one has too little.
 
 ghost use Rattle.std.specs.Prelude.{◌≡◌, ◌+◌, length, [], take, slice_index_or};
-ghost use Rattle.tree_node.specs.Leaf.{leaf_entries, HasEntryAt, CanMergeLeaf, CanBorrowEntry, LeavesInOrder};
+ghost use Rattle.tree_node.specs.Leaf.{leaf_entries, HasEntryAt, CanMergeLeaf, LeavesInOrder};
 ghost use Rattle.tree_node.specs.Inner.{separators, HasSeparatorAt, CanMergeInner, CanBorrowChild, InnersInOrder};
-ghost use Rattle.node_balance.specs.Balance.{LosesSeparator, ChangesSeparator, LeavesJoined, InnersJoined, Balances};
+ghost use Rattle.node_balance.specs.Balance.{CanTake, LosesSeparator, ChangesSeparator, LeavesJoined, InnersJoined, Balances};
 
 use page_bytes::PAGE_SIZE;
 use tree_node::{
@@ -37,23 +37,27 @@ fn join_leaves(left: &mut [u8; PAGE_SIZE], right: &[u8; PAGE_SIZE], shape: Shape
     LeafViewMut { page: left, shape }.merge_from(right);
 }
 
-/// The first entry of the leaf to the right goes over to the left one.
+/// The first `n` entries of the leaf to the right go over to the left one.
 #[tactic(auto, using(crate::proofs::BalanceLemmas::lengths))]
-fn fill_left_leaf(left: &mut [u8; PAGE_SIZE], right: &mut [u8; PAGE_SIZE], shape: Shape)
-    requires { CanBorrowEntry shape left.old right.old }
+fn fill_left_leaf(left: &mut [u8; PAGE_SIZE], right: &mut [u8; PAGE_SIZE], shape: Shape, n: usize)
+    requires { CanTake shape n left.old right.old }
     ensures in_order { LeavesInOrder shape left.old right.old left.new right.new }
-    ensures more { length (leaf_entries shape left.new) ≡ length (leaf_entries shape left.old) + 1 }
+    ensures more { length (leaf_entries shape left.new) ≡ length (leaf_entries shape left.old) + n }
 {
-    LeafViewMut { page: left, shape }.borrow_from_right(right);
+    for _ in 0..n {
+        LeafViewMut { page: left, shape }.borrow_from_right(right);
+    }
 }
 
-/// The last entry of the leaf to the left goes over to the right one.
-fn fill_right_leaf(left: &mut [u8; PAGE_SIZE], right: &mut [u8; PAGE_SIZE], shape: Shape)
-    requires { CanBorrowEntry shape right.old left.old }
+/// The last `n` entries of the leaf to the left go over to the right one.
+fn fill_right_leaf(left: &mut [u8; PAGE_SIZE], right: &mut [u8; PAGE_SIZE], shape: Shape, n: usize)
+    requires { CanTake shape n right.old left.old }
     ensures in_order { LeavesInOrder shape left.old right.old left.new right.new }
-    ensures more { length (leaf_entries shape right.new) ≡ length (leaf_entries shape right.old) + 1 }
+    ensures more { length (leaf_entries shape right.new) ≡ length (leaf_entries shape right.old) + n }
 {
-    LeafViewMut { page: right, shape }.borrow_from_left(left);
+    for _ in 0..n {
+        LeafViewMut { page: right, shape }.borrow_from_left(left);
+    }
 }
 
 /// Two leaves share their entries anew, or become one. The answer is whether they did.
@@ -78,11 +82,11 @@ fn balance_leaves(
         lose(node, shape, at);
         Some(true)
     } else if lower < upper {
-        fill_left_leaf(left, right, shape);
+        fill_left_leaf(left, right, shape, (upper - lower).div_ceil(2));
         lead(node, shape, at, right);
         Some(false)
     } else if upper < lower {
-        fill_right_leaf(left, right, shape);
+        fill_right_leaf(left, right, shape, (lower - upper).div_ceil(2));
         lead(node, shape, at, right);
         Some(false)
     } else {
