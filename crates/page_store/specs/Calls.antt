@@ -1,6 +1,14 @@
 -- What the calls of a shelf do to a file.
-use Rattle.std.specs.Prelude.{◌≡◌, ◌⊎◌, ℕ, List, [], ◌∷◌, ◌++◌, length, take, drop, Some}
+use Rattle.std.specs.Prelude.{◌≡◌, ◌⊎◌, ℕ, Bool, is_some, List, [], ◌∷◌, ◌++◌, length, take, drop, Some}
 use Rattle.page_store.specs.DeviceFile.{DeviceFile, created, wrote, synced, overlay, Torn, content}
+
+-- whether the file is there
+abbrev pub TellsWhetherThere : DeviceFile → Bool → Type 0
+TellsWhetherThere file there = there ≡ is_some file.seen
+
+-- how many bytes it has
+abbrev pub TellsSize : DeviceFile → ℕ → Type 0
+TellsSize file size = size ≡ length (content file)
 
 -- these are the file's bytes at `at`
 pub record ReadsBytes (file : DeviceFile) (at : ℕ) (bytes : List ℕ) : Type 0 where

@@ -35,6 +35,15 @@ pub record IsWithin (n : ℕ) (file : DeviceFile) : Type 0 where
 abbrev pub IsThere : DeviceFile → Type 0
 IsThere file = IsWithin 0 file
 
+-- the file is there, without a byte
+pub record IsEmpty (file : DeviceFile) : Type 0 where
+  pub there : IsThere file
+  pub empty : content file ≡ []
+
+-- it has as many bytes, or more
+abbrev pub IsNoShorter : DeviceFile → DeviceFile → Type 0
+IsNoShorter old new = length (content old) ≤ length (content new)
+
 -- these bytes over those at `at`, and past the end
 abbrev pub overlay : List ℕ → ℕ → List ℕ → List ℕ
 overlay old at bytes = take at old ++ bytes ++ drop (at + length bytes) old

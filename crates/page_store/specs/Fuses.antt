@@ -15,6 +15,21 @@ use Rattle.page_store.specs.declared.fuse.Fuse.{Fuse}
 abbrev pub capped : ℕ → ℕ → ℕ
 capped a b = min (a + b) (2 ^ 64 - 1)
 
+-- a fuse that has counted no call
+abbrev pub unused_fuse : Kind → ℕ → Bool → Bool → Fuse
+unused_fuse kind at after for_good = record {
+  kind = kind;
+  at = at;
+  after = after;
+  for_good = for_good;
+  creates = 0;
+  reads = 0;
+  writes = 0;
+  syncs = 0;
+  blown = false;
+  refused = 0;
+}
+
 -- the fuse counts the calls of its kind
 abbrev pub is_counted : Kind → Call → Bool
 is_counted Changes Create = true

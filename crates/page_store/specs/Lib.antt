@@ -5,11 +5,14 @@ pub mod Moments
 pub mod ShelfState
 pub mod Gate
 pub mod Pages
+pub mod ShelfCalls
+pub mod StoreCalls
 pub mod Events
-pub mod MemFiles
 pub mod MemLaws
-pub mod MemShelves
 pub mod CrashImages
+pub mod MemFiles
+pub mod MemShelves
 pub mod Fuses
+pub mod FusedCalls
 pub mod QuietFacts
 pub mod PageFacts

@@ -1,7 +1,9 @@
 -- Files in memory, each under its name.
-use Rattle.std.specs.Prelude.{ℕ, zero, suc, List, [], ◌∷◌, Option, Some, None, option_map, if◌then◌else◌, bytes_eq, ◌+◌, ◌≤◌, Bool, true, false, ◌≡◌, length, get_or, set}
-use Rattle.page_store.specs.DeviceFile.{DeviceFile, absent, IsWithin}
+use Rattle.std.specs.Prelude.{ℕ, zero, suc, List, [], ◌∷◌, Option, Some, None, MatchOption, option_map, if◌then◌else◌, bytes_eq, ◌+◌, ◌≤◌, Bool, true, false, ◌≡◌, length, get_or, set}
+use Rattle.page_store.specs.DeviceFile.{DeviceFile, absent, synced, IsWithin}
+use Rattle.page_store.specs.Images.{durable}
 use Rattle.page_store.specs.Events.{steps}
+use Rattle.page_store.specs.CrashImages.{filled}
 use Rattle.page_store.specs.declared.memory_file.MemFile.{MemFile}
 
 abbrev pub has_name : MemFile → List ℕ → Bool
@@ -10,6 +12,14 @@ has_name f name = bytes_eq f.name.bytes name
 -- what a file in memory stands for
 abbrev pub file_of : MemFile → DeviceFile
 file_of f = record { seen = Some f.bytes.items; log = steps f.log.items }
+
+-- its bytes, with this one wherever a write was asked for since the last sync
+abbrev pub filled_file : ℕ → MemFile → List ℕ
+filled_file byte f = filled byte (durable (steps f.log.items)).ranges 0 f.bytes.items
+
+-- a file that has just been synced
+abbrev pub just_synced : List ℕ → DeviceFile
+just_synced bytes = record { seen = Some bytes; log = synced bytes ∷ [] }
 
 -- the file of this name
 abbrev pub file_in : List MemFile → List ℕ → DeviceFile
@@ -33,6 +43,10 @@ pub record Found (fs : List MemFile) (name : List ℕ) (i : ℕ) : Type 0 where
   pub file : (d : MemFile) → file_in fs name ≡ file_of (get_or fs i d)
   pub named : (d : MemFile) → has_name (get_or fs i d) name ≡ true
   pub within : (d : MemFile) (n : ℕ) → IsWithin n (file_in fs name) → n ≤ length (get_or fs i d).bytes.items
+
+-- the place at which the file of this name was found, or none where it is absent
+abbrev pub IsPlaceOf : List MemFile → List ℕ → Option ℕ → Type 0
+IsPlaceOf fs name place = MatchOption place ((file_in fs name).seen ≡ None) (λ i. Found fs name i)
 
 -- one file is changed in its place
 pub record ChangedMemFile (fs : List MemFile) (name : List ℕ) (i : ℕ) (f g : MemFile) : Type 0 where

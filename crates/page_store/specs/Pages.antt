@@ -1,5 +1,5 @@
 -- The pages of a file.
-use Rattle.std.specs.Prelude.{◌≡◌, ℕ, zero, suc, ◌-◌, ◌*◌, ◌/◌, ◌^◌, min, max, Bool, IsTrue, List, length, take, drop}
+use Rattle.std.specs.Prelude.{◌≡◌, ℕ, zero, suc, ◌+◌, ◌-◌, ◌*◌, ◌/◌, ◌^◌, min, max, Bool, IsTrue, List, length, take, drop}
 use Rattle.page_store.specs.DeviceFile.{DeviceFile, content, IsWithin}
 use Rattle.page_store.specs.Calls.{Written, WriteFails}
 use Rattle.page_store.specs.declared.store.Store.{Store}
@@ -32,6 +32,10 @@ PageWritten n page old new = Written (offset_of n) (part_of n page) old new
 -- page n may hold anything, but for the first byte of the file, and no other byte has changed
 abbrev pub PageFails : ℕ → DeviceFile → DeviceFile → Type 0
 PageFails n old new = WriteFails (offset_of n) (length_of n) old new
+
+-- the file reaches to the end of page n
+abbrev pub ReachesPage : ℕ → DeviceFile → DeviceFile → Type 0
+ReachesPage n old new = IsWithin (offset_of n + length_of n) new
 
 -- the file is there, with its gate and these pages
 abbrev pub HasPages : ℕ → DeviceFile → Type 0

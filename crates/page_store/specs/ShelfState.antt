@@ -20,6 +20,10 @@ pub record HasUnit (shelf : ShelfState) (unit : ℕ) : Type 0 where
 abbrev pub unit_name : ShelfState → ℕ → List ℕ
 unit_name shelf unit = get_or shelf.names unit []
 
+-- the shelf with these names of units, in place of those that it had
+abbrev pub attached_as : List (List ℕ) → ShelfState → ShelfState
+attached_as names shelf = record shelf { names = names }
+
 -- the file of a unit
 abbrev pub unit_file : ShelfState → ℕ → DeviceFile
 unit_file shelf unit = shelf.file (unit_name shelf unit)

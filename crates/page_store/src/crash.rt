@@ -23,10 +23,8 @@ pub enum Image {
 impl MemFile {
     ghost use Rattle.std.specs.Prelude.{◌≡◌, option_map, IfOk, IsOkUnless};
     ghost use Rattle.io_state.specs.declared.fault.Fault.TheVariants.{Memory};
-    ghost use Rattle.page_store.specs.Images.{durable};
-    ghost use Rattle.page_store.specs.Events.{steps};
-    ghost use Rattle.page_store.specs.MemFiles.{file_of};
-    ghost use Rattle.page_store.specs.CrashImages.{image_of, filled};
+    ghost use Rattle.page_store.specs.MemFiles.{file_of, filled_file};
+    ghost use Rattle.page_store.specs.CrashImages.{image_of};
 
     /// The bytes that a crash leaves, if it leaves the file.
     pub(crate) fn left_by(&self, alloc: Global, image: Image) -> Result<Option<Vec<u8>>, Fault>
@@ -46,8 +44,7 @@ impl MemFile {
 
     // The bytes, with another one wherever a write was asked for since the last sync.
     fn filled(&self, alloc: Global, byte: u8) -> Result<Vec<u8>, Fault>
-        ensures filled { IfOk result (λ bytes. bytes.items ≡ filled byte
-            (durable (steps self.now.log.items)).ranges 0 self.now.bytes.items) }
+        ensures filled { IfOk result (λ bytes. bytes.items ≡ filled_file byte self.now) }
         ensures only_memory { IsOkUnless result Memory }
     {
         let mut bytes = Vec::new(alloc);

@@ -1,10 +1,12 @@
 //! A shelf whose calls fail on purpose, for tests.
-ghost use Rattle.std.specs.Prelude.{◌≡◌, ◌+◌, ℕ, length, is_some, None, IsTrue, IfOk, OnOk, OnErr, ⊤, false};
-ghost use Rattle.page_store.specs.declared.fuse.Call.TheVariants.{Create, Read, Write, Sync, Other};
-ghost use Rattle.page_store.specs.DeviceFile.{content, IsWithin, IsThere};
-ghost use Rattle.page_store.specs.Calls.{ReadsBytes, Created, CreateFails, Written, WriteFails, Synced, SyncFails};
-ghost use Rattle.page_store.specs.ShelfState.{HasUnit, unit_file, WhereHonest, FileGoes, OnlyAnswers, ChangesOnly, FaultHasCause};
-ghost use Rattle.page_store.specs.Fuses.{capped, calls_of, Fused};
+ghost use Rattle.std.specs.Prelude.{◌≡◌, ◌+◌, length, None, ⊤};
+ghost use Rattle.page_store.specs.declared.fuse.Call.TheVariants.{Create, Sync, Other};
+ghost use Rattle.page_store.specs.DeviceFile.{IsWithin, IsThere};
+ghost use Rattle.page_store.specs.Calls.{TellsWhetherThere, TellsSize, Created, CreateFails, Synced, SyncFails};
+ghost use Rattle.page_store.specs.ShelfState.{HasUnit};
+ghost use Rattle.page_store.specs.ShelfCalls.{HasUnitWith};
+ghost use Rattle.page_store.specs.Fuses.{capped, calls_of, unused_fuse};
+ghost use Rattle.page_store.specs.FusedCalls.{AsksBehindFuse, ReadsBehindFuse, ChangesBehindFuse, WritesBehindFuse};
 
 use crate::fuse::{Call, Fuse, Kind, Turn};
 use crate::shelf::Shelf;
@@ -24,18 +26,7 @@ impl<S: Shelf + Drop> FuseShelf<S> {
     /// performs nothing.
     pub fn new(shelf: S, kind: Kind, at: u64, after: bool, for_good: bool) -> FuseShelf<S>
         ensures shelf { result.inner ≡ shelf }
-        ensures fuse { result.fuse ≡ record {
-          kind = kind;
-          at = at;
-          after = after;
-          for_good = for_good;
-          creates = 0;
-          reads = 0;
-          writes = 0;
-          syncs = 0;
-          blown = false;
-          refused = 0;
-        } }
+        ensures fuse { result.fuse ≡ unused_fuse kind at after for_good }
     {
         FuseShelf {
             inner: shelf,
@@ -83,13 +74,8 @@ impl<S: Shelf + Drop> Shelf for FuseShelf<S> {
 
     fn exists(&mut self, unit: usize) -> Result<bool, Fault>
         requires unit { HasUnit (S.Shelf.state self.old.inner) unit }
-        ensures answer { IfOk result (λ there. IsTrue (S.Shelf.state self.new.inner).is_honest →
-            there ≡ is_some (unit_file (S.Shelf.state self.old.inner) unit).seen) }
-        ensures only { OnlyAnswers (S.Shelf.state self.old.inner) (S.Shelf.state self.new.inner) }
-        ensures cause { FaultHasCause (capped (S.Shelf.fault_count self.old.inner) self.old.fuse.refused)
-            (capped (S.Shelf.fault_count self.new.inner) self.new.fuse.refused) result }
-        ensures fuse { Fused Other S.Shelf.fault_count ⊤
-            self.old.fuse self.new.fuse self.old.inner self.new.inner result }
+        ensures { AsksBehindFuse S.Shelf.state S.Shelf.fault_count Other unit (λ _. ⊤) TellsWhetherThere
+            self.old self.new result }
     {
         match self.fuse.turn(Call::Other) {
             Turn::Perform => self.inner.exists(unit),
@@ -98,18 +84,9 @@ impl<S: Shelf + Drop> Shelf for FuseShelf<S> {
     }
 
     fn create(&mut self, unit: usize) -> Result<(), Fault>
-        requires unit { HasUnit (S.Shelf.state self.old.inner) unit }
-        requires absent { WhereHonest (S.Shelf.state self.old.inner) unit (λ file. file.seen ≡ None) }
-        ensures made { OnOk result (FileGoes unit (S.Shelf.state self.old.inner)
-            (S.Shelf.state self.new.inner) Created) }
-        ensures failed { OnErr result (FileGoes unit (S.Shelf.state self.old.inner)
-            (S.Shelf.state self.new.inner) CreateFails) }
-        ensures only { ChangesOnly unit (S.Shelf.state self.old.inner) (S.Shelf.state self.new.inner) }
-        ensures cause { FaultHasCause (capped (S.Shelf.fault_count self.old.inner) self.old.fuse.refused)
-            (capped (S.Shelf.fault_count self.new.inner) self.new.fuse.refused) result }
-        ensures fuse { Fused Create S.Shelf.fault_count
-            (FileGoes unit (S.Shelf.state self.old.inner) (S.Shelf.state self.new.inner) Created)
-            self.old.fuse self.new.fuse self.old.inner self.new.inner result }
+        requires { HasUnitWith (S.Shelf.state self.old.inner) unit (λ file. file.seen ≡ None) }
+        ensures { ChangesBehindFuse S.Shelf.state S.Shelf.fault_count Create unit Created CreateFails
+            self.old self.new result }
     {
         match self.fuse.turn(Call::Create) {
             Turn::Perform => self.inner.create(unit),
@@ -122,15 +99,9 @@ impl<S: Shelf + Drop> Shelf for FuseShelf<S> {
     }
 
     fn size(&mut self, unit: usize) -> Result<u64, Fault>
-        requires unit { HasUnit (S.Shelf.state self.old.inner) unit }
-        requires there { WhereHonest (S.Shelf.state self.old.inner) unit IsThere }
-        ensures answer { IfOk result (λ size. IsTrue (S.Shelf.state self.new.inner).is_honest →
-            size ≡ length (content (unit_file (S.Shelf.state self.old.inner) unit))) }
-        ensures only { OnlyAnswers (S.Shelf.state self.old.inner) (S.Shelf.state self.new.inner) }
-        ensures cause { FaultHasCause (capped (S.Shelf.fault_count self.old.inner) self.old.fuse.refused)
-            (capped (S.Shelf.fault_count self.new.inner) self.new.fuse.refused) result }
-        ensures fuse { Fused Other S.Shelf.fault_count ⊤
-            self.old.fuse self.new.fuse self.old.inner self.new.inner result }
+        requires { HasUnitWith (S.Shelf.state self.old.inner) unit IsThere }
+        ensures { AsksBehindFuse S.Shelf.state S.Shelf.fault_count Other unit (λ _. ⊤) TellsSize
+            self.old self.new result }
     {
         match self.fuse.turn(Call::Other) {
             Turn::Perform => self.inner.size(unit),
@@ -139,16 +110,9 @@ impl<S: Shelf + Drop> Shelf for FuseShelf<S> {
     }
 
     fn read_at(&mut self, unit: usize, at: u64, bytes: &mut [u8]) -> Result<(), Fault>
-        requires unit { HasUnit (S.Shelf.state self.old.inner) unit }
-        requires within { WhereHonest (S.Shelf.state self.old.inner) unit (IsWithin (at + length bytes.old)) }
-        ensures answer { OnOk result (IsTrue (S.Shelf.state self.new.inner).is_honest →
-            ReadsBytes (unit_file (S.Shelf.state self.old.inner) unit) at bytes.new) }
-        ensures only { OnlyAnswers (S.Shelf.state self.old.inner) (S.Shelf.state self.new.inner) }
-        ensures cause { FaultHasCause (capped (S.Shelf.fault_count self.old.inner) self.old.fuse.refused)
-            (capped (S.Shelf.fault_count self.new.inner) self.new.fuse.refused) result }
-        ensures fuse { Fused Read S.Shelf.fault_count (IsTrue (S.Shelf.state self.new.inner).is_honest →
-            ReadsBytes (unit_file (S.Shelf.state self.old.inner) unit) at bytes.new)
-            self.old.fuse self.new.fuse self.old.inner self.new.inner result }
+        requires { HasUnitWith (S.Shelf.state self.old.inner) unit (IsWithin (at + length bytes.old)) }
+        ensures { ReadsBehindFuse S.Shelf.state S.Shelf.fault_count unit at bytes.new
+            self.old self.new result }
     {
         match self.fuse.turn(Call::Read) {
             Turn::Perform => self.inner.read_at(unit, at, bytes),
@@ -161,19 +125,9 @@ impl<S: Shelf + Drop> Shelf for FuseShelf<S> {
     }
 
     fn write_at(&mut self, unit: usize, at: u64, bytes: &[u8]) -> Result<(), Fault>
-        requires unit { HasUnit (S.Shelf.state self.old.inner) unit }
-        requires within { WhereHonest (S.Shelf.state self.old.inner) unit (IsWithin at) }
-        ensures written { OnOk result (FileGoes unit (S.Shelf.state self.old.inner)
-            (S.Shelf.state self.new.inner) (Written at bytes.now)) }
-        ensures failed { OnErr result (FileGoes unit (S.Shelf.state self.old.inner)
-            (S.Shelf.state self.new.inner) (WriteFails at (length bytes.now))) }
-        ensures only { ChangesOnly unit (S.Shelf.state self.old.inner) (S.Shelf.state self.new.inner) }
-        ensures cause { FaultHasCause (capped (S.Shelf.fault_count self.old.inner) self.old.fuse.refused)
-            (capped (S.Shelf.fault_count self.new.inner) self.new.fuse.refused) result }
-        ensures fuse { Fused Write S.Shelf.fault_count
-            (FileGoes unit (S.Shelf.state self.old.inner) (S.Shelf.state self.new.inner)
-            (Written at bytes.now))
-            self.old.fuse self.new.fuse self.old.inner self.new.inner result }
+        requires { HasUnitWith (S.Shelf.state self.old.inner) unit (IsWithin at) }
+        ensures { WritesBehindFuse S.Shelf.state S.Shelf.fault_count unit at bytes.now
+            self.old self.new result }
     {
         match self.fuse.turn(Call::Write) {
             Turn::Perform => self.inner.write_at(unit, at, bytes),
@@ -186,18 +140,9 @@ impl<S: Shelf + Drop> Shelf for FuseShelf<S> {
     }
 
     fn sync(&mut self, unit: usize) -> Result<(), Fault>
-        requires unit { HasUnit (S.Shelf.state self.old.inner) unit }
-        requires there { WhereHonest (S.Shelf.state self.old.inner) unit IsThere }
-        ensures synced { OnOk result (FileGoes unit (S.Shelf.state self.old.inner)
-            (S.Shelf.state self.new.inner) Synced) }
-        ensures failed { OnErr result (FileGoes unit (S.Shelf.state self.old.inner)
-            (S.Shelf.state self.new.inner) SyncFails) }
-        ensures only { ChangesOnly unit (S.Shelf.state self.old.inner) (S.Shelf.state self.new.inner) }
-        ensures cause { FaultHasCause (capped (S.Shelf.fault_count self.old.inner) self.old.fuse.refused)
-            (capped (S.Shelf.fault_count self.new.inner) self.new.fuse.refused) result }
-        ensures fuse { Fused Sync S.Shelf.fault_count
-            (FileGoes unit (S.Shelf.state self.old.inner) (S.Shelf.state self.new.inner) Synced)
-            self.old.fuse self.new.fuse self.old.inner self.new.inner result }
+        requires { HasUnitWith (S.Shelf.state self.old.inner) unit IsThere }
+        ensures { ChangesBehindFuse S.Shelf.state S.Shelf.fault_count Sync unit Synced SyncFails
+            self.old self.new result }
     {
         match self.fuse.turn(Call::Sync) {
             Turn::Perform => self.inner.sync(unit),

@@ -19,11 +19,11 @@ pub(crate) struct MemFile {
 }
 
 impl MemFile {
-    ghost use Rattle.std.specs.Prelude.{◌≡◌, ◌≤◌, [], ◌∷◌, length, Some, OnOk, OnErr, IfOk, IsOkUnless};
+    ghost use Rattle.std.specs.Prelude.{◌≡◌, ◌≤◌, length, OnOk, OnErr, IfOk, IsOkUnless};
     ghost use Rattle.io_state.specs.declared.fault.Fault.TheVariants.{Memory};
-    ghost use Rattle.page_store.specs.DeviceFile.{absent, synced};
+    ghost use Rattle.page_store.specs.DeviceFile.{absent};
     ghost use Rattle.page_store.specs.Calls.{Created, Written, WriteFails, Synced};
-    ghost use Rattle.page_store.specs.MemFiles.{file_of};
+    ghost use Rattle.page_store.specs.MemFiles.{file_of, just_synced};
 
     /// A file that was made now, without a byte.
     pub(crate) fn new(alloc: Global, name: FileName) -> Result<MemFile, Fault>
@@ -43,10 +43,7 @@ impl MemFile {
     /// A file that has just been synced.
     pub(crate) fn restored(alloc: Global, name: FileName, bytes: Vec<u8>) -> Result<MemFile, Fault>
         ensures name { IfOk result (λ file. file.name ≡ name) }
-        ensures synced { IfOk result (λ file. file_of file ≡ record {
-          seen = Some bytes.items;
-          log = synced bytes.items ∷ [];
-        }) }
+        ensures synced { IfOk result (λ file. file_of file ≡ just_synced bytes.items) }
         ensures only_memory { IsOkUnless result Memory }
     {
         let kept = bytes.to_vec(alloc).map_err(|_| Fault::Memory)?;

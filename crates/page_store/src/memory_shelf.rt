@@ -1,9 +1,8 @@
 //! A shelf in memory.
-ghost use Rattle.std.specs.Prelude.{◌≡◌, ◌+◌, ◌<◌, ◌≤◌, length, take, drop, Some, IfSome, IsTrue, true, false, ℕ, List, OnOk, IsOkUnless};
+ghost use Rattle.std.specs.Prelude.{◌≡◌, ◌+◌, ◌<◌, ◌≤◌, length, take, drop, IfSome, OnOk, IsOkUnless};
 ghost use Rattle.io_state.specs.declared.fault.Fault.TheVariants.{Memory};
-ghost use Rattle.page_store.specs.DeviceFile.{absent};
-ghost use Rattle.page_store.specs.CrashImages.{Crashed};
-ghost use Rattle.page_store.specs.MemFiles.{index_of, has_name, file_in, file_of};
+ghost use Rattle.page_store.specs.MemFiles.{index_of};
+ghost use Rattle.page_store.specs.MemShelves.{AddsCrashed, KeepsOthersThan};
 
 use crate::crash::Image;
 use crate::memory_file::MemFile;
@@ -20,13 +19,12 @@ pub struct MemShelf {
 }
 
 impl MemShelf {
-    ghost use Rattle.std.specs.Prelude.{◌≡◌, ◌<◌, [], length, map, None, MatchOption, IfSome, true, ℕ, List, IfOk, IsOkUnless};
+    ghost use Rattle.std.specs.Prelude.{◌≡◌, ◌<◌, [], length, IfSome, true, IfOk, IsOkUnless};
     ghost use Rattle.io_state.specs.declared.fault.Fault.TheVariants.{Memory};
     ghost use Rattle.page_store.specs.DeviceFile.{absent};
-    ghost use Rattle.page_store.specs.CrashImages.{Crashed};
     ghost use Rattle.page_store.specs.ShelfState.{HasUnit, unit_name};
-    ghost use Rattle.page_store.specs.MemFiles.{file_in, Found};
-    ghost use Rattle.page_store.specs.MemShelves.{state_of};
+    ghost use Rattle.page_store.specs.MemFiles.{IsPlaceOf};
+    ghost use Rattle.page_store.specs.MemShelves.{state_of, EachCrashed};
 
     /// A shelf with no unit, and no file.
     pub fn new(alloc: Global) -> MemShelf
@@ -41,8 +39,7 @@ impl MemShelf {
 
     /// The shelf that a crash leaves. It has no unit until it is attached, and no fault is counted.
     pub fn crash(&self, alloc: Global, image: Image) -> Result<MemShelf, Fault>
-        ensures files { IfOk result (λ shelf. (name : List ℕ) →
-            Crashed image ((state_of self.now).file name) ((state_of shelf).file name)) }
+        ensures files { IfOk result (λ shelf. EachCrashed image (state_of self.now) (state_of shelf)) }
         ensures units { IfOk result (λ shelf. (state_of shelf).names ≡ []) }
         ensures only_memory { IsOkUnless result Memory }
     {
@@ -63,9 +60,7 @@ impl MemShelf {
     // Where the file of a unit is.
     fn place(&self, unit: usize) -> Option<usize>
         requires { HasUnit (state_of self.now) unit }
-        ensures found { let name = unit_name (state_of self.now) unit in
-            MatchOption result ((file_in self.now.files.items name).seen ≡ None)
-            (λ at. Found self.now.files.items name at) }
+        ensures found { IsPlaceOf self.now.files.items (unit_name (state_of self.now) unit) result }
         ensures within { IfSome result (λ at. at < length self.now.files.items) }
     {
         find(&self.files, &self.units[unit])
@@ -73,11 +68,12 @@ impl MemShelf {
 }
 
 impl Shelf for MemShelf {
-    ghost use Rattle.std.specs.Prelude.{◌≡◌, ◌+◌, length, is_some, IsTrue, IsOk, IfOk, OnOk};
+    ghost use Rattle.std.specs.Prelude.{◌≡◌, ◌+◌, length, is_some};
     ghost use Rattle.page_store.specs.DeviceFile.{content, IsWithin, IsThere};
     ghost use Rattle.page_store.specs.Calls.{ReadsBytes};
-    ghost use Rattle.page_store.specs.ShelfState.{HasUnit, unit_file};
-    ghost use Rattle.page_store.specs.MemShelves.{state_of};
+    ghost use Rattle.page_store.specs.ShelfState.{HasUnit};
+    ghost use Rattle.page_store.specs.ShelfCalls.{HasUnitWith};
+    ghost use Rattle.page_store.specs.MemShelves.{state_of, AnswersAlways};
     ghost use Rattle.page_store.specs.MemLaws.{files_sound};
 
     ghost state = { state_of };
@@ -92,9 +88,7 @@ impl Shelf for MemShelf {
 
     fn exists(&mut self, unit: usize) -> Result<bool, Fault>
         requires unit { HasUnit (state_of self.old) unit }
-        ensures never { IsOk result }
-        ensures answer { IfOk result (λ there. there ≡ is_some (unit_file (state_of self.old) unit).seen) }
-        ensures stays { self.new ≡ self.old }
+        ensures { AnswersAlways unit (λ file there. there ≡ is_some file.seen) self.old self.new result }
     {
         Ok(self.place(unit).is_some())
     }
@@ -106,11 +100,8 @@ impl Shelf for MemShelf {
     }
 
     fn size(&mut self, unit: usize) -> Result<u64, Fault>
-        requires unit { HasUnit (state_of self.old) unit }
-        requires there { IsTrue (state_of self.old).is_honest → IsThere (unit_file (state_of self.old) unit) }
-        ensures never { IsOk result }
-        ensures answer { IfOk result (λ size. size ≡ length (content (unit_file (state_of self.old) unit))) }
-        ensures stays { self.new ≡ self.old }
+        requires { HasUnitWith (state_of self.old) unit IsThere }
+        ensures { AnswersAlways unit (λ file size. size ≡ length (content file)) self.old self.new result }
     {
         match self.place(unit) {
             Some(place) => Ok(self.files[place].bytes.len() as u64),
@@ -119,12 +110,8 @@ impl Shelf for MemShelf {
     }
 
     fn read_at(&mut self, unit: usize, at: u64, bytes: &mut [u8]) -> Result<(), Fault>
-        requires unit { HasUnit (state_of self.old) unit }
-        requires within { IsTrue (state_of self.old).is_honest
-            → IsWithin (at + length bytes.old) (unit_file (state_of self.old) unit) }
-        ensures never { IsOk result }
-        ensures answer { OnOk result (ReadsBytes (unit_file (state_of self.old) unit) at bytes.new) }
-        ensures stays { self.new ≡ self.old }
+        requires { HasUnitWith (state_of self.old) unit (IsWithin (at + length bytes.old)) }
+        ensures { AnswersAlways unit (λ file _. ReadsBytes file at bytes.new) self.old self.new result }
     {
         match self.place(unit) {
             Some(place) => {
@@ -168,11 +155,8 @@ fn keep_left(
     file: &MemFile,
     image: Image,
 ) -> Result<(), Fault>
-    ensures this { OnOk result ((name : List ℕ) → has_name file.now name ≡ true
-        → file_in files.old.items name ≡ absent →
-        Crashed image (file_of file.now) (file_in files.new.items name)) }
-    ensures others { OnOk result ((name : List ℕ) → has_name file.now name ≡ false
-        → file_in files.new.items name ≡ file_in files.old.items name) }
+    ensures this { OnOk result (AddsCrashed image file.now files.old.items files.new.items) }
+    ensures others { OnOk result (KeepsOthersThan file.now files.old.items files.new.items) }
     ensures only_memory { IsOkUnless result Memory }
 {
     match file.left_by(alloc, image)? {

@@ -30,29 +30,28 @@ quiet_either (Err e) at n bytes f h low is ok err = quiet_failed f h at n low er
 positive : (n : ℕ) → (n ≡ 0 → ⊥) → 0 < n * 4096
 positive n not = let h : 0 < n = grind arith in omega arith
 
-pub returns-then-n-eq0-clause-written : goal.returns-then-n-eq0-clause-written
-returns-then-n-eq0-clause-written g c =
+pub returns-then-n-eq0-clause-changes : goal.returns-then-n-eq0-clause-changes
+returns-then-n-eq0-clause-changes g c =
     let f = unit_file (g.S.Shelf.state c.args.shelf.now) c.args.unit in
     let h = unit_file (g.S.Shelf.state c.write_at.new.self) c.args.unit in
-    first_written c.write_at.result c.args.n c.args.page.now _ f h (search rules) (rest c.args.page.now (search rules)) c.write_at.ensures.written
-
-pub returns-then-n-eq0-clause-failed : goal.returns-then-n-eq0-clause-failed
-returns-then-n-eq0-clause-failed g c =
-    let f = unit_file (g.S.Shelf.state c.args.shelf.now) c.args.unit in
-    let h = unit_file (g.S.Shelf.state c.write_at.new.self) c.args.unit in
-    first_failed c.write_at.result c.args.n _ f h (search rules) (length_rest c.args.page.now (search rules)) c.write_at.ensures.failed
+    record {
+      done = first_written c.write_at.result c.args.n c.args.page.now _ f h (search rules) (rest c.args.page.now (search rules)) c.write_at.ensures.done;
+      failed = first_failed c.write_at.result c.args.n _ f h (search rules) (length_rest c.args.page.now (search rules)) c.write_at.ensures.failed;
+      only = search rules;
+      cause = search rules;
+    }
 
 pub returns-then-n-eq0-clause-quiet : goal.returns-then-n-eq0-clause-quiet
 returns-then-n-eq0-clause-quiet g c =
     let f = unit_file (g.S.Shelf.state c.args.shelf.now) c.args.unit in
     let h = unit_file (g.S.Shelf.state c.write_at.new.self) c.args.unit in
-    quiet_either c.write_at.result 1 _ _ f h (omega arith) refl c.write_at.ensures.written c.write_at.ensures.failed
+    quiet_either c.write_at.result 1 _ _ f h (omega arith) refl c.write_at.ensures.done c.write_at.ensures.failed
 
 pub returns-else-n-eq0-clause-quiet : goal.returns-else-n-eq0-clause-quiet
 returns-else-n-eq0-clause-quiet g c =
     let f = unit_file (g.S.Shelf.state c.args.shelf.now) c.args.unit in
     let h = unit_file (g.S.Shelf.state c.write_at-else-n-eq0.new.self) c.args.unit in
-    quiet_either c.write_at-else-n-eq0.result (c.args.n * 4096) _ _ f h (positive c.args.n c.if-n-eq0.false) refl c.write_at-else-n-eq0.ensures.written c.write_at-else-n-eq0.ensures.failed
+    quiet_either c.write_at-else-n-eq0.result (c.args.n * 4096) _ _ f h (positive c.args.n c.if-n-eq0.false) refl c.write_at-else-n-eq0.ensures.done c.write_at-else-n-eq0.ensures.failed
 
 first_offset : (n : ℕ) → n ≡ 0 → 1 ≤ offset_of n
 first_offset zero is = omega arith
@@ -79,27 +78,27 @@ returns-then-n-eq0-clause-reached g c =
     let f = unit_file (g.S.Shelf.state c.args.shelf.now) c.args.unit in
     let h = unit_file (g.S.Shelf.state c.write_at.new.self) c.args.unit in
     let zero : c.args.n ≡ 0 = search rules in
-    first_reached c.write_at.result _ c.args.n _ f h zero (length_rest c.args.page.now (search rules)) (λ honest. let low = (c.requires.within honest).long in let one = first_offset c.args.n zero in omega arith) c.write_at.ensures.written
+    first_reached c.write_at.result _ c.args.n _ f h zero (length_rest c.args.page.now (search rules)) (λ honest. let low = (c.requires.file honest).long in let one = first_offset c.args.n zero in omega arith) c.write_at.ensures.done
 
 pub returns-then-n-eq0-clause-longer : goal.returns-then-n-eq0-clause-longer
 returns-then-n-eq0-clause-longer g c honest =
     let f = unit_file (g.S.Shelf.state c.args.shelf.now) c.args.unit in
     let h = unit_file (g.S.Shelf.state c.write_at.new.self) c.args.unit in
     let zero : c.args.n ≡ 0 = search rules in
-    let low = (c.requires.within honest).long in
+    let low = (c.requires.file honest).long in
     let one = first_offset c.args.n zero in
-    longer_either c.write_at.result f h 1 _ _ (omega arith) c.write_at.ensures.written c.write_at.ensures.failed
+    longer_either c.write_at.result f h 1 _ _ (omega arith) c.write_at.ensures.done c.write_at.ensures.failed
 
 pub returns-else-n-eq0-clause-reached : goal.returns-else-n-eq0-clause-reached
 returns-else-n-eq0-clause-reached g c =
     let f = unit_file (g.S.Shelf.state c.args.shelf.now) c.args.unit in
     let h = unit_file (g.S.Shelf.state c.write_at-else-n-eq0.new.self) c.args.unit in
-    other_reached c.write_at-else-n-eq0.result _ c.args.n c.args.page.now f h c.if-n-eq0.false (search rules) (λ honest. let low = (c.requires.within honest).long in let same = other_offset c.args.n c.if-n-eq0.false in omega arith) c.write_at-else-n-eq0.ensures.written
+    other_reached c.write_at-else-n-eq0.result _ c.args.n c.args.page.now f h c.if-n-eq0.false (search rules) (λ honest. let low = (c.requires.file honest).long in let same = other_offset c.args.n c.if-n-eq0.false in omega arith) c.write_at-else-n-eq0.ensures.done
 
 pub returns-else-n-eq0-clause-longer : goal.returns-else-n-eq0-clause-longer
 returns-else-n-eq0-clause-longer g c honest =
     let f = unit_file (g.S.Shelf.state c.args.shelf.now) c.args.unit in
     let h = unit_file (g.S.Shelf.state c.write_at-else-n-eq0.new.self) c.args.unit in
-    let low = (c.requires.within honest).long in
+    let low = (c.requires.file honest).long in
     let same = other_offset c.args.n c.if-n-eq0.false in
-    longer_either c.write_at-else-n-eq0.result f h (c.args.n * 4096) _ _ (omega arith) c.write_at-else-n-eq0.ensures.written c.write_at-else-n-eq0.ensures.failed
+    longer_either c.write_at-else-n-eq0.result f h (c.args.n * 4096) _ _ (omega arith) c.write_at-else-n-eq0.ensures.done c.write_at-else-n-eq0.ensures.failed

@@ -12,5 +12,9 @@ both fs name (Some i) found = there fs i found.at
     there (f ∷ fs) zero at = rw at refl
     there (f ∷ fs) (suc i) at = rw at.0 (there fs i at.1)
 
-pub returns-clause-answer : goal.returns-clause-answer
-returns-clause-answer c = c.is_some.ensures ∙ both c.args.self.now.files.items _ c.place.result c.place.ensures.found
+pub returns : goal.returns
+returns c = record {
+  never = refl;
+  answer = c.is_some.ensures ∙ both c.args.self.now.files.items _ c.place.result c.place.ensures.found;
+  stays = refl;
+}

@@ -1,4 +1,4 @@
-use Rattle.std.proofs.Common.{◌≡◌, refl, Result, Ok, Err, OnErr, inl}
+use Rattle.std.proofs.Common.{rules, ◌≡◌, refl, Result, Ok, Err, OnErr, inl}
 use Rattle.page_store.specs.DeviceFile.{DeviceFile}
 use Rattle.page_store.specs.Calls.{SyncFails}
 use Rattle.page_store.specs.MemFiles.{file_of}
@@ -6,28 +6,20 @@ use Rattle.page_store.proofs.MemFilesLemmas.{changed, not_none}
 use Rattle.page_store.proofs.memory_shelf.MemShelfShelf.sync.Goals as goal
 
 pub unreachable-requires : goal.unreachable-requires
-unreachable-requires c = not_none _ 0 (c.requires.there refl) c.in-None.ensures.found
-
-pub returns-clause-synced : goal.returns-clause-synced
-returns-clause-synced c =
-    let f = c.index_mut-file.result.now in
-    let d = changed c.args.self.now.files.items _ c.in-Some.place f c.sync.new.self c.in-Some.ensures.found c.index_mut-file.ensures.value c.sync.ensures.name in
-    rw (d.was, d.this) c.sync.ensures.synced
+unreachable-requires c = not_none _ 0 (c.requires.file refl) c.in-None.ensures.found
 
 -- the file is as it was
 unchanged : {T E : Type 0} (r : Result T E) (f g : DeviceFile) → OnErr r (g ≡ f) → OnErr r (SyncFails f g)
 unchanged (Ok v) f g same = tt
 unchanged (Err e) f g same = inl same
 
-pub returns-clause-failed : goal.returns-clause-failed
-returns-clause-failed c =
+pub returns : goal.returns
+returns c =
     let f = c.index_mut-file.result.now in
     let d = changed c.args.self.now.files.items _ c.in-Some.place f c.sync.new.self c.in-Some.ensures.found c.index_mut-file.ensures.value c.sync.ensures.name in
-    rw (d.was, d.this) (unchanged c.sync.result (file_of f) (file_of c.sync.new.self) c.sync.ensures.failed)
-
-pub returns-clause-only : goal.returns-clause-only
-returns-clause-only c = record {
-  names = refl;
-  others = (changed c.args.self.now.files.items _ c.in-Some.place c.index_mut-file.result.now c.sync.new.self c.in-Some.ensures.found c.index_mut-file.ensures.value c.sync.ensures.name).others;
-  honest = refl;
-}
+    record {
+      done = rw (d.was, d.this) c.sync.ensures.synced;
+      failed = rw (d.was, d.this) (unchanged c.sync.result (file_of f) (file_of c.sync.new.self) c.sync.ensures.failed);
+      only = record { names = refl; others = d.others; honest = refl };
+      cause = search rules;
+    }

@@ -1,4 +1,4 @@
-use Rattle.std.proofs.Common.{Some, ◌≡◌, ◌∙◌, sym, ap, Result, Ok, Err, OnOk, OnErr}
+use Rattle.std.proofs.Common.{rules, Some, ◌≡◌, ◌∙◌, sym, ap, Result, Ok, Err, OnOk, OnErr}
 use Rattle.page_store.specs.DeviceFile.{DeviceFile, content}
 use Rattle.page_store.specs.Images.{Leaves, IsSettled}
 use Rattle.page_store.specs.Calls.{Synced}
@@ -18,18 +18,17 @@ after_close : {T E : Type 0} (r : Result T E) (f m h : DeviceFile) → Synced f 
 after_close (Ok v) f m h so w = (gate_content 67 m h w ∙ ap (with_gate 67) (content_synced f m so), gate_settled 67 m h w)
 after_close (Err e) f m h so w = tt
 
-pub returns-clause-images : goal.returns-clause-images
-returns-clause-images g c honest shut =
+pub returns : goal.returns
+returns g c =
     let f = unit_file (g.S.Shelf.state c.args.shelf.now) c.args.self.now.unit in
     let m = unit_file (g.S.Shelf.state c.sync.new.self) c.args.self.now.unit in
     let h = unit_file (g.S.Shelf.state c.write.new.shelf) c.args.self.now.unit in
-    let was = sym (c.write.ensures.only.honest ∙ c.sync.ensures.only.honest) ∙ honest in
-    let read = there_image 0 f (c.requires.there was) (g.met.S.Shelf.reads_an_image c.args.shelf.now _ was) in
-    either c.write.result f m h shut read c.in_ok-sync.ensures.synced c.write.ensures.written c.write.ensures.failed
-
-pub returns-clause-closed : goal.returns-clause-closed
-returns-clause-closed g c =
-    let f = unit_file (g.S.Shelf.state c.args.shelf.now) c.args.self.now.unit in
-    let m = unit_file (g.S.Shelf.state c.sync.new.self) c.args.self.now.unit in
-    let h = unit_file (g.S.Shelf.state c.write.new.shelf) c.args.self.now.unit in
-    after_close c.write.result f m h c.in_ok-sync.ensures.synced c.write.ensures.written
+    record {
+      images = λ honest shut.
+          let was = sym (c.write.ensures.only.honest ∙ c.sync.ensures.only.honest) ∙ honest in
+          let read = there_image 0 f (c.requires.file was) (g.met.S.Shelf.reads_an_image c.args.shelf.now _ was) in
+          either c.write.result f m h shut read c.in_ok-sync.ensures.done c.write.ensures.done c.write.ensures.failed;
+      closed = after_close c.write.result f m h c.in_ok-sync.ensures.done c.write.ensures.done;
+      only = search rules;
+      cause = search rules;
+    }

@@ -15,8 +15,13 @@ either : {T E : Type 0} (r : Result T E) (P : Type 0) (f : DeviceFile) (n : ℕ)
 either (Ok v) P f n bytes long ok = λ h. page f n bytes long (ok h)
 either (Err e) P f n bytes long ok = tt
 
-pub returns-clause-answer : goal.returns-clause-answer
-returns-clause-answer g c =
+pub returns : goal.returns
+returns g c =
     let f = unit_file (g.S.Shelf.state c.args.shelf.now) c.args.self.now.unit in
     let long : length c.read_at.new.bytes ≡ 4096 = search rules in
-    either c.read_at.result _ f c.args.n c.read_at.new.bytes long c.read_at.ensures.answer
+    record {
+      answer = either c.read_at.result _ f c.args.n c.read_at.new.bytes long c.read_at.ensures.answer;
+      quiet = search rules;
+      only = search rules;
+      cause = search rules;
+    }
