@@ -4,4 +4,6 @@ pub mod PagesState
 pub mod Answer
 pub mod Cause
 pub mod ShownPages
+pub mod PageChanges
+pub mod Lending
 pub mod PageCalls

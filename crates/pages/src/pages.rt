@@ -1,13 +1,11 @@
 //! The trait of pages.
 
-ghost use Rattle.std.specs.Prelude.{◌≡◌, ◌≢◌, ℕ, ◌+◌, ◌<◌, ◌≤◌, Bool, List, Err, IsSome, IsTrue, IfOk, IfErr, OnOk, OnErr, ⊤};
-ghost use Rattle.std.specs.Borrow.{sem, LendsSoOk, follows_so, Array, u8 as byte};
-ghost use mathlib.Core.Option.{none};
-ghost use Rattle.pages.specs.PageMap.{Takes, Gives};
-ghost use Rattle.pages.specs.PagesState.{PagesState, Shows, Rests, LeavesPage};
-ghost use Rattle.pages.specs.Cause.{IsCaused};
+ghost use Rattle.std.specs.Prelude.{◌≡◌, ℕ, ◌<◌, ◌≤◌, Bool, IsSome, IsTrue};
+ghost use Rattle.std.specs.Borrow.{sem};
+ghost use Rattle.pages.specs.PagesState.{PagesState};
 ghost use Rattle.pages.specs.ShownPages.{ShownPages};
-ghost use Rattle.pages.specs.PageCalls.{WritesPages};
+ghost use Rattle.pages.specs.PageChanges.{TakesUnused, GivesBack, OpensForChange};
+ghost use Rattle.pages.specs.Lending.{LendsToRead, LendsToWrite};
 
 use io_state::Fault;
 use page_bytes::PAGE_SIZE;
@@ -22,15 +20,7 @@ pub trait Pages {
     /// Lends a page for reading. A page that is in use is shown as it is.
     fn page(&mut self, n: u32) -> Result<&[u8; PAGE_SIZE], Fault>
         requires ready { shown.IsReady self.old }
-        ensures* lends { sem 𝓛 (follows_so Self.row Self.row self.entry.ghost_name none (λ _ _. ⊤)
-            (λ after. Rests (shown.state self.entry.now) (shown.state after)
-            × ((shown.state after).asked ≤ (shown.state self.entry.now).asked + 1)
-            × shown.Reads self.entry.now after
-            × (IsTrue (shown.state after).is_honest → IfOk result
-            (λ page. Shows (shown.state self.entry.now) n page.now))
-            × (IsTrue (shown.state after).is_honest → IsSome ((shown.state self.entry.now).live n)
-            → IfErr result (λ e. e ≢ Fault.Damage))
-            × IfErr result (IsCaused (shown.HasFailed self.entry.now after) ⊥))) };
+        ensures* lends { sem 𝓛 (LendsToRead Self.row shown self.entry n result) };
 
     /// A page is not soon asked for again: where pages are held in memory, it may be the first that
     /// is given up. Nothing is read or written.
@@ -44,54 +34,19 @@ pub trait Pages {
     fn page_mut(&mut self, n: u32) -> Result<&mut [u8; PAGE_SIZE], Fault>
         requires ready { shown.IsReady self.old }
         requires open { shown.CanChange self.old }
-        ensures* lends { sem 𝓛 (LendsSoOk Self.row (Array byte 4096) self.entry result
-            (λ after bytes. LeavesPage n bytes (shown.state self.entry.now) (shown.state after)
-            × ((shown.state after).asked ≤ (shown.state self.entry.now).asked + 1)
-            × shown.Writes self.entry.now after
-            × (IsTrue (shown.state after).is_honest → IfOk result
-            (λ page. Shows (shown.state self.entry.now) n page.now)))
-            (λ after. Rests (shown.state self.entry.now) (shown.state after)
-            × ((shown.state after).asked ≤ (shown.state self.entry.now).asked + 1)
-            × shown.Reads self.entry.now after
-            × (IsTrue (shown.state after).is_honest → IsSome ((shown.state self.entry.now).live n)
-            → IfErr result (λ e. e ≢ Fault.Damage))
-            × IfErr result (IsCaused (shown.HasFailed self.entry.now after) ⊥))) };
+        ensures* lends { sem 𝓛 (LendsToWrite Self.row shown self.entry n result) };
 
     /// Takes a page that was free, or a new one. Its bytes have no meaning. Full where no page is available.
     fn take(&mut self) -> Result<u32, Fault>
         requires ready { shown.IsReady self.old }
         requires open { shown.CanChange self.old }
-        ensures taken { IsTrue (shown.state self.new).is_honest → IsTrue (shown.state self.old).is_sound
-            → IfOk result (λ n. (1 ≤ n) × ((bytes : List ℕ)
-            × Takes (shown.state self.old).live (shown.state self.new).live n bytes)) }
-        ensures kept { IsTrue (shown.state self.new).is_honest
-            → OnErr result ((shown.state self.new).live ≡ (shown.state self.old).live) }
-        ensures sound { IsTrue (shown.state self.new).is_honest → IsTrue (shown.state self.old).is_sound
-            → IsTrue (shown.state self.new).is_sound }
-        ensures one { OnOk result ((shown.state self.new).available + 1 ≡ (shown.state self.old).available) }
-        ensures none { OnErr result ((shown.state self.new).available ≡ (shown.state self.old).available) }
-        ensures damage { IsTrue (shown.state self.new).is_honest → IsTrue (shown.state self.old).is_sound
-            → IfErr result (λ e. e ≢ Fault.Damage) }
-        ensures honest { IsTrue (shown.state self.new).is_honest → IsTrue (shown.state self.old).is_honest }
-        ensures writes { WritesPages shown 1 ((shown.state self.old).available ≡ 0) self.old self.new
-            result };
+        ensures { TakesUnused shown self.old self.new result };
 
     /// Gives back a page that is in use: it is free, and is the next one taken.
     fn give(&mut self, n: u32) -> Result<(), Fault>
         requires ready { shown.IsReady self.old }
         requires open { shown.CanChange self.old }
-        ensures given { IsTrue (shown.state self.new).is_honest → IsSome ((shown.state self.old).live n)
-            → OnOk result (Gives (shown.state self.old).live (shown.state self.new).live n) }
-        ensures kept { IsTrue (shown.state self.new).is_honest
-            → OnErr result ((shown.state self.new).live ≡ (shown.state self.old).live) }
-        ensures sound { IsTrue (shown.state self.new).is_honest → IsSome ((shown.state self.old).live n)
-            → (shown.state self.new).is_sound ≡ (shown.state self.old).is_sound }
-        ensures one { OnOk result ((shown.state self.new).available ≡ (shown.state self.old).available + 1) }
-        ensures none { OnErr result ((shown.state self.new).available ≡ (shown.state self.old).available) }
-        ensures damage { IsTrue (shown.state self.new).is_honest → IsSome ((shown.state self.old).live n)
-            → IfErr result (λ e. e ≢ Fault.Damage) }
-        ensures honest { IsTrue (shown.state self.new).is_honest → IsTrue (shown.state self.old).is_honest }
-        ensures writes { WritesPages shown 1 ⊥ self.old self.new result };
+        ensures { GivesBack shown n self.old self.new result };
 
     /// How many pages can be taken.
     fn pages_left(&self) -> u64
@@ -104,12 +59,7 @@ pub trait Pages {
     /// Opens the gate, unless it is open. It comes before the first change, and shows all pages as they were.
     fn begin(&mut self) -> Result<(), Fault>
         requires ready { shown.IsReady self.old }
-        ensures open { OnOk result (shown.CanChange self.new) }
-        ensures rests { Rests (shown.state self.old) (shown.state self.new) }
-        ensures asked { (shown.state self.new).asked ≡ (shown.state self.old).asked }
-        ensures damage { IfErr result (λ e. e ≢ Fault.Damage) }
-        ensures cause { IfErr result (IsCaused (shown.HasFailed self.old self.new) ⊥) }
-        ensures begins { shown.Begins self.old self.new };
+        ensures { OpensForChange shown self.old self.new result };
 
     /// A call that only reads is also one that changes pages, and leaves what is shown.
     ghost reads_nothing: { (a : Self) → shown.Reads a a };
