@@ -1,5 +1,5 @@
 -- What a call of the cache leaves of the joined parts.
-use Rattle.std.proofs.Common.{◌≡◌, ◌≢◌, inl, inr, ℕ, ◌<◌, ◌≤◌, ltb, Bool, true, List, Some, option_map, is_some, IsTrue, Result, Ok, Err, is_ok, IfErr, OnErr, true, refl, sym, ◌∙◌, ap, subst, arith}
+use Rattle.std.proofs.Common.{◌≡◌, ◌≢◌, inl, inr, ℕ, ◌+◌, ◌<◌, ◌≤◌, ltb, Bool, true, List, Some, option_map, is_some, IsTrue, Result, Ok, Err, is_ok, IsSome, IfOk, IfErr, OnOk, OnErr, true, refl, sym, ◌∙◌, ap, subst, arith}
 use Rattle.std.proofs.lemmas.Bool.{and_from, lt-ltb, both_ways}
 use Rattle.io_state.specs.declared.fault.Fault.{Fault}
 use Rattle.io_state.specs.declared.fault.Fault.TheVariants.{Device, Memory, Full, Damage, Broken}
@@ -13,9 +13,11 @@ use Rattle.page_cache.specs.Lending.{FrameSet, SameFrames}
 use Rattle.page_cache.proofs.OverLemmas.{over_same, pages_same, clean_same, held_page, set_page, set_others}
 use Rattle.page_alloc.specs.declared.pager.Pager.{Pager}
 use Rattle.pages.specs.PagesState.{Shows, Rests, LeavesPage}
+use Rattle.pages.specs.ShownPages.{ShownPages}
+use Rattle.pages.specs.PageChanges.{TakesUnused, GivesBack}
 use Rattle.page_alloc.specs.Chain.{chain, used}
 use Rattle.page_alloc.specs.Joining.{free_pages, pages_state, IsJoined, PartsGo, HasFailed}
-use Rattle.page_alloc.specs.Taking.{CallFails}
+use Rattle.page_alloc.specs.Taking.{Taken, Given, CallFails}
 use Rattle.pages.specs.Cause.{IsCaused}
 use Rattle.page_store.proofs.OpenLemmas.{open_kept}
 use Rattle.page_store.specs.ShelfState.{unit_file}
@@ -91,9 +93,55 @@ pub at_err_where : {T : Type 0} (honest : Bool) (P : Type 0) (r : Result T Fault
 at_err_where honest P (Ok x) p = tt
 at_err_where honest P (Err x) p = p
 
-pub err_weaker : {T P Q : Type 0} (r : Result T Fault) → (P → Q) → OnErr r P → OnErr r Q
-err_weaker (Ok x) f p = tt
-err_weaker (Err x) f p = f p
+-- a page was taken, or all pages are as they were
+pub takes_unused : {S : Type 0} (shown : ShownPages S) (a b : S) (r : Result ℕ Fault) → IfOk r (Taken (shown.state a) (shown.state b)) → OnErr r (Rests (shown.state a) (shown.state b))
+    → IfErr r (CallFails (IsTrue (shown.state b).is_honest × IsTrue (shown.state a).is_sound) (shown.HasFailed a b) ((shown.state a).available ≡ 0))
+    → (IsTrue (shown.state b).is_honest → IsTrue (shown.state a).is_honest) → (shown.state b).asked ≤ (shown.state a).asked + 1 → shown.Writes a b → TakesUnused shown a b r
+takes_unused shown a b (Ok n) taken kept fails honest asked step = record {
+  taken = λ h s. (taken.number, taken.page h s);
+  kept = λ h. tt;
+  sound = taken.sound;
+  one = taken.one;
+  none = tt;
+  damage = λ h s. tt;
+  honest = honest;
+  writes = record { cause = tt; asked = asked; step = step };
+}
+takes_unused shown a b (Err e) taken kept fails honest asked step = record {
+  taken = λ h s. tt;
+  kept = kept.live;
+  sound = λ h s. rw (kept.sound h) s;
+  one = tt;
+  none = kept.available;
+  damage = λ h s. fails.damage (h, s);
+  honest = honest;
+  writes = record { cause = fails.caused; asked = asked; step = step };
+}
+
+-- page n was given back, or all pages are as they were
+pub gives_back : {S X : Type 0} (shown : ShownPages S) (n : ℕ) (a b : S) (r : Result X Fault) → OnOk r (Given (shown.state a) (shown.state b) n) → OnErr r (Rests (shown.state a) (shown.state b))
+    → IfErr r (CallFails (IsTrue (shown.state b).is_honest × IsSome ((shown.state a).live n)) (shown.HasFailed a b) ⊥)
+    → (IsTrue (shown.state b).is_honest → IsTrue (shown.state a).is_honest) → (shown.state b).asked ≤ (shown.state a).asked + 1 → shown.Writes a b → GivesBack shown n a b r
+gives_back shown n a b (Ok x) given kept fails honest asked step = record {
+  given = given.page;
+  kept = λ h. tt;
+  sound = given.sound;
+  one = given.one;
+  none = tt;
+  damage = λ h there. tt;
+  honest = honest;
+  writes = record { cause = tt; asked = asked; step = step };
+}
+gives_back shown n a b (Err e) given kept fails honest asked step = record {
+  given = λ h there. tt;
+  kept = kept.live;
+  sound = λ h there. kept.sound h;
+  one = tt;
+  none = kept.available;
+  damage = λ h there. fails.damage (h, there);
+  honest = honest;
+  writes = record { cause = fails.caused; asked = asked; step = step };
+}
 
 pub over_after : (d e : Cache) (t : ShelfState) → SameFrames d e → IsOver d t → IsOver e t
 over_after d e t same over = over_same d e t same.store same.frames over

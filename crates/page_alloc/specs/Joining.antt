@@ -16,6 +16,9 @@ free_pages cache pager shelf = chain (pages_of cache shelf) pager.count pager.fi
 abbrev pub available_of : Pager → ℕ
 available_of pager = pager.free + (pager.limit - pager.count)
 
+abbrev pub HasNoRoom : Pager → Type 0
+HasNoRoom pager = available_of pager ≡ 0
+
 abbrev pub pages_state : Cache → Pager → ShelfState → PagesState
 pages_state cache pager shelf = record {
   live = used (pages_of cache shelf) pager.count (free_pages cache pager shelf);

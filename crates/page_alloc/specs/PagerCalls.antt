@@ -6,7 +6,7 @@ use Rattle.page_cache.specs.declared.cache.Cache.{Cache}
 use Rattle.page_cache.specs.Cached.{pages_of}
 use Rattle.pages.specs.PagesState.{Rests}
 use Rattle.page_alloc.specs.declared.pager.Pager.{Pager}
-use Rattle.page_alloc.specs.FreePage.{is_free}
+use Rattle.page_alloc.specs.FreePage.{is_free, next_of}
 use Rattle.page_alloc.specs.Joining.{pages_state, free_pages, IsJoined, PartsGo, HasFailed}
 use Rattle.page_alloc.specs.Order.{TakesInOrder, GivesInOrder}
 use Rattle.page_alloc.specs.Taking.{Taken, Given, CallFails}
@@ -47,6 +47,11 @@ module _ {H : Type 0} (state : H → ShelfState) where
   WasMarked n cache before after = IsTrue (state after).is_honest
       × IsTrue (is_free (pages_of cache (state before) n))
 
+  -- where the shelf is honest, the page that a free page links to is answered
+  abbrev pub AnswersNext : {X : Type 0} → ℕ → Cache → H → H → Result ℕ X → Type 0
+  AnswersNext n cache before after result = IsTrue (state after).is_honest
+      → IfOk result (λ next. next ≡ next_of (pages_of cache (state before) n))
+
   -- a call that takes a page, or leaves all of them as they were
   pub record TakesPage (old new : Cache) (from to : Pager) (before after : H)
       (result : Result ℕ Fault) : Type 0 where
@@ -62,3 +67,20 @@ module _ {H : Type 0} (state : H → ShelfState) where
     pub kept : OnErr result (Rests (pages_state old from (state before)) (pages_state new to (state after)))
     pub order : IsTrue (state after).is_honest → IsSome ((pages_state old from (state before)).live n)
         → GivesInOrder n from to (free_pages old from (state before)) (free_pages new to (state after)) result
+
+-- of shelves that show this state and count their faults so
+module _ {H : Type 0} (state : H → ShelfState) (count : H → ℕ) {X : Type 0} where
+  -- a fault of a call that takes a page is no Damage where the free pages were what they should be
+  abbrev pub FailsToTake : Type 0 → Cache → Pager → H → H → Result X Fault → Type 0
+  FailsToTake lacks_room cache pager before after result =
+      FailsOnly count (WasSound state cache pager before after) lacks_room before after result
+
+  -- one of a call that gives page n back is no Damage where it was in use
+  abbrev pub FailsToGive : ℕ → Cache → Pager → H → H → Result X Fault → Type 0
+  FailsToGive n cache pager before after result =
+      FailsOnly count (WasInUse state n cache pager before after) ⊥ before after result
+
+  -- one of a call that follows free page n is no Damage where it was marked as free
+  abbrev pub FailsToFollow : ℕ → Cache → H → H → Result X Fault → Type 0
+  FailsToFollow n cache before after result =
+      FailsOnly count (WasMarked state n cache before after) ⊥ before after result

@@ -40,3 +40,8 @@ pub record Moves (old new : PagedFile) (before after : ShelfState) (failed fails
   pub images : IsOpenOver old before → MayRefuse old.cache.store.unit before after
   pub stands : IsOpenOver old before → IsTrue after.is_honest →
       StandsOrRefused (unit_file before old.cache.store.unit) (unit_file after old.cache.store.unit)
+
+-- so, of shelves that show this state and count their faults so
+abbrev pub MovesOnShelf : {H : Type 0} → (H → ShelfState) → (H → ℕ) → (old new : PagedFile) → H → H → Type 0
+MovesOnShelf state count old new before after =
+    Moves old new (state before) (state after) (count before) (count after)

@@ -5,7 +5,7 @@ ghost use Rattle.page_store.specs.ShelfState.{HasUnit, KeepsOthers, FaultHasCaus
 ghost use Rattle.page_cache.specs.Calls.{ShowsSame};
 ghost use Rattle.page_cache.specs.HeaderCalls.{OpensGate};
 ghost use Rattle.page_alloc.specs.PagedFile.{IsOpenOver, IsNewPagedFile, IsOldPagedFile, StandsOrRefused, MayShut, IsShut};
-ghost use Rattle.page_alloc.specs.Steps.{Moves};
+ghost use Rattle.page_alloc.specs.Steps.{MovesOnShelf};
 
 use crate::pager::Pager;
 use io_state::Fault;
@@ -79,8 +79,7 @@ impl PagedFile {
             (λ _. self.new ≡ self.old) }
         ensures same { ShowsSame self.old.cache self.new.cache (S.state shelf.old) (S.state shelf.new) }
         ensures nothing { self.old.changed ≡ true → (S.state shelf.new).file ≡ (S.state shelf.old).file }
-        ensures moves { Moves self.old self.new (S.state shelf.old) (S.state shelf.new)
-            (S.fault_count shelf.old) (S.fault_count shelf.new) }
+        ensures moves { MovesOnShelf S.state S.fault_count self.old self.new shelf.old shelf.new }
         ensures cause { FaultHasCause (S.fault_count shelf.old) (S.fault_count shelf.new) result }
     {
         if self.changed {

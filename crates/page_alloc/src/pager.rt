@@ -1,10 +1,9 @@
 //! The free pages of a file, and how many pages it has.
-ghost use Rattle.std.specs.Prelude.{◌≡◌, ◌<◌, IsTrue, IfOk, OnOk, OnErr, ⊤};
-ghost use Rattle.page_cache.specs.Cached.{pages_of, IsOver, IsOverPage};
+ghost use Rattle.std.specs.Prelude.{◌≡◌, ◌<◌, OnOk, OnErr, ⊤};
+ghost use Rattle.page_cache.specs.Cached.{IsOver, IsOverPage};
 ghost use Rattle.page_cache.specs.Calls.{KeepsPages};
-ghost use Rattle.page_alloc.specs.FreePage.{next_of};
-ghost use Rattle.page_alloc.specs.Joining.{available_of, IsJoined};
-ghost use Rattle.page_alloc.specs.PagerCalls.{WasSound, WasInUse, WasMarked, FailsOnly, AsksOnce, PagerGoes, TakesPage, GivesPage};
+ghost use Rattle.page_alloc.specs.Joining.{available_of, HasNoRoom, IsJoined};
+ghost use Rattle.page_alloc.specs.PagerCalls.{AnswersNext, FailsOnly, FailsToTake, FailsToGive, FailsToFollow, AsksOnce, PagerGoes, TakesPage, GivesPage};
 ghost use Rattle.page_alloc.specs.Taking.{Freed};
 
 use crate::free_page;
@@ -51,8 +50,8 @@ impl Pager {
     pub fn take<S: Shelf>(&mut self, cache: &mut Cache, shelf: &mut S) -> Result<u32, Fault>
         requires ready { IsJoined cache.old self.old (S.state shelf.old) }
         ensures takes { TakesPage S.state cache.old cache.new self.old self.new shelf.old shelf.new result }
-        ensures fails { FailsOnly S.fault_count (WasSound S.state cache.old self.old shelf.old shelf.new)
-            (available_of self.old ≡ 0) shelf.old shelf.new result }
+        ensures fails { FailsToTake S.state S.fault_count (HasNoRoom self.old) cache.old self.old
+            shelf.old shelf.new result }
         ensures goes { PagerGoes S.state S.fault_count cache.old cache.new self.old self.new shelf.old
             shelf.new }
     {
@@ -68,8 +67,7 @@ impl Pager {
         requires ready { IsJoined cache.old self.old (S.state shelf.old) }
         requires free { 0 < self.old.free }
         ensures takes { TakesPage S.state cache.old cache.new self.old self.new shelf.old shelf.new result }
-        ensures fails { FailsOnly S.fault_count (WasSound S.state cache.old self.old shelf.old shelf.new)
-            ⊥ shelf.old shelf.new result }
+        ensures fails { FailsToTake S.state S.fault_count ⊥ cache.old self.old shelf.old shelf.new result }
         ensures goes { PagerGoes S.state S.fault_count cache.old cache.new self.old self.new shelf.old
             shelf.new }
     {
@@ -88,7 +86,7 @@ impl Pager {
         requires ready { IsJoined cache.old self.old (S.state shelf.old) }
         requires free { self.old.free ≡ 0 }
         ensures takes { TakesPage S.state cache.old cache.new self.old self.new shelf.old shelf.new result }
-        ensures fails { FailsOnly S.fault_count ⊤ (available_of self.old ≡ 0) shelf.old shelf.new result }
+        ensures fails { FailsOnly S.fault_count ⊤ (HasNoRoom self.old) shelf.old shelf.new result }
         ensures goes { PagerGoes S.state S.fault_count cache.old cache.new self.old self.new shelf.old
             shelf.new }
     {
@@ -106,8 +104,7 @@ impl Pager {
     pub fn give<S: Shelf>(&mut self, cache: &mut Cache, shelf: &mut S, n: u32) -> Result<(), Fault>
         requires ready { IsJoined cache.old self.old (S.state shelf.old) }
         ensures gives { GivesPage S.state n cache.old cache.new self.old self.new shelf.old shelf.new result }
-        ensures fails { FailsOnly S.fault_count (WasInUse S.state n cache.old self.old shelf.old shelf.new)
-            ⊥ shelf.old shelf.new result }
+        ensures fails { FailsToGive S.state S.fault_count n cache.old self.old shelf.old shelf.new result }
         ensures goes { PagerGoes S.state S.fault_count cache.old cache.new self.old self.new shelf.old
             shelf.new }
     {
@@ -124,11 +121,9 @@ impl Pager {
 // The page that a free page links to.
 fn next_free<S: Shelf>(cache: &mut Cache, shelf: &mut S, n: u32) -> Result<u32, Fault>
     requires { IsOverPage n cache.old (S.state shelf.old) }
-    ensures next { IsTrue (S.state shelf.new).is_honest →
-        IfOk result (λ next. next ≡ next_of (pages_of cache.old (S.state shelf.old) n)) }
+    ensures next { AnswersNext S.state n cache.old shelf.old shelf.new result }
     ensures kept { KeepsPages cache.old cache.new (S.state shelf.old) (S.state shelf.new) }
-    ensures fails { FailsOnly S.fault_count (WasMarked S.state n cache.old shelf.old shelf.new)
-        ⊥ shelf.old shelf.new result }
+    ensures fails { FailsToFollow S.state S.fault_count n cache.old shelf.old shelf.new result }
     ensures asks { AsksOnce S.state S.fault_count cache.old cache.new shelf.old shelf.new }
 {
     cache.load(shelf, n)?;
