@@ -47,6 +47,11 @@ Rewriting shape place P before after result =
     → place.slot < room shape
     → IsAnswer result (λ x. RewritesSlot shape before.live after.live place (P x) × IsTrue after.is_sound)
 
+-- a call that makes a slot free, with another behind it
+abbrev pub Linking : {X : Type 0} → Shape → Place → Place → PagesState → PagesState → Result X Fault → Type 0
+Linking shape place next before after result = Rewriting shape place
+    (λ x slot. behind_in slot ≡ Some next) before after result
+
 -- a call that puts these bytes into a slot
 abbrev pub Filling : {X : Type 0} → Shape → Place → List ℕ → PagesState → PagesState → Result X Fault → Type 0
 Filling shape place bytes before after result = Rewriting shape place
@@ -97,9 +102,14 @@ pub record MayFill {S : Type 0} (shown : ShownPages S) (pages : S) (shape : Shap
   pub gate : shown.CanChange pages
   pub fits : FitsSlot shape before behind
 
+-- pages may be read, and `to` takes so many bytes
+pub record MayReadTo {S : Type 0} (shown : ShownPages S) (pages : S) (most : ℕ) (to : List ℕ) : Type 0 where
+  pub ready : shown.IsReady pages
+  pub room : most ≤ length to
+
 -- a call that reads the stamps and the record of a slot to the front of `to`; `Reads` is said of
 -- the pages in use where no wrong answer was taken
-pub record ReadsWithStamps {S : Type 0} (shown : ShownPages S) (before after : S) (shape : Shape)
+pub record ReadsStamped {S : Type 0} (shown : ShownPages S) (before after : S) (shape : Shape)
     (old new : List ℕ) (result : Result ℕ Fault) (Reads : PageMap → List ℕ → List ℕ → Result ℕ Fault
     → Type 0) : Type 0 where
   pub got : IsTrue (shown.state after).is_honest → Reads (shown.state before).live old new result
@@ -107,7 +117,7 @@ pub record ReadsWithStamps {S : Type 0} (shown : ShownPages S) (before after : S
   pub reads : ReadsPages shown 1 before after result
 
 -- a call that reads the record of a slot, without its stamps
-pub record ReadsWithoutStamps {S : Type 0} (shown : ShownPages S) (before after : S) (shape : Shape)
+pub record ReadsUnstamped {S : Type 0} (shown : ShownPages S) (before after : S) (shape : Shape)
     (old new : List ℕ) (result : Result ℕ Fault) (Reads : PageMap → List ℕ → List ℕ → Result ℕ Fault
     → Type 0) : Type 0 where
   pub got : IsTrue (shown.state after).is_honest → Reads (shown.state before).live old new result

@@ -3,6 +3,7 @@ use Rattle.std.specs.Prelude.{◌≡◌, ◌≢◌, ◌≤◌, ◌+◌, ℕ, Lis
 use Rattle.pages.specs.PageMap.{PageMap}
 use Rattle.pages.specs.Owners.{ChangesPages}
 use Rattle.pages.specs.PagesState.{PagesState}
+use Rattle.pages.specs.ShownPages.{ShownPages}
 use Rattle.io_state.specs.declared.fault.Fault.{Fault}
 use Rattle.record_heap.specs.declared.shape.Place.{Place}
 use Rattle.record_heap.specs.declared.heap.Heap.{Heap}
@@ -43,6 +44,12 @@ Adds before after old new bytes result =
 pub record TakesFew (heap : Heap) (before after : PagesState) : Type 0 where
   pub few : before.available ≤ after.available + 1
   pub none : heap.free.page ≢ 0 → after.available ≡ before.available
+
+-- pages may be changed, and no slot is free
+pub record MayGrow {S : Type 0} (shown : ShownPages S) (pages : S) (heap : Heap) : Type 0 where
+  pub ready : shown.IsReady pages
+  pub gate : shown.CanChange pages
+  pub none : heap.free.page ≡ 0
 
 -- no slot is free, and no page can be taken
 abbrev pub LacksSlot : Heap → PagesState → Type 0

@@ -11,7 +11,7 @@ use Rattle.record_heap.specs.declared.heap.Heap.{Heap}
 use Rattle.record_heap.specs.Slot.{room}
 use Rattle.record_heap.specs.Chain.{Slots, AreOnce, IsFreeChain}
 use Rattle.record_heap.specs.Calls.{behind_at}
-use Rattle.record_heap.specs.Found.{Sets, MakesRoom, TakesFew, LacksSlot}
+use Rattle.record_heap.specs.Found.{Adds, Sets, MakesRoom, TakesFew, LacksSlot}
 use Rattle.record_heap.specs.Standing.{IsPageChain, HeapStands}
 
 -- so many places of page n in rising order, from slot i on
@@ -67,6 +67,15 @@ SetsInOrder before after old new place freed result =
     → (slots : Slots) (own : List ℕ) (stands : HeapStands old before.live slots own)
     → IsSome (slots place)
     → OnOk result (HasChains new after.live (freed ++ stands.keeps.free) own)
+
+-- a call that puts these bytes into the first free slot, and takes a new page where there is none
+pub record AddsToHeap {S : Type 0} (shown : ShownPages S) (before after : S) (old new : Heap)
+    (bytes : List ℕ) (result : Result Place Fault) : Type 0 where
+  pub added : Adds (shown.state before) (shown.state after) old new bytes result
+  pub shape : new.shape ≡ old.shape
+  pub few : TakesFew old (shown.state before) (shown.state after)
+  pub writes : WritesPages shown 3 (LacksSlot old (shown.state before)) before after result
+  pub order : AddsInOrder (shown.state before) (shown.state after) old new result
 
 -- a call at a place in use that leaves this in its slot, and puts these slots before the free ones;
 -- no page is taken

@@ -1,5 +1,5 @@
 -- The bytes of one slot of a heap page.
-use Rattle.std.specs.Prelude.{◌≡◌, ◌≤◌, ℕ, ◌+◌, ◌/◌, ◌==◌, ◌&&◌, nat_lt, nat_le, max, Bool, List, take, drop, length, ◌++◌, slice_index, Option, Some, None, option_map, if◌then◌else◌}
+use Rattle.std.specs.Prelude.{◌≡◌, ◌≤◌, ◌<◌, ℕ, ◌+◌, ◌/◌, ◌==◌, ◌&&◌, nat_lt, nat_le, max, Bool, List, take, drop, length, ◌++◌, slice_index, Option, Some, None, option_map, if◌then◌else◌}
 use Rattle.byteorder.specs.Endian.{big_number}
 use Rattle.record_heap.specs.declared.shape.Shape.{Shape}
 use Rattle.record_heap.specs.declared.shape.Place.{Place}
@@ -53,6 +53,28 @@ pub record FitsSlot (shape : Shape) (before behind : List ℕ) : Type 0 where
   pub stamps : length before ≡ shape.stamps
   pub least : shape.least ≤ length behind
   pub greatest : length behind ≤ shape.greatest
+
+-- the slot is there whole, and takes these stamps and this record
+pub record FitsIn (shape : Shape) (slot before behind : List ℕ) : Type 0 where
+  pub whole : size shape ≤ length slot
+  pub fits : FitsSlot shape before behind
+
+-- so, where records have several lengths
+pub record FitsVarying (shape : Shape) (slot before behind : List ℕ) : Type 0 where
+  pub whole : size shape ≤ length slot
+  pub varying : shape.least < shape.greatest
+  pub fits : FitsSlot shape before behind
+
+-- so, where they have one
+pub record FitsFixed (shape : Shape) (slot before behind : List ℕ) : Type 0 where
+  pub whole : size shape ≤ length slot
+  pub fixed : shape.least ≡ shape.greatest
+  pub fits : FitsSlot shape before behind
+
+-- the slot is there whole, and `to` takes so many bytes
+pub record MayFetch (shape : Shape) (slot to : List ℕ) (most : ℕ) : Type 0 where
+  pub whole : size shape ≤ length slot
+  pub wide : most ≤ length to
 
 -- the slot is in use with these bytes now, and as long as it was
 pub record HoldsNow (shape : Shape) (old new bytes : List ℕ) : Type 0 where

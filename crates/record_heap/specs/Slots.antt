@@ -22,6 +22,11 @@ pub record IsHeapPage (next : ℕ) (page : List ℕ) : Type 0 where
   pub size : length page ≡ 4096
   pub start : take 16 page ≡ start_of next
 
+-- these are the bytes of slot i
+pub record IsSlotAt (shape : Shape) (page : List ℕ) (i : ℕ) (slot : List ℕ) : Type 0 where
+  pub value : slot ≡ slot_at shape page i
+  pub len : length slot ≡ size shape
+
 -- slot i has other bytes now, of which P holds, and nothing else has changed
 pub record Edits (shape : Shape) (old new : List ℕ) (i : ℕ) (P : List ℕ → Type 0) : Type 0 where
   pub slot : List ℕ
@@ -39,3 +44,8 @@ behind_new room n i = if nat_lt (i + 1) room then (record { page = n; slot = i +
 abbrev pub AreLinked : Shape → ℕ → ℕ → List ℕ → Type 0
 AreLinked shape n count page = (i : ℕ) → i < count
     → behind_in (slot_at shape page i) ≡ Some (behind_new (room shape) n i)
+
+-- the page is the heap page n before the page `next`, and all its slots are free
+pub record IsNewPage (shape : Shape) (n next : ℕ) (page : List ℕ) : Type 0 where
+  pub heap : IsHeapPage next page
+  pub linked : AreLinked shape n (room shape) page

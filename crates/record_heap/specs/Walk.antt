@@ -1,5 +1,6 @@
 -- What a walk finds of a heap in pages that were read.
-use Rattle.std.specs.Prelude.{◌≡◌, ◌≢◌, ◌⊎◌, ℕ, ◌≤◌, ◌<◌, ◌==◌, ◌&&◌, nat_lt, Bool, true, false, List, [], ◌∷◌, Option, Some, None, if◌then◌else◌}
+use Rattle.std.specs.Prelude.{◌≡◌, ◌≢◌, ◌⊎◌, ℕ, ◌≤◌, ◌<◌, ◌==◌, ◌&&◌, nat_lt, Bool, true, false, List, [], ◌∷◌, Option, Some, None, Result, IfOk, if◌then◌else◌}
+use Rattle.std.specs.Global.{Vec}
 use Rattle.page_bytes.specs.Each.{Each}
 use Rattle.pages.specs.PageMap.{PageMap}
 use Rattle.record_heap.specs.declared.shape.Shape.{Shape}
@@ -11,7 +12,9 @@ use Rattle.record_heap.specs.Chain.{Slots, IsOneOf, AreOnce, KeepsSlots}
 use Rattle.record_heap.specs.Calls.{used_at, behind_at, IsHeapAt}
 use Rattle.record_heap.specs.declared.slot_marks.SlotMarks.{SlotMarks}
 use Rattle.record_heap.specs.SlotMarks.{marked_slot, SetsMark}
-use Rattle.page_marks.specs.Marks.{Marks}
+use Rattle.record_heap.specs.Standing.{HeapStands}
+use Rattle.page_marks.specs.Marks.{Marks, marked_in}
+use Rattle.page_marks.specs.PageList.{pages_in}
 
 -- these heap pages lead from the first one to this
 abbrev pub IsPagePath : PageMap → ℕ → List ℕ → ℕ → Type 0
@@ -90,8 +93,28 @@ pub record SlotsWalked (shape : Shape) (pages : PageMap) (first at : Place) (bef
       → (marked_slot after p ≡ true) ⊎ IsOneOf free p
   pub only : (p : Place) → p.slot < room shape → marked_slot after p ≡ true → marked_slot before p ≡ true
 
+-- a walk of the chain of heap pages, which marks them and answers them
+abbrev pub WalksChain : {E : Type 0} → List (List ℕ) → ℕ → List Bool → List Bool → Result (Vec ℕ) E → Type 0
+WalksChain pages first before after result =
+    IfOk result (λ own. PagesWalked (pages_in pages) first 0 (marked_in before) (marked_in after) own.items)
+
+-- the chain of free slots was walked from the first one to its end, and their marks taken
+pub record EmptiesChain (shape : Shape) (pages : PageMap) (first : Place)
+    (before after : SlotMarks) : Type 0 where
+  pub at : Place
+  pub last : at.page ≡ 0
+  pub free : List Place
+  pub walked : SlotsWalked shape pages first at before after free
+
 -- each slot of these pages is in use, or stands once in the chain of free slots
 abbrev pub SlotsKept : Heap → PageMap → List ℕ → Type 0
 SlotsKept heap pages own =
     Each (λ n. 1 ≤ n) own → KeepsSlots (room heap.shape) own (used_at heap.shape pages)
     (behind_at heap.shape pages) (slots_of heap.shape pages own) heap.free
+
+-- a walk of a heap, which answers its own pages and marks them
+pub record WalksHeap {E : Type 0} (heap : Heap) (pages : List (List ℕ)) (before after : List Bool)
+    (result : Result (Vec ℕ) E) : Type 0 where
+  pub stands : IfOk result (λ own. HeapStands heap (pages_in pages)
+      (slots_of heap.shape (pages_in pages) own.items) own.items)
+  pub marks : IfOk result (λ own. Marks (marked_in before) (marked_in after) own.items)

@@ -1,8 +1,7 @@
 //! One call on one page.
 
-ghost use Rattle.std.specs.Prelude.{◌≡◌, ◌≤◌, ◌+◌, ◌++◌, Some, length};
-ghost use Rattle.record_heap.specs.Slot.{behind_in};
-ghost use Rattle.record_heap.specs.Calls.{Rewriting, Filling, Refilling, Gets, GetsRecord, MayChange, MayFill, ReadsWithStamps, ReadsWithoutStamps, ChangesSlot};
+ghost use Rattle.std.specs.Prelude.{◌+◌, ◌++◌};
+ghost use Rattle.record_heap.specs.Calls.{Linking, Filling, Refilling, Gets, GetsRecord, MayChange, MayFill, MayReadTo, ReadsStamped, ReadsUnstamped, ChangesSlot};
 
 use crate::shape::{Place, Shape};
 use crate::slot::{behind, fetch, fetch_record};
@@ -17,9 +16,8 @@ pub fn read_used<P: Pages>(
     place: Place,
     to: &mut [u8],
 ) -> Result<usize, Fault>
-    requires ready { P.shown.IsReady pages.old }
-    requires room { shape.stamps + shape.greatest ≤ length to.old }
-    ensures { ReadsWithStamps P.shown pages.old pages.new shape to.old to.new result (Gets shape place) }
+    requires { MayReadTo P.shown pages.old (shape.stamps + shape.greatest) to.old }
+    ensures { ReadsStamped P.shown pages.old pages.new shape to.old to.new result (Gets shape place) }
 {
     let page = pages.page(place.page)?;
     if page[0] != b'H' || place.slot as usize >= shape.room() {
@@ -38,9 +36,8 @@ pub fn read_record<P: Pages>(
     place: Place,
     to: &mut [u8],
 ) -> Result<usize, Fault>
-    requires ready { P.shown.IsReady pages.old }
-    requires room { shape.greatest ≤ length to.old }
-    ensures { ReadsWithoutStamps P.shown pages.old pages.new shape to.old to.new result
+    requires { MayReadTo P.shown pages.old shape.greatest to.old }
+    ensures { ReadsUnstamped P.shown pages.old pages.new shape to.old to.new result
         (GetsRecord shape place) }
 {
     let page = pages.page(place.page)?;
@@ -56,8 +53,7 @@ pub fn read_record<P: Pages>(
 /// Makes the slot at a place free, with another behind it.
 pub fn link<P: Pages>(pages: &mut P, shape: Shape, place: Place, next: Place) -> Result<(), Fault>
     requires { MayChange P.shown pages.old }
-    ensures { ChangesSlot P.shown pages.old pages.new result
-        (Rewriting shape place (λ u slot. behind_in slot ≡ Some next)) }
+    ensures { ChangesSlot P.shown pages.old pages.new result (Linking shape place next) }
 {
     let page = pages.page_mut(place.page)?;
     if page[0] != b'H' || place.slot as usize >= shape.room() {

@@ -19,12 +19,11 @@ pub struct Heap {
 impl Heap {
     ghost use Rattle.std.specs.Prelude.{◌≡◌, ◌≤◌, ◌+◌, ◌++◌, [], ◌∷◌, None, Some, length};
     ghost use Rattle.pages.specs.PageMap.{PageMap};
-    ghost use Rattle.pages.specs.PageCalls.{WritesPages};
     ghost use Rattle.record_heap.specs.Chain.{no_slots};
-    ghost use Rattle.record_heap.specs.Calls.{MayChange, MayFill, ReadsWithStamps, ReadsWithoutStamps};
+    ghost use Rattle.record_heap.specs.Calls.{MayChange, MayFill, ReadsStamped, ReadsUnstamped};
     ghost use Rattle.record_heap.specs.Standing.{HeapStands};
-    ghost use Rattle.record_heap.specs.Order.{AddsInOrder, SetsSlot, MakesFreeSlot};
-    ghost use Rattle.record_heap.specs.Found.{Got, GotRecord, Adds, TakesFew, LacksSlot};
+    ghost use Rattle.record_heap.specs.Order.{AddsToHeap, SetsSlot, MakesFreeSlot};
+    ghost use Rattle.record_heap.specs.Found.{Got, GotRecord, MayGrow};
 
     /// A heap without records and without pages.
     pub fn new(shape: Shape) -> Heap
@@ -45,7 +44,7 @@ impl Heap {
     pub fn get<P: Pages>(&self, pages: &mut P, place: Place, to: &mut [u8]) -> Result<usize, Fault>
         requires ready { P.shown.IsReady pages.old }
         requires room { self.now.shape.stamps + self.now.shape.greatest ≤ length to.old }
-        ensures { ReadsWithStamps P.shown pages.old pages.new self.now.shape to.old to.new result
+        ensures { ReadsStamped P.shown pages.old pages.new self.now.shape to.old to.new result
             (Got self.now place) }
     {
         read_used(pages, self.shape, place, to)
@@ -63,7 +62,7 @@ impl Heap {
     ) -> Result<usize, Fault>
         requires ready { P.shown.IsReady pages.old }
         requires room { self.now.shape.greatest ≤ length to.old }
-        ensures { ReadsWithoutStamps P.shown pages.old pages.new self.now.shape to.old to.new result
+        ensures { ReadsUnstamped P.shown pages.old pages.new self.now.shape to.old to.new result
             (GotRecord self.now place) }
     {
         let length = read_record(pages, self.shape, place, to);
@@ -82,14 +81,8 @@ impl Heap {
         record: &[u8],
     ) -> Result<Place, Fault>
         requires { MayFill P.shown pages.old self.old.shape stamps.now «record».now }
-        ensures added { Adds (P.shown.state pages.old) (P.shown.state pages.new) self.old self.new
+        ensures { AddsToHeap P.shown pages.old pages.new self.old self.new
             (stamps.now ++ «record».now) result }
-        ensures shape { self.new.shape ≡ self.old.shape }
-        ensures few { TakesFew self.old (P.shown.state pages.old) (P.shown.state pages.new) }
-        ensures writes { WritesPages P.shown 3 (LacksSlot self.old (P.shown.state pages.old)) pages.old
-            pages.new result }
-        ensures order { AddsInOrder (P.shown.state pages.old)
-            (P.shown.state pages.new) self.old self.new result }
     {
         self.make_room(pages)?;
         let place = self.free;
@@ -140,8 +133,7 @@ impl Heap {
 
     /// Takes a new page, which goes to the front of the chain with all its slots free, in rising order.
     fn grow<P: Pages>(&mut self, pages: &mut P) -> Result<(), Fault>
-        requires pages { MayChange P.shown pages.old }
-        requires none { self.old.free.page ≡ 0 }
+        requires { MayGrow P.shown pages.old self.old }
         ensures { MakesFreeSlot P.shown pages.old pages.new self.old self.new result }
     {
         let n = pages.take()?;

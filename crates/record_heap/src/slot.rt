@@ -18,7 +18,7 @@
 //! | 5 to 6 | slot of the next free slot |
 
 ghost use Rattle.std.specs.Prelude.{◌≡◌, ◌≤◌, ◌<◌, ◌+◌, ◌++◌, ℕ, Some, IfSome, length, option_map};
-ghost use Rattle.record_heap.specs.Slot.{head, size, record_length, is_used, used_in, record_in, behind_in, over, FitsSlot, HoldsNow};
+ghost use Rattle.record_heap.specs.Slot.{head, size, record_length, is_used, used_in, record_in, behind_in, over, HoldsNow, FitsIn, FitsVarying, FitsFixed, MayFetch};
 
 use crate::shape::{Place, Shape};
 use byteorder::{BigEndian, ByteOrder};
@@ -82,8 +82,7 @@ fn used(slot: &[u8], shape: Shape) -> Option<&[u8]>
 /// The stamps and the record go to the front of `to`, the rest of which stays. The answer is how
 /// many bytes they are; none where the slot is not in use.
 pub fn fetch(slot: &[u8], shape: Shape, to: &mut [u8]) -> Option<usize>
-    requires slot { size shape ≤ length slot.now }
-    requires room { shape.stamps + shape.greatest ≤ length to.old }
+    requires { MayFetch shape slot.now to.old (shape.stamps + shape.greatest) }
     ensures value { result ≡ option_map length (used_in shape slot.now) }
     ensures to { to.new ≡ over (used_in shape slot.now) to.old }
 {
@@ -99,8 +98,7 @@ pub fn fetch(slot: &[u8], shape: Shape, to: &mut [u8]) -> Option<usize>
 /// The record goes to the front of `to`, the rest of which stays, and the stamps in front of it are
 /// left out. The answer is its length; none where the slot is not in use.
 pub fn fetch_record(slot: &[u8], shape: Shape, to: &mut [u8]) -> Option<usize>
-    requires slot { size shape ≤ length slot.now }
-    requires room { shape.greatest ≤ length to.old }
+    requires { MayFetch shape slot.now to.old shape.greatest }
     ensures value { result ≡ option_map length (record_in shape slot.now) }
     ensures greatest { IfSome result (λ n. n ≤ shape.greatest) }
     ensures to { to.new ≡ over (record_in shape slot.now) to.old }
@@ -141,8 +139,7 @@ pub fn write_free(slot: &mut [u8], next: Place)
 
 /// Puts stamps and a record into the slot.
 pub fn write_used(slot: &mut [u8], shape: Shape, stamps: &[u8], record: &[u8])
-    requires slot { size shape ≤ length slot.old }
-    requires fits { FitsSlot shape stamps.now «record».now }
+    requires { FitsIn shape slot.old stamps.now «record».now }
     ensures { HoldsNow shape slot.old slot.new (stamps.now ++ «record».now) }
 {
     if shape.least < shape.greatest {
@@ -154,9 +151,7 @@ pub fn write_used(slot: &mut [u8], shape: Shape, stamps: &[u8], record: &[u8])
 
 /// The slot of a record with its length.
 fn write_varying(slot: &mut [u8], shape: Shape, stamps: &[u8], record: &[u8])
-    requires slot { size shape ≤ length slot.old }
-    requires varying { shape.least < shape.greatest }
-    requires fits { FitsSlot shape stamps.now «record».now }
+    requires { FitsVarying shape slot.old stamps.now «record».now }
     ensures { HoldsNow shape slot.old slot.new (stamps.now ++ «record».now) }
 {
     slot[0] = USED;
@@ -167,9 +162,7 @@ fn write_varying(slot: &mut [u8], shape: Shape, stamps: &[u8], record: &[u8])
 
 /// The slot of a record of the one length.
 fn write_fixed(slot: &mut [u8], shape: Shape, stamps: &[u8], record: &[u8])
-    requires slot { size shape ≤ length slot.old }
-    requires fixed { shape.least ≡ shape.greatest }
-    requires fits { FitsSlot shape stamps.now «record».now }
+    requires { FitsFixed shape slot.old stamps.now «record».now }
     ensures { HoldsNow shape slot.old slot.new (stamps.now ++ «record».now) }
 {
     slot[0] = USED;

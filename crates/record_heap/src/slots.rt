@@ -8,9 +8,9 @@
 //! | 8 to 15 | zero |
 //! | from 16 | as many slots of one size as fit |
 
-ghost use Rattle.std.specs.Prelude.{◌≡◌, ◌≤◌, ◌<◌, ◌+◌, ◌++◌, ℕ, Some, length, take};
+ghost use Rattle.std.specs.Prelude.{◌≡◌, ◌<◌, ◌+◌, ◌++◌, ℕ, Some, take};
 ghost use Rattle.record_heap.specs.Slot.{room, size, used_in, behind_in, FitsSlot};
-ghost use Rattle.record_heap.specs.Slots.{slot_at, start_of, behind_new, AreLinked, Edits, IsHeapPage};
+ghost use Rattle.record_heap.specs.Slots.{slot_at, start_of, behind_new, AreLinked, Edits, IsSlotAt, IsNewPage};
 
 use crate::shape::{Place, Shape};
 use crate::slot;
@@ -28,8 +28,7 @@ pub const FIRST_SLOT: usize = 16;
 /// The bytes of slot `i`.
 pub fn slot(page: &[u8; PAGE_SIZE], shape: Shape, i: usize) -> &[u8]
     requires { i < room shape }
-    ensures value { result.now ≡ slot_at shape page.now i }
-    ensures len { length result.now ≡ size shape }
+    ensures { IsSlotAt shape page.now i result.now }
 {
     let size = shape.size();
     let at = FIRST_SLOT + i * size;
@@ -60,8 +59,7 @@ pub fn put_used(page: &mut [u8; PAGE_SIZE], shape: Shape, i: usize, stamps: &[u8
 
 /// Makes the page the heap page `n` before the page `next`, with all its slots free.
 pub fn new_page(page: &mut [u8; PAGE_SIZE], shape: Shape, n: u32, next: u32)
-    ensures heap { IsHeapPage next page.new }
-    ensures linked { AreLinked shape n (room shape) page.new }
+    ensures { IsNewPage shape n next page.new }
 {
     write_start(page, next);
     link_all(page, shape, n);

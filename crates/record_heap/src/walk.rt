@@ -1,12 +1,10 @@
 //! The heap of a file whose pages were read into a list.
 
-ghost use Rattle.std.specs.Prelude.{◌≡◌, ℕ, List, false, ◌≤◌, IfOk, OnOk, length};
+ghost use Rattle.std.specs.Prelude.{◌≡◌, false, ◌≤◌, IfOk, OnOk, length};
 ghost use Rattle.record_heap.specs.Slot.{room, size};
 ghost use Rattle.record_heap.specs.Calls.{IsHeapAt};
-ghost use Rattle.record_heap.specs.Standing.{HeapStands};
 ghost use Rattle.page_marks.specs.PageList.{pages_in};
-ghost use Rattle.page_marks.specs.Marks.{Marks, marked_in};
-ghost use Rattle.record_heap.specs.Walk.{PagesWalked, SlotsWalked, SlotsKept, AreMarked, PageMarked, SlotMarked, TakesMark, slots_of};
+ghost use Rattle.record_heap.specs.Walk.{WalksChain, WalksHeap, EmptiesChain, SlotsKept, AreMarked, PageMarked, SlotMarked, TakesMark};
 ghost use Rattle.record_heap.specs.SlotMarks.{marked_slot};
 
 use crate::heap::Heap;
@@ -49,8 +47,7 @@ fn walk_pages(
     first: u32,
     reached: &mut [bool],
 ) -> Result<Vec<u32>, WalkFault>
-    ensures { IfOk result (λ own. PagesWalked (pages_in pages.now) first 0 (marked_in reached.old)
-        (marked_in reached.new) own.items) }
+    ensures { WalksChain pages.now first reached.old reached.new result }
 {
     let mut own = Vec::new(alloc);
     let mut from = 0;
@@ -169,8 +166,7 @@ fn walk_slots(
     first: Place,
     marks: &mut SlotMarks,
 ) -> Result<(), WalkFault>
-    ensures { OnOk result ((at : Place) × (at.page ≡ 0)
-        × ((free : List Place) × SlotsWalked shape (pages_in pages.now) first at marks.old marks.new free)) }
+    ensures { OnOk result (EmptiesChain shape (pages_in pages.now) first marks.old marks.new) }
 {
     let mut from = FaultPlace::Page(0);
     let mut at = first;
@@ -228,9 +224,7 @@ pub fn walk_heap(
     heap: &Heap,
     reached: &mut [bool],
 ) -> Result<Vec<u32>, WalkFault>
-    ensures stands { IfOk result (λ own. HeapStands heap.now (pages_in pages.now)
-        (slots_of heap.now.shape (pages_in pages.now) own.items) own.items) }
-    ensures marks { IfOk result (λ own. Marks (marked_in reached.old) (marked_in reached.new) own.items) }
+    ensures { WalksHeap heap.now pages.now reached.old reached.new result }
 {
     let own = walk_pages(alloc, pages, heap.first, reached)?;
     walk_own(alloc, pages, heap, &own)?;
