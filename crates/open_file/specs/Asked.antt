@@ -1,10 +1,12 @@
 -- What is asked of pages, and where what they told is believed.
-use Rattle.std.specs.Prelude.{ℕ, ◌+◌, ◌≤◌, ◌<◌, IsTrue, IsFalse}
+use Rattle.std.specs.Prelude.{ℕ, ◌+◌, ◌*◌, ◌≤◌, ◌<◌, slice_index, IsTrue, IsFalse}
 use Rattle.record_layout.specs.Schema.{key_at}
 use Rattle.indexed_file.specs.Room.{most_to_read, most_to_seek}
 use Rattle.pages.specs.PageMap.{PageMap}
 use Rattle.pages.specs.ShownPages.{ShownPages}
-use Rattle.open_file.specs.Stands.{room_of}
+use Rattle.key_index.specs.Standing.{prime_height, alt_height}
+use Rattle.key_index.specs.declared.alt_index.AltIndex.{AltIndex}
+use Rattle.open_file.specs.Stands.{room_of, heights_of}
 use Rattle.open_file.specs.declared.open_file.OpenFile.{OpenFile}
 
 -- where no wrong answer of the device was taken as true, this is so of the pages as they were before the call
@@ -31,3 +33,15 @@ pages_to_read shown opened pages k = most_to_read (room_of opened (shown.state p
 -- the most that one asks for that looks for a value of key k
 abbrev pub pages_to_seek : {S : Type 0} → ShownPages S → OpenFile → S → ℕ → ℕ
 pages_to_seek shown opened pages k = most_to_seek (room_of opened (shown.state pages).available) k
+
+-- the most that a look for a value of key k asks for, and then for its record
+abbrev pub most_by_key : OpenFile → ℕ → ℕ
+most_by_key opened k = 2 * slice_index (heights_of opened) k + prime_height opened.prime + 1
+
+-- by a key that one record alone can have
+abbrev pub most_by_unique_key : OpenFile → ℕ → ℕ
+most_by_unique_key opened k = slice_index (heights_of opened) k + prime_height opened.prime + 1
+
+-- the most that the record of an entry asks for, and a look whether the next one has its value
+abbrev pub most_by_entry : OpenFile → AltIndex → ℕ
+most_by_entry opened index = 2 * alt_height index + prime_height opened.prime + 1

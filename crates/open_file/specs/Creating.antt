@@ -1,11 +1,12 @@
 -- A new open file.
-use Rattle.std.specs.Prelude.{◌≡◌, ℕ, ◌+◌, ◌<◌, List, [], length, map, slice_index_or, None, Result, IsTrue, IsFalse}
+use Rattle.std.specs.Prelude.{◌≡◌, ℕ, ◌+◌, ◌*◌, ◌<◌, ◌≤◌, List, [], length, map, slice_index_or, None, Result, OnOk, IsTrue, IsFalse}
 use Rattle.io_state.specs.declared.fault.Fault.{Fault}
 use Rattle.record_layout.specs.Schema.{Schema, key_at}
 use Rattle.indexed_file.specs.File.{empty_file}
 use Rattle.pages.specs.PageMap.{PageMap}
 use Rattle.pages.specs.ShownPages.{ShownPages}
 use Rattle.pages.specs.Answer.{IsAnswer}
+use Rattle.pages.specs.PageCalls.{WritesPages}
 use Rattle.arrayvec.specs.ArrayVec.{ArrayVec}
 use Rattle.record_heap.specs.declared.heap.Heap.{Heap}
 use Rattle.record_heap.specs.Chain.{no_slots}
@@ -14,6 +15,7 @@ use Rattle.key_index.specs.declared.alt_index.AltIndex.{AltIndex}
 use Rattle.key_index.specs.Standing.{alt_height, alt_key}
 use Rattle.open_file.specs.Parts.{Parts}
 use Rattle.open_file.specs.Stands.{Stands, IsShaped, heights_of}
+use Rattle.open_file.specs.Asked.{LacksPages}
 use Rattle.open_file.specs.declared.open_file.OpenFile.{OpenFile}
 
 -- it stands for a file without rows
@@ -63,3 +65,10 @@ MakesIndexes shown before after result =
     → IsAnswer result (λ alternates.
     Parts heap prime alternates.items (shown.state after).live no_slots [] (λ j. [])
     × IsTrue (shown.state after).is_sound)
+
+-- a page is taken for the tree of each of so many keys; the fault is Full only where fewer are left
+pub record TakesTreePages {S X : Type 0} (shown : ShownPages S) (keys : ℕ) (before after : S)
+    (result : Result X Fault) : Type 0 where
+  pub few : (shown.state before).available ≤ (shown.state after).available + keys
+  pub spent : OnOk result ((shown.state after).available + keys ≡ (shown.state before).available)
+  pub writes : WritesPages shown (2 * keys) (LacksPages shown before keys) before after result

@@ -12,3 +12,4 @@ pub mod Creating
 pub mod Laws
 pub mod Headers
 pub mod Steps
+pub mod Calls

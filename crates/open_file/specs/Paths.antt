@@ -1,10 +1,13 @@
 -- Where READ NEXT goes on in an index.
-use Rattle.std.specs.Prelude.{◌≡◌, ℕ, ◌+◌, ◌<◌, List, length, slice_index_or, Option, None, Some, ⊤}
+use Rattle.std.specs.Prelude.{◌≡◌, ℕ, ◌+◌, ◌-◌, ◌<◌, List, ◌++◌, length, slice_index_or, Option, None, Some, ⊤}
+use Rattle.byteorder.specs.Endian.{big_bytes}
 use Rattle.pages.specs.PageMap.{PageMap}
 use Rattle.key_index.specs.declared.entry.PrimeEntry.{PrimeEntry}
 use Rattle.key_index.specs.declared.entry.AltEntry.{AltEntry}
 use Rattle.key_index.specs.declared.prime_index.PrimeIndex.{PrimeIndex}
 use Rattle.key_index.specs.declared.alt_index.AltIndex.{AltIndex}
+use Rattle.key_index.specs.declared.cursor.PrimeCursor.{PrimeCursor}
+use Rattle.key_index.specs.declared.cursor.AltCursor.{AltCursor}
 use Rattle.key_index.specs.Cursors.{PrimeBelongs, AltBelongs}
 use Rattle.page_marks.specs.Parted.{own_at}
 use Rattle.open_file.specs.declared.open_file.OpenFile.{OpenFile}
@@ -28,3 +31,18 @@ WhereOnPath opened fact =
     (pages : PageMap) (primes : List PrimeEntry) (entries : ℕ → List AltEntry) (owns : List (List ℕ))
     → IsOnPath opened.path opened.prime opened.alternates.items pages primes entries owns
     → fact pages primes entries owns
+
+-- a cursor of the prime index behind a value, taken from the path where that is there; the path is gone
+pub record TakesPrimeCursor (old new : OpenFile) (value : List ℕ) (cursor : PrimeCursor) : Type 0 where
+  pub after : cursor.cursor.key.items ≡ value
+  pub belongs : WhereOnPath old (λ pages primes entries owns.
+      PrimeBelongs cursor old.prime pages primes (own_at owns 1))
+  pub gone : new ≡ record old { path = None }
+
+-- the same of the index of alternate key k, behind a value and stamp
+pub record TakesAltCursor (old new : OpenFile) (k : ℕ) (index : AltIndex) (value : List ℕ) (stamp : ℕ)
+    (cursor : AltCursor) : Type 0 where
+  pub after : cursor.cursor.key.items ≡ value ++ big_bytes 8 stamp
+  pub belongs : WhereOnPath old (λ pages primes entries owns.
+      AltBelongs cursor index pages (entries (k - 1)) (own_at owns (k - 1 + 2)))
+  pub gone : new ≡ record old { path = None }

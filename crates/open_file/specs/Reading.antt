@@ -3,10 +3,11 @@ use Rattle.std.specs.Prelude.{◌≡◌, ℕ, ◌≤◌, Bool, List, length, dro
 use Rattle.record_layout.specs.Schema.{Schema, key_at, value_of}
 use Rattle.indexed_file.specs.File.{Row, File}
 use Rattle.indexed_file.specs.Change.{row_of, is_there}
-use Rattle.indexed_file.specs.Rank.{least, satisfies, highest_of, is_repeated}
+use Rattle.indexed_file.specs.Rank.{least, satisfies, highest_of, is_repeated, has_value, admits}
 use Rattle.indexed_file.specs.Answers.{found_of, key_of_row, area_after}
 use Rattle.indexed_file.specs.declared.answer.Found.{Found}
 use Rattle.io_state.specs.declared.fault.Fault.{Fault}
+use Rattle.io_state.specs.declared.position.Position.{Position}
 use Rattle.io_state.specs.declared.modes.Relation.{Relation}
 use Rattle.arrayvec.specs.ArrayVec.{ArrayVec}
 use Rattle.pages.specs.PageMap.{PageMap}
@@ -21,6 +22,7 @@ use Rattle.record_heap.specs.Standing.{HeapStands}
 use Rattle.open_file.specs.Stored.{stored, stamp_bytes}
 use Rattle.open_file.specs.InOrder.{alt_entry}
 use Rattle.open_file.specs.Stands.{Stands}
+use Rattle.open_file.specs.Asked.{OfHonestPages}
 use Rattle.open_file.specs.declared.open_file.OpenFile.{OpenFile}
 
 -- the answer, and the area with the record in its front; or as it was, where there is none
@@ -52,6 +54,18 @@ abbrev pub FindsIn : {S : Type 0} → ShownPages S → S → S → OpenFile → 
 FindsIn shown before after opened k test old new result =
     FindsFirst (shown.state after).is_honest opened (shown.state before).live k test old new result
 
+-- a call that looks for the first row whose key k has a value
+abbrev pub FindsByValue : {S : Type 0} → ShownPages S → OpenFile → ℕ → List ℕ → (before after : S)
+    → (old new : List ℕ) → Result (Option Found) Fault → Type 0
+FindsByValue shown opened k value before after old new result =
+    FindsIn shown before after opened k (has_value opened.schema k value) old new result
+
+-- a call that looks for the first row by key k that a position admits
+abbrev pub FindsNext : {S : Type 0} → ShownPages S → OpenFile → ℕ → Position → (before after : S)
+    → (old new : List ℕ) → Result (Option Found) Fault → Type 0
+FindsNext shown opened k position before after old new result =
+    FindsIn shown before after opened k (admits opened.schema k position) old new result
+
 -- the full value of key k of the first row whose value begins so related to the operand
 abbrev pub Seeks : OpenFile → PageMap → ℕ → Relation → List ℕ → Result (Option (ArrayVec ℕ)) Fault → Type 0
 Seeks opened pages k relation operand result =
@@ -75,31 +89,35 @@ pub record IsEntryOfRow (schema : Schema) (k : ℕ) (file : File) (entry : AltEn
   pub is_row : row_of schema entry.prime.items file ≡ Some row
 
 -- the row at this place of the heap is read: its length is the answer
-abbrev pub ReadsAtPlace : OpenFile → PageMap → Place → List ℕ → List ℕ → Result ℕ Fault → Type 0
-ReadsAtPlace opened pages place old new result =
-    (row : Row) → IsRowAt opened.schema opened.heap opened.heap.shape.stamps pages place row
-    → ReadsRow result (length row.bytes) old new (Some row)
+abbrev pub ReadsAtPlace : {S : Type 0} → ShownPages S → OpenFile → Place → (before after : S)
+    → (old new : List ℕ) → Result ℕ Fault → Type 0
+ReadsAtPlace shown opened place before after old new result = OfHonestPages shown before after (λ live.
+    (row : Row) → IsRowAt opened.schema opened.heap opened.heap.shape.stamps live place row
+    → ReadsRow result (length row.bytes) old new (Some row))
 
 -- the row of a prime value is read, where there is one
-abbrev pub ReadsByPrime : OpenFile → PageMap → List ℕ → List ℕ → List ℕ → Result (Option ℕ) Fault → Type 0
-ReadsByPrime opened pages prime old new result =
-    (file : File) → Stands opened pages file
+abbrev pub ReadsByPrime : {S : Type 0} → ShownPages S → OpenFile → List ℕ → (before after : S)
+    → (old new : List ℕ) → Result (Option ℕ) Fault → Type 0
+ReadsByPrime shown opened prime before after old new result = OfHonestPages shown before after (λ live.
+    (file : File) → Stands opened live file
     → ReadsRow result (option_map (λ row. length row.bytes) (row_of opened.schema prime file)) old new
-    (row_of opened.schema prime file)
+    (row_of opened.schema prime file))
 
 -- the row of an entry of alternate index k is told and read
-abbrev pub ReadsByEntry : OpenFile → PageMap → ℕ → AltEntry → List ℕ → List ℕ → Result Found Fault → Type 0
-ReadsByEntry opened pages k entry old new result =
-    (file : File) → Stands opened pages file → (row : Row) → IsEntryOfRow opened.schema k file entry row
-    → ReadsRow result (found_of opened.schema k file row) old new (Some row)
+abbrev pub ReadsByEntry : {S : Type 0} → ShownPages S → OpenFile → ℕ → AltEntry → (before after : S)
+    → (old new : List ℕ) → Result Found Fault → Type 0
+ReadsByEntry shown opened k entry before after old new result = OfHonestPages shown before after (λ live.
+    (file : File) → Stands opened live file → (row : Row) → IsEntryOfRow opened.schema k file entry row
+    → ReadsRow result (found_of opened.schema k file row) old new (Some row))
 
 -- the same, where it is known whether a later row has the entry's value
-abbrev pub TellsByEntry : OpenFile → PageMap → AltEntry → Bool → List ℕ → List ℕ → Result Found Fault → Type 0
-TellsByEntry opened pages entry repeated old new result =
-    (file : File) → Stands opened pages file → (k : ℕ) (row : Row)
+abbrev pub TellsByEntry : {S : Type 0} → ShownPages S → OpenFile → AltEntry → Bool → (before after : S)
+    → (old new : List ℕ) → Result Found Fault → Type 0
+TellsByEntry shown opened entry told before after old new result = OfHonestPages shown before after (λ live.
+    (file : File) → Stands opened live file → (k : ℕ) (row : Row)
     → IsEntryOfRow opened.schema k file entry row
-    → repeated ≡ is_repeated opened.schema k row file
-    → ReadsRow result (found_of opened.schema k file row) old new (Some row)
+    → told ≡ is_repeated opened.schema k row file
+    → ReadsRow result (found_of opened.schema k file row) old new (Some row))
 
 -- what a call keeps that reads a record into the area: why it gave up, how many pages it asked for
 -- at most, that it left them, and that the area stays at a fault

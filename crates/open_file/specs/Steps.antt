@@ -1,5 +1,5 @@
 -- The entries that READ NEXT and START come to.
-use Rattle.std.specs.Prelude.{◌≡◌, ℕ, ◌*◌, Bool, true, false, List, length, take, find, bytes_eq, Option, Result}
+use Rattle.std.specs.Prelude.{◌≡◌, ℕ, ◌*◌, Bool, true, false, List, length, take, find, bytes_eq, slice_index, Option, Result}
 use Rattle.std.specs.Option.{option_map_or}
 use Rattle.io_state.specs.declared.fault.Fault.{Fault}
 use Rattle.io_state.specs.declared.position.Position.{Position}
@@ -11,16 +11,17 @@ use Rattle.pages.specs.PageMap.{PageMap}
 use Rattle.pages.specs.Answer.{IsAnswer}
 use Rattle.pages.specs.ShownPages.{ShownPages}
 use Rattle.pages.specs.PageCalls.{ReadsPages}
+use Rattle.key_index.specs.declared.prime_index.PrimeIndex.{PrimeIndex}
 use Rattle.key_index.specs.declared.alt_index.AltIndex.{AltIndex}
 use Rattle.key_index.specs.Standing.{prime_height, alt_height}
 use Rattle.key_index.specs.declared.entry.PrimeEntry.{PrimeEntry}
 use Rattle.key_index.specs.declared.entry.AltEntry.{AltEntry}
 use Rattle.key_index.specs.declared.entry.AltFirst.{AltFirst}
-use Rattle.key_index.specs.Calls.{IsAltFirst}
+use Rattle.key_index.specs.Calls.{PrimeFinds, AltFinds, IsAltFirst}
 use Rattle.key_index.specs.Entries.{from_prime, after_prime, past_prime, entry_has_value, from_value, after_rank, past_value}
 use Rattle.open_file.specs.InOrder.{alt_entries, prime_entries}
-use Rattle.open_file.specs.Stands.{Stands}
-use Rattle.open_file.specs.Asked.{OfHonestPages}
+use Rattle.open_file.specs.Stands.{Stands, heights_of}
+use Rattle.open_file.specs.Asked.{OfHonestPages, AsksAlone}
 use Rattle.open_file.specs.declared.open_file.OpenFile.{OpenFile}
 
 -- the position admits the row of this entry of the prime index, whose stamp is 0
@@ -66,18 +67,38 @@ GivesAlt opened pages k test result =
     (file : File) → Stands opened pages file → IsAnswer result
     (λ found. found ≡ find test (alt_entries opened.schema k file.rows))
 
+-- the first entry that passes a test in whatever pages hold the prime index
+abbrev pub FindsInPrime : {S : Type 0} → ShownPages S → PrimeIndex → (PrimeEntry → Bool) → (before after : S)
+    → Result (Option PrimeEntry) Fault → Type 0
+FindsInPrime shown index test before after result = OfHonestPages shown before after (λ live.
+    PrimeFinds index live (find test) result)
+
+-- the same of the index of an alternate key
+abbrev pub FindsInAlternate : {S : Type 0} → ShownPages S → AltIndex → (AltEntry → Bool) → (before after : S)
+    → Result (Option AltEntry) Fault → Type 0
+FindsInAlternate shown index test before after result = OfHonestPages shown before after (λ live.
+    AltFinds index live (find test) result)
+
 -- the first entry of a value in the index of alternate key k, and whether the next entry has the value too
 abbrev pub GivesFirstOf : OpenFile → PageMap → ℕ → List ℕ → Result (Option AltFirst) Fault → Type 0
 GivesFirstOf opened pages k value result =
     (file : File) → Stands opened pages file → IsAnswer result
     (IsAltFirst value (alt_entries opened.schema k file.rows))
 
+-- a call that tells it, and how many pages it asks for at most
+pub record TellsFirstOf {S : Type 0} (shown : ShownPages S) (opened : OpenFile) (k : ℕ) (value : List ℕ)
+    (before after : S) (result : Result (Option AltFirst) Fault) : Type 0 where
+  pub found : OfHonestPages shown before after (λ live. GivesFirstOf opened live k value result)
+  pub alone : AsksAlone shown opened k (slice_index (heights_of opened) k) before after
+  pub reads : ReadsPages shown (2 * slice_index (heights_of opened) k) before after result
+
 -- whether the first entry of the index of alternate key k that comes after a value and stamp has this value
-abbrev pub TellsNextOfKey : OpenFile → PageMap → ℕ → List ℕ → ℕ → Result Bool Fault → Type 0
-TellsNextOfKey opened pages k value stamp result =
-    (file : File) → Stands opened pages file
+abbrev pub TellsNextOfKey : {S : Type 0} → ShownPages S → OpenFile → ℕ → List ℕ → ℕ → (before after : S)
+    → Result Bool Fault → Type 0
+TellsNextOfKey shown opened k value stamp before after result = OfHonestPages shown before after (λ live.
+    (file : File) → Stands opened live file
     → IsAnswer result (λ told. told ≡ option_map_or (entry_has_value value)
-    (find (after_rank value stamp) (alt_entries opened.schema k file.rows)) false)
+    (find (after_rank value stamp) (alt_entries opened.schema k file.rows)) false))
 
 -- what the pages stood for they stand for still
 abbrev pub StandsStill : OpenFile → OpenFile → PageMap → Type 0

@@ -1,12 +1,10 @@
 //! A new open file.
 
-ghost use Rattle.std.specs.Prelude.{◌≡◌, ◌+◌, ◌-◌, ◌*◌, ◌≤◌, length, drop, IfOk, OnOk};
+ghost use Rattle.std.specs.Prelude.{◌≡◌, ◌-◌, length, drop, IfOk};
 ghost use Rattle.record_layout.specs.Schema.{IsSchema};
-ghost use Rattle.pages.specs.PageCalls.{WritesPages};
 ghost use Rattle.open_file.specs.Stored.{stamps_length};
 ghost use Rattle.open_file.specs.Lent.{LendsToChange};
-ghost use Rattle.open_file.specs.Asked.{LacksPages};
-ghost use Rattle.open_file.specs.Creating.{IsNewOpenFile, AreAllIndexesOf, MakesNewFile, MakesIndexes};
+ghost use Rattle.open_file.specs.Creating.{IsNewOpenFile, AreAllIndexesOf, MakesNewFile, MakesIndexes, TakesTreePages};
 
 use crate::open_file::OpenFile;
 use arrayvec::ArrayVec;
@@ -25,12 +23,7 @@ impl OpenFile {
         requires { LendsToChange P.shown pages.old }
         ensures new { MakesNewFile P.shown pages.old pages.new result }
         ensures made { IfOk result (λ opened. IsNewOpenFile opened schema.now) }
-        ensures few { (P.shown.state pages.old).available ≤ (P.shown.state pages.new).available
-            + length schema.now.keys }
-        ensures spent { OnOk result ((P.shown.state pages.new).available + length schema.now.keys
-            ≡ (P.shown.state pages.old).available) }
-        ensures writes { WritesPages P.shown (2 * length schema.now.keys)
-            (LacksPages P.shown pages.old (length schema.now.keys)) pages.old pages.new result }
+        ensures takes { TakesTreePages P.shown (length schema.now.keys) pages.old pages.new result }
     {
         let heap = Heap::new(heap_shape(schema));
         let prime = PrimeIndex::empty(pages, schema.part(0).length)?;
@@ -52,12 +45,7 @@ fn new_alternates<P: Pages>(pages: &mut P, schema: &Schema) -> Result<ArrayVec<A
     requires { LendsToChange P.shown pages.old }
     ensures made { MakesIndexes P.shown pages.old pages.new result }
     ensures all { IfOk result (λ alternates. AreAllIndexesOf schema.now alternates.items) }
-    ensures few { (P.shown.state pages.old).available + 1 ≤ (P.shown.state pages.new).available
-        + length schema.now.keys }
-    ensures spent { OnOk result ((P.shown.state pages.new).available + length schema.now.keys
-        ≡ (P.shown.state pages.old).available + 1) }
-    ensures writes { WritesPages P.shown (2 * (length schema.now.keys - 1))
-        (LacksPages P.shown pages.old (length schema.now.keys - 1)) pages.old pages.new result }
+    ensures takes { TakesTreePages P.shown (length schema.now.keys - 1) pages.old pages.new result }
 {
     let keys = schema.key_count();
     let prime = schema.part(0).length;

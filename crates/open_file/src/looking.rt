@@ -1,12 +1,13 @@
 //! Whether a value of a key is there.
 
-ghost use Rattle.std.specs.Prelude.{◌*◌, ◌≤◌, ◌<◌, length, slice_index};
+ghost use Rattle.std.specs.Prelude.{◌*◌, slice_index};
 ghost use Rattle.pages.specs.PageCalls.{ReadsPages};
 ghost use Rattle.key_index.specs.Standing.{prime_height};
-ghost use Rattle.open_file.specs.Stands.{IsShaped, heights_of};
-ghost use Rattle.open_file.specs.Lent.{IsAlternate};
+ghost use Rattle.open_file.specs.Stands.{heights_of};
+ghost use Rattle.open_file.specs.Lent.{LendsRecord, LendsByAlternate};
 ghost use Rattle.open_file.specs.Asked.{OfHonestPages};
-ghost use Rattle.open_file.specs.Reading.{TellsThere, TellsValueThere};
+ghost use Rattle.open_file.specs.Reading.{TellsValueThere};
+ghost use Rattle.open_file.specs.Calls.{LooksForRecord};
 
 use crate::open_file::OpenFile;
 use io_state::Fault;
@@ -25,8 +26,7 @@ impl OpenFile {
 
     /// Whether some record has this value of an alternate key.
     fn has_alternate<P: Pages>(&self, pages: &mut P, k: usize, value: &[u8]) -> Result<bool, Fault>
-        requires ready { P.shown.IsReady pages.old }
-        requires key { IsAlternate self.now k }
+        requires { LendsByAlternate P.shown pages.old self.now k }
         ensures found { OfHonestPages P.shown pages.old pages.new
             (λ live. TellsValueThere self.now live k value.now result) }
         ensures reads { ReadsPages P.shown (2 * slice_index (heights_of self.now) k) pages.old pages.new
@@ -43,14 +43,8 @@ impl OpenFile {
     ///
     /// Device, Memory, Damage.
     pub fn is_there<P: Pages>(&self, pages: &mut P, k: u8, bytes: &[u8]) -> Result<bool, Fault>
-        requires ready { P.shown.IsReady pages.old }
-        requires shaped { IsShaped self.now }
-        requires key { k < length self.now.schema.keys }
-        requires least { self.now.schema.least ≤ length bytes.now }
-        ensures found { OfHonestPages P.shown pages.old pages.new
-            (λ live. TellsThere self.now live k bytes.now result) }
-        ensures reads { ReadsPages P.shown (2 * slice_index (heights_of self.now) k) pages.old pages.new
-            result }
+        requires { LendsRecord P.shown pages.old self.now k bytes.now }
+        ensures { LooksForRecord P.shown self.now k bytes.now pages.old pages.new result }
     {
         let value = self.schema.value(bytes, k);
         if k == 0 {

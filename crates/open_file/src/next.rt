@@ -1,13 +1,11 @@
 //! The record that comes next.
 
-ghost use Rattle.std.specs.Prelude.{◌≡◌};
-ghost use Rattle.indexed_file.specs.Rank.{admits};
 ghost use Rattle.pages.specs.PageCalls.{ReadsPages};
-ghost use Rattle.open_file.specs.Lent.{LendsArea, LendsAreaBy, IsAlternate};
-ghost use Rattle.open_file.specs.Asked.{OfHonestPages, pages_to_read};
-ghost use Rattle.open_file.specs.Faults.{ReadsFile};
-ghost use Rattle.open_file.specs.Reading.{FindsIn};
-ghost use Rattle.open_file.specs.Steps.{StandsStill, MovesPathIn};
+ghost use Rattle.open_file.specs.Lent.{LendsArea, LendsAreaBy, LendsAreaByAlternate};
+ghost use Rattle.open_file.specs.Asked.{pages_to_read};
+ghost use Rattle.open_file.specs.Reading.{FindsNext};
+ghost use Rattle.open_file.specs.Steps.{MovesPathIn};
+ghost use Rattle.open_file.specs.Calls.{ReadsNext};
 
 use crate::open_file::OpenFile;
 use indexed_file::Found;
@@ -28,12 +26,8 @@ impl OpenFile {
         area: &mut [u8],
     ) -> Result<Option<Found>, Fault>
         requires { LendsAreaBy P.shown pages.old self.old k area.old }
-        ensures finds { FindsIn P.shown pages.old pages.new self.old k
-            (admits self.old.schema k position.now) area.old area.new result }
-        ensures stands { OfHonestPages P.shown pages.old pages.new (StandsStill self.old self.new) }
-        ensures rest { self.new ≡ record self.old { path = self.new.path } }
-        ensures reads { ReadsFile P.shown self.old.broken
-            (pages_to_read P.shown self.old pages.old k) pages.old pages.new result }
+        ensures { ReadsNext P.shown self.old self.new k position.now pages.old pages.new
+            area.old area.new result }
     {
         if self.broken {
             return Err(Fault::Broken);
@@ -52,8 +46,8 @@ impl OpenFile {
         area: &mut [u8],
     ) -> Result<Option<Found>, Fault>
         requires { LendsArea P.shown pages.old self.old area.old }
-        ensures finds { FindsIn P.shown pages.old pages.new self.old 0
-            (admits self.old.schema 0 position.now) area.old area.new result }
+        ensures finds { FindsNext P.shown self.old 0 position.now pages.old pages.new
+            area.old area.new result }
         ensures moves { MovesPathIn P.shown pages.old pages.new self.old self.new }
         ensures reads { ReadsPages P.shown (pages_to_read P.shown self.old pages.old 0) pages.old pages.new
             result }
@@ -78,10 +72,9 @@ impl OpenFile {
         position: &Position,
         area: &mut [u8],
     ) -> Result<Option<Found>, Fault>
-        requires lent { LendsArea P.shown pages.old self.old area.old }
-        requires key { IsAlternate self.old k }
-        ensures finds { FindsIn P.shown pages.old pages.new self.old k
-            (admits self.old.schema k position.now) area.old area.new result }
+        requires { LendsAreaByAlternate P.shown pages.old self.old k area.old }
+        ensures finds { FindsNext P.shown self.old k position.now pages.old pages.new
+            area.old area.new result }
         ensures moves { MovesPathIn P.shown pages.old pages.new self.old self.new }
         ensures reads { ReadsPages P.shown (pages_to_read P.shown self.old pages.old k) pages.old pages.new
             result }

@@ -1,15 +1,12 @@
 //! The path of READ NEXT through an index.
 
-ghost use Rattle.std.specs.Prelude.{◌≡◌, ◌+◌, ◌-◌, ◌*◌, ◌≤◌, ◌++◌, length, None, Some, IfSome};
-ghost use Rattle.byteorder.specs.Endian.{big_bytes};
+ghost use Rattle.std.specs.Prelude.{◌≡◌, ◌-◌, ◌*◌, ◌≤◌, length, Some, IfSome};
 ghost use Rattle.pages.specs.PageCalls.{ReadsPages};
 ghost use Rattle.key_index.specs.Entries.{from_prime, after_prime, from_value, after_rank};
 ghost use Rattle.key_index.specs.Standing.{alt_height};
-ghost use Rattle.key_index.specs.Cursors.{PrimeBelongs, AltBelongs};
-ghost use Rattle.page_marks.specs.Parted.{own_at};
-ghost use Rattle.open_file.specs.Lent.{LendsPages, IsAlternateBy};
-ghost use Rattle.open_file.specs.Asked.{OfHonestPages, AsksAlone};
-ghost use Rattle.open_file.specs.Paths.{WhereOnPath};
+ghost use Rattle.open_file.specs.Lent.{LendsByIndex, LendsBehind, IsAlternateBy};
+ghost use Rattle.open_file.specs.Asked.{AsksAlone};
+ghost use Rattle.open_file.specs.Paths.{TakesPrimeCursor, TakesAltCursor};
 ghost use Rattle.open_file.specs.Steps.{admits_prime, admits_alt, TellsNextOfKey, MovesPath, StepsInPrime, StepsInAlternate};
 
 use crate::open_file::OpenFile;
@@ -50,8 +47,7 @@ impl OpenFile {
         index: AltIndex,
         position: &Position,
     ) -> Result<Option<AltEntry>, Fault>
-        requires ready { P.shown.IsReady pages.old }
-        requires key { IsAlternateBy self.old k index }
+        requires { LendsByIndex P.shown pages.old self.old k index }
         ensures { StepsInAlternate P.shown k index (admits_alt position.now) self.old self.new pages.old
             pages.new result }
     {
@@ -79,11 +75,8 @@ impl OpenFile {
         value: &[u8],
         stamp: u64,
     ) -> Result<bool, Fault>
-        requires lent { LendsPages P.shown pages.old self.now }
-        requires key { IsAlternateBy self.now k index }
-        requires short { length value.now ≤ 250 }
-        ensures told { OfHonestPages P.shown pages.old pages.new
-            (λ live. TellsNextOfKey self.now live k value.now stamp result) }
+        requires { LendsBehind P.shown pages.old self.now k index value.now }
+        ensures told { TellsNextOfKey P.shown self.now k value.now stamp pages.old pages.new result }
         ensures alone { AsksAlone P.shown self.now k 0 pages.old pages.new }
         ensures reads { ReadsPages P.shown (2 * alt_height index) pages.old pages.new result }
     {
@@ -154,8 +147,7 @@ impl OpenFile {
         index: AltIndex,
         value: &[u8],
     ) -> Result<Option<AltEntry>, Fault>
-        requires ready { P.shown.IsReady pages.old }
-        requires key { IsAlternateBy self.old k index }
+        requires { LendsByIndex P.shown pages.old self.old k index }
         ensures { StepsInAlternate P.shown k index (from_value value.now) self.old self.new pages.old
             pages.new result }
     {
@@ -175,8 +167,7 @@ impl OpenFile {
         value: &[u8],
         stamp: u64,
     ) -> Result<Option<AltEntry>, Fault>
-        requires ready { P.shown.IsReady pages.old }
-        requires key { IsAlternateBy self.old k index }
+        requires { LendsByIndex P.shown pages.old self.old k index }
         ensures { StepsInAlternate P.shown k index (after_rank value.now stamp) self.old self.new pages.old
             pages.new result }
     {
@@ -193,10 +184,7 @@ impl OpenFile {
     /// gone then.
     fn prime_cursor(&mut self, value: &[u8]) -> PrimeCursor
         requires whole { length value.now ≡ self.old.prime.width }
-        ensures after { result.cursor.key.items ≡ value.now }
-        ensures belongs { WhereOnPath self.old (λ pages primes entries owns.
-            PrimeBelongs result self.old.prime pages primes (own_at owns 1)) }
-        ensures gone { self.new ≡ record self.old { path = None } }
+        ensures { TakesPrimeCursor self.old self.new value.now result }
     {
         if let Some(Path::Prime(cursor)) = self.path.take() {
             if cursor.is_after(value) {
@@ -211,10 +199,7 @@ impl OpenFile {
     fn alternate_cursor(&mut self, k: usize, index: AltIndex, value: &[u8], stamp: u64) -> AltCursor
         requires key { IsAlternateBy self.old k index }
         requires whole { length value.now ≡ index.width }
-        ensures after { result.cursor.key.items ≡ value.now ++ big_bytes 8 stamp }
-        ensures belongs { WhereOnPath self.old (λ pages primes entries owns.
-            AltBelongs result index pages (entries (k - 1)) (own_at owns (k - 1 + 2))) }
-        ensures gone { self.new ≡ record self.old { path = None } }
+        ensures { TakesAltCursor self.old self.new k index value.now stamp result }
     {
         if let Some(Path::Alternate(j, cursor)) = self.path.take() {
             if j == k - 1 && cursor.is_after(value, stamp) {

@@ -1,15 +1,13 @@
 //! The record that a key leads to.
 
-ghost use Rattle.std.specs.Prelude.{◌≡◌, ◌+◌, ◌*◌, None, Ok, slice_index};
-ghost use Rattle.indexed_file.specs.Rank.{has_value};
+ghost use Rattle.std.specs.Prelude.{◌≡◌, ◌+◌, None, Ok};
 ghost use Rattle.pages.specs.PageCalls.{ReadsPages};
-ghost use Rattle.key_index.specs.Standing.{prime_height, alt_height};
-ghost use Rattle.open_file.specs.Stands.{heights_of};
-ghost use Rattle.open_file.specs.Lent.{LendsPages, LendsArea, LendsAreaBy, IsAlternate, IsAlternateBy};
-ghost use Rattle.open_file.specs.Asked.{OfHonestPages, AsksFor, AsksAlone, pages_to_read, pages_to_seek};
-ghost use Rattle.open_file.specs.Faults.{ReadsFile};
-ghost use Rattle.open_file.specs.Reading.{FindsIn, ReadsAtPlace, ReadsByPrime, ReadsByEntry, TellsByEntry, ReadsInto, TellsHighest};
-ghost use Rattle.open_file.specs.Steps.{GivesFirstOf};
+ghost use Rattle.key_index.specs.Standing.{prime_height};
+ghost use Rattle.open_file.specs.Lent.{LendsPages, LendsArea, LendsAreaBy, LendsAreaByAlternate, IsAlternate, IsAlternateBy};
+ghost use Rattle.open_file.specs.Asked.{AsksAlone, most_by_key, most_by_unique_key, most_by_entry};
+ghost use Rattle.open_file.specs.Reading.{FindsByValue, ReadsAtPlace, ReadsByPrime, ReadsByEntry, TellsByEntry, ReadsInto};
+ghost use Rattle.open_file.specs.Steps.{TellsFirstOf};
+ghost use Rattle.open_file.specs.Calls.{ReadsByKey, SeeksHighest};
 
 use crate::open_file::OpenFile;
 use indexed_file::Found;
@@ -36,14 +34,8 @@ impl OpenFile {
         area: &mut [u8],
     ) -> Result<Option<Found>, Fault>
         requires { LendsAreaBy P.shown pages.old self.now k area.old }
-        ensures finds { FindsIn P.shown pages.old pages.new self.now k
-            (has_value self.now.schema k key.now.items) area.old area.new result }
-        ensures once { AsksFor P.shown (2 * slice_index
-            (heights_of self.now) k + prime_height self.now.prime + 1) pages.old pages.new }
-        ensures alone { AsksAlone P.shown self.now k (slice_index
-            (heights_of self.now) k + prime_height self.now.prime + 1) pages.old pages.new }
-        ensures reads { ReadsFile P.shown self.now.broken
-            (pages_to_read P.shown self.now pages.old k) pages.old pages.new result }
+        ensures { ReadsByKey P.shown self.now k key.now.items pages.old pages.new
+            area.old area.new result }
     {
         if self.broken {
             return Err(Fault::Broken);
@@ -59,10 +51,7 @@ impl OpenFile {
     /// Device, Memory, Damage, Broken.
     pub fn highest<P: Pages>(&self, pages: &mut P) -> Result<Option<Key>, Fault>
         requires ready { P.shown.IsReady pages.old }
-        ensures found { OfHonestPages P.shown pages.old pages.new
-            (λ live. TellsHighest self.now live result) }
-        ensures reads { ReadsFile P.shown self.now.broken
-            (pages_to_seek P.shown self.now pages.old 0) pages.old pages.new result }
+        ensures { SeeksHighest P.shown self.now pages.old pages.new result }
     {
         if self.broken {
             return Err(Fault::Broken);
@@ -81,8 +70,8 @@ impl OpenFile {
         area: &mut [u8],
     ) -> Result<Option<Found>, Fault>
         requires { LendsArea P.shown pages.old self.now area.old }
-        ensures finds { FindsIn P.shown pages.old pages.new self.now 0
-            (has_value self.now.schema 0 key.now.items) area.old area.new result }
+        ensures finds { FindsByValue P.shown self.now 0 key.now.items pages.old pages.new
+            area.old area.new result }
         ensures reads { ReadsPages P.shown (prime_height self.now.prime + 1) pages.old pages.new result }
     {
         match self.fetch(pages, key.as_slice(), area)? {
@@ -104,14 +93,11 @@ impl OpenFile {
         key: &Key,
         area: &mut [u8],
     ) -> Result<Option<Found>, Fault>
-        requires lent { LendsArea P.shown pages.old self.now area.old }
-        requires key { IsAlternate self.now k }
-        ensures finds { FindsIn P.shown pages.old pages.new self.now k
-            (has_value self.now.schema k key.now.items) area.old area.new result }
-        ensures alone { AsksAlone P.shown self.now k (slice_index
-            (heights_of self.now) k + prime_height self.now.prime + 1) pages.old pages.new }
-        ensures reads { ReadsPages P.shown (2 * slice_index
-            (heights_of self.now) k + prime_height self.now.prime + 1) pages.old pages.new result }
+        requires { LendsAreaByAlternate P.shown pages.old self.now k area.old }
+        ensures finds { FindsByValue P.shown self.now k key.now.items pages.old pages.new
+            area.old area.new result }
+        ensures alone { AsksAlone P.shown self.now k (most_by_unique_key self.now k) pages.old pages.new }
+        ensures reads { ReadsPages P.shown (most_by_key self.now k) pages.old pages.new result }
     {
         match self.first_of(pages, k, key.as_slice())? {
             Some(AltFirst { entry, followed }) => Ok(Some(self.tell(
@@ -131,12 +117,7 @@ impl OpenFile {
     ) -> Result<Option<AltFirst>, Fault>
         requires lent { LendsPages P.shown pages.old self.now }
         requires key { IsAlternate self.now k }
-        ensures found { OfHonestPages P.shown pages.old pages.new
-            (λ live. GivesFirstOf self.now live k value.now result) }
-        ensures alone { AsksAlone P.shown self.now k (slice_index (heights_of self.now) k) pages.old
-            pages.new }
-        ensures reads { ReadsPages P.shown (2 * slice_index (heights_of self.now) k) pages.old pages.new
-            result }
+        ensures { TellsFirstOf P.shown self.now k value.now pages.old pages.new result }
     {
         let index = self.alternate(k);
         if self.schema.part(k as u8).duplicates {
@@ -162,10 +143,10 @@ impl OpenFile {
     ) -> Result<Found, Fault>
         requires lent { LendsArea P.shown pages.old self.now area.old }
         requires key { IsAlternateBy self.now k index }
-        ensures found { OfHonestPages P.shown pages.old pages.new
-            (λ live. ReadsByEntry self.now live k entry area.old area.new result) }
-        ensures keeps { ReadsInto P.shown (2 * alt_height index + prime_height self.now.prime + 1)
-            pages.old pages.new area.old area.new result }
+        ensures found { ReadsByEntry P.shown self.now k entry pages.old pages.new
+            area.old area.new result }
+        ensures keeps { ReadsInto P.shown (most_by_entry self.now index) pages.old pages.new
+            area.old area.new result }
     {
         let repeated = self.is_followed(pages, k, index, entry.value.as_slice(), entry.stamp)?;
         self.tell(pages, entry, repeated, area)
@@ -180,8 +161,8 @@ impl OpenFile {
         area: &mut [u8],
     ) -> Result<Found, Fault>
         requires { LendsArea P.shown pages.old self.now area.old }
-        ensures found { OfHonestPages P.shown pages.old pages.new
-            (λ live. TellsByEntry self.now live entry repeated area.old area.new result) }
+        ensures found { TellsByEntry P.shown self.now entry repeated pages.old pages.new
+            area.old area.new result }
         ensures keeps { ReadsInto P.shown (prime_height self.now.prime + 1) pages.old pages.new area.old
             area.new result }
     {
@@ -209,8 +190,8 @@ impl OpenFile {
         area: &mut [u8],
     ) -> Result<Option<u16>, Fault>
         requires { LendsArea P.shown pages.old self.now area.old }
-        ensures fetched { OfHonestPages P.shown pages.old pages.new
-            (λ live. ReadsByPrime self.now live prime.now area.old area.new result) }
+        ensures fetched { ReadsByPrime P.shown self.now prime.now pages.old pages.new
+            area.old area.new result }
         ensures none { result ≡ Ok None → area.new ≡ area.old }
         ensures keeps { ReadsInto P.shown (prime_height self.now.prime + 1) pages.old pages.new area.old
             area.new result }
@@ -229,8 +210,8 @@ impl OpenFile {
         area: &mut [u8],
     ) -> Result<u16, Fault>
         requires { LendsArea P.shown pages.old self.now area.old }
-        ensures found { OfHonestPages P.shown pages.old pages.new
-            (λ live. ReadsAtPlace self.now live place area.old area.new result) }
+        ensures found { ReadsAtPlace P.shown self.now place pages.old pages.new
+            area.old area.new result }
         ensures keeps { ReadsInto P.shown 1 pages.old pages.new area.old area.new result }
     {
         let length = self.heap.get_record(pages, place, area)?;

@@ -1,15 +1,13 @@
 //! The first value that is so related to an operand.
 
-ghost use Rattle.std.specs.Prelude.{◌≡◌, ◌*◌, ◌<◌, length, find, Some, None, Err, if◌then◌else◌};
+ghost use Rattle.std.specs.Prelude.{◌≡◌, ◌*◌, Some, None, Err, if◌then◌else◌};
 ghost use Rattle.pages.specs.PageCalls.{ReadsPages};
 ghost use Rattle.key_index.specs.Standing.{prime_height, alt_height};
-ghost use Rattle.key_index.specs.Calls.{PrimeFinds, AltFinds};
-ghost use Rattle.open_file.specs.Stands.{IsShaped};
-ghost use Rattle.open_file.specs.Lent.{IsAlternate};
+ghost use Rattle.open_file.specs.Lent.{LendsByKey, LendsByAlternate};
 ghost use Rattle.open_file.specs.Asked.{OfHonestPages, pages_to_seek};
-ghost use Rattle.open_file.specs.Faults.{ReadsFile};
 ghost use Rattle.open_file.specs.Reading.{Seeks};
-ghost use Rattle.open_file.specs.Steps.{leads_prime, leads_alt, is_wanted};
+ghost use Rattle.open_file.specs.Steps.{FindsInPrime, FindsInAlternate, leads_prime, leads_alt, is_wanted};
+ghost use Rattle.open_file.specs.Calls.{SeeksByKey};
 
 use crate::open_file::OpenFile;
 use io_state::{Fault, Key, Relation};
@@ -27,13 +25,8 @@ impl OpenFile {
         operand: &[u8],
         relation: Relation,
     ) -> Result<Option<Key>, Fault>
-        requires ready { P.shown.IsReady pages.old }
-        requires shaped { IsShaped self.now }
-        requires key { k < length self.now.schema.keys }
-        ensures found { OfHonestPages P.shown pages.old pages.new
-            (λ live. Seeks self.now live k relation operand.now result) }
-        ensures reads { ReadsFile P.shown self.now.broken
-            (pages_to_seek P.shown self.now pages.old k) pages.old pages.new result }
+        requires { LendsByKey P.shown pages.old self.now k }
+        ensures { SeeksByKey P.shown self.now k relation operand.now pages.old pages.new result }
     {
         if self.broken {
             return Err(Fault::Broken);
@@ -71,8 +64,7 @@ impl OpenFile {
         operand: &[u8],
         relation: Relation,
     ) -> Result<Option<Key>, Fault>
-        requires ready { P.shown.IsReady pages.old }
-        requires key { IsAlternate self.now k }
+        requires { LendsByAlternate P.shown pages.old self.now k }
         ensures found { OfHonestPages P.shown pages.old pages.new
             (λ live. Seeks self.now live k relation operand.now result) }
         ensures reads { ReadsPages P.shown (pages_to_seek P.shown self.now pages.old k) pages.old pages.new
@@ -93,8 +85,8 @@ impl OpenFile {
         relation: Relation,
     ) -> Result<Option<PrimeEntry>, Fault>
         requires ready { P.shown.IsReady pages.old }
-        ensures found { OfHonestPages P.shown pages.old pages.new
-            (λ live. PrimeFinds self.now.prime live (find (leads_prime relation operand.now)) result) }
+        ensures found { FindsInPrime P.shown self.now.prime (leads_prime relation operand.now)
+            pages.old pages.new result }
         ensures reads { ReadsPages P.shown (2 * prime_height self.now.prime) pages.old pages.new result }
     {
         match relation {
@@ -112,8 +104,8 @@ fn first_in_alternate<P: Pages>(
     relation: Relation,
 ) -> Result<Option<AltEntry>, Fault>
     requires ready { P.shown.IsReady pages.old }
-    ensures found { OfHonestPages P.shown pages.old pages.new
-        (λ live. AltFinds index.now live (find (leads_alt relation operand.now)) result) }
+    ensures found { FindsInAlternate P.shown index.now (leads_alt relation operand.now)
+        pages.old pages.new result }
     ensures reads { ReadsPages P.shown (2 * alt_height index.now) pages.old pages.new result }
 {
     match relation {

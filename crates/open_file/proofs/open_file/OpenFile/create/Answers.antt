@@ -10,7 +10,7 @@ returns-in_err-alternates-clause-new g c honest sound free =
     let start = c.args.pages.now in
     let now = c.empty.new.pages in
     let later = c.new_alternates.new.pages in
-    let before = g.met.P.Pages.writes_honestly now later c.new_alternates.ensures.writes.step honest in
+    let before = g.met.P.Pages.writes_honestly now later c.new_alternates.ensures.takes.writes.step honest in
     let made = (c.in_ok-prime.ensures.made before sound).answer in
     let parts = first_parts c.new-heap.result c.in_ok-prime.prime (g.P.Pages.shown.state start).live (g.P.Pages.shown.state now).live c.new-heap.ensures.empty free made.0 in
     fails c.from_residual-in_err-alternates.result _ _ c.from_residual-in_err-alternates.ensures.1 (c.in_err-alternates.ensures.made honest made.1 c.new-heap.result c.in_ok-prime.prime parts).no_damage
@@ -20,7 +20,7 @@ returns-clause-new g c honest sound free =
     let start = c.args.pages.now in
     let now = c.empty.new.pages in
     let later = c.new_alternates.new.pages in
-    let before = g.met.P.Pages.writes_honestly now later c.new_alternates.ensures.writes.step honest in
+    let before = g.met.P.Pages.writes_honestly now later c.new_alternates.ensures.takes.writes.step honest in
     let made = (c.in_ok-prime.ensures.made before sound).answer in
     let parts = first_parts c.new-heap.result c.in_ok-prime.prime (g.P.Pages.shown.state start).live (g.P.Pages.shown.state now).live c.new-heap.ensures.empty free made.0 in
     let done = (c.in_ok-alternates.ensures.made honest made.1 c.new-heap.result c.in_ok-prime.prime parts).answer in

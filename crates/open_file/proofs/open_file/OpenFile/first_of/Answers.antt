@@ -9,58 +9,45 @@ use Rattle.open_file.proofs.HeightLemmas.{height_by_key}
 use Rattle.open_file.proofs.AnswerLemmas.{index_at}
 use Rattle.open_file.proofs.open_file.OpenFile.first_of.Goals as goal
 
-pub returns-in-Some-clause-found : goal.returns-in-Some-clause-found
-returns-in-Some-clause-found g c honest file stands =
+pub returns-in-Some : goal.returns-in-Some
+returns-in-Some g c =
     let schema = c.args.self.now.schema in
     let v = c.args.value.now in
-    let at = index_at c.args.self.now c.args.k c.requires.key.some c.requires.key.within in
-    let keys = c.requires.lent.shaped.keys in
-    let lt : c.args.k - 1 + 1 < length schema.keys = omega (arith, keys, at.0) in
-    let one : (key_at schema (c.args.k - 1 + 1)).duplicates ≡ false = ap (λ (m : ℕ). (key_at schema m).duplicates) at.1 ∙ sym (ap (λ (part : KeyPart). part.duplicates) c.part.ensures.part) ∙ c.if-part.false in
-    let found = rw c.in-Some.is at (c.in_ok-entry.ensures.found honest _ _ (stands.parts.alternates_stand (c.args.k - 1) c.alternate-index.result at.0 c.alternate-index.ensures)).answer in
-    let zero = are_zero schema (c.args.k - 1 + 1) file stands.sound lt one in
-    record {
-      answer = subst (λ (m : ℕ). IsAltFirst v (alt_entries schema m file.rows) (Some (record { entry = c.in-Some.entry; followed = false }))) at.1
-          (unique_some v (alt_entries schema (c.args.k - 1 + 1) file.rows) zero c.in-Some.entry (sym found));
-      no_damage = tt;
-    }
-
-pub returns-in-Some-clause-reads : goal.returns-in-Some-clause-reads
-returns-in-Some-clause-reads g c =
-    record {
-      cause = tt;
-      asked =
-          let h = height_by_key c.args.self.now.prime c.args.self.now.alternates.items c.args.k c.alternate-index.result c.requires.key.some c.requires.key.within c.alternate-index.ensures in
-          rw h (omega (arith, c.find.ensures.reads.asked));
-      step = grind (arith, common_steps);
-    }
-
-pub returns-in-None-clause-found : goal.returns-in-None-clause-found
-returns-in-None-clause-found g c honest file stands =
-    let schema = c.args.self.now.schema in
-    let v = c.args.value.now in
-    let at = index_at c.args.self.now c.args.k c.requires.key.some c.requires.key.within in
-    let keys = c.requires.lent.shaped.keys in
-    let lt : c.args.k - 1 + 1 < length schema.keys = omega (arith, keys, at.0) in
-    let one : (key_at schema (c.args.k - 1 + 1)).duplicates ≡ false = ap (λ (m : ℕ). (key_at schema m).duplicates) at.1 ∙ sym (ap (λ (part : KeyPart). part.duplicates) c.part.ensures.part) ∙ c.if-part.false in
-    let found = rw c.in-None.is at (c.in_ok-entry.ensures.found honest _ _ (stands.parts.alternates_stand (c.args.k - 1) c.alternate-index.result at.0 c.alternate-index.ensures)).answer in
-    let zero = are_zero schema (c.args.k - 1 + 1) file stands.sound lt one in
-    record {
-      answer = subst (λ (m : ℕ). IsAltFirst v (alt_entries schema m file.rows) None) at.1 (unique_none v (alt_entries schema (c.args.k - 1 + 1) file.rows) zero (sym found));
-      no_damage = tt;
-    }
-
-pub returns-in-None-clause-reads : goal.returns-in-None-clause-reads
-returns-in-None-clause-reads g c =
-    record {
-      cause = tt;
-      asked =
-          let h = height_by_key c.args.self.now.prime c.args.self.now.alternates.items c.args.k c.alternate-index.result c.requires.key.some c.requires.key.within c.alternate-index.ensures in
-          rw h (omega (arith, c.find.ensures.reads.asked));
-      step = grind (arith, common_steps);
-    }
-
-pub returns-in-None-clause-alone : goal.returns-in-None-clause-alone
-returns-in-None-clause-alone g c one =
     let h = height_by_key c.args.self.now.prime c.args.self.now.alternates.items c.args.k c.alternate-index.result c.requires.key.some c.requires.key.within c.alternate-index.ensures in
-    rw h (c.find.ensures.reads.asked)
+    record {
+      found = λ honest file stands.
+          let at = index_at c.args.self.now c.args.k c.requires.key.some c.requires.key.within in
+          let keys = c.requires.lent.shaped.keys in
+          let lt : c.args.k - 1 + 1 < length schema.keys = omega (arith, keys, at.0) in
+          let one : (key_at schema (c.args.k - 1 + 1)).duplicates ≡ false = ap (λ (m : ℕ). (key_at schema m).duplicates) at.1 ∙ sym (ap (λ (part : KeyPart). part.duplicates) c.part.ensures.part) ∙ c.if-part.false in
+          let found = rw c.in-Some.is at (c.in_ok-entry.ensures.found honest _ _ (stands.parts.alternates_stand (c.args.k - 1) c.alternate-index.result at.0 c.alternate-index.ensures)).answer in
+          let zero = are_zero schema (c.args.k - 1 + 1) file stands.sound lt one in
+          record {
+            answer = subst (λ (m : ℕ). IsAltFirst v (alt_entries schema m file.rows) (Some (record { entry = c.in-Some.entry; followed = false }))) at.1
+                (unique_some v (alt_entries schema (c.args.k - 1 + 1) file.rows) zero c.in-Some.entry (sym found));
+            no_damage = tt;
+          };
+      alone = λ one. rw h (c.find.ensures.reads.asked);
+      reads = record { cause = tt; asked = rw h (omega (arith, c.find.ensures.reads.asked)); step = grind (arith, common_steps) };
+    }
+
+pub returns-in-None : goal.returns-in-None
+returns-in-None g c =
+    let schema = c.args.self.now.schema in
+    let v = c.args.value.now in
+    let h = height_by_key c.args.self.now.prime c.args.self.now.alternates.items c.args.k c.alternate-index.result c.requires.key.some c.requires.key.within c.alternate-index.ensures in
+    record {
+      found = λ honest file stands.
+          let at = index_at c.args.self.now c.args.k c.requires.key.some c.requires.key.within in
+          let keys = c.requires.lent.shaped.keys in
+          let lt : c.args.k - 1 + 1 < length schema.keys = omega (arith, keys, at.0) in
+          let one : (key_at schema (c.args.k - 1 + 1)).duplicates ≡ false = ap (λ (m : ℕ). (key_at schema m).duplicates) at.1 ∙ sym (ap (λ (part : KeyPart). part.duplicates) c.part.ensures.part) ∙ c.if-part.false in
+          let found = rw c.in-None.is at (c.in_ok-entry.ensures.found honest _ _ (stands.parts.alternates_stand (c.args.k - 1) c.alternate-index.result at.0 c.alternate-index.ensures)).answer in
+          let zero = are_zero schema (c.args.k - 1 + 1) file stands.sound lt one in
+          record {
+            answer = subst (λ (m : ℕ). IsAltFirst v (alt_entries schema m file.rows) None) at.1 (unique_none v (alt_entries schema (c.args.k - 1 + 1) file.rows) zero (sym found));
+            no_damage = tt;
+          };
+      alone = λ one. rw h (c.find.ensures.reads.asked);
+      reads = record { cause = tt; asked = rw h (omega (arith, c.find.ensures.reads.asked)); step = grind (arith, common_steps) };
+    }

@@ -25,13 +25,8 @@ returns-in-Some-clause-found g c honest file bytes stands same =
 
 pub returns-in-Some-clause-reads : goal.returns-in-Some-clause-reads
 returns-in-Some-clause-reads g c =
-    record {
-      cause = tt;
-      asked =
-          let h = height_by_key c.args.self.now.prime c.args.self.now.alternates.items c.args.k c.alternate-index.result c.requires.key.some c.requires.key.within c.alternate-index.ensures in
-          rw h (c.first_from.ensures.reads.asked);
-      step = grind (arith, common_steps);
-    }
+    let h = height_by_key c.args.self.now.prime c.args.self.now.alternates.items c.args.k c.alternate-index.result c.requires.key.some c.requires.key.within c.alternate-index.ensures in
+    record { cause = tt; asked = rw h (c.first_from.ensures.reads.asked); step = grind (arith, common_steps) }
 
 pub returns-in-None-clause-found : goal.returns-in-None-clause-found
 returns-in-None-clause-found g c honest file bytes stands same =
@@ -45,10 +40,5 @@ returns-in-None-clause-found g c honest file bytes stands same =
 
 pub returns-in-None-clause-reads : goal.returns-in-None-clause-reads
 returns-in-None-clause-reads g c =
-    record {
-      cause = tt;
-      asked =
-          let h = height_by_key c.args.self.now.prime c.args.self.now.alternates.items c.args.k c.alternate-index.result c.requires.key.some c.requires.key.within c.alternate-index.ensures in
-          rw h (c.first_from.ensures.reads.asked);
-      step = grind (arith, common_steps);
-    }
+    let h = height_by_key c.args.self.now.prime c.args.self.now.alternates.items c.args.k c.alternate-index.result c.requires.key.some c.requires.key.within c.alternate-index.ensures in
+    record { cause = tt; asked = rw h (c.first_from.ensures.reads.asked); step = grind (arith, common_steps) }
