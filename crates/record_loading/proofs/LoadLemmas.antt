@@ -12,7 +12,7 @@ use Rattle.indexed_file.specs.Moments.{JoinsStretches, EndsNow}
 use Rattle.indexed_file.specs.Shown.{Shown}
 use Rattle.verbs.specs.Connector.{Outcome, answers}
 use Rattle.verbs.specs.Held.{Held, held_at_start, silent}
-use Rattle.verbs.specs.Performed.{IsPerformedWithoutRecord, Trusted, in_memory, state_in}
+use Rattle.verbs.specs.Performed.{PerformsWithout, Trusted, in_memory, state_in}
 use Rattle.verbs.specs.Verbs.{perform}
 use Rattle.record_loading.specs.declared.end.LinesEnd.{LinesEnd}
 use Rattle.record_loading.specs.declared.end.LoadEnd.TheVariants.{NotOpened, Opened}
@@ -26,13 +26,13 @@ at_start schema = held_at_start Dynamic false schema
 
 -- what was opened is a connector at its start
 pub opens_at_start : {S : Type 0} (shown : Shown S) (schema copied : Schema) (mode : OpenMode) (start begun : S) (connector opened : Held) (status : Status) → copied ≡ schema → connector ≡ at_start copied
-    → IsPerformedWithoutRecord shown 0 (Open mode) (in_memory connector start []) status (in_memory opened begun [])
-    → IsPerformedWithoutRecord shown 0 (Open mode) (in_memory (at_start schema) start []) status (in_memory opened begun [])
+    → PerformsWithout shown 0 (Open mode) connector start status opened begun
+    → PerformsWithout shown 0 (Open mode) (at_start schema) start status opened begun
 opens_at_start shown schema copied mode start begun connector opened status copy new opens =
-    subst (λ (h : Held). IsPerformedWithoutRecord shown 0 (Open mode) (in_memory h start []) status (in_memory opened begun [])) (new ∙ ap at_start copy) opens
+    subst (λ (h : Held). PerformsWithout shown 0 (Open mode) h start status opened begun) (new ∙ ap at_start copy) opens
 
 module _ {S : Type 0} (shown : Shown S) (schema : Schema) (mode : OpenMode) (list : Listing) (area : List ℕ) (start begun : S) (opened : Held) (status : Status)
-    (opens : IsPerformedWithoutRecord shown 0 (Open mode) (in_memory (at_start schema) start []) status (in_memory opened begun [])) where
+    (opens : PerformsWithout shown 0 (Open mode) (at_start schema) start status opened begun) where
   pub goes_open : GoesOn shown (in_memory (at_start schema) start []) (in_memory opened begun [])
   goes_open = goes_performed shown (Open mode) 0 (in_memory (at_start schema) start []) (silent status) (in_memory opened begun []) (opens 0 [])
 
@@ -49,7 +49,7 @@ module _ {S : Type 0} (shown : Shown S) (schema : Schema) (mode : OpenMode) (lis
   module _ (joins : JoinsStretches shown.Throughout) (ends : EndsNow shown.Throughout) (some : 0 < length (shown.world start).units) (success : is_successful status ≡ true) (between end : S) (written closed : Held) (lines : LinesEnd) (answer : Status)
       (goes : GoesOn shown (in_memory opened begun []) (in_memory written between []))
       (does : Trusted shown 0 (in_memory opened begun []) (in_memory written between []) (LeavesLines shown list lines (in_memory opened begun area) (in_memory written between [])))
-      (closes : IsPerformedWithoutRecord shown 0 (Close false) (in_memory written between []) answer (in_memory closed end [])) where
+      (closes : PerformsWithout shown 0 (Close false) written between answer closed end) where
     goes_lines : GoesOn shown (in_memory (at_start schema) start []) (in_memory written between [])
     goes_lines = goes_both shown (in_memory (at_start schema) start []) (in_memory opened begun []) (in_memory written between []) some goes_open joins ends goes
 

@@ -1,5 +1,5 @@
 -- How a statement begins the count of the pages that its unit is asked for. All of this is ours.
-use Rattle.std.specs.Prelude.{◌≡◌, ℕ, Bool, false, ◌&&◌, IsTrue}
+use Rattle.std.specs.Prelude.{◌≡◌, ℕ, Bool, true, false, ◌&&◌, IsTrue}
 use Rattle.io_state.specs.declared.statement.FileStatement.{FileStatement}
 use Rattle.indexed_file.specs.World.{holding_at, is_open}
 use Rattle.indexed_file.specs.Shown.{Shown}
@@ -17,3 +17,8 @@ pub record BeginsCount {S : Type 0} (shown : Shown S) (u : ℕ) (statement : Fil
     (old new : S) : Type 0 where
   pub begun : IsTrue (begins_count shown u statement old) → RestartsCount shown u old new
   pub left : begins_count shown u statement old ≡ false → new ≡ old
+
+-- so for every statement that begins the count on an open unit
+abbrev pub CountsAnew : {S : Type 0} → Shown S → ℕ → S → S → Type 0
+CountsAnew shown u old new = (statement : FileStatement) → counts_pages statement ≡ true
+    → BeginsCount shown u statement old new

@@ -1,19 +1,29 @@
 -- What a part of a statement promises that stands behind its checks.
-use Rattle.std.specs.Prelude.{◌≡◌, ℕ, Bool, false, List, Some}
+use Rattle.std.specs.Prelude.{◌≡◌, ℕ, ◌+◌, Bool, true, false, List, [], Some, IsTrue, Result}
+use Rattle.io_state.specs.declared.fault.Fault.{Fault}
+use Rattle.io_state.specs.declared.modes.OpenMode.{OpenMode}
 use Rattle.io_state.specs.declared.status.Status.{Status}
+use Rattle.io_state.specs.declared.status.Status.TheVariants.{OutOfSequence}
 use Rattle.io_state.specs.declared.statement.FileStatement.{FileStatement}
-use Rattle.io_state.specs.declared.statement.FileStatement.TheVariants.{Write, Rewrite, Delete}
-use Rattle.indexed_file.specs.World.{OnlyAt}
-use Rattle.indexed_file.specs.Room.{Room, is_full_to_add, is_full_to_replace}
+use Rattle.io_state.specs.declared.statement.FileStatement.TheVariants.{Open, Write, Rewrite, Delete}
+use Rattle.record_layout.specs.Schema.{Schema}
+use Rattle.indexed_file.specs.World.{World, OnlyAt, Absent, named_at, file_at}
+use Rattle.indexed_file.specs.Room.{Room, is_full_to_add, is_full_to_replace, most_to_change}
 use Rattle.indexed_file.specs.Shown.{Shown}
+use Rattle.indexed_file.specs.Believed.{Believed}
 use Rattle.indexed_file.specs.Images.{Trace, CallGoes}
 use Rattle.indexed_file.specs.Calls.{Keeps}
-use Rattle.verbs.specs.Connector.{Session, FileState, Outcome, file_of}
-use Rattle.verbs.specs.Fits.{Fits, PermanentErrorIsCaused}
+use Rattle.verbs.specs.Connector.{Session, FileState, Outcome, file_of, answers}
+use Rattle.verbs.specs.Faults.{is_boundary_violation}
+use Rattle.verbs.specs.Fits.{Fits, HasSoundFile, MakesFile, IsStanding, LearnsHighest, PermanentErrorIsCaused, is_late_in, knows_late}
 use Rattle.verbs.specs.Full.{TellsRoom}
-use Rattle.verbs.specs.Held.{Changes, state_of, unread, rewritten_as}
-use Rattle.verbs.specs.Performed.{FileInMemory}
+use Rattle.verbs.specs.Held.{Held, Changes, state_of, unread, rewritten_as}
+use Rattle.verbs.specs.Marred.{creates}
+use Rattle.verbs.specs.Opening.{created, open_absent, open_named}
+use Rattle.verbs.specs.Pages.{AnswersWithin, most_to_write}
+use Rattle.verbs.specs.Performed.{FileInMemory, StaysStanding, Trusted, in_memory}
 use Rattle.verbs.specs.Refusals.{is_early}
+use Rattle.verbs.specs.Traces.{trace_of_open, trace_of_change_by}
 use Rattle.verbs.specs.Writing.{written, stored, deleted}
 
 -- a part of a statement behind its checks, which answers none of the early statuses: what a crash
@@ -42,6 +52,38 @@ ChangesTo shown u statement should before status after =
     (area : List ℕ) → Changes statement (should (state_with shown u before area))
     (state_with shown u before area)
     status (state_with shown u after area)
+
+-- a part of an OPEN: its mode, whether it makes a file, what has to be so, and what it should leave then
+pub record OpenPart : Type 1 where
+  pub mode : OpenMode
+  pub creates : Held → Bool
+  pub IsSo : Held → World → ℕ → Type 0
+  pub should : FileState → Outcome
+
+-- OPEN of a file that is absent; of one that was found sound; and one that makes a new file
+abbrev pub opening_absent : OpenMode → OpenPart
+opening_absent mode = record {
+  mode = mode;
+  creates = λ held. creates mode held.connector.optional Absent;
+  IsSo = λ held world u. named_at world u ≡ Absent;
+  should = open_absent mode;
+}
+
+abbrev pub opening_sound : OpenMode → Schema → OpenPart
+opening_sound mode schema = record {
+  mode = mode;
+  creates = λ held. false;
+  IsSo = λ held world u. HasSoundFile world u schema;
+  should = λ s. open_named mode s.named s;
+}
+
+abbrev pub creating : OpenMode → Status → OpenPart
+creating mode status = record {
+  mode = mode;
+  creates = λ held. true;
+  IsSo = MakesFile mode;
+  should = λ s. answers status (created mode s);
+}
 
 -- a change that a statement makes behind its checks: what it should make of the file, and whether
 -- the file lacks room for it
@@ -86,3 +128,59 @@ pub record IsChangeMade
   pub room : (area : List ℕ) → (session : Session)
       → TellsRoom (change.should (state_with shown u before area) session)
       (change.lacks_room (shown.room before.library u) (state_with shown u before area)) status
+
+-- of the connector and the library before a part, of its status, and of what it leaves of them
+module _ {S : Type 0} (shown : Shown S) (u : ℕ) where
+  -- OPEN goes on by this part, which never answers 24
+  pub record OpensBy (opening : OpenPart) (held : Held) (library : S) (status : Status)
+      (now : Held) (after : S) : Type 0 where
+    pub part : IsPart shown u (trace_of_open (opening.creates held) status)
+        (in_memory held library []) status (in_memory now after [])
+    pub step : Believed shown u library after (opening.IsSo held (shown.world library) u
+        → ChangesTo shown u (Open opening.mode) opening.should
+        (in_memory held library []) status (in_memory now after []))
+    pub not_full : is_boundary_violation status ≡ false
+    pub standing : IsTrue (shown.is_honest after) → opening.IsSo held (shown.world library) u
+        → IsStanding now (shown.world after) u
+
+  -- a REWRITE or DELETE makes this change, and what the connector keeps stays true
+  pub record MakesUpdate (update : Change) (held : Held) (library : S) (status : Status)
+      (now : Held) (after : S) : Type 0 where
+    pub part : IsPart shown u (trace_of_change_by status)
+        (in_memory held library []) status (in_memory now after [])
+    pub change : Believed shown u library after (IsChangeMade shown u update
+        (in_memory held library []) status (in_memory now after []))
+    pub standing : StaysStanding shown u (in_memory held library []) (in_memory now after [])
+    pub asked : Believed shown u library after (AnswersWithin shown u
+        (shown.pages_asked library u + most_to_change (shown.room library u)) after status)
+
+  -- a record is added; where it is not late, what the connector keeps stays true
+  pub record StoresRecord (bytes : List ℕ) (held : Held) (library : S) (status : Status)
+      (now : Held) (after : S) : Type 0 where
+    pub part : IsPart shown u (trace_of_change_by status)
+        (in_memory held library []) status (in_memory now after [])
+    pub change : Believed shown u library after (IsChangeMade shown u (storing bytes)
+        (in_memory held library []) status (in_memory now after []))
+    pub standing : is_late_in held (shown.world library) u bytes ≡ false
+        → StaysStanding shown u (in_memory held library []) (in_memory now after [])
+    pub asked : Believed shown u library after (AnswersWithin shown u
+        (shown.pages_asked library u + most_to_change (shown.room library u)) after status)
+
+  -- a WRITE adds a record, unless it is late. Of one that is known to be late the library is not asked
+  pub record PutsRecord (bytes : List ℕ) (held : Held) (library : S) (status : Status)
+      (now : Held) (after : S) : Type 0 where
+    pub part : IsPart shown u (trace_of_change_by status)
+        (in_memory held library []) status (in_memory now after [])
+    pub change : Trusted shown u (in_memory held library []) (in_memory now after [])
+        (IsChangeMade shown u (writing bytes)
+        (in_memory held library []) status (in_memory now after []))
+    pub standing : StaysStanding shown u (in_memory held library []) (in_memory now after [])
+    pub known : knows_late held bytes ≡ true → (after ≡ library) × (status ≡ OutOfSequence)
+    pub asked : Believed shown u library after (AnswersWithin shown u
+        (shown.pages_asked library u + most_to_write (shown.room library u)) after status)
+
+  -- a call that was answered has learned the greatest prime value of the unit's file
+  abbrev pub LearnsOfFile : {X : Type 0} → (held : Held) → (library : S) → (now : Held) → (after : S)
+      → Result X Fault → Type 0
+  LearnsOfFile held library now after result = Believed shown u library after
+      (LearnsHighest held (file_at (shown.world library) u) now.highest result)

@@ -145,10 +145,32 @@ IsPerformedCounted shown u statement n before answer after =
     + most_by shown u statement before) statement n
     before answer after
 
--- a statement without a record was performed: whatever stands in the area stays there
-abbrev pub IsPerformedWithoutRecord
-    : {S : Type 0} → Shown S → ℕ → FileStatement → FileInMemory S → Status → FileInMemory S → Type 0
-IsPerformedWithoutRecord shown u statement before status after =
-    (n : ℕ) → (area : List ℕ)
-    → IsPerformed shown u statement n (record before { area = area }) (silent status)
-    (record after { area = area })
+-- so, of the connector, the library and the area before it, of the answer, and of what it leaves of them
+module _ {S : Type 0} (shown : Shown S) (u : ℕ) where
+  -- a statement was performed that may read a record into the area
+  abbrev pub PerformsInto : FileStatement → ℕ → (held : Held) → (library : S) → (area : List ℕ) → Answer
+      → Held → S → List ℕ → Type 0
+  PerformsInto statement n held library area answer now after read =
+      IsPerformed shown u statement n (in_memory held library area) answer (in_memory now after read)
+
+  -- one that takes its record or its key from the area, which stays
+  abbrev pub PerformsFrom : FileStatement → ℕ → (held : Held) → (library : S) → (area : List ℕ) → Status
+      → Held → S → Type 0
+  PerformsFrom statement n held library area status now after =
+      PerformsInto statement n held library area (silent status) now after area
+
+  -- one without a record: whatever stands in the area stays there
+  abbrev pub PerformsWithout : FileStatement → (held : Held) → (library : S) → Status → Held → S → Type 0
+  PerformsWithout statement held library status now after =
+      (n : ℕ) → (area : List ℕ) → PerformsFrom statement n held library area status now after
+
+  -- the first two, behind the beginning of the count
+  abbrev pub AnswersInto : FileStatement → ℕ → (held : Held) → (library : S) → (area : List ℕ) → Answer
+      → Held → S → List ℕ → Type 0
+  AnswersInto statement n held library area answer now after read =
+      IsPerformedCounted shown u statement n (in_memory held library area) answer (in_memory now after read)
+
+  abbrev pub AnswersFrom : FileStatement → ℕ → (held : Held) → (library : S) → (area : List ℕ) → Status
+      → Held → S → Type 0
+  AnswersFrom statement n held library area status now after =
+      AnswersInto statement n held library area (silent status) now after area

@@ -1,16 +1,12 @@
 //! REWRITE and DELETE.
-ghost use Rattle.std.specs.Prelude.{◌≡◌, ◌<◌, ◌+◌, ℕ, length as count_of, true, false, option_map, []};
-ghost use Rattle.indexed_file.specs.Room.{most_to_change};
-ghost use Rattle.indexed_file.specs.Believed.{Believed};
+ghost use Rattle.std.specs.Prelude.{◌≡◌, ◌<◌, ℕ, length as count_of, false, option_map};
 ghost use Rattle.io_state.specs.declared.statement.FileStatement.TheVariants.{Rewrite, Delete};
 ghost use Rattle.verbs.specs.Refusals.{is_refusal};
 ghost use Rattle.verbs.specs.Faults.{is_boundary_violation};
-ghost use Rattle.verbs.specs.Performed.{IsPerformedCounted, in_memory, StaysStanding};
-ghost use Rattle.verbs.specs.Parts.{IsPart, IsChangeMade, rewriting, deleting};
-ghost use Rattle.verbs.specs.Held.{silent, bytes_of, prime_by};
-ghost use Rattle.verbs.specs.Fits.{Fits, updates, IsAboutToChange, IsRecordOf};
-ghost use Rattle.verbs.specs.Traces.{trace_of_change_by};
-ghost use Rattle.verbs.specs.Pages.{AnswersWithin};
+ghost use Rattle.verbs.specs.Performed.{AnswersFrom};
+ghost use Rattle.verbs.specs.Parts.{MakesUpdate, rewriting, deleting};
+ghost use Rattle.verbs.specs.Held.{bytes_of, prime_by};
+ghost use Rattle.verbs.specs.Fits.{MayPerform, MaySubstitute, MayTakeOut};
 
 use super::Connector;
 use crate::checks::{
@@ -28,10 +24,9 @@ impl Connector {
         area: &[u8],
         length: u16,
     ) -> Status
-        requires fits { Fits self.old (L.shown.world lib.old) u }
-        requires area { count_of area.now ≡ self.old.connector.schema.greatest }
-        ensures { IsPerformedCounted L.shown u Rewrite length (in_memory self.old lib.old area.now)
-            (silent result) (in_memory self.new lib.new area.now) }
+        requires { MayPerform Rewrite self.old (L.shown.world lib.old) u area.now }
+        ensures { AnswersFrom L.shown u Rewrite length
+            self.old lib.old area.now result self.new lib.new }
     {
         let Some(mode) = self.mode else {
             return Status::NotOpenForUpdating;
@@ -63,20 +58,10 @@ impl Connector {
 
     /// Puts a record in the place of that of its prime value.
     fn substitute<L: Library>(&mut self, lib: &mut L, u: usize, bytes: &[u8]) -> Status
-        requires ready { IsAboutToChange self.old (L.shown.world lib.old) u }
-        requires updates { updates self.old.connector.session ≡ true }
-        requires fit { IsRecordOf self.old.connector.schema bytes.now }
-        ensures part { IsPart L.shown u (trace_of_change_by result)
-            (in_memory self.old lib.old []) result (in_memory self.new lib.new []) }
-        ensures change { Believed L.shown u lib.old lib.new
-            (IsChangeMade L.shown u (rewriting bytes.now)
-            (in_memory self.old lib.old []) result (in_memory self.new lib.new [])) }
+        requires { MaySubstitute self.old (L.shown.world lib.old) u bytes.now }
+        ensures updates { MakesUpdate L.shown u (rewriting bytes.now)
+            self.old lib.old result self.new lib.new }
         ensures late { is_refusal Rewrite result ≡ false }
-        ensures standing { StaysStanding L.shown u (in_memory self.old lib.old [])
-            (in_memory self.new lib.new []) }
-        ensures asked { Believed L.shown u lib.old lib.new
-            (AnswersWithin L.shown u
-            (L.shown.pages_asked lib.old u + most_to_change (L.shown.room lib.old u)) lib.new result) }
     {
         match lib.replace(u, bytes) {
             Ok(Replaced::Done { repeated }) => {
@@ -93,9 +78,9 @@ impl Connector {
     /// DELETE: in sequential access of the record read last, else of the record of the prime value
     /// that stands in the area.
     pub(super) fn answer_delete<L: Library>(&mut self, lib: &mut L, u: usize, area: &[u8]) -> Status
-        requires fits { Fits self.old (L.shown.world lib.old) u }
-        ensures { (n : ℕ) → IsPerformedCounted L.shown u Delete n (in_memory self.old lib.old area.now)
-            (silent result) (in_memory self.new lib.new area.now) }
+        requires { MayPerform Delete self.old (L.shown.world lib.old) u area.now }
+        ensures { (n : ℕ) → AnswersFrom L.shown u Delete n
+            self.old lib.old area.now result self.new lib.new }
     {
         let Some(mode) = self.mode else {
             return Status::NotOpenForUpdating;
@@ -133,19 +118,10 @@ impl Connector {
 
     /// Takes out the record of a prime value.
     fn take_out<L: Library>(&mut self, lib: &mut L, u: usize, prime: &Key) -> Status
-        requires ready { IsAboutToChange self.old (L.shown.world lib.old) u }
-        requires updates { updates self.old.connector.session ≡ true }
-        ensures part { IsPart L.shown u (trace_of_change_by result)
-            (in_memory self.old lib.old []) result (in_memory self.new lib.new []) }
-        ensures change { Believed L.shown u lib.old lib.new
-            (IsChangeMade L.shown u (deleting prime.now.items)
-            (in_memory self.old lib.old []) result (in_memory self.new lib.new [])) }
+        requires { MayTakeOut self.old (L.shown.world lib.old) u }
+        ensures updates { MakesUpdate L.shown u (deleting prime.now.items)
+            self.old lib.old result self.new lib.new }
         ensures not_full { is_boundary_violation result ≡ false }
-        ensures standing { StaysStanding L.shown u (in_memory self.old lib.old [])
-            (in_memory self.new lib.new []) }
-        ensures asked { Believed L.shown u lib.old lib.new
-            (AnswersWithin L.shown u
-            (L.shown.pages_asked lib.old u + most_to_change (L.shown.room lib.old u)) lib.new result) }
     {
         match lib.remove(u, prime) {
             Ok(true) => {

@@ -1,8 +1,8 @@
 //! CLOSE.
-ghost use Rattle.std.specs.Prelude.{◌≡◌, None, []};
+ghost use Rattle.std.specs.Prelude.{◌≡◌, None};
 ghost use Rattle.io_state.specs.declared.statement.FileStatement.TheVariants.{Close};
 ghost use Rattle.verbs.specs.Fits.{Fits};
-ghost use Rattle.verbs.specs.Performed.{in_memory, IsPerformedWithoutRecord};
+ghost use Rattle.verbs.specs.Performed.{PerformsWithout};
 
 use super::Connector;
 use crate::checks::{close_fault, close_status};
@@ -13,8 +13,8 @@ impl Connector {
     /// CLOSE. The connector is closed after every answer.
     pub fn close<L: Library>(&mut self, lib: &mut L, u: usize, lock: bool) -> Status
         requires fits { Fits self.old (L.shown.world lib.old) u }
-        ensures performed { IsPerformedWithoutRecord L.shown u (Close lock)
-            (in_memory self.old lib.old []) result (in_memory self.new lib.new []) }
+        ensures performed { PerformsWithout L.shown u (Close lock)
+            self.old lib.old result self.new lib.new }
         ensures closed { self.new.connector.session ≡ None }
     {
         let Some(_mode) = self.mode else {

@@ -1,19 +1,9 @@
 //! OPEN.
-ghost use Rattle.std.specs.Prelude.{◌≡◌, ◌<◌, ◌⊎◌, None, IsTrue, true, false, []};
-ghost use Rattle.io_state.specs.Status.{is_successful};
-ghost use Rattle.indexed_file.specs.declared.answer.Seen.TheVariants.{Sound};
-ghost use Rattle.indexed_file.specs.World.{Absent, holding_at, named_at, schema_at, is_looked};
-ghost use Rattle.indexed_file.specs.Believed.{Believed};
+ghost use Rattle.std.specs.Prelude.{◌≡◌, ◌⊎◌, None};
 ghost use Rattle.io_state.specs.declared.statement.FileStatement.TheVariants.{Open};
-ghost use Rattle.verbs.specs.Connector.{answers};
-ghost use Rattle.verbs.specs.Opening.{created, open_absent, open_named};
-ghost use Rattle.verbs.specs.Marred.{creates};
-ghost use Rattle.verbs.specs.Faults.{is_boundary_violation};
-ghost use Rattle.verbs.specs.Performed.{in_memory, IsPerformedWithoutRecord};
-ghost use Rattle.verbs.specs.Parts.{IsPart, ChangesTo};
-ghost use Rattle.verbs.specs.Fits.{Fits, IsStanding, is_output, HasSoundFile, MakesFile};
-ghost use Rattle.indexed_file.specs.Images.{untouched};
-ghost use Rattle.verbs.specs.Traces.{trace_of_open};
+ghost use Rattle.verbs.specs.Fits.{Fits, MayOpenAbsent, MayOpenSound, MayCreate};
+ghost use Rattle.verbs.specs.Performed.{PerformsWithout};
+ghost use Rattle.verbs.specs.Parts.{OpensBy, opening_absent, opening_sound, creating};
 
 use super::Connector;
 use crate::checks::{is_input, is_output, status_of};
@@ -25,8 +15,8 @@ impl Connector {
     /// OPEN.
     pub fn open<L: Library>(&mut self, lib: &mut L, u: usize, mode: OpenMode) -> Status
         requires fits { Fits self.old (L.shown.world lib.old) u }
-        ensures { IsPerformedWithoutRecord L.shown u (Open mode)
-            (in_memory self.old lib.old []) result (in_memory self.new lib.new []) }
+        ensures { PerformsWithout L.shown u (Open mode)
+            self.old lib.old result self.new lib.new }
     {
         if self.mode.is_some() {
             self.last_read = None;
@@ -49,18 +39,9 @@ impl Connector {
 
     /// OPEN of a file that is absent, other than OUTPUT.
     fn open_absent<L: Library>(&mut self, lib: &mut L, u: usize, mode: OpenMode) -> Status
-        requires fits { Fits self.old (L.shown.world lib.old) u }
-        requires closed { self.old.connector.session ≡ None }
-        requires mode { is_output mode ≡ false }
-        ensures part { IsPart L.shown u (trace_of_open
-            (creates mode self.old.connector.optional Absent) result)
-            (in_memory self.old lib.old []) result (in_memory self.new lib.new []) }
-        ensures step { Believed L.shown u lib.old lib.new (named_at (L.shown.world lib.old) u ≡ Absent
-            → ChangesTo L.shown u (Open mode) (open_absent mode)
-            (in_memory self.old lib.old []) result (in_memory self.new lib.new [])) }
-        ensures not_full { is_boundary_violation result ≡ false }
-        ensures standing { IsTrue (L.shown.is_honest lib.new) → named_at (L.shown.world lib.old) u ≡ Absent
-            → IsStanding self.new (L.shown.world lib.new) u }
+        requires { MayOpenAbsent mode self.old (L.shown.world lib.old) u }
+        ensures { OpensBy L.shown u (opening_absent mode)
+            self.old lib.old result self.new lib.new }
     {
         if !self.optional {
             return Status::FileAbsent;
@@ -82,20 +63,9 @@ impl Connector {
         mode: OpenMode,
         schema: &Schema,
     ) -> Status
-        requires fits { Fits self.old (L.shown.world lib.old) u }
-        requires closed { self.old.connector.session ≡ None }
-        requires mode { is_output mode ≡ false }
-        requires looked { IsTrue (is_looked (holding_at (L.shown.world lib.old) u)) }
-        requires schema { schema_at (L.shown.world lib.old) u ≡ schema.now }
-        ensures part { IsPart L.shown u untouched
-            (in_memory self.old lib.old []) result (in_memory self.new lib.new []) }
-        ensures step { Believed L.shown u lib.old lib.new (HasSoundFile (L.shown.world lib.old) u schema.now
-            → ChangesTo L.shown u (Open mode) (open_named mode (named_at (L.shown.world lib.old) u))
-            (in_memory self.old lib.old []) result (in_memory self.new lib.new [])) }
-        ensures not_full { is_boundary_violation result ≡ false }
-        ensures standing { IsTrue (L.shown.is_honest lib.new)
-            → HasSoundFile (L.shown.world lib.old) u schema.now
-            → IsStanding self.new (L.shown.world lib.new) u }
+        requires { MayOpenSound mode schema.now self.old (L.shown.world lib.old) u }
+        ensures opens { OpensBy L.shown u (opening_sound mode schema.now)
+            self.old lib.old result self.new lib.new }
         ensures unasked { (self.new ≡ self.old) ⊎ (self.new.highest ≡ None) }
     {
         let same = schema.same(&self.schema);
@@ -119,18 +89,9 @@ impl Connector {
         mode: OpenMode,
         status: Status,
     ) -> Status
-        requires fits { Fits self.old (L.shown.world lib.old) u }
-        requires closed { self.old.connector.session ≡ None }
-        requires status { IsTrue (is_successful status) }
-        ensures part { IsPart L.shown u (trace_of_open true result)
-            (in_memory self.old lib.old []) result (in_memory self.new lib.new []) }
-        ensures step { Believed L.shown u lib.old lib.new (MakesFile mode self.old (L.shown.world lib.old) u
-            → ChangesTo L.shown u (Open mode) (λ s. answers status (created mode s))
-            (in_memory self.old lib.old []) result (in_memory self.new lib.new [])) }
-        ensures not_full { is_boundary_violation result ≡ false }
-        ensures standing { IsTrue (L.shown.is_honest lib.new)
-            → MakesFile mode self.old (L.shown.world lib.old) u
-            → IsStanding self.new (L.shown.world lib.new) u }
+        requires { MayCreate status self.old (L.shown.world lib.old) u }
+        ensures { OpensBy L.shown u (creating mode status)
+            self.old lib.old result self.new lib.new }
     {
         match lib.create(u, &self.schema) {
             Ok(()) => {

@@ -1,7 +1,7 @@
 //! Any statement.
 ghost use Rattle.std.specs.Prelude.{◌≡◌, length as count_of};
 ghost use Rattle.verbs.specs.Fits.{Fits, HasOperands};
-ghost use Rattle.verbs.specs.Performed.{IsPerformed, in_memory};
+ghost use Rattle.verbs.specs.Performed.{PerformsInto};
 
 use super::Connector;
 use crate::answer::Answer;
@@ -28,8 +28,8 @@ impl Connector {
         requires fits { Fits self.old (L.shown.world lib.old) u }
         requires operands { HasOperands self.old.connector.schema statement.now }
         requires area { count_of area.old ≡ self.old.connector.schema.greatest }
-        ensures { IsPerformed L.shown u statement.now length (in_memory self.old lib.old area.old)
-            result (in_memory self.new lib.new area.new) }
+        ensures { PerformsInto L.shown u statement.now length
+            self.old lib.old area.old result self.new lib.new area.new }
     {
         match *statement {
             FileStatement::Open(mode) => Answer::silent(self.open(lib, u, mode)),

@@ -1,9 +1,8 @@
 //! READ and START.
-ghost use Rattle.std.specs.Prelude.{◌≡◌, ◌<◌, ℕ, length, length as count_of};
+ghost use Rattle.std.specs.Prelude.{ℕ};
 ghost use Rattle.io_state.specs.declared.statement.FileStatement.TheVariants.{ReadNext, Read, Start};
-ghost use Rattle.verbs.specs.Held.{silent};
-ghost use Rattle.verbs.specs.Fits.{Fits};
-ghost use Rattle.verbs.specs.Performed.{IsPerformedCounted, in_memory};
+ghost use Rattle.verbs.specs.Fits.{MayPerform};
+ghost use Rattle.verbs.specs.Performed.{AnswersInto, AnswersFrom};
 
 use super::Connector;
 use crate::answer::Answer;
@@ -19,10 +18,9 @@ impl Connector {
         u: usize,
         area: &mut [u8],
     ) -> Answer
-        requires fits { Fits self.old (L.shown.world lib.old) u }
-        requires area { length area.old ≡ self.old.connector.schema.greatest }
-        ensures { (n : ℕ) → IsPerformedCounted L.shown u ReadNext n (in_memory self.old lib.old area.old)
-            result (in_memory self.new lib.new area.new) }
+        requires { MayPerform ReadNext self.old (L.shown.world lib.old) u area.old }
+        ensures { (n : ℕ) → AnswersInto L.shown u ReadNext n
+            self.old lib.old area.old result self.new lib.new area.new }
     {
         let Some(mode) = self.mode else {
             return Answer::silent(Status::NotOpenForReading);
@@ -58,11 +56,9 @@ impl Connector {
         k: u8,
         area: &mut [u8],
     ) -> Answer
-        requires fits { Fits self.old (L.shown.world lib.old) u }
-        requires key { k < length self.old.connector.schema.keys }
-        requires area { length area.old ≡ self.old.connector.schema.greatest }
-        ensures { (n : ℕ) → IsPerformedCounted L.shown u (Read k) n (in_memory self.old lib.old area.old)
-            result (in_memory self.new lib.new area.new) }
+        requires { MayPerform (Read k) self.old (L.shown.world lib.old) u area.old }
+        ensures { (n : ℕ) → AnswersInto L.shown u (Read k) n
+            self.old lib.old area.old result self.new lib.new area.new }
     {
         let Some(mode) = self.mode else {
             return Answer::silent(Status::NotOpenForReading);
@@ -96,11 +92,9 @@ impl Connector {
         relation: Relation,
         area: &[u8],
     ) -> Status
-        requires fits { Fits self.old (L.shown.world lib.old) u }
-        requires key { k < count_of self.old.connector.schema.keys }
-        ensures { (n : ℕ) → IsPerformedCounted L.shown u (Start k length relation) n
-            (in_memory self.old lib.old area.now)
-            (silent result) (in_memory self.new lib.new area.now) }
+        requires { MayPerform (Start k length relation) self.old (L.shown.world lib.old) u area.now }
+        ensures { (n : ℕ) → AnswersFrom L.shown u (Start k length relation) n
+            self.old lib.old area.now result self.new lib.new }
     {
         let Some(mode) = self.mode else {
             return Status::NotOpenForReading;

@@ -1,20 +1,14 @@
 //! WRITE.
-ghost use Rattle.std.specs.Prelude.{◌≡◌, ◌<◌, ◌+◌, length as count_of, Some, None, true, false, OnErr, []};
+ghost use Rattle.std.specs.Prelude.{◌≡◌, ◌<◌, length as count_of, false, OnErr};
 ghost use Rattle.record_layout.specs.Schema.{prime_of};
-ghost use Rattle.indexed_file.specs.World.{file_at};
-ghost use Rattle.indexed_file.specs.Room.{most_to_seek, most_to_change};
-ghost use Rattle.indexed_file.specs.Believed.{Believed};
+ghost use Rattle.indexed_file.specs.Room.{most_to_seek};
 ghost use Rattle.io_state.specs.Permission.{is_sequential};
-ghost use Rattle.io_state.specs.declared.status.Status.TheVariants.{OutOfSequence};
 ghost use Rattle.io_state.specs.declared.statement.FileStatement.TheVariants.{Write};
-ghost use Rattle.verbs.specs.Writing.{is_late};
-ghost use Rattle.verbs.specs.Held.{silent, held_after_store};
-ghost use Rattle.verbs.specs.Fits.{Fits, is_late_in, knows_late, writes, IsAboutToChange, IsRecordOf, LearnsHighest, LacksHighest};
-ghost use Rattle.verbs.specs.Traces.{trace_of_change_by};
-ghost use Rattle.verbs.specs.Pages.{AnswersWithin, most_to_write};
+ghost use Rattle.verbs.specs.Held.{held_after_store};
+ghost use Rattle.verbs.specs.Fits.{Fits, knows_late, IsAboutToChange, LacksHighest, MayPerform, MayPut, MayStore};
 ghost use Rattle.indexed_file.specs.UnitCalls.{ReadsUnit};
-ghost use Rattle.verbs.specs.Performed.{IsPerformedCounted, in_memory, Trusted, StaysStanding};
-ghost use Rattle.verbs.specs.Parts.{IsPart, IsChangeMade, writing, storing};
+ghost use Rattle.verbs.specs.Performed.{AnswersFrom};
+ghost use Rattle.verbs.specs.Parts.{PutsRecord, StoresRecord, LearnsOfFile};
 
 use super::Connector;
 use crate::checks::{is_length, is_not_above, is_sequential, status_by};
@@ -30,10 +24,9 @@ impl Connector {
         area: &[u8],
         length: u16,
     ) -> Status
-        requires fits { Fits self.old (L.shown.world lib.old) u }
-        requires area { count_of area.now ≡ self.old.connector.schema.greatest }
-        ensures { IsPerformedCounted L.shown u Write length (in_memory self.old lib.old area.now)
-            (silent result) (in_memory self.new lib.new area.now) }
+        requires { MayPerform Write self.old (L.shown.world lib.old) u area.now }
+        ensures { AnswersFrom L.shown u Write length
+            self.old lib.old area.now result self.new lib.new }
     {
         let Some(mode) = self.mode else {
             return Status::NotOpenForWriting;
@@ -55,20 +48,8 @@ impl Connector {
 
     /// Adds a record, whose prime value has to be above the greatest of the file in sequential access.
     fn put<L: Library>(&mut self, lib: &mut L, u: usize, bytes: &[u8]) -> Status
-        requires ready { IsAboutToChange self.old (L.shown.world lib.old) u }
-        requires writes { writes self.old.connector.access self.old.connector.session ≡ true }
-        requires fit { IsRecordOf self.old.connector.schema bytes.now }
-        ensures part { IsPart L.shown u (trace_of_change_by result)
-            (in_memory self.old lib.old []) result (in_memory self.new lib.new []) }
-        ensures change { Trusted L.shown u (in_memory self.old lib.old []) (in_memory self.new lib.new [])
-            (IsChangeMade L.shown u (writing bytes.now)
-            (in_memory self.old lib.old []) result (in_memory self.new lib.new [])) }
-        ensures standing { StaysStanding L.shown u (in_memory self.old lib.old [])
-            (in_memory self.new lib.new []) }
-        ensures known { knows_late self.old bytes.now ≡ true → (lib.new ≡ lib.old)
-            × (result ≡ OutOfSequence) }
-        ensures asked { Believed L.shown u lib.old lib.new (AnswersWithin L.shown u
-            (L.shown.pages_asked lib.old u + most_to_write (L.shown.room lib.old u)) lib.new result) }
+        requires { MayPut self.old (L.shown.world lib.old) u bytes.now }
+        ensures { PutsRecord L.shown u bytes.now self.old lib.old result self.new lib.new }
     {
         let known = self.is_late(bytes);
         if known {
@@ -86,10 +67,9 @@ impl Connector {
 
     /// In sequential access asks for the greatest prime value of the file, unless it is known.
     fn learn_highest<L: Library>(&mut self, lib: &mut L, u: usize) -> Result<(), Fault>
-        requires ready { IsAboutToChange self.old (L.shown.world lib.old) u }
+        requires { IsAboutToChange self.old (L.shown.world lib.old) u }
         ensures kept { Fits self.new (L.shown.world lib.new) u × (self.new.connector ≡ self.old.connector) }
-        ensures known { Believed L.shown u lib.old lib.new
-            (LearnsHighest self.old (file_at (L.shown.world lib.old) u) self.new.highest result) }
+        ensures known { LearnsOfFile L.shown u self.old lib.old self.new lib.new result }
         ensures others { is_sequential self.old.connector.access ≡ false → self.new ≡ self.old }
         ensures err { OnErr result ((self.new ≡ self.old) × LacksHighest self.old) }
         ensures reads { ReadsUnit L.shown u (most_to_seek (L.shown.room lib.old u) 0) lib.old lib.new result }
@@ -126,17 +106,8 @@ impl Connector {
 
     /// Adds a record.
     fn store<L: Library>(&mut self, lib: &mut L, u: usize, bytes: &[u8]) -> Status
-        requires ready { IsAboutToChange self.old (L.shown.world lib.old) u }
-        requires fit { IsRecordOf self.old.connector.schema bytes.now }
-        ensures part { IsPart L.shown u (trace_of_change_by result)
-            (in_memory self.old lib.old []) result (in_memory self.new lib.new []) }
-        ensures change { Believed L.shown u lib.old lib.new
-            (IsChangeMade L.shown u (storing bytes.now)
-            (in_memory self.old lib.old []) result (in_memory self.new lib.new [])) }
-        ensures standing { is_late_in self.old (L.shown.world lib.old) u bytes.now ≡ false
-            → StaysStanding L.shown u (in_memory self.old lib.old []) (in_memory self.new lib.new []) }
-        ensures asked { Believed L.shown u lib.old lib.new (AnswersWithin L.shown u
-            (L.shown.pages_asked lib.old u + most_to_change (L.shown.room lib.old u)) lib.new result) }
+        requires { MayStore self.old (L.shown.world lib.old) u bytes.now }
+        ensures { StoresRecord L.shown u bytes.now self.old lib.old result self.new lib.new }
     {
         match lib.add(u, bytes) {
             Ok(Added::Done { repeated }) => {

@@ -21,14 +21,14 @@ returns g c = record {
       c.self.view_is c.in-Some.is c.if-self.false
       (held_of (record c.self.inside { last_read = c.take-last_read.new.self })) c.take-last_read.result c.value-prime.result (ap (λ x. held_of (record c.self.inside { last_read = x })) c.take-last_read.ensures.after) c.take-last_read.ensures.value (sym c.if-not-updatable.ensures) (sym c.if-unread.ensures) (sym c.if-not-fit.ensures)
       (c.value-prime.ensures ∙ ap (λ n. prime_of c.self.inside.schema (take n c.args.area.now)) c.from.ensures) (sym c.if-other.ensures)
-      (λ session is. rw (← c.from.ensures) ((c.substitute.ensures.change honest truly).step session is c.args.area.now));
+      (λ session is. rw (← c.from.ensures) ((c.substitute.ensures.updates.change honest truly).step session is c.args.area.now));
   standing = first_of (search rules, grind (arith, common_steps));
   room = λ honest truly standing. rewrite_room c.self.inside c.args.self.now c.substitute.new.self c.in-Some.mode (g.L.Library.shown.world c.args.lib.now) (g.L.Library.shown.world c.substitute.new.lib) c.args.u c.args.length c.args.area.now c.substitute.result
       c.self.view_is c.in-Some.is c.if-self.false
       (held_of (record c.self.inside { last_read = c.take-last_read.new.self })) c.take-last_read.result c.value-prime.result (g.L.Library.shown.room c.args.lib.now c.args.u)
       (ap (λ x. held_of (record c.self.inside { last_read = x })) c.take-last_read.ensures.after) c.take-last_read.ensures.value (sym c.if-not-updatable.ensures) (sym c.if-unread.ensures) (sym c.if-not-fit.ensures)
       (c.value-prime.ensures ∙ ap (λ n. prime_of c.self.inside.schema (take n c.args.area.now)) c.from.ensures) (sym c.if-other.ensures)
-      (λ session. rw (← c.from.ensures) ((c.substitute.ensures.change honest truly).room c.args.area.now session));
+      (λ session. rw (← c.from.ensures) ((c.substitute.ensures.updates.change honest truly).room c.args.area.now session));
   asked = first_of (search rules, grind (arith, common_steps));
   images = first_of (search rules, grind (arith, common_steps));
 }
