@@ -1,7 +1,6 @@
 //! The text that is on its way to a writer.
 ghost use Rattle.std.specs.Prelude.{◌≡◌, ◌<◌, ◌≤◌, [], ◌++◌, length, true, false, IfOk, OnOk, OnErr};
-ghost use Rattle.std.specs.Io.KnownBytes.{Appends};
-ghost use Rattle.held_text.specs.Output.{AppendsFront, Adds, Holds};
+ghost use Rattle.held_text.specs.Output.{AppendsFront, HandsOver, Adds, Holds};
 
 use crate::output::{Refused, write_text};
 use std::alloc::{AllocError, Global};
@@ -47,9 +46,7 @@ impl HeldText {
 
     /// Hands all that is held to the writer. A refusal leaves a proper front of it in the writer.
     pub fn hand_over<W: Write>(&mut self, out: &mut W) -> Result<(), Refused>
-        ensures written { OnOk result (Appends (W.contents out.old) (W.contents out.new) self.old) }
-        ensures empty { OnOk result (self.new ≡ []) }
-        ensures refused { OnErr result (AppendsFront (W.contents out.old) (W.contents out.new) self.old) }
+        ensures { HandsOver (W.contents out.old) (W.contents out.new) self.old self.new result }
     {
         write_text(out, self.text.as_slice())?;
         self.text.clear();
