@@ -1,8 +1,7 @@
 //! The closes at the end of a run.
-ghost use Rattle.std.specs.Prelude.{◌≡◌, ◌≤◌, ◌<◌, IfOk, OnErr, length};
-ghost use Rattle.deck_runner.specs.Stretches.{ClosesAt, ClosesAtInPart, ClosesFiles, ClosesInPart};
-ghost use Rattle.deck_runner.specs.State.{state, IsSafeIn, GoesOn, Leads};
-ghost use Rattle.deck_runner.specs.HeldLines.{so_far, Come, ComeInPart};
+ghost use Rattle.std.specs.Prelude.{◌<◌};
+ghost use Rattle.deck_runner.specs.State.{state};
+ghost use Rattle.deck_runner.specs.Parts.{CanRun, RunsPart, CloseOf, AllCloses};
 
 use crate::run_end::RunEnd;
 use crate::running_deck::RunningDeck;
@@ -20,16 +19,9 @@ impl RunningDeck {
         held: &mut HeldText,
         out: &mut W,
     ) -> Result<RunEnd, Refused>
-        requires safe { IsSafeIn L.shown (state library.old self.old) }
-        requires place { u < length self.old.files.items }
-        ensures goes { GoesOn L.shown (state library.old self.old) (state library.new self.new) }
-        ensures one { IfOk result (λ end. end.lines ≤ 1) }
-        ensures done { IfOk result (λ end. Come (so_far (W.contents out.old) held.old)
-            (so_far (W.contents out.new) held.new) end
-            (Leads L.shown (state library.old self.old) (state library.new self.new) (ClosesAt L.shown u))) }
-        ensures refused { OnErr result (ComeInPart (so_far (W.contents out.old) held.old) (W.contents out.new)
-            (Leads L.shown (state library.old self.old) (state library.new self.new)
-            (ClosesAtInPart L.shown u))) }
+        requires { CanRun L.shown (CloseOf u) (state library.old self.old) }
+        ensures { RunsPart L.shown W.contents (CloseOf u)
+            library.old self.old held.old out.old library.new self.new held.new out.new result }
     {
         let file = &self.files[u];
         let open = file.is_open();
@@ -47,15 +39,9 @@ impl RunningDeck {
         held: &mut HeldText,
         out: &mut W,
     ) -> Result<RunEnd, Refused>
-        requires safe { IsSafeIn L.shown (state library.old self.old) }
-        ensures goes { GoesOn L.shown (state library.old self.old) (state library.new self.new) }
-        ensures few { IfOk result (λ end. end.lines ≤ length self.old.files.items) }
-        ensures done { IfOk result (λ end. Come (so_far (W.contents out.old) held.old)
-            (so_far (W.contents out.new) held.new) end
-            (Leads L.shown (state library.old self.old) (state library.new self.new) (ClosesFiles L.shown))) }
-        ensures refused { OnErr result (ComeInPart (so_far (W.contents out.old) held.old) (W.contents out.new)
-            (Leads L.shown (state library.old self.old) (state library.new self.new)
-            (ClosesInPart L.shown))) }
+        requires { CanRun L.shown AllCloses (state library.old self.old) }
+        ensures { RunsPart L.shown W.contents AllCloses
+            library.old self.old held.old out.old library.new self.new held.new out.new result }
     {
         let mut end = RunEnd::none();
         for u in 0..self.files.len() {

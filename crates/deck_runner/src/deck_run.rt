@@ -1,12 +1,8 @@
 //! The run of the bytes of a deck.
-ghost use Rattle.std.specs.Prelude.{◌≡◌, ◌≢◌, true, IfOk, IfErr};
+ghost use Rattle.std.specs.Prelude.{IfOk, IfErr};
 ghost use Rattle.indexed_file.specs.Calls.{Keeps};
 ghost use Rattle.deck_reader.specs.Deck.{CanBeRun};
-ghost use Rattle.deck_runner.specs.Stretches.{IsRunOver, IsBrokenOff};
-ghost use Rattle.deck_runner.specs.NoFalseFile.{RunsWhole, RunsInPart};
-ghost use Rattle.deck_runner.specs.RunEnd.{Told, ToldInPart};
-ghost use Rattle.deck_runner.specs.Beginning.{SameElsewhere, IsUntouched, WhereFilesAreTrue, DeckLeads};
-ghost use Rattle.deck_runner.specs.DeckRun.{OfDeck, RunsExactly, IsRefusedDeck};
+ghost use Rattle.deck_runner.specs.DeckRun.{IsExactIfClean, HasRunWhole, HasRunInPart, HasDoneNothing, IsRefusedDeck, RunsRead};
 
 use crate::beginning::begin;
 use crate::fault::RunFault;
@@ -25,15 +21,7 @@ fn run_read<L: Library, W: Write>(
     out: &mut W,
 ) -> Result<RunEnd, RunFault>
     requires { CanBeRun deck.now }
-    ensures elsewhere { SameElsewhere deck.now (L.shown.world library.old) (L.shown.world library.new) }
-    ensures run { IfOk result (λ end. Told (W.contents out.old) (W.contents out.new) end
-        (DeckLeads L.shown library.old library.new deck.now (IsRunOver L.shown deck.now.statements))) }
-    ensures output { IfErr result (λ fault. fault ≡ RunFault.Output →
-        ToldInPart (W.contents out.old) (W.contents out.new)
-        (DeckLeads L.shown library.old library.new deck.now (IsBrokenOff L.shown deck.now.statements))) }
-    ensures nothing { IfErr result (λ fault. fault ≢ RunFault.Output → (fault ≡ RunFault.Memory)
-        × (out.new ≡ out.old) × IsUntouched L.shown library.old library.new) }
-    ensures keeps { Keeps L.shown library.old library.new }
+    ensures { RunsRead L.shown W.contents deck.now library.old library.new out.old out.new result }
 {
     let Ok(held) = HeldText::new(alloc) else {
         return Err(RunFault::Memory);
@@ -65,20 +53,13 @@ pub fn run_deck<L: Library, W: Write>(
     library: &mut L,
     out: &mut W,
 ) -> Result<RunEnd, RunFault>
-    ensures exact { IfOk result (λ end. end.clean ≡ true
-        → OfDeck L.shown bytes.now library.old library.new (λ deck.
-        WhereFilesAreTrue L.shown library.old library.new deck
-        (RunsExactly (W.contents out.old) (W.contents out.new)
-        (L.shown.world library.old) (L.shown.world library.new) end deck))) }
-    ensures run { IfOk result (λ end. OfDeck L.shown bytes.now library.old library.new (λ deck.
-        Told (W.contents out.old) (W.contents out.new) end
-        (RunsWhole L.shown library.old library.new deck))) }
-    ensures output { IfErr result (λ fault. fault ≡ RunFault.Output →
-        OfDeck L.shown bytes.now library.old library.new (λ deck.
-        ToldInPart (W.contents out.old) (W.contents out.new)
-        (RunsInPart L.shown library.old library.new deck))) }
-    ensures nothing { IfErr result (λ fault. fault ≢ RunFault.Output →
-        (out.new ≡ out.old) × IsUntouched L.shown library.old library.new) }
+    ensures exact { IfOk result (IsExactIfClean L.shown W.contents bytes.now
+        library.old library.new out.old out.new) }
+    ensures run { IfOk result (HasRunWhole L.shown W.contents bytes.now
+        library.old library.new out.old out.new) }
+    ensures output { IfErr result (HasRunInPart L.shown W.contents bytes.now
+        library.old library.new out.old out.new) }
+    ensures nothing { IfErr result (HasDoneNothing L.shown library.old library.new out.old out.new) }
     ensures refused { IfErr result (IsRefusedDeck bytes.now) }
     ensures keeps { Keeps L.shown library.old library.new }
 {

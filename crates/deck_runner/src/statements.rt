@@ -1,12 +1,8 @@
 //! The statements of a run.
-ghost use Rattle.std.specs.Prelude.{◌≡◌, ◌≤◌, All, IfOk, OnErr, length, ◌∷◌, []};
-ghost use Rattle.procedure_division.specs.declared.statement.Statement.TheVariants.{Perform as PerformStatement};
+ghost use Rattle.std.specs.Prelude.{◌≡◌};
 ghost use Rattle.deck_runner.specs.Run.{is_stop};
-ghost use Rattle.deck_runner.specs.Steps.{until_stop};
-ghost use Rattle.deck_runner.specs.Stretches.{IsStretch, AreStretches, AreStretchesInPart};
-ghost use Rattle.deck_runner.specs.Conditions.{CanPerform, IsStatementIn};
-ghost use Rattle.deck_runner.specs.State.{state, IsSafeIn, GoesOn, Leads};
-ghost use Rattle.deck_runner.specs.HeldLines.{so_far, Come, ComeInPart};
+ghost use Rattle.deck_runner.specs.State.{state};
+ghost use Rattle.deck_runner.specs.Parts.{CanRun, RunsPart, VerbOn, OneStatement, UpToStop};
 
 use crate::held_lines::make_way;
 use crate::run_end::RunEnd;
@@ -36,17 +32,9 @@ impl RunningDeck {
         held: &mut HeldText,
         out: &mut W,
     ) -> Result<RunEnd, Refused>
-        requires safe { IsSafeIn L.shown (state library.old self.old) }
-        requires statement { CanPerform self.old u statement.now }
-        ensures goes { GoesOn L.shown (state library.old self.old) (state library.new self.new) }
-        ensures one { IfOk result (λ end. end.lines ≤ 1) }
-        ensures done { IfOk result (λ end. Come (so_far (W.contents out.old) held.old)
-            (so_far (W.contents out.new) held.new) end
-            (Leads L.shown (state library.old self.old) (state library.new self.new)
-            (IsStretch L.shown (PerformStatement u statement.now)))) }
-        ensures refused { OnErr result (ComeInPart (so_far (W.contents out.old) held.old) (W.contents out.new)
-            (Leads L.shown (state library.old self.old) (state library.new self.new)
-            (AreStretchesInPart L.shown (PerformStatement u statement.now ∷ [])))) }
+        requires { CanRun L.shown (VerbOn u statement.now) (state library.old self.old) }
+        ensures { RunsPart L.shown W.contents (VerbOn u statement.now)
+            library.old self.old held.old out.old library.new self.new held.new out.new result }
     {
         make_way(held, statement, out)?;
         let clean = self.perform_on(u, statement, library);
@@ -62,17 +50,9 @@ impl RunningDeck {
         held: &mut HeldText,
         out: &mut W,
     ) -> Result<RunEnd, Refused>
-        requires safe { IsSafeIn L.shown (state library.old self.old) }
-        requires statement { IsStatementIn self.old statement.now }
-        ensures goes { GoesOn L.shown (state library.old self.old) (state library.new self.new) }
-        ensures one { IfOk result (λ end. end.lines ≤ 1) }
-        ensures done { IfOk result (λ end. Come (so_far (W.contents out.old) held.old)
-            (so_far (W.contents out.new) held.new) end
-            (Leads L.shown (state library.old self.old) (state library.new self.new)
-            (IsStretch L.shown statement.now))) }
-        ensures refused { OnErr result (ComeInPart (so_far (W.contents out.old) held.old) (W.contents out.new)
-            (Leads L.shown (state library.old self.old) (state library.new self.new)
-            (AreStretchesInPart L.shown (statement.now ∷ [])))) }
+        requires { CanRun L.shown (OneStatement statement.now) (state library.old self.old) }
+        ensures { RunsPart L.shown W.contents (OneStatement statement.now)
+            library.old self.old held.old out.old library.new self.new held.new out.new result }
     {
         match statement {
             Statement::Perform { file, statement } => self.run_verb(
@@ -104,17 +84,9 @@ impl RunningDeck {
         held: &mut HeldText,
         out: &mut W,
     ) -> Result<RunEnd, Refused>
-        requires safe { IsSafeIn L.shown (state library.old self.old) }
-        requires statements { All (IsStatementIn self.old) statements.now }
-        ensures goes { GoesOn L.shown (state library.old self.old) (state library.new self.new) }
-        ensures few { IfOk result (λ end. end.lines ≤ length statements.now) }
-        ensures done { IfOk result (λ end. Come (so_far (W.contents out.old) held.old)
-            (so_far (W.contents out.new) held.new) end
-            (Leads L.shown (state library.old self.old) (state library.new self.new)
-            (AreStretches L.shown (until_stop statements.now)))) }
-        ensures refused { OnErr result (ComeInPart (so_far (W.contents out.old) held.old) (W.contents out.new)
-            (Leads L.shown (state library.old self.old) (state library.new self.new)
-            (AreStretchesInPart L.shown (until_stop statements.now)))) }
+        requires { CanRun L.shown (UpToStop statements.now) (state library.old self.old) }
+        ensures { RunsPart L.shown W.contents (UpToStop statements.now)
+            library.old self.old held.old out.old library.new self.new held.new out.new result }
     {
         let mut end = RunEnd::none();
         for statement in statements {

@@ -3,9 +3,9 @@ ghost use Rattle.std.specs.Prelude.{◌≡◌, length, min, not, option_map};
 ghost use Rattle.verbs.specs.Faults.{is_unclean};
 ghost use Rattle.deck_runner.specs.Run.{items_after_read};
 ghost use Rattle.deck_runner.specs.Running.{IsItemPlace, schema_of, length_for};
-ghost use Rattle.deck_runner.specs.State.{state, IsSafeIn, GoesOn};
+ghost use Rattle.deck_runner.specs.State.{state};
 ghost use Rattle.deck_runner.specs.RunEnd.{MakesLine};
-ghost use Rattle.deck_runner.specs.Conditions.{CanPerform};
+ghost use Rattle.deck_runner.specs.Parts.{CanRun, VerbOn};
 
 use crate::line::make_line;
 use crate::running_deck::RunningDeck;
@@ -62,10 +62,8 @@ impl RunningDeck {
         statement: &FileStatement,
         library: &mut L,
     ) -> bool
-        requires safe { IsSafeIn L.shown (state library.old self.old) }
-        requires statement { CanPerform self.old u statement.now }
-        ensures goes { GoesOn L.shown (state library.old self.old) (state library.new self.new) }
-        ensures line { MakesLine L.shown (state library.old self.old) (state library.new self.new)
+        requires { CanRun L.shown (VerbOn u statement.now) (state library.old self.old) }
+        ensures { MakesLine L.shown (state library.old self.old) (state library.new self.new)
             u statement.now result }
     {
         let file = &mut self.files[u];

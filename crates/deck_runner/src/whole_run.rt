@@ -1,11 +1,10 @@
 //! A whole run.
-ghost use Rattle.std.specs.Prelude.{◌≡◌, [], All, IfOk, OnErr};
+ghost use Rattle.std.specs.Prelude.{◌≡◌, []};
 ghost use Rattle.deck_runner.specs.Steps.{CleanRunsAreExact};
-ghost use Rattle.deck_runner.specs.Stretches.{IsRunOver, IsBrokenOff, CleanFrontsAreExact};
+ghost use Rattle.deck_runner.specs.Stretches.{CleanFrontsAreExact};
 ghost use Rattle.deck_runner.specs.NoFalseFile.{NoFalseFile, ImagesAreOfLedger};
-ghost use Rattle.deck_runner.specs.Conditions.{IsStatementIn};
-ghost use Rattle.deck_runner.specs.State.{state, IsSafeIn, GoesOn, Leads};
-ghost use Rattle.deck_runner.specs.RunEnd.{Told, ToldInPart};
+ghost use Rattle.deck_runner.specs.State.{state};
+ghost use Rattle.deck_runner.specs.Parts.{CanRun, RunsAll, UpToStop};
 ghost use Rattle.deck_runner.specs.Reads.{ReadsChangeNoFile};
 
 use crate::run_end::RunEnd;
@@ -27,16 +26,10 @@ impl RunningDeck {
         held: &mut HeldText,
         out: &mut W,
     ) -> Result<RunEnd, Refused>
-        requires safe { IsSafeIn L.shown (state library.old self.old) }
-        requires statements { All (IsStatementIn self.old) statements.now }
+        requires run { CanRun L.shown (UpToStop statements.now) (state library.old self.old) }
         requires none_held { held.old ≡ [] }
-        ensures goes { GoesOn L.shown (state library.old self.old) (state library.new self.new) }
-        ensures done { IfOk result (λ end. Told (W.contents out.old) (W.contents out.new) end
-            (Leads L.shown (state library.old self.old) (state library.new self.new)
-            (IsRunOver L.shown statements.now))) }
-        ensures refused { OnErr result (ToldInPart (W.contents out.old) (W.contents out.new)
-            (Leads L.shown (state library.old self.old) (state library.new self.new)
-            (IsBrokenOff L.shown statements.now))) }
+        ensures { RunsAll L.shown W.contents statements.now library.old self.old out.old
+            library.new self.new out.new result }
     {
         let stopped = self.run_to_stop(statements, library, held, out)?;
         let closed = self.close_all(library, held, out)?;

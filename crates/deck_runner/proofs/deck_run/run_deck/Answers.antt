@@ -1,11 +1,11 @@
-use Rattle.std.proofs.Common.{◌≡◌, true}
+use Rattle.std.proofs.Common.{◌≡◌}
 use Rattle.std.proofs.lemmas.Result.{IfOk-weaker, IfErr-weaker}
 use Rattle.deck_runner.specs.declared.fault.RunFault.TheVariants.{Output}
 use Rattle.deck_runner.specs.Stretches.{IsRunOver, IsBrokenOff}
 use Rattle.deck_runner.specs.NoFalseFile.{RunsWhole, RunsInPart}
 use Rattle.deck_runner.specs.RunEnd.{Told, ToldInPart}
-use Rattle.deck_runner.specs.Beginning.{WhereFilesAreTrue, DeckLeads}
-use Rattle.deck_runner.specs.DeckRun.{OfDeck, RunsExactly}
+use Rattle.deck_runner.specs.Beginning.{DeckLeads}
+use Rattle.deck_runner.specs.DeckRun.{IsExactIfClean, HasRunWhole, HasRunInPart}
 use Rattle.deck_runner.proofs.ToldLemmas.{told_as, part_as}
 use Rattle.deck_runner.proofs.FalseFileRuns.{run_stands, broken_stands}
 use Rattle.deck_runner.proofs.DeckRunLemmas.{exact, refused, not_refused}
@@ -21,8 +21,7 @@ returns-in-Ok-clause-exact g c =
     let deck = c.in-Ok.deck in
     IfOk-weaker c.run_read.result
     (λ end. Told written written_after end (DeckLeads shown old new deck (IsRunOver shown deck.statements)))
-    (λ end. end.clean ≡ true → OfDeck shown c.args.bytes.now old new
-    (λ deck. WhereFilesAreTrue shown old new deck (RunsExactly written written_after (shown.world old) (shown.world new) end deck)))
+    (IsExactIfClean shown g.W.Write.contents c.args.bytes.now old new c.args.out.now c.run_read.new.out)
     (λ end run clean. (deck, c.in-Ok.ensures.deck, c.run_read.ensures.elsewhere, exact shown old new written written_after end deck run clean))
     c.run_read.ensures.run
 
@@ -34,15 +33,14 @@ returns-in-Ok-clause-run g c =
     let written = g.W.Write.contents c.args.out.now in
     let written_after = g.W.Write.contents c.run_read.new.out in
     let deck = c.in-Ok.deck in
-    IfOk-weaker c.run_read.result
-    (λ end. Told written written_after end (DeckLeads shown old new deck (IsRunOver shown deck.statements)))
-    (λ end. OfDeck shown c.args.bytes.now old new (λ deck. Told written written_after end (RunsWhole shown old new deck)))
+    let Over = DeckLeads shown old new deck (IsRunOver shown deck.statements) in
+    IfOk-weaker c.run_read.result (λ end. Told written written_after end Over)
+    (HasRunWhole shown g.W.Write.contents c.args.bytes.now old new c.args.out.now c.run_read.new.out)
     (λ end run. (
       deck,
       c.in-Ok.ensures.deck,
       c.run_read.ensures.elsewhere,
-      told_as written written_after end (DeckLeads shown old new deck (IsRunOver shown deck.statements)) (RunsWhole shown old new deck)
-          run (run_stands shown g.met.L.Library.ends old new deck),
+      told_as written written_after end Over (RunsWhole shown old new deck) run (run_stands shown g.met.L.Library.ends old new deck),
     ))
     c.run_read.ensures.run
 
@@ -54,15 +52,14 @@ returns-in-Ok-clause-output g c =
     let written = g.W.Write.contents c.args.out.now in
     let written_after = g.W.Write.contents c.run_read.new.out in
     let deck = c.in-Ok.deck in
-    IfErr-weaker c.run_read.result
-    (λ fault. fault ≡ Output → ToldInPart written written_after (DeckLeads shown old new deck (IsBrokenOff shown deck.statements)))
-    (λ fault. fault ≡ Output → OfDeck shown c.args.bytes.now old new (λ deck. ToldInPart written written_after (RunsInPart shown old new deck)))
+    let Off = DeckLeads shown old new deck (IsBrokenOff shown deck.statements) in
+    IfErr-weaker c.run_read.result (λ fault. fault ≡ Output → ToldInPart written written_after Off)
+    (HasRunInPart shown g.W.Write.contents c.args.bytes.now old new c.args.out.now c.run_read.new.out)
     (λ fault run is. (
       deck,
       c.in-Ok.ensures.deck,
       c.run_read.ensures.elsewhere,
-      part_as written written_after (DeckLeads shown old new deck (IsBrokenOff shown deck.statements)) (RunsInPart shown old new deck)
-          (run is) (broken_stands shown g.met.L.Library.ends old new deck),
+      part_as written written_after Off (RunsInPart shown old new deck) (run is) (broken_stands shown g.met.L.Library.ends old new deck),
     ))
     c.run_read.ensures.output
 

@@ -10,21 +10,26 @@ use Rattle.deck_runner.proofs.StepLemmas.{no_steps}
 use Rattle.deck_runner.proofs.MoveLemmas.{goes_on_alike}
 use Rattle.deck_runner.proofs.running_deck.RunningDeck.close_all.Goals as goal
 
-pub returns-in-Err-clause-refused : goal.returns-in-Err-clause-refused
-returns-in-Err-clause-refused g c =
+pub returns-in-Err : goal.returns-in-Err
+returns-in-Err g c =
     let first = state c.args.library.now c.args.self.now in
     let now = state c.loop-u.library c.loop-u.self in
     let next = state c.close_file.new.library c.close_file.new.self in
     let before = c.loop-u.invariant in
     let many = as_many_files (g.L.Library.shown.world c.args.library.now) 0 c.args.self.now.files.items in
     let within : c.loop-u.u < length (point_in g.L.Library.shown first).run.files = omega arith in
-    part_then (so_far (g.W.Write.contents c.args.out.now) c.args.held.now) (so_far (g.W.Write.contents c.loop-u.out) c.loop-u.held) (g.W.Write.contents c.close_file.new.out) c.loop-u.end
-    (Leads g.L.Library.shown first now (AreClosed g.L.Library.shown c.loop-u.u))
-    (Leads g.L.Library.shown now next (ClosesAtInPart g.L.Library.shown c.loop-u.u))
-    (Leads g.L.Library.shown first next (ClosesInPart g.L.Library.shown))
-    before.told c.in-Err.ensures.refused
-    (leads_then g.L.Library.shown first now next (AreClosed g.L.Library.shown c.loop-u.u) (ClosesAtInPart g.L.Library.shown c.loop-u.u) (ClosesInPart g.L.Library.shown) before.goes c.close_file.ensures.goes
-    (λ xs ys p q. closed_in_part g.L.Library.shown (point_in g.L.Library.shown first) (point_in g.L.Library.shown now) (point_in g.L.Library.shown next) c.loop-u.u xs ys within p q))
+    record {
+      goes = goes_then g.L.Library.shown first now next before.goes c.close_file.ensures.goes;
+      few = tt;
+      done = tt;
+      refused = part_then (so_far (g.W.Write.contents c.args.out.now) c.args.held.now) (so_far (g.W.Write.contents c.loop-u.out) c.loop-u.held) (g.W.Write.contents c.close_file.new.out) c.loop-u.end
+          (Leads g.L.Library.shown first now (AreClosed g.L.Library.shown c.loop-u.u))
+          (Leads g.L.Library.shown now next (ClosesAtInPart g.L.Library.shown c.loop-u.u))
+          (Leads g.L.Library.shown first next (ClosesInPart g.L.Library.shown))
+          before.told c.in-Err.ensures.refused
+          (leads_then g.L.Library.shown first now next (AreClosed g.L.Library.shown c.loop-u.u) (ClosesAtInPart g.L.Library.shown c.loop-u.u) (ClosesInPart g.L.Library.shown) before.goes c.close_file.ensures.goes
+          (λ xs ys p q. closed_in_part g.L.Library.shown (point_in g.L.Library.shown first) (point_in g.L.Library.shown now) (point_in g.L.Library.shown next) c.loop-u.u xs ys within p q));
+    }
 
 pub loop-u-preserved : goal.loop-u-preserved
 loop-u-preserved g c =
@@ -37,7 +42,7 @@ loop-u-preserved g c =
     let within : c.loop-u.u < length (point_in g.L.Library.shown first).run.files = omega arith in
     record {
       goes = goes_then g.L.Library.shown first now next before.goes goes;
-      few = let few = before.few in let one = c.in-Ok.ensures.one in rw c.followed_by-end.ensures (omega arith);
+      few = let few = before.few in let one = c.in-Ok.ensures.few in rw c.followed_by-end.ensures (omega arith);
       told = come_then (so_far (g.W.Write.contents c.args.out.now) c.args.held.now) (so_far (g.W.Write.contents c.loop-u.out) c.loop-u.held) (so_far (g.W.Write.contents c.close_file.new.out) c.close_file.new.held) c.loop-u.end c.in-Ok.more c.followed_by-end.result
           (Leads g.L.Library.shown first now (AreClosed g.L.Library.shown c.loop-u.u))
           (Leads g.L.Library.shown now next (ClosesAt g.L.Library.shown c.loop-u.u))
@@ -47,18 +52,23 @@ loop-u-preserved g c =
           (λ xs ys p q. one_closed g.L.Library.shown (point_in g.L.Library.shown first) (point_in g.L.Library.shown now) (point_in g.L.Library.shown next) c.loop-u.u xs ys within p q));
     }
 
-pub returns-clause-done : goal.returns-clause-done
-returns-clause-done g c =
+pub returns : goal.returns
+returns g c =
     let first = state c.args.library.now c.args.self.now in
     let now = state c.loop-u.library c.loop-u.self in
     let many = as_many_files (g.L.Library.shown.world c.args.library.now) 0 c.args.self.now.files.items in
     let at_end : c.loop-u.u ≡ length (point_in g.L.Library.shown first).run.files = omega arith in
-    come_as (so_far (g.W.Write.contents c.args.out.now) c.args.held.now) (so_far (g.W.Write.contents c.loop-u.out) c.loop-u.held) c.loop-u.end
-    (Leads g.L.Library.shown first now (AreClosed g.L.Library.shown c.loop-u.u))
-    (Leads g.L.Library.shown first now (ClosesFiles g.L.Library.shown))
-    c.loop-u.invariant.told
-    (leads_as g.L.Library.shown first now (AreClosed g.L.Library.shown c.loop-u.u) (ClosesFiles g.L.Library.shown)
-    (λ lines p. all_closed g.L.Library.shown (point_in g.L.Library.shown first) (point_in g.L.Library.shown now) c.loop-u.u lines at_end p))
+    record {
+      goes = c.loop-u.invariant.goes;
+      few = let few = c.loop-u.invariant.few in omega arith;
+      done = come_as (so_far (g.W.Write.contents c.args.out.now) c.args.held.now) (so_far (g.W.Write.contents c.loop-u.out) c.loop-u.held) c.loop-u.end
+          (Leads g.L.Library.shown first now (AreClosed g.L.Library.shown c.loop-u.u))
+          (Leads g.L.Library.shown first now (ClosesFiles g.L.Library.shown))
+          c.loop-u.invariant.told
+          (leads_as g.L.Library.shown first now (AreClosed g.L.Library.shown c.loop-u.u) (ClosesFiles g.L.Library.shown)
+          (λ lines p. all_closed g.L.Library.shown (point_in g.L.Library.shown first) (point_in g.L.Library.shown now) c.loop-u.u lines at_end p));
+      refused = tt;
+    }
 
 pub loop-u-init : goal.loop-u-init
 loop-u-init g c = record {

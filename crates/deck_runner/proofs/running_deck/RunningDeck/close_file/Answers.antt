@@ -1,4 +1,4 @@
-use Rattle.std.proofs.Common.{false, [], ◌∷◌, length, refl, sym}
+use Rattle.std.proofs.Common.{false, [], ◌∷◌, length, refl, sym, arith}
 use Rattle.std.proofs.lemmas.List.Elements.{All-nil}
 use Rattle.std.proofs.lemmas.Option.{slice_get_read}
 use Rattle.std.proofs.lemmas.Result.{IfOk-weaker, on_err_weaker}
@@ -12,61 +12,63 @@ use Rattle.deck_runner.proofs.VerbLemmas.{run_here, of_any}
 use Rattle.deck_runner.proofs.StateLemmas.{leads_as}
 use Rattle.deck_runner.proofs.ToldLemmas.{none_come, come_as, come_in_part_as}
 use Rattle.deck_runner.proofs.CloseLemmas.{not_open, is_closed, is_closed_in_part}
+use Rattle.deck_runner.proofs.MoveLemmas.{goes_on_alike}
 use Rattle.deck_runner.proofs.running_deck.RunningDeck.close_file.Goals as goal
 
-pub returns-then-not-open-clause-done : goal.returns-then-not-open-clause-done
-returns-then-not-open-clause-done g c =
+pub returns-then-not-open : goal.returns-then-not-open
+returns-then-not-open g c =
     let world = g.L.Library.shown.world c.args.library.now in
     let files = c.args.self.now.files.items in
     let file = c.index-file.result.now in
-    let get = slice_get_read files (length files) c.args.u file refl c.requires.place c.index-file.ensures in
-    none_come (so_far (g.W.Write.contents c.args.out.now) c.args.held.now) c.none.result _ c.none.ensures
-    (record {
-      steps = λ honest trusted.
-          not_open g.L.Library.shown c.args.u (point_in g.L.Library.shown (state c.args.library.now c.args.self.now)) (run_file world c.args.u file) (run_here world files c.args.u file get) (sym c.if-not-open.ensures);
-      lines_are = All-nil (IsLineOf _ _ _);
-    })
+    let get = slice_get_read files (length files) c.args.u file refl c.requires.part_is c.index-file.ensures in
+    record {
+      goes = goes_on_alike g.L.Library.shown c.args.library.now c.args.self.now c.args.self.now refl refl c.requires.safe;
+      few = rw c.none.ensures (omega arith);
+      done = none_come (so_far (g.W.Write.contents c.args.out.now) c.args.held.now) c.none.result _ c.none.ensures
+          (record {
+            steps = λ honest trusted.
+                not_open g.L.Library.shown c.args.u (point_in g.L.Library.shown (state c.args.library.now c.args.self.now)) (run_file world c.args.u file) (run_here world files c.args.u file get) (sym c.if-not-open.ensures);
+            lines_are = All-nil (IsLineOf _ _ _);
+          });
+      refused = tt;
+    }
 
-pub run_verb-requires-clause-statement : goal.run_verb-requires-clause-statement
-run_verb-requires-clause-statement g c =
+pub run_verb-requires : goal.run_verb-requires
+run_verb-requires g c =
     let files = c.args.self.now.files.items in
-    let get = slice_get_read files (length files) c.args.u c.index-file.result.now refl c.requires.place c.index-file.ensures in
-    of_any files c.args.u _ _ get (λ schema. tt)
+    let get = slice_get_read files (length files) c.args.u c.index-file.result.now refl c.requires.part_is c.index-file.ensures in
+    record { safe = c.requires.safe; part_is = of_any files c.args.u _ _ get (λ schema. tt) }
 
-pub returns-clause-done : goal.returns-clause-done
-returns-clause-done g c =
+pub returns : goal.returns
+returns g c =
     let world = g.L.Library.shown.world c.args.library.now in
     let files = c.args.self.now.files.items in
     let file = c.index-file.result.now in
-    let get = slice_get_read files (length files) c.args.u file refl c.requires.place c.index-file.ensures in
+    let get = slice_get_read files (length files) c.args.u file refl c.requires.part_is c.index-file.ensures in
     let first = state c.args.library.now c.args.self.now in
     let next = state c.run_verb.new.library c.run_verb.new.self in
-    let One = IsStretch g.L.Library.shown (Perform c.args.u (Close false)) in
-    let P = Leads g.L.Library.shown first next One in
-    let Q = Leads g.L.Library.shown first next (ClosesAt g.L.Library.shown c.args.u) in
-    IfOk-weaker c.run_verb.result
-    (λ end. Come (so_far (g.W.Write.contents c.args.out.now) c.args.held.now) (so_far (g.W.Write.contents c.run_verb.new.out) c.run_verb.new.held) end P)
-    (λ end. Come (so_far (g.W.Write.contents c.args.out.now) c.args.held.now) (so_far (g.W.Write.contents c.run_verb.new.out) c.run_verb.new.held) end Q)
-    (λ end told. come_as (so_far (g.W.Write.contents c.args.out.now) c.args.held.now) (so_far (g.W.Write.contents c.run_verb.new.out) c.run_verb.new.held) end P Q told
-    (leads_as g.L.Library.shown first next One (ClosesAt g.L.Library.shown c.args.u)
-    (λ lines p.
-    is_closed g.L.Library.shown c.args.u (point_in g.L.Library.shown first) (point_in g.L.Library.shown next) lines (run_file world c.args.u file) (run_here world files c.args.u file get) (sym c.if-not-open.ensures) p)))
-    c.run_verb.ensures.done
-
-pub returns-clause-refused : goal.returns-clause-refused
-returns-clause-refused g c =
-    let world = g.L.Library.shown.world c.args.library.now in
-    let files = c.args.self.now.files.items in
-    let file = c.index-file.result.now in
-    let get = slice_get_read files (length files) c.args.u file refl c.requires.place c.index-file.ensures in
-    let first = state c.args.library.now c.args.self.now in
-    let next = state c.run_verb.new.library c.run_verb.new.self in
-    let One = AreStretchesInPart g.L.Library.shown (Perform c.args.u (Close false) ∷ []) in
-    let P = Leads g.L.Library.shown first next One in
-    let Q = Leads g.L.Library.shown first next (ClosesAtInPart g.L.Library.shown c.args.u) in
-    on_err_weaker c.run_verb.result
-    (λ part. come_in_part_as (so_far (g.W.Write.contents c.args.out.now) c.args.held.now) (g.W.Write.contents c.run_verb.new.out) P Q part
-    (leads_as g.L.Library.shown first next One (ClosesAtInPart g.L.Library.shown c.args.u)
-    (λ lines p.
-    is_closed_in_part g.L.Library.shown c.args.u (point_in g.L.Library.shown first) (point_in g.L.Library.shown next) lines (run_file world c.args.u file) (run_here world files c.args.u file get) (sym c.if-not-open.ensures) p)))
-    c.run_verb.ensures.refused
+    let close = Perform c.args.u (Close false) in
+    let before = so_far (g.W.Write.contents c.args.out.now) c.args.held.now in
+    let after = so_far (g.W.Write.contents c.run_verb.new.out) c.run_verb.new.held in
+    record {
+      goes = c.run_verb.ensures.goes;
+      few = c.run_verb.ensures.few;
+      done =
+          let P = Leads g.L.Library.shown first next (IsStretch g.L.Library.shown close) in
+          let Q = Leads g.L.Library.shown first next (ClosesAt g.L.Library.shown c.args.u) in
+          IfOk-weaker c.run_verb.result (λ end. Come before after end P) (λ end. Come before after end Q)
+          (λ end told. come_as before after end P Q told
+          (leads_as g.L.Library.shown first next (IsStretch g.L.Library.shown close) (ClosesAt g.L.Library.shown c.args.u)
+          (λ lines p.
+          is_closed g.L.Library.shown c.args.u (point_in g.L.Library.shown first) (point_in g.L.Library.shown next) lines (run_file world c.args.u file) (run_here world files c.args.u file get) (sym c.if-not-open.ensures) p)))
+          c.run_verb.ensures.done;
+      refused =
+          let One = AreStretchesInPart g.L.Library.shown (close ∷ []) in
+          let Part = ClosesAtInPart g.L.Library.shown c.args.u in
+          on_err_weaker c.run_verb.result
+          (λ part. come_in_part_as before after.written (Leads g.L.Library.shown first next One) (Leads g.L.Library.shown first next Part) part
+          (leads_as g.L.Library.shown first next One Part
+          (λ lines p.
+          is_closed_in_part g.L.Library.shown c.args.u (point_in g.L.Library.shown first) (point_in g.L.Library.shown next) lines (run_file world c.args.u file) (run_here world files c.args.u file get) (sym c.if-not-open.ensures) p)))
+          c.run_verb.ensures.refused;
+    }

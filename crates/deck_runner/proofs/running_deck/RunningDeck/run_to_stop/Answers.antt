@@ -10,8 +10,8 @@ use Rattle.deck_runner.proofs.ToldLemmas.{none_come, come_then, part_then}
 use Rattle.deck_runner.proofs.MoveLemmas.{goes_on_alike}
 use Rattle.deck_runner.proofs.running_deck.RunningDeck.run_to_stop.Goals as goal
 
-pub returns-in-Err-clause-refused : goal.returns-in-Err-clause-refused
-returns-in-Err-clause-refused g c =
+pub returns-in-Err : goal.returns-in-Err
+returns-in-Err g c =
     let first = state c.args.library.now c.args.self.now in
     let now = state c.loop-statement.library c.loop-statement.self in
     let next = state c.run_statement.new.library c.run_statement.new.self in
@@ -20,13 +20,18 @@ returns-in-Err-clause-refused g c =
     let Done = AreStretches g.L.Library.shown (take i c.args.statements.now) in
     let One = AreStretchesInPart g.L.Library.shown (c.statement-item.result ∷ []) in
     let Part = AreStretchesInPart g.L.Library.shown (until_stop c.args.statements.now) in
-    part_then (so_far (g.W.Write.contents c.args.out.now) c.args.held.now) (so_far (g.W.Write.contents c.loop-statement.out) c.loop-statement.held) (g.W.Write.contents c.run_statement.new.out) c.loop-statement.end
-    (Leads g.L.Library.shown first now Done) (Leads g.L.Library.shown now next One) (Leads g.L.Library.shown first next Part)
-    before.told c.in-Err.ensures.refused
-    (leads_then g.L.Library.shown first now next Done One Part before.goes c.run_statement.ensures.goes
-    (λ xs ys p q.
-    breaks_behind (IsStretch g.L.Library.shown) c.args.statements.now i c.statement-item.result c.loop-statement-test.true c.statement-item.is (sym c.if-stop.ensures) before.passed
-    (point_in g.L.Library.shown first) (point_in g.L.Library.shown now) (point_in g.L.Library.shown next) xs ys p q))
+    record {
+      goes = goes_then g.L.Library.shown first now next before.goes c.run_statement.ensures.goes;
+      few = tt;
+      done = tt;
+      refused = part_then (so_far (g.W.Write.contents c.args.out.now) c.args.held.now) (so_far (g.W.Write.contents c.loop-statement.out) c.loop-statement.held) (g.W.Write.contents c.run_statement.new.out) c.loop-statement.end
+          (Leads g.L.Library.shown first now Done) (Leads g.L.Library.shown now next One) (Leads g.L.Library.shown first next Part)
+          before.told c.in-Err.ensures.refused
+          (leads_then g.L.Library.shown first now next Done One Part before.goes c.run_statement.ensures.goes
+          (λ xs ys p q.
+          breaks_behind (IsStretch g.L.Library.shown) c.args.statements.now i c.statement-item.result c.loop-statement-test.true c.statement-item.is (sym c.if-stop.ensures) before.passed
+          (point_in g.L.Library.shown first) (point_in g.L.Library.shown now) (point_in g.L.Library.shown next) xs ys p q));
+    }
 
 pub loop-statement-preserved : goal.loop-statement-preserved
 loop-statement-preserved g c =
@@ -42,7 +47,7 @@ loop-statement-preserved g c =
     record {
       goes = goes_then g.L.Library.shown first now next before.goes goes;
       passed = passed_more c.args.statements.now i c.statement-item.result c.loop-statement-test.true c.statement-item.is (sym c.if-stop.ensures) before.passed;
-      few = let few = before.few in let one = c.in-Ok.ensures.one in rw c.followed_by-end.ensures (omega arith);
+      few = let few = before.few in let one = c.in-Ok.ensures.few in rw c.followed_by-end.ensures (omega arith);
       told = come_then (so_far (g.W.Write.contents c.args.out.now) c.args.held.now) (so_far (g.W.Write.contents c.loop-statement.out) c.loop-statement.held) (so_far (g.W.Write.contents c.run_statement.new.out) c.run_statement.new.held) c.loop-statement.end c.in-Ok.more c.followed_by-end.result
           (Leads g.L.Library.shown first now Done) (Leads g.L.Library.shown now next One) (Leads g.L.Library.shown first next Next)
           before.told c.in-Ok.ensures.done c.followed_by-end.ensures

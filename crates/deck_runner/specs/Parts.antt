@@ -1,0 +1,92 @@
+-- The parts of a run: what each asks for, and what it leaves. All of this is ours.
+use Rattle.std.specs.Prelude.{◌≤◌, ◌<◌, ℕ, List, [], ◌∷◌, All, length, Option, Result, IfOk, OnErr}
+use Rattle.held_text.specs.declared.output.Refused.{Refused}
+use Rattle.indexed_file.specs.Shown.{Shown}
+use Rattle.io_state.specs.declared.statement.FileStatement.{FileStatement}
+use Rattle.procedure_division.specs.declared.statement.Statement.{Statement}
+use Rattle.procedure_division.specs.declared.statement.Statement.TheVariants.{Perform}
+use Rattle.deck_runner.specs.declared.run_end.RunEnd.{RunEnd}
+use Rattle.deck_runner.specs.declared.running_deck.RunningDeck.{RunningDeck}
+use Rattle.deck_runner.specs.Line.{Line}
+use Rattle.deck_runner.specs.Steps.{until_stop}
+use Rattle.deck_runner.specs.Stretches.{Point, IsStretch, AreStretches, AreStretchesInPart, ClosesAt, ClosesAtInPart, ClosesFiles, ClosesInPart, IsRunOver, IsBrokenOff}
+use Rattle.deck_runner.specs.Conditions.{CanPerform, IsStatementIn}
+use Rattle.deck_runner.specs.State.{State, state, IsSafeIn, GoesOn, Leads}
+use Rattle.deck_runner.specs.RunEnd.{Told, ToldInPart}
+use Rattle.deck_runner.specs.HeldLines.{so_far, Come, ComeInPart}
+
+-- a statement on the file of a place; any statement; the statements up to STOP RUN; the close of the
+-- file of a place, if it is still open; and the closes of all files that are still open
+pub data RunPart : Type 0 where
+  VerbOn : (u : ℕ) → (statement : FileStatement) → RunPart
+  OneStatement : (statement : Statement) → RunPart
+  UpToStop : (statements : List Statement) → RunPart
+  CloseOf : (u : ℕ) → RunPart
+  AllCloses : RunPart
+
+-- ---- what it asks for
+
+-- the deck has the files and items of its statements, and its file has the place that is closed
+abbrev pub IsPartIn : RunningDeck → RunPart → Type 0
+IsPartIn deck (VerbOn u statement) = CanPerform deck u statement
+IsPartIn deck (OneStatement statement) = IsStatementIn deck statement
+IsPartIn deck (UpToStop statements) = All (IsStatementIn deck) statements
+IsPartIn deck (CloseOf u) = u < length deck.files.items
+IsPartIn deck AllCloses = Unit {0}
+
+-- what a run needs of a library that is not to be believed, and of the deck
+pub record CanRun {S : Type 0} (library : Shown S) (part : RunPart) (s : State S) : Type 0 where
+  pub safe : IsSafeIn library s
+  pub part_is : IsPartIn s.deck part
+
+-- ---- what it leaves
+
+-- its steps, where it came to its end
+abbrev pub StepsOf : {S : Type 0} → Shown S → RunPart → Point S → List Line → Point S → Type 0
+StepsOf library (VerbOn u statement) = IsStretch library (Perform u statement)
+StepsOf library (OneStatement statement) = IsStretch library statement
+StepsOf library (UpToStop statements) = AreStretches library (until_stop statements)
+StepsOf library (CloseOf u) = ClosesAt library u
+StepsOf library AllCloses = ClosesFiles library
+
+-- and where it was broken off
+abbrev pub StepsBefore : {S : Type 0} → Shown S → RunPart → Point S → List Line → Point S → Type 0
+StepsBefore library (VerbOn u statement) = AreStretchesInPart library (Perform u statement ∷ [])
+StepsBefore library (OneStatement statement) = AreStretchesInPart library (statement ∷ [])
+StepsBefore library (UpToStop statements) = AreStretchesInPart library (until_stop statements)
+StepsBefore library (CloseOf u) = ClosesAtInPart library u
+StepsBefore library AllCloses = ClosesInPart library
+
+-- the most lines that it has
+abbrev pub most_lines : RunningDeck → RunPart → ℕ
+most_lines deck (VerbOn u statement) = 1
+most_lines deck (OneStatement statement) = 1
+most_lines deck (UpToStop statements) = length statements
+most_lines deck (CloseOf u) = 1
+most_lines deck AllCloses = length deck.files.items
+
+-- a part of a run, from a library, a deck in memory, the text that is held and the writer, to those
+-- that it leaves. It keeps what every part keeps. Where it came to its end, lines came that are those
+-- of its steps. Where the writer refused one, they are those of some of its steps
+pub record RunsPart {S W : Type 0} (shown : Shown S) (contents : W → Option (List ℕ)) (part : RunPart)
+    (library : S) (deck : RunningDeck) (held : List ℕ) (out : W)
+    (library_after : S) (deck_after : RunningDeck) (held_after : List ℕ) (out_after : W)
+    (result : Result RunEnd Refused) : Type 0 where
+  pub goes : GoesOn shown (state library deck) (state library_after deck_after)
+  pub few : IfOk result (λ end. end.lines ≤ most_lines deck part)
+  pub done : IfOk result (λ end. Come (so_far (contents out) held) (so_far (contents out_after) held_after)
+      end (Leads shown (state library deck) (state library_after deck_after) (StepsOf shown part)))
+  pub refused : OnErr result (ComeInPart (so_far (contents out) held) (contents out_after)
+      (Leads shown (state library deck) (state library_after deck_after) (StepsBefore shown part)))
+
+-- a whole run, which begins with no text held: the text of its lines was written, or of some of
+-- them, and then a proper front of one
+pub record RunsAll {S W : Type 0} (shown : Shown S) (contents : W → Option (List ℕ))
+    (statements : List Statement) (library : S) (deck : RunningDeck) (out : W)
+    (library_after : S) (deck_after : RunningDeck) (out_after : W)
+    (result : Result RunEnd Refused) : Type 0 where
+  pub goes : GoesOn shown (state library deck) (state library_after deck_after)
+  pub done : IfOk result (λ end. Told (contents out) (contents out_after) end
+      (Leads shown (state library deck) (state library_after deck_after) (IsRunOver shown statements)))
+  pub refused : OnErr result (ToldInPart (contents out) (contents out_after)
+      (Leads shown (state library deck) (state library_after deck_after) (IsBrokenOff shown statements)))
