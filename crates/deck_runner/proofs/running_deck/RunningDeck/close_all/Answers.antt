@@ -2,10 +2,10 @@ use Rattle.std.proofs.Common.{◌≡◌, ◌<◌, ◌+◌, length, refl, arith}
 use Rattle.std.proofs.lemmas.List.Elements.{All-nil}
 use Rattle.deck_runner.specs.Stretches.{IsStretch, ClosesAt, ClosesAtInPart, ClosesFiles, ClosesInPart}
 use Rattle.deck_runner.specs.State.{state, point_in, IsLineOf, Leads}
-use Rattle.deck_runner.proofs.StateLemmas.{goes_then, leads_then, leads_as}
+use Rattle.deck_runner.proofs.StateLemmas.{goes_then, leads_as, done_then, refused_then}
 use Rattle.deck_runner.proofs.CloseLemmas.{AreClosed, one_closed, all_closed, closed_in_part, as_many_files}
 use Rattle.deck_runner.specs.HeldLines.{so_far}
-use Rattle.deck_runner.proofs.ToldLemmas.{none_come, come_then, come_as, part_then}
+use Rattle.deck_runner.proofs.ToldLemmas.{none_come, come_as}
 use Rattle.deck_runner.proofs.StepLemmas.{no_steps}
 use Rattle.deck_runner.proofs.MoveLemmas.{goes_on_alike}
 use Rattle.deck_runner.proofs.running_deck.RunningDeck.close_all.Goals as goal
@@ -22,13 +22,9 @@ returns-in-Err g c =
       goes = goes_then g.L.Library.shown first now next before.goes c.close_file.ensures.goes;
       few = tt;
       done = tt;
-      refused = part_then (so_far (g.W.Write.contents c.args.out.now) c.args.held.now) (so_far (g.W.Write.contents c.loop-u.out) c.loop-u.held) (g.W.Write.contents c.close_file.new.out) c.loop-u.end
-          (Leads g.L.Library.shown first now (AreClosed g.L.Library.shown c.loop-u.u))
-          (Leads g.L.Library.shown now next (ClosesAtInPart g.L.Library.shown c.loop-u.u))
-          (Leads g.L.Library.shown first next (ClosesInPart g.L.Library.shown))
-          before.told c.in-Err.ensures.refused
-          (leads_then g.L.Library.shown first now next (AreClosed g.L.Library.shown c.loop-u.u) (ClosesAtInPart g.L.Library.shown c.loop-u.u) (ClosesInPart g.L.Library.shown) before.goes c.close_file.ensures.goes
-          (λ xs ys p q. closed_in_part g.L.Library.shown (point_in g.L.Library.shown first) (point_in g.L.Library.shown now) (point_in g.L.Library.shown next) c.loop-u.u xs ys within p q));
+      refused = refused_then g.L.Library.shown first now next (so_far (g.W.Write.contents c.args.out.now) c.args.held.now) (so_far (g.W.Write.contents c.loop-u.out) c.loop-u.held) (g.W.Write.contents c.close_file.new.out) c.loop-u.end
+          (AreClosed g.L.Library.shown c.loop-u.u) (ClosesAtInPart g.L.Library.shown c.loop-u.u) (ClosesInPart g.L.Library.shown) before.goes c.close_file.ensures.goes before.told c.in-Err.ensures.refused
+          (λ xs ys p q. closed_in_part g.L.Library.shown (point_in g.L.Library.shown first) (point_in g.L.Library.shown now) (point_in g.L.Library.shown next) c.loop-u.u xs ys within p q);
     }
 
 pub loop-u-preserved : goal.loop-u-preserved
@@ -43,13 +39,10 @@ loop-u-preserved g c =
     record {
       goes = goes_then g.L.Library.shown first now next before.goes goes;
       few = let few = before.few in let one = c.in-Ok.ensures.few in rw c.followed_by-end.ensures (omega arith);
-      told = come_then (so_far (g.W.Write.contents c.args.out.now) c.args.held.now) (so_far (g.W.Write.contents c.loop-u.out) c.loop-u.held) (so_far (g.W.Write.contents c.close_file.new.out) c.close_file.new.held) c.loop-u.end c.in-Ok.more c.followed_by-end.result
-          (Leads g.L.Library.shown first now (AreClosed g.L.Library.shown c.loop-u.u))
-          (Leads g.L.Library.shown now next (ClosesAt g.L.Library.shown c.loop-u.u))
-          (Leads g.L.Library.shown first next (AreClosed g.L.Library.shown (c.loop-u.u + 1)))
-          before.told c.in-Ok.ensures.done c.followed_by-end.ensures
-          (leads_then g.L.Library.shown first now next (AreClosed g.L.Library.shown c.loop-u.u) (ClosesAt g.L.Library.shown c.loop-u.u) (AreClosed g.L.Library.shown (c.loop-u.u + 1)) before.goes goes
-          (λ xs ys p q. one_closed g.L.Library.shown (point_in g.L.Library.shown first) (point_in g.L.Library.shown now) (point_in g.L.Library.shown next) c.loop-u.u xs ys within p q));
+      told = done_then g.L.Library.shown first now next (so_far (g.W.Write.contents c.args.out.now) c.args.held.now) (so_far (g.W.Write.contents c.loop-u.out) c.loop-u.held) (so_far (g.W.Write.contents c.close_file.new.out) c.close_file.new.held)
+          c.loop-u.end c.in-Ok.more c.followed_by-end.result (AreClosed g.L.Library.shown c.loop-u.u) (ClosesAt g.L.Library.shown c.loop-u.u) (AreClosed g.L.Library.shown (c.loop-u.u + 1))
+          before.goes goes before.told c.in-Ok.ensures.done c.followed_by-end.ensures
+          (λ xs ys p q. one_closed g.L.Library.shown (point_in g.L.Library.shown first) (point_in g.L.Library.shown now) (point_in g.L.Library.shown next) c.loop-u.u xs ys within p q);
     }
 
 pub returns : goal.returns

@@ -1,16 +1,16 @@
-use Rattle.std.proofs.Common.{false, [], ◌∷◌, length, refl, sym, arith}
-use Rattle.std.proofs.lemmas.List.Elements.{All-nil}
+use Rattle.std.proofs.Common.{false, [], ◌∷◌, length, refl, sym}
 use Rattle.std.proofs.lemmas.Option.{slice_get_read}
 use Rattle.std.proofs.lemmas.Result.{IfOk-weaker, on_err_weaker}
 use Rattle.io_state.specs.declared.statement.FileStatement.TheVariants.{Close}
 use Rattle.procedure_division.specs.declared.statement.Statement.TheVariants.{Perform}
 use Rattle.deck_runner.specs.Stretches.{IsStretch, AreStretchesInPart, ClosesAt, ClosesAtInPart}
 use Rattle.deck_runner.specs.Running.{run_file}
-use Rattle.deck_runner.specs.State.{state, point_in, IsLineOf, Leads}
+use Rattle.deck_runner.specs.State.{state, point_in, Leads}
+use Rattle.deck_runner.specs.Parts.{CloseOf}
 use Rattle.deck_runner.specs.HeldLines.{so_far, Come}
 use Rattle.deck_runner.proofs.VerbLemmas.{run_here, of_any}
-use Rattle.deck_runner.proofs.StateLemmas.{leads_as}
-use Rattle.deck_runner.proofs.ToldLemmas.{none_come, come_as, come_in_part_as}
+use Rattle.deck_runner.proofs.StateLemmas.{leads_as, no_line}
+use Rattle.deck_runner.proofs.ToldLemmas.{come_as, come_in_part_as}
 use Rattle.deck_runner.proofs.CloseLemmas.{not_open, is_closed, is_closed_in_part}
 use Rattle.deck_runner.proofs.MoveLemmas.{goes_on_alike}
 use Rattle.deck_runner.proofs.running_deck.RunningDeck.close_file.Goals as goal
@@ -21,17 +21,9 @@ returns-then-not-open g c =
     let files = c.args.self.now.files.items in
     let file = c.index-file.result.now in
     let get = slice_get_read files (length files) c.args.u file refl c.requires.part_is c.index-file.ensures in
-    record {
-      goes = goes_on_alike g.L.Library.shown c.args.library.now c.args.self.now c.args.self.now refl refl c.requires.safe;
-      few = rw c.none.ensures (omega arith);
-      done = none_come (so_far (g.W.Write.contents c.args.out.now) c.args.held.now) c.none.result _ c.none.ensures
-          (record {
-            steps = λ honest trusted.
-                not_open g.L.Library.shown c.args.u (point_in g.L.Library.shown (state c.args.library.now c.args.self.now)) (run_file world c.args.u file) (run_here world files c.args.u file get) (sym c.if-not-open.ensures);
-            lines_are = All-nil (IsLineOf _ _ _);
-          });
-      refused = tt;
-    }
+    no_line g.L.Library.shown g.W.Write.contents (CloseOf c.args.u) c.args.library.now c.args.self.now c.args.self.now c.args.held.now c.args.out.now c.none.result c.none.ensures
+    (goes_on_alike g.L.Library.shown c.args.library.now c.args.self.now c.args.self.now refl refl c.requires.safe)
+    (not_open g.L.Library.shown c.args.u (point_in g.L.Library.shown (state c.args.library.now c.args.self.now)) (run_file world c.args.u file) (run_here world files c.args.u file get) (sym c.if-not-open.ensures))
 
 pub run_verb-requires : goal.run_verb-requires
 run_verb-requires g c =

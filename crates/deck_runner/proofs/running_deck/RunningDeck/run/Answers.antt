@@ -4,9 +4,9 @@ use Rattle.deck_runner.specs.Stretches.{IsStretch, AreStretches, AreStretchesInP
 use Rattle.deck_runner.specs.State.{state, point_in, Leads}
 use Rattle.deck_runner.specs.RunEnd.{followed}
 use Rattle.deck_runner.specs.HeldLines.{so_far}
-use Rattle.deck_runner.proofs.StateLemmas.{goes_then, leads_then, leads_as}
+use Rattle.deck_runner.proofs.StateLemmas.{goes_then, leads_as, done_then, refused_then, all_refused}
 use Rattle.deck_runner.proofs.StepLemmas.{all_in_part}
-use Rattle.deck_runner.proofs.ToldLemmas.{on_err, come_then, part_then, come_in_part_as, told_all, told_in_part, held_then}
+use Rattle.deck_runner.proofs.ToldLemmas.{come_in_part_as, told_all, told_in_part, held_then}
 use Rattle.deck_runner.proofs.running_deck.RunningDeck.run.Goals as goal
 
 pub returns-in_err-stopped : goal.returns-in_err-stopped
@@ -17,14 +17,10 @@ returns-in_err-stopped g c =
     let Part = AreStretchesInPart shown (until_stop c.args.statements.now) in
     let Off = IsBrokenOff shown c.args.statements.now in
     let before = so_far (g.W.Write.contents c.args.out.now) c.args.held.now in
-    record {
-      goes = c.run_to_stop.ensures.goes;
-      done = search rules;
-      refused = on_err c.from_residual.result _
-          (told_in_part before (g.W.Write.contents c.run_to_stop.new.out) (Leads shown first next Off) c.requires.none_held
-          (come_in_part_as before (g.W.Write.contents c.run_to_stop.new.out) (Leads shown first next Part) (Leads shown first next Off)
-          c.in_err-stopped.ensures.refused (leads_as shown first next Part Off (λ lines p. inl p))));
-    }
+    let written = g.W.Write.contents c.run_to_stop.new.out in
+    all_refused shown g.W.Write.contents c.args.statements.now c.args.library.now _ c.args.self.now _ c.args.out.now _ c.from_residual.result (search rules) c.run_to_stop.ensures.goes
+    (told_in_part before written (Leads shown first next Off) c.requires.none_held
+    (come_in_part_as before written (Leads shown first next Part) (Leads shown first next Off) c.in_err-stopped.ensures.refused (leads_as shown first next Part Off (λ lines p. inl p))))
 
 pub returns-in_err-closed : goal.returns-in_err-closed
 returns-in_err-closed g c =
@@ -35,17 +31,13 @@ returns-in_err-closed g c =
     let Done = AreStretches shown (until_stop c.args.statements.now) in
     let Off = IsBrokenOff shown c.args.statements.now in
     let before = so_far (g.W.Write.contents c.args.out.now) c.args.held.now in
-    record {
-      goes = goes_then shown first stopped next c.run_to_stop.ensures.goes c.close_all.ensures.goes;
-      done = search rules;
-      refused = on_err c.from_residual-in_err-closed.result _
-          (told_in_part before (g.W.Write.contents c.close_all.new.out) (Leads shown first next Off) c.requires.none_held
-          (part_then before (so_far (g.W.Write.contents c.run_to_stop.new.out) c.run_to_stop.new.held) (g.W.Write.contents c.close_all.new.out) c.in_ok-stopped.stopped
-          (Leads shown first stopped Done) (Leads shown stopped next (ClosesInPart shown)) (Leads shown first next Off)
-          c.in_ok-stopped.ensures.done c.in_err-closed.ensures.refused
-          (leads_then shown first stopped next Done (ClosesInPart shown) Off c.run_to_stop.ensures.goes c.close_all.ensures.goes
-          (λ xs ys p q. inr (point_in shown stopped, xs, ys, p, q, refl)))));
-    }
+    let between = so_far (g.W.Write.contents c.run_to_stop.new.out) c.run_to_stop.new.held in
+    let goes = c.run_to_stop.ensures.goes in
+    let more = c.close_all.ensures.goes in
+    all_refused shown g.W.Write.contents c.args.statements.now c.args.library.now _ c.args.self.now _ c.args.out.now _ c.from_residual-in_err-closed.result (search rules) (goes_then shown first stopped next goes more)
+    (told_in_part before (g.W.Write.contents c.close_all.new.out) (Leads shown first next Off) c.requires.none_held
+    (refused_then shown first stopped next before between (g.W.Write.contents c.close_all.new.out) c.in_ok-stopped.stopped Done (ClosesInPart shown) Off goes more
+    c.in_ok-stopped.ensures.done c.in_err-closed.ensures.refused (λ xs ys p q. inr (point_in shown stopped, xs, ys, p, q, refl))))
 
 pub returns-in_err-hand_over : goal.returns-in_err-hand_over
 returns-in_err-hand_over g c =
@@ -58,19 +50,16 @@ returns-in_err-hand_over g c =
     let before = so_far (g.W.Write.contents c.args.out.now) c.args.held.now in
     let between = so_far (g.W.Write.contents c.run_to_stop.new.out) c.run_to_stop.new.held in
     let behind = so_far (g.W.Write.contents c.close_all.new.out) c.close_all.new.held in
-    record {
-      goes = goes_then shown first stopped next c.run_to_stop.ensures.goes c.close_all.ensures.goes;
-      done = search rules;
-      refused = on_err c.from_residual-in_err-hand_over.result _
-          (told_in_part before (g.W.Write.contents c.hand_over.new.out) (Leads shown first next Off) c.requires.none_held
-          (held_then before behind (g.W.Write.contents c.hand_over.new.out) (followed c.in_ok-stopped.stopped c.in_ok-closed.closed) (Leads shown first next Off)
-          (come_then before between behind c.in_ok-stopped.stopped c.in_ok-closed.closed (followed c.in_ok-stopped.stopped c.in_ok-closed.closed)
-          (Leads shown first stopped Done) (Leads shown stopped next (ClosesFiles shown)) (Leads shown first next Off)
-          c.in_ok-stopped.ensures.done c.in_ok-closed.ensures.done refl
-          (leads_then shown first stopped next Done (ClosesFiles shown) Off c.run_to_stop.ensures.goes c.close_all.ensures.goes
-          (λ xs ys p q. inr (point_in shown stopped, xs, ys, p, all_in_part (IsStretch shown) (closes_from 0 (point_in shown stopped).run.files) (point_in shown stopped) (point_in shown next) ys q, refl))))
-          c.in_err-hand_over.ensures.refused));
-    }
+    let both = followed c.in_ok-stopped.stopped c.in_ok-closed.closed in
+    let goes = c.run_to_stop.ensures.goes in
+    let more = c.close_all.ensures.goes in
+    all_refused shown g.W.Write.contents c.args.statements.now c.args.library.now _ c.args.self.now _ c.args.out.now _ c.from_residual-in_err-hand_over.result (search rules) (goes_then shown first stopped next goes more)
+    (told_in_part before (g.W.Write.contents c.hand_over.new.out) (Leads shown first next Off) c.requires.none_held
+    (held_then before behind (g.W.Write.contents c.hand_over.new.out) both (Leads shown first next Off)
+    (done_then shown first stopped next before between behind c.in_ok-stopped.stopped c.in_ok-closed.closed both Done (ClosesFiles shown) Off goes more
+    c.in_ok-stopped.ensures.done c.in_ok-closed.ensures.done refl
+    (λ xs ys p q. inr (point_in shown stopped, xs, ys, p, all_in_part (IsStretch shown) (closes_from 0 (point_in shown stopped).run.files) (point_in shown stopped) (point_in shown next) ys q, refl)))
+    c.in_err-hand_over.ensures.refused))
 
 pub returns : goal.returns
 returns g c =
@@ -83,14 +72,13 @@ returns g c =
     let before = so_far (g.W.Write.contents c.args.out.now) c.args.held.now in
     let between = so_far (g.W.Write.contents c.run_to_stop.new.out) c.run_to_stop.new.held in
     let behind = so_far (g.W.Write.contents c.close_all.new.out) c.close_all.new.held in
+    let goes = c.run_to_stop.ensures.goes in
+    let more = c.close_all.ensures.goes in
     record {
-      goes = goes_then shown first stopped next c.run_to_stop.ensures.goes c.close_all.ensures.goes;
+      goes = goes_then shown first stopped next goes more;
       done = told_all before behind (g.W.Write.contents c.hand_over.new.out) c.followed_by.result (Leads shown first next Whole) c.requires.none_held
-          (come_then before between behind c.in_ok-stopped.stopped c.in_ok-closed.closed c.followed_by.result
-          (Leads shown first stopped Done) (Leads shown stopped next (ClosesFiles shown)) (Leads shown first next Whole)
-          c.in_ok-stopped.ensures.done c.in_ok-closed.ensures.done c.followed_by.ensures
-          (leads_then shown first stopped next Done (ClosesFiles shown) Whole c.run_to_stop.ensures.goes c.close_all.ensures.goes
-          (λ xs ys p q. (point_in shown stopped, xs, ys, p, q, refl))))
+          (done_then shown first stopped next before between behind c.in_ok-stopped.stopped c.in_ok-closed.closed c.followed_by.result Done (ClosesFiles shown) Whole goes more
+          c.in_ok-stopped.ensures.done c.in_ok-closed.ensures.done c.followed_by.ensures (λ xs ys p q. (point_in shown stopped, xs, ys, p, q, refl)))
           c.in_ok-hand_over.ensures.written;
       refused = tt;
     }
