@@ -1,10 +1,11 @@
 //! The text that two words name.
-ghost use Rattle.std.specs.Prelude.{◌≡◌, map, option_map, IsSome};
+ghost use Rattle.std.specs.Prelude.{◌≡◌, option_map, IsSome};
 ghost use Rattle.io_state.specs.declared.status.Status.{Status};
 ghost use Rattle.io_state.specs.Status.{digits_of};
 ghost use Rattle.deck_words.specs.declared.fault.Cause.{Cause};
 ghost use Rattle.deck_words.specs.Fault.{code_of};
-ghost use Rattle.explanations.specs.Explained.{text_of, text_in, explained, digit_of};
+ghost use Rattle.explanations.specs.Explained.{text_of, text_in, digit_of};
+ghost use Rattle.explanations.specs.Tables.{table_of, status_table, fault_table, explanation};
 
 use crate::tables::{FAULTS, REASONS, STATUSES};
 
@@ -17,8 +18,7 @@ fn text_of(rows: &[(&'static str, &'static str)], number: &str) -> Option<&'stat
 
 /// The text of a number in a table.
 fn text_in(rows: &[(&'static str, &'static str)], number: &str) -> Option<&'static str>
-    ensures { option_map (λ text. text.now) result ≡ text_in
-        (map (λ row. (row.0.now, row.1.now)) rows.now) number.now }
+    ensures { option_map (λ text. text.now) result ≡ text_in (table_of rows.now) number.now }
 {
     text_of(rows, number)
 }
@@ -26,9 +26,7 @@ fn text_in(rows: &[(&'static str, &'static str)], number: &str) -> Option<&'stat
 /// What is explained of a status, a code of a refused deck or a reason of the check: `status 30`,
 /// `fault 7`, `unsound 6`. None: these words name none of them.
 pub fn explanation_of(kind: &str, number: &str) -> Option<&'static str>
-    ensures { option_map (λ text. text.now) result ≡ explained
-        (map (λ row. (row.0.now, row.1.now)) STATUSES) (map (λ row. (row.0.now, row.1.now)) FAULTS)
-        (map (λ row. (row.0.now, row.1.now)) REASONS) kind.now number.now }
+    ensures { option_map (λ text. text.now) result ≡ explanation kind.now number.now }
 {
     match kind {
         "status" => text_in(&STATUSES, number),
@@ -40,8 +38,6 @@ pub fn explanation_of(kind: &str, number: &str) -> Option<&'static str>
 
 /// Each status is explained, and each cause for which a deck is refused.
 pub fn all_are_explained()
-    ensures statuses { (status : Status) → IsSome (text_in (map (λ row. (row.0.now, row.1.now)) STATUSES)
-        (digits_of status)) }
-    ensures causes { (cause : Cause) → IsSome (text_in (map (λ row. (row.0.now, row.1.now)) FAULTS)
-        (digit_of (code_of cause))) }
+    ensures statuses { (status : Status) → IsSome (text_in status_table (digits_of status)) }
+    ensures causes { (cause : Cause) → IsSome (text_in fault_table (digit_of (code_of cause))) }
 {}
