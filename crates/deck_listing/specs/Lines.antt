@@ -71,6 +71,11 @@ heading name file lengths access optional =
     codes "file " ++ (name ++ (codes " " ++ (file ++ (codes " record "
     ++ (lengths ++ (codes " access " ++ (access ++ (optional ++ codes "\n"))))))))
 
+-- the same, with what the file is described by
+abbrev pub heading_with : (name file : List ℕ) → ℕ × ℕ → Access → Bool → List ℕ
+heading_with name file lengths access optional =
+    heading name file (lengths_text lengths.0 lengths.1) (access_word access) (optional_word optional)
+
 -- ---- verbs and paragraphs
 
 -- a verb as the transcript writes it

@@ -1,7 +1,7 @@
 //! The lines of the list of a deck.
 ghost use Rattle.std.specs.Prelude.{◌≡◌, ◌++◌, option_map, string_bytes, OnOk};
 ghost use Rattle.record_layout.specs.Layout.{item_of};
-ghost use Rattle.deck_listing.specs.Lines.{item_name, digits_word, item_line, key_kind, key_line, access_word, optional_word, lengths_text, heading, verb_text, verb_line, lineless_verb, paragraph_line};
+ghost use Rattle.deck_listing.specs.Lines.{item_name, digits_word, item_line, key_kind, key_line, access_word, optional_word, lengths_text, heading_with, verb_text, verb_line, lineless_verb, paragraph_line};
 
 use crate::verbs::Verb;
 use io_state::{Access, FileStatement, Name, OpenMode};
@@ -100,8 +100,7 @@ pub fn add_heading(
     optional: bool,
 ) -> Result<(), AllocError>
     ensures { OnOk result (string_bytes text.new ≡ string_bytes text.old
-        ++ heading name.now file.now (lengths_text lengths.0 lengths.1) (access_word access)
-        (optional_word optional)) }
+        ++ heading_with name.now file.now lengths access optional) }
 {
     write!(text, "file {name} {file} record ")?;
     add_lengths(text, lengths.0, lengths.1)?;

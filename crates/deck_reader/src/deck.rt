@@ -1,10 +1,10 @@
 //! A deck, read whole.
 ghost use Rattle.std.specs.Prelude.{◌≡◌, ◌≢◌, [], ℕ, List, IfOk, IfErr};
-ghost use Rattle.deck_words.specs.Fault.{IsTold};
+ghost use Rattle.deck_words.specs.Fault.{IsTold, HasNoneIfTold};
 ghost use Rattle.deck_words.specs.Word.{Word};
 ghost use Rattle.procedure_division.specs.declared.statement.Statement.{Statement};
 ghost use Rattle.procedure_division.specs.Names.{names_of};
-ghost use Rattle.procedure_division.specs.Procedure.{procedure};
+ghost use Rattle.procedure_division.specs.Procedure.{IsProcedure};
 ghost use Rattle.deck_reader.specs.declared.deck.Deck.{Deck};
 ghost use Rattle.deck_reader.specs.Deck.{Spells, IsDeck, CanBeRun};
 
@@ -32,10 +32,8 @@ fn statements_of(
     items: &[LengthItem],
     words: &Words<'_>,
 ) -> Result<StatementList, DeckFault>
-    ensures statements { IfOk result (λ list. (procedure (names_of files.now items.now)).Spells list
-        words.now []) }
-    ensures none { IfErr result (λ fault. fault.code ≢ 8 → (statements : List Statement) →
-        (procedure (names_of files.now items.now)).Spells statements words.now [] → ⊥) }
+    ensures statements { IfOk result (IsProcedure (names_of files.now items.now) words.now) }
+    ensures none { HasNoneIfTold (IsProcedure (names_of files.now items.now) words.now) result }
     ensures told { IfErr result IsTold }
 {
     let names = Names::new(alloc, files, items).map_err(Refusal::from)?;

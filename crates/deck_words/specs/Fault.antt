@@ -1,5 +1,5 @@
 -- The faults of a deck, and what is told of them.
-use Rattle.std.specs.Prelude.{◌≡◌, ℕ}
+use Rattle.std.specs.Prelude.{◌≡◌, ◌≢◌, ℕ, Result, IfErr}
 use Rattle.deck_words.specs.declared.fault.Cause.{Cause}
 use Rattle.deck_words.specs.declared.fault.Cause.TheVariants.{BadWord, Expected, Unknown, Twice, NotAllowed, Limit, Layout}
 use Rattle.deck_words.specs.declared.fault.DeckFault.{DeckFault}
@@ -27,3 +27,11 @@ IsFault (Fault line cause) = Unit {0}
 -- the fault is told of a refusal
 abbrev pub IsTold : DeckFault → Type 0
 IsTold fault = (refusal : Refusal) × (fault ≡ told refusal)
+
+-- a call is refused, but for want of memory, only where there is nothing of which this is so
+abbrev pub HasNoneIfRefused : {T U : Type 0} → (U → Type 0) → Result T Refusal → Type 0
+HasNoneIfRefused {U = U} Is result = IfErr result (λ refusal. IsFault refusal → (x : U) → Is x → ⊥)
+
+-- the same of a fault that is told
+abbrev pub HasNoneIfTold : {T U : Type 0} → (U → Type 0) → Result T DeckFault → Type 0
+HasNoneIfTold {U = U} Is result = IfErr result (λ fault. fault.code ≢ 8 → (x : U) → Is x → ⊥)

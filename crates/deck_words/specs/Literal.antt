@@ -1,5 +1,5 @@
 -- The text of a literal.
-use Rattle.std.specs.Prelude.{ℕ, ◌==◌, if◌then◌else◌, List, [], ◌∷◌, Option, Some, None}
+use Rattle.std.specs.Prelude.{ℕ, ◌==◌, if◌then◌else◌, List, [], ◌∷◌, Option, Some, None, option_map, length}
 use Rattle.deck_words.specs.ByteClass.{is_of_literal}
 
 -- a text and what comes after it, with one byte more before the text
@@ -22,3 +22,7 @@ cut_literal mark (b ∷ c ∷ bytes) =
 abbrev pub text_of_cut : Option (List ℕ × List ℕ) → List ℕ
 text_of_cut None = []
 text_of_cut (Some cut) = cut.0
+
+-- how many bytes the text has that is cut, and what follows it
+abbrev pub length_cut : Option (List ℕ × List ℕ) → Option (ℕ × List ℕ)
+length_cut cut = option_map (λ found. (length found.0, found.1)) cut

@@ -1,5 +1,5 @@
 -- The words that are still to come at a place of a deck.
-use Rattle.std.specs.Prelude.{ℕ, zero, suc, Bool, if◌then◌else◌, List, [], ◌∷◌, ◌++◌, length, Option, Some, None, codes}
+use Rattle.std.specs.Prelude.{◌≡◌, ◌+◌, ◌<◌, ◌≤◌, ℕ, zero, suc, Bool, if◌then◌else◌, List, [], ◌∷◌, ◌++◌, length, Option, Some, None, MatchOption, codes}
 use Rattle.deck_words.specs.Word.{Word, word_of, Period}
 use Rattle.deck_words.specs.Words.{Rest}
 use Rattle.deck_words.specs.Front.{Next, piece_at}
@@ -34,3 +34,9 @@ words_at period rest = if period then period_of rest.line ∷ words_from rest el
 abbrev pub from_next : Option Word → List Word → List Word
 from_next None behind = []
 from_next (Some word) behind = word ∷ behind
+
+-- the first piece that gives words, and what is left behind it; or no words come any more
+abbrev pub GivesFirstWords : Rest → Option Next → Type 0
+GivesFirstWords rest result = MatchOption result (words_from rest ≡ [])
+    (λ piece. (words_from rest ≡ piece.0 ++ words_from piece.1)
+    × (0 < length piece.0) × (piece.1.line + length piece.1.bytes ≤ 1048577))

@@ -1,6 +1,6 @@
 //! A literal.
 ghost use Rattle.std.specs.Prelude.{◌≡◌, ℕ, List, length, option_map, IfOk};
-ghost use Rattle.deck_words.specs.Literal.{cut_literal, text_of_cut};
+ghost use Rattle.deck_words.specs.Literal.{cut_literal, text_of_cut, length_cut};
 ghost use Rattle.deck_words.specs.Front.{literal_at, ends_literal};
 
 use crate::byte_class::{is_literal_byte, is_space_byte};
@@ -67,7 +67,7 @@ fn text_before(alloc: Global, mark: u8, bytes: &[u8]) -> Result<Bytes, AllocErro
 /// How many bytes the text behind a mark has, and what follows the mark that closes it.
 fn length_before(mark: u8, bytes: &[u8]) -> Option<(usize, &[u8])>
     ensures { option_map {U = ℕ × List ℕ} (λ cut. (cut.0, cut.1.now)) result
-        ≡ option_map {U = ℕ × List ℕ} (λ cut. (length cut.0, cut.1)) (cut_literal mark bytes.now) }
+        ≡ length_cut (cut_literal mark bytes.now) }
 {
     let mut count = 0;
     let mut rest = bytes;

@@ -1,7 +1,7 @@
 //! The words that are still to come at a place of a deck.
 ghost use Rattle.std.specs.Prelude.{◌≡◌, ◌+◌, ◌^◌, ◌<◌, ◌≤◌, [], ◌∷◌, ◌++◌, length, drop, MatchOption};
 ghost use Rattle.deck_words.specs.Words.{rest_of};
-ghost use Rattle.deck_words.specs.Remaining.{words_from};
+ghost use Rattle.deck_words.specs.Remaining.{words_from, GivesFirstWords};
 
 use crate::piece::{Piece, front_piece};
 use crate::word::{Word, WordText};
@@ -35,9 +35,7 @@ impl<'a> Model for Words<'a> {
 /// What the first piece gives that gives words.
 fn first_words(line: u64, bytes: &[u8]) -> Option<Piece<'_>>
     requires room { line + length bytes.now ≤ 1048577 }
-    ensures { MatchOption result (words_from (rest_of line bytes.now) ≡ [])
-        (λ piece. (words_from (rest_of line bytes.now) ≡ piece.0 ++ words_from piece.1)
-        × (0 < length piece.0) × (piece.1.line + length piece.1.bytes ≤ 1048577)) }
+    ensures { GivesFirstWords (rest_of line bytes.now) result }
 {
     let mut here = line;
     let mut rest = bytes;

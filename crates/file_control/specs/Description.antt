@@ -11,6 +11,8 @@ use Rattle.record_layout.specs.Picture.{IsPicture}
 use Rattle.record_layout.specs.Layout.{Entry, Placed, IsLayout, length_of}
 use Rattle.record_layout.specs.Schema.{Schema, IsSchema}
 use Rattle.record_layout.specs.SchemaFault.{GivesSchema}
+use Rattle.deck_words.specs.Fault.{IsFault}
+use Rattle.deck_words.specs.declared.fault.Refusal.{Refusal}
 use Rattle.deck_entries.specs.FileControlEntry.{FileControlEntry}
 use Rattle.deck_entries.specs.declared.record_length.RecordLength.{RecordLength}
 use Rattle.deck_entries.specs.declared.record_length.RecordLength.TheVariants.{Fixed, Varying}
@@ -115,6 +117,23 @@ abbrev pub record_name : List Entry → Option (List ℕ)
 record_name [] = None
 record_name (item ∷ items) = item.name
 
+-- the file of an entry and of the items of its record, with this layout and schema
+abbrev pub described_by : FileControlEntry → List Entry → List Placed → Schema → Option ℕ → FileDesc
+described_by entry items layout schema depends_on = record {
+  name = entry.name;
+  file = entry.file_name;
+  access = entry.access;
+  optional = entry.optional;
+  entry = record_name items;
+  layout = layout;
+  schema = schema;
+  depends_on = depends_on;
+}
+
+-- the keys of an entry are those of this schema
+abbrev pub GivesKeys : List Placed → ℕ → FileControlEntry → Schema → Type 0
+GivesKeys layout least entry schema = GivesSchema layout least entry.record_key entry.alternate_keys schema
+
 -- the file of an entry and a description, behind these data names of earlier files
 pub record IsFile (names : List (List ℕ)) (storage : List StorageEntry) (entry : FileControlEntry)
     (description : FileDescription) (file : FileDesc) : Type 0 where
@@ -142,3 +161,9 @@ AreFiles descriptions storage names (entry ∷ entries) (file ∷ files) after =
     (description : FileDescription) × (description_of_file descriptions entry.name ≡ Some description)
     × IsFile names storage entry description file × AreFiles descriptions storage
     (with_names names description.items) entries files after
+
+-- they are refused, but for want of memory, only where there are no such files
+abbrev pub AreNoFiles : List FileDescription → List StorageEntry → List (List ℕ) → List FileControlEntry
+    → Refusal → Type 0
+AreNoFiles descriptions storage names entries refusal = IsFault refusal → (files : List FileDesc)
+    → (after : List (List ℕ)) → AreFiles descriptions storage names entries files after → ⊥

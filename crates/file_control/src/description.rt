@@ -1,10 +1,10 @@
 //! The description of a deck, read whole.
 ghost use Rattle.std.specs.Prelude.{◌≡◌, ◌≢◌, List, IfOk, IfErr};
-ghost use Rattle.deck_words.specs.Fault.{IsFault, IsTold};
+ghost use Rattle.deck_words.specs.Fault.{IsTold, HasNoneIfRefused, HasNoneIfTold};
 ghost use Rattle.deck_words.specs.Word.{Word};
 ghost use Rattle.file_control.specs.declared.description.Description.{Description};
 ghost use Rattle.file_control.specs.Description.{FileDesc as File, LengthItem as Digits};
-ghost use Rattle.file_control.specs.Whole.{Describe, IsDescription};
+ghost use Rattle.file_control.specs.Whole.{Describe, DescribeNone, IsDescription};
 ghost use Rattle.file_control.specs.Described.{AreDescribed};
 
 use crate::data_names::DataNames;
@@ -32,8 +32,7 @@ struct Contents {
 /// What the divisions describe.
 fn contents_of(alloc: Global, divisions: &Divisions) -> Result<Contents, Refusal>
     ensures contents { IfOk result (λ contents. Describe divisions.now contents.files contents.items) }
-    ensures none { IfErr result (λ refusal. IsFault refusal → (files : List File) (items : List Digits) →
-        Describe divisions.now files items → ⊥) }
+    ensures none { IfErr result (DescribeNone divisions.now) }
 {
     let mut names = DataNames::new(alloc);
     let files = files_of(
@@ -50,8 +49,7 @@ fn contents_of(alloc: Global, divisions: &Divisions) -> Result<Contents, Refusal
 
 fn read(alloc: Global, words: &Words<'_>) -> Result<Description, Refusal>
     ensures description { IfOk result (IsDescription words.now) }
-    ensures none { IfErr result (λ refusal. IsFault refusal →
-        (description : Description) → IsDescription words.now description → ⊥) }
+    ensures none { HasNoneIfRefused (IsDescription words.now) result }
 {
     let mut parser = Parser::new(words);
     let divisions = read_divisions(&mut parser, alloc)?;
@@ -76,8 +74,7 @@ fn read(alloc: Global, words: &Words<'_>) -> Result<Description, Refusal>
 /// there already. Or code 8.
 pub fn read_description(alloc: Global, words: &Words<'_>) -> Result<Description, DeckFault>
     ensures description { IfOk result (IsDescription words.now) }
-    ensures none { IfErr result (λ fault. fault.code ≢ 8 →
-        (description : Description) → IsDescription words.now description → ⊥) }
+    ensures none { HasNoneIfTold (IsDescription words.now) result }
     ensures told { IfErr result IsTold }
 {
     Ok(read(alloc, words)?)
@@ -85,8 +82,7 @@ pub fn read_description(alloc: Global, words: &Words<'_>) -> Result<Description,
 
 /// The files and items of a description are what a run can rely on.
 pub fn are_described()
-    ensures { (words : List Word) (description : Description) → IsDescription words description →
-        AreDescribed description.files description.items }
+    ensures { (words : List Word) (d : Description) → IsDescription words d → AreDescribed d.files d.items }
 {}
 
 /// No words have two descriptions.

@@ -4,8 +4,8 @@ ghost use Rattle.record_layout.specs.Layout.{Placed as PlacedItem, entry_of, IsL
 ghost use Rattle.record_layout.specs.Schema.{Schema as Keys, IsSchema};
 ghost use Rattle.record_layout.specs.SchemaFault.{GivesSchema};
 ghost use Rattle.record_layout.specs.declared.fault.LayoutFault.{LayoutFault};
-ghost use Rattle.deck_words.specs.Fault.{IsFault};
-ghost use Rattle.file_control.specs.Description.{FileDesc as File, record_name, least_length, DependsOn, IsFile, are_new};
+ghost use Rattle.deck_words.specs.Fault.{IsFault, HasNoneIfRefused};
+ghost use Rattle.file_control.specs.Description.{FileDesc as File, record_name, described_by, GivesKeys, least_length, DependsOn, IsFile, are_new};
 ghost use Rattle.file_control.specs.Checks.{are_keys_named};
 ghost use Rattle.file_control.specs.FieldPlaces.{AreFields};
 
@@ -82,8 +82,7 @@ fn layout_refusal(line: u64, fault: LayoutFault) -> Refusal
 
 fn layout_of(alloc: Global, line: u64, items: &[Item]) -> Result<Layout, Refusal>
     ensures laid { IfOk result (IsLayout (map entry_of items.now)) }
-    ensures none { IfErr result (λ refusal. IsFault refusal →
-        (layout : List PlacedItem) → IsLayout (map entry_of items.now) layout → ⊥) }
+    ensures none { HasNoneIfRefused (IsLayout (map entry_of items.now)) result }
 {
     one_outcome();
     match Layout::build(alloc, items) {
@@ -94,8 +93,7 @@ fn layout_of(alloc: Global, line: u64, items: &[Item]) -> Result<Layout, Refusal
 
 fn described_layout(alloc: Global, described: &Described) -> Result<Layout, Refusal>
     ensures laid { IfOk result (IsLayout described.now.items) }
-    ensures none { IfErr result (λ refusal. IsFault refusal →
-        (layout : List PlacedItem) → IsLayout described.now.items layout → ⊥) }
+    ensures none { HasNoneIfRefused (IsLayout described.now.items) result }
 {
     layout_of(alloc, described.line, described.items())
 }
@@ -184,10 +182,8 @@ fn schema_of(
 ) -> Result<Schema, Refusal>
     requires some { 1 ≤ least }
     requires within { least ≤ length_of layout.now }
-    ensures given { IfOk result (λ schema. IsSchema schema ×
-        GivesSchema layout.now least entry.now.record_key entry.now.alternate_keys schema) }
-    ensures none { IfErr result (λ refusal. IsFault refusal → (schema : Keys) →
-        GivesSchema layout.now least entry.now.record_key entry.now.alternate_keys schema → ⊥) }
+    ensures given { IfOk result (λ schema. IsSchema schema × GivesKeys layout.now least entry.now schema) }
+    ensures none { HasNoneIfRefused (GivesKeys layout.now least entry.now) result }
 {
     let prime = entry.record_key.as_str();
     match Schema::varying(layout, least, prime, entry.alternate_keys.as_slice()) {
@@ -218,16 +214,7 @@ fn file_of(
     depends_on: Option<usize>,
 ) -> FileDesc
     requires { AreFields fields layout }
-    ensures { result ≡ record {
-      name = entry.now.name;
-      file = entry.now.file_name;
-      access = entry.now.access;
-      optional = entry.now.optional;
-      entry = record_name (map entry_of items.now);
-      layout = layout;
-      schema = schema;
-      depends_on = depends_on;
-    } }
+    ensures { result ≡ described_by entry.now (map entry_of items.now) layout schema depends_on }
 {
     FileDesc {
         name: entry.name,
@@ -250,10 +237,8 @@ fn selected_schema(
 ) -> Result<Schema, Refusal>
     requires some { 1 ≤ least }
     requires within { least ≤ length_of layout.now }
-    ensures given { IfOk result (λ schema. IsSchema schema ×
-        GivesSchema layout.now least selected.now.record_key selected.now.alternate_keys schema) }
-    ensures none { IfErr result (λ refusal. IsFault refusal → (schema : Keys) →
-        GivesSchema layout.now least selected.now.record_key selected.now.alternate_keys schema → ⊥) }
+    ensures given { IfOk result (λ schema. IsSchema schema × GivesKeys layout.now least selected.now schema) }
+    ensures none { HasNoneIfRefused (GivesKeys layout.now least selected.now) result }
 {
     schema_of(alloc, selected.line, layout, least, &selected.entry)
 }
@@ -267,16 +252,7 @@ fn whole_file(
     depends_on: Option<usize>,
 ) -> FileDesc
     requires { AreFields fields layout }
-    ensures { result ≡ record {
-      name = selected.now.name;
-      file = selected.now.file_name;
-      access = selected.now.access;
-      optional = selected.now.optional;
-      entry = record_name described.now.items;
-      layout = layout;
-      schema = schema;
-      depends_on = depends_on;
-    } }
+    ensures { result ≡ described_by selected.now described.now.items layout schema depends_on }
 {
     file_of(
         &selected.entry,
@@ -300,8 +276,7 @@ pub fn file(
     names: &DataNames<'_>,
 ) -> Result<FileDesc, Refusal>
     ensures file { IfOk result (IsFile names.now storage.now selected.now described.now) }
-    ensures none { IfErr result (λ refusal. IsFault refusal →
-        (file : File) → IsFile names.now storage.now selected.now described.now file → ⊥) }
+    ensures none { HasNoneIfRefused (IsFile names.now storage.now selected.now described.now) result }
 {
     check_entry(selected, described)?;
     let layout = described_layout(alloc, described)?;

@@ -1,8 +1,8 @@
 //! The files of a deck, and its 77-level items.
 ghost use Rattle.std.specs.Prelude.{◌≡◌, ℕ, List, [], ◌∷◌, option_map, OnOk, IfOk, IfErr};
 ghost use Rattle.std.specs.Str.{bytes_eq};
-ghost use Rattle.deck_words.specs.Fault.{IsFault};
-ghost use Rattle.file_control.specs.Description.{FileDesc as File, LengthItem as Digits, description_of_file, AreFiles, AreItems, HaveDigits};
+ghost use Rattle.deck_words.specs.Fault.{HasNoneIfRefused};
+ghost use Rattle.file_control.specs.Description.{FileDesc as File, LengthItem as Digits, description_of_file, AreFiles, AreNoFiles, AreItems, HaveDigits};
 
 use crate::data_names::DataNames;
 use crate::file::{FileDesc, file};
@@ -135,8 +135,7 @@ pub fn files_of<'a>(
 ) -> Result<FileList, Refusal>
     ensures files { IfOk result (λ files. AreFiles descriptions.now storage.now names.old entries.now files
         names.new) }
-    ensures none { IfErr result (λ refusal. IsFault refusal → (files : List File) (after : List (List ℕ)) →
-        AreFiles descriptions.now storage.now names.old entries.now files after → ⊥) }
+    ensures none { IfErr result (AreNoFiles descriptions.now storage.now names.old entries.now) }
 {
     let mut files = FileList::new(alloc);
     let mut rest = entries;
@@ -156,8 +155,7 @@ pub fn files_of<'a>(
 /// not wanted behind that, and give their memory back.
 pub fn check_items<'a>(storage: &'a [StorageItem], names: DataNames<'a>) -> Result<(), Refusal>
     ensures items { OnOk result ((items : List Digits) × AreItems names.entry storage.now items) }
-    ensures none { IfErr result (λ refusal. IsFault refusal → (items : List Digits)
-        → AreItems names.entry storage.now items → ⊥) }
+    ensures none { HasNoneIfRefused (AreItems names.entry storage.now) result }
 {
     let mut names = names;
     let mut rest = storage;
@@ -177,8 +175,7 @@ pub fn check_items<'a>(storage: &'a [StorageItem], names: DataNames<'a>) -> Resu
 /// The 77-level items, whatever their names are.
 pub fn items_of(alloc: Global, storage: &[StorageItem]) -> Result<ItemList, Refusal>
     ensures items { IfOk result (HaveDigits storage.now) }
-    ensures none { IfErr result (λ refusal. IsFault refusal → (items : List Digits)
-        → HaveDigits storage.now items → ⊥) }
+    ensures none { HasNoneIfRefused (HaveDigits storage.now) result }
 {
     let mut items = ItemList::with_capacity(alloc, storage.len())?;
     let mut rest = storage;

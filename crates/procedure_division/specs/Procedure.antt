@@ -2,6 +2,7 @@
 -- ANSI X3.23-1985, Nucleus module, procedure division structure. Names of paragraphs have no
 -- effect, which is ours.
 use Rattle.std.specs.Prelude.{List, [], codes}
+use Rattle.deck_words.specs.Word.{Word}
 use Rattle.deck_words.specs.Rule.{Rule, onto}
 use Rattle.deck_words.specs.Notation.{the, name, period, ◌▸◌, ◌◂◌, ◌∣◌, ◌<$>◌}
 use Rattle.procedure_division.specs.declared.statement.Statement.{Statement}
@@ -29,3 +30,7 @@ paragraph_or_sentence names = paragraph ∣ sentence names
 unfoldable pub procedure : Names → Rule (List Statement)
 procedure names =
     the (codes "PROCEDURE") ▸ the (codes "DIVISION") ▸ period ▸ onto joined [] (paragraph_or_sentence names)
+
+-- these words, all of them, are a procedure of these statements
+abbrev pub IsProcedure : Names → List Word → List Statement → Type 0
+IsProcedure names words statements = (procedure names).Spells statements words []

@@ -1,6 +1,6 @@
 //! The procedure division.
 ghost use Rattle.std.specs.Prelude.{◌≡◌, ◌≢◌, [], List, All, IfOk, IfErr};
-ghost use Rattle.deck_words.specs.Fault.{IsFault, IsTold};
+ghost use Rattle.deck_words.specs.Fault.{IsTold, HasNoneIfRefused, HasNoneIfTold};
 ghost use Rattle.deck_words.specs.Reading.{Reads};
 ghost use Rattle.deck_words.specs.Rule.{onto};
 ghost use Rattle.deck_words.specs.Word.{Word};
@@ -8,7 +8,7 @@ ghost use Rattle.file_control.specs.Described.{AreDescribed};
 ghost use Rattle.procedure_division.specs.Allowed.{IsAllowed};
 ghost use Rattle.procedure_division.specs.Names.{Names};
 ghost use Rattle.procedure_division.specs.StatementRules.{joined};
-ghost use Rattle.procedure_division.specs.Procedure.{paragraph_or_sentence, procedure};
+ghost use Rattle.procedure_division.specs.Procedure.{paragraph_or_sentence, procedure, IsProcedure};
 ghost use Rattle.procedure_division.specs.declared.statement.Statement.{Statement};
 
 use crate::names::Names;
@@ -56,9 +56,8 @@ fn read_procedure(
     names: &Names<'_>,
     words: &Words<'_>,
 ) -> Result<StatementList, Refusal>
-    ensures statements { IfOk result (λ list. (procedure names.now).Spells list words.now []) }
-    ensures fault { IfErr result (λ refusal. IsFault refusal →
-        (statements : List Statement) → (procedure names.now).Spells statements words.now [] → ⊥) }
+    ensures statements { IfOk result (IsProcedure names.now words.now) }
+    ensures fault { HasNoneIfRefused (IsProcedure names.now words.now) result }
 {
     let mut parser = Parser::new(words);
     let statements = procedure_division(alloc, &mut parser, names)?;
@@ -75,9 +74,8 @@ pub fn procedure(
     names: &Names<'_>,
     words: &Words<'_>,
 ) -> Result<StatementList, DeckFault>
-    ensures statements { IfOk result (λ list. (procedure names.now).Spells list words.now []) }
-    ensures fault { IfErr result (λ fault. fault.code ≢ 8 →
-        (statements : List Statement) → (procedure names.now).Spells statements words.now [] → ⊥) }
+    ensures statements { IfOk result (IsProcedure names.now words.now) }
+    ensures fault { HasNoneIfTold (IsProcedure names.now words.now) result }
     ensures told { IfErr result IsTold }
 {
     Ok(read_procedure(alloc, names, words)?)
@@ -85,13 +83,12 @@ pub fn procedure(
 
 /// No words are two procedures.
 pub fn one_procedure()
-    ensures { (names : Names) (a b : List Statement) (words : List Word) →
-        (procedure names).Spells a words [] → (procedure names).Spells b words [] → a ≡ b }
+    ensures { (n : Names) (a b : List Statement) (words : List Word) → IsProcedure n words a
+        → IsProcedure n words b → a ≡ b }
 {}
 
 /// The statements of a procedure are for files, items and keys of the deck, and the access modes allow them.
 pub fn only_allowed()
-    ensures { (names : Names) (list : List Statement) (words : List Word) →
-        AreDescribed names.files names.items → (procedure names).Spells list words []
-        → All (IsAllowed names) list }
+    ensures { (n : Names) (list : List Statement) (words : List Word) → AreDescribed n.files n.items
+        → IsProcedure n words list → All (IsAllowed n) list }
 {}

@@ -6,7 +6,7 @@ ghost use Rattle.procedure_division.specs.Names.{names_of, file_of, record_of};
 ghost use Rattle.procedure_division.specs.Names.{item_in, holder_of, item_of};
 ghost use Rattle.procedure_division.specs.Names.{length_item_of, access_at, prime_length, key_of, led_key_of};
 ghost use Rattle.std.specs.Option.{option_or};
-ghost use Rattle.procedure_division.specs.Places.{place_at, ArePlaces};
+ghost use Rattle.procedure_division.specs.Places.{place_at, AddsPlace, ArePlaces};
 ghost use Rattle.std.specs.Prelude.{bytes_eq};
 
 use file_control::{FileDesc, LengthItem};
@@ -73,9 +73,7 @@ fn add_place<'a>(
     name: &'a str,
     place: usize,
 ) -> Result<(), AllocError>
-    ensures { OnOk result ((other : List ℕ) →
-        place_at places.new other ≡ option_or (place_at places.old other)
-        (if bytes_eq name.now other then Some place else None)) }
+    ensures { OnOk result (AddsPlace name.now place places.old places.new) }
 {
     if places.contains_key(name) {
         return Ok(());
