@@ -1,3 +1,4 @@
 pub mod Events
+pub mod Noting
 pub mod Replay
 pub mod ReplayLaws

@@ -1,8 +1,9 @@
 //! The files of a folder of the system. Each call that is made on one is noted with its answer.
-ghost use Rattle.std.specs.Prelude.{◌≡◌, ◌∷◌, [], string_bytes, IfOk, OnErr, IsOkUnless};
+ghost use Rattle.std.specs.Prelude.{◌≡◌, ◌∷◌, [], string_bytes, IfOk, IsOkUnless};
 ghost use Rattle.std.proofs.Props.{props};
 ghost use Rattle.io_state.specs.declared.fault.Fault.TheVariants.{Memory};
-ghost use Rattle.folder_shelf.specs.Events.{in_folder, folder_path, file_path, asked, made, measured, read, held, written, flushed, looked};
+ghost use Rattle.folder_shelf.specs.Events.{in_folder, folder_path, file_path, made, measured, read, held, written, flushed, looked};
+ghost use Rattle.folder_shelf.specs.Noting.{NotesCall, NotesNothing};
 
 use crate::record::Record;
 use io_state::{Fault, FileName};
@@ -44,8 +45,7 @@ where
 
     /// Closes the files, and has room for those of so many units.
     pub(crate) fn close(&mut self, units: usize) -> Result<(), Fault>
-        ensures calls { self.new.calls.events ≡ self.old.calls.events }
-        ensures only_memory { IsOkUnless result Memory }
+        ensures { NotesNothing self.old.calls.events self.new.calls.events result }
     {
         let mut open = Vec::new(self.alloc);
         for _ in 0..units {
@@ -67,8 +67,7 @@ where
 
     // Opens the unit's file, if it is not open and can be read.
     fn reach(&mut self, unit: usize, name: &FileName) -> Result<(), Fault>
-        ensures calls { self.new.calls.events ≡ self.old.calls.events }
-        ensures only_memory { IsOkUnless result Memory }
+        ensures { NotesNothing self.old.calls.events self.new.calls.events result }
     {
         if matches!(self.open.get(unit), Some(Some(_))) {
             return Ok(());
@@ -80,8 +79,7 @@ where
     // or written asks: a call of the system has a path of 4 KiB in its frame, filled at its entry.
     #[inline(never)]
     fn open_unit(&mut self, unit: usize, name: &FileName) -> Result<(), Fault>
-        ensures calls { self.new.calls.events ≡ self.old.calls.events }
-        ensures only_memory { IsOkUnless result Memory }
+        ensures { NotesNothing self.old.calls.events self.new.calls.events result }
     {
         let path = self.path_of(name)?;
         if let Some(file) = system_files::open(&self.rt, path.as_str()) {
@@ -100,10 +98,7 @@ where
 
     /// Whether the file is there, if that was told.
     pub(crate) fn look(&mut self, name: &FileName) -> Result<Option<bool>, Fault>
-        ensures noted { IfOk result (λ found.
-            self.new.calls.events ≡ asked (looked found) name.now.bytes self.old.calls.events) }
-        ensures failed { OnErr result (self.new.calls.events ≡ self.old.calls.events) }
-        ensures only_memory { IsOkUnless result Memory }
+        ensures { NotesCall looked name.now.bytes self.old.calls.events self.new.calls.events result }
     {
         let path = self.path_of(name)?;
         let found = system_files::look(&self.rt, path.as_str());
@@ -113,10 +108,7 @@ where
 
     /// Makes the file. Whether it was made, and this run has it alone.
     pub(crate) fn make(&mut self, unit: usize, name: &FileName) -> Result<bool, Fault>
-        ensures noted { IfOk result (λ done.
-            self.new.calls.events ≡ asked (made done) name.now.bytes self.old.calls.events) }
-        ensures failed { OnErr result (self.new.calls.events ≡ self.old.calls.events) }
-        ensures only_memory { IsOkUnless result Memory }
+        ensures { NotesCall made name.now.bytes self.old.calls.events self.new.calls.events result }
     {
         let path = self.path_of(name)?;
         let done = match system_files::make(&self.rt, path.as_str()) {
@@ -132,10 +124,7 @@ where
 
     /// The number of bytes of the file, if it was told.
     pub(crate) fn measure(&mut self, unit: usize, name: &FileName) -> Result<Option<u64>, Fault>
-        ensures noted { IfOk result (λ size.
-            self.new.calls.events ≡ asked (measured size) name.now.bytes self.old.calls.events) }
-        ensures failed { OnErr result (self.new.calls.events ≡ self.old.calls.events) }
-        ensures only_memory { IsOkUnless result Memory }
+        ensures { NotesCall measured name.now.bytes self.old.calls.events self.new.calls.events result }
     {
         self.reach(unit, name)?;
         let size = match self.open.get_mut(unit) {
@@ -154,10 +143,8 @@ where
         at: u64,
         bytes: &mut [u8],
     ) -> Result<bool, Fault>
-        ensures noted { IfOk result (λ done.
-            self.new.calls.events ≡ asked (read done at bytes.new) name.now.bytes self.old.calls.events) }
-        ensures failed { OnErr result (self.new.calls.events ≡ self.old.calls.events) }
-        ensures only_memory { IsOkUnless result Memory }
+        ensures { NotesCall (λ done. read done at bytes.new) name.now.bytes
+            self.old.calls.events self.new.calls.events result }
     {
         self.reach(unit, name)?;
         let done = match self.open.get_mut(unit) {
@@ -171,10 +158,7 @@ where
     /// Holds the file for changes, so that no other run reads or changes it. Whether it is held,
     /// and still what this run has read.
     pub(crate) fn hold(&mut self, unit: usize, name: &FileName) -> Result<bool, Fault>
-        ensures noted { IfOk result (λ done.
-            self.new.calls.events ≡ asked (held done) name.now.bytes self.old.calls.events) }
-        ensures failed { OnErr result (self.new.calls.events ≡ self.old.calls.events) }
-        ensures only_memory { IsOkUnless result Memory }
+        ensures { NotesCall held name.now.bytes self.old.calls.events self.new.calls.events result }
     {
         self.reach(unit, name)?;
         let done = match self.open.get_mut(unit) {
@@ -199,10 +183,7 @@ where
 
     /// Brings the file to the disk. Whether it was done.
     pub(crate) fn flush(&mut self, unit: usize, name: &FileName) -> Result<bool, Fault>
-        ensures noted { IfOk result (λ done.
-            self.new.calls.events ≡ asked (flushed done) name.now.bytes self.old.calls.events) }
-        ensures failed { OnErr result (self.new.calls.events ≡ self.old.calls.events) }
-        ensures only_memory { IsOkUnless result Memory }
+        ensures { NotesCall flushed name.now.bytes self.old.calls.events self.new.calls.events result }
     {
         self.reach(unit, name)?;
         let done = self.sync(unit);

@@ -1,21 +1,28 @@
-use Rattle.std.proofs.Common.{map}
+use Rattle.std.proofs.Common.{rules, map}
 use Rattle.folder_shelf.proofs.CallLemmas.{made_true, made_only}
 use Rattle.folder_shelf.proofs.folder_shelf.FolderShelfShelf.create.Goals as goal
 
-pub returns-then-branch-clause-made : goal.returns-then-branch-clause-made
-returns-then-branch-clause-made g c =
+pub returns-then-branch : goal.returns-then-branch
+returns-then-branch g c =
     let name = rw c.deref.ensures.value at c.name_of-name.ensures in
     let noted = rw name at c.in_ok-make.ensures.noted in
-    made_true g.D.Disk.unseen (map (λ name. name.bytes) c.args.self.now.units.items) c.args.self.now.folder.calls.events c.args.unit c.in_ok-make.field-0 _ noted c.if-branch.true
+    let names = map (λ name. name.bytes) c.args.self.now.units.items in
+    let events = c.args.self.now.folder.calls.events in
+    record {
+      done = made_true g.D.Disk.unseen names events c.args.unit c.in_ok-make.field-0 _ noted c.if-branch.true;
+      failed = tt;
+      only = rw noted (made_only g.D.Disk.unseen names events c.args.unit c.in_ok-make.field-0 c.requires.file);
+      cause = search rules;
+    }
 
-pub returns-then-branch-clause-only : goal.returns-then-branch-clause-only
-returns-then-branch-clause-only g c =
+pub returns-else-branch : goal.returns-else-branch
+returns-else-branch g c =
     let name = rw c.deref.ensures.value at c.name_of-name.ensures in
     let noted = rw name at c.in_ok-make.ensures.noted in
-    rw noted (made_only g.D.Disk.unseen (map (λ name. name.bytes) c.args.self.now.units.items) c.args.self.now.folder.calls.events c.args.unit c.in_ok-make.field-0 c.requires.absent)
-
-pub returns-else-branch-clause-only : goal.returns-else-branch-clause-only
-returns-else-branch-clause-only g c =
-    let name = rw c.deref.ensures.value at c.name_of-name.ensures in
-    let noted = rw name at c.in_ok-make.ensures.noted in
-    rw noted (made_only g.D.Disk.unseen (map (λ name. name.bytes) c.args.self.now.units.items) c.args.self.now.folder.calls.events c.args.unit c.in_ok-make.field-0 c.requires.absent)
+    let names = map (λ name. name.bytes) c.args.self.now.units.items in
+    record {
+      done = search rules;
+      failed = search rules;
+      only = rw noted (made_only g.D.Disk.unseen names c.args.self.now.folder.calls.events c.args.unit c.in_ok-make.field-0 c.requires.file);
+      cause = search rules;
+    }
