@@ -1,13 +1,32 @@
 -- Keys of a node that rise between two bounds.
-use Rattle.std.specs.Prelude.{◌≡◌, ℕ, List, [], ◌∷◌, take, drop, Some, ⊤}
+use Rattle.std.specs.Prelude.{◌≡◌, ℕ, List, [], ◌∷◌, take, drop, Option, Some, ⊤}
+use Rattle.std.specs.Option.{option_copied}
+use Rattle.std.specs.Borrow.{Bor}
 use Rattle.page_bytes.specs.Each.{Each}
+use Rattle.tree_node.specs.declared.shape.Shape.{Shape}
+use Rattle.tree_node.specs.Leaf.{leaf_entries}
+use Rattle.tree_node.specs.Inner.{separators}
 use Rattle.tree_node.specs.Order.{Ascends}
-use Rattle.tree_search.specs.Tree.{Bound, Above, Below}
+use Rattle.tree_search.specs.Tree.{Bound, NotBelow, Above, Below}
 
 -- separators rise, and lie above the low bound and below the high one
 abbrev pub AreBetween : Bound → List (List ℕ) → Bound → Type 0
 AreBetween low [] high = ⊤
 AreBetween low (s ∷ ss) high = Above low s × Below high s × AreBetween (Some s) ss high
+
+-- so are those of an inner node's page
+abbrev pub AreSeparatorsBetween : Shape → List ℕ → (low high : Option (Bor (List ℕ))) → Type 0
+AreSeparatorsBetween shape page low high =
+    AreBetween (option_copied low) (separators shape page) (option_copied high)
+
+-- the keys of these entries lie from the low bound on and below the high one
+abbrev pub AreKeysInside : ℕ → Bound → Bound → List (List ℕ) → Type 0
+AreKeysInside width low high = Each (λ e. NotBelow low (take width e) × Below high (take width e))
+
+-- so do those of a leaf's page
+abbrev pub AreLeafKeysInside : Shape → List ℕ → (low high : Option (Bor (List ℕ))) → Type 0
+AreLeafKeysInside shape page low high =
+    AreKeysInside shape.width (option_copied low) (option_copied high) (leaf_entries shape page)
 
 -- the first key of these entries, or else the bound behind them
 abbrev pub key_ahead : ℕ → List (List ℕ) → Bound → Bound

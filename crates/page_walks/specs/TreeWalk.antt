@@ -1,5 +1,6 @@
 -- What a walk finds of a tree.
-use Rattle.std.specs.Prelude.{◌≡◌, ℕ, zero, suc, ◌≤◌, Bool, List, [], ◌∷◌, ◌++◌, length, map, flat_map, take, Some, ⊤}
+use Rattle.std.specs.Prelude.{◌≡◌, ℕ, zero, suc, ◌≤◌, Bool, List, [], ◌∷◌, ◌++◌, length, map, flat_map, take, slice_index_or, Some, ⊤}
+use Rattle.std.specs.Option.{option_copied}
 use Rattle.page_bytes.specs.Each.{Each}
 use Rattle.pages.specs.PageMap.{PageMap}
 use Rattle.tree_node.specs.declared.shape.Shape.{Shape}
@@ -8,15 +9,17 @@ use Rattle.tree_node.specs.Leaf.{IsLeaf, leaf_entries}
 use Rattle.tree_node.specs.Inner.{IsInner, separators}
 use Rattle.node_balance.specs.Fill.{least}
 use Rattle.bplus_tree.specs.declared.tree.Tree.{Tree}
-use Rattle.tree_search.specs.Tree.{TreeOf, page_of, pages_of, entries_of, size_of, Bound, Below, NotBelow, IsHalfFull, IsOrdered}
+use Rattle.tree_search.specs.Tree.{TreeOf, page_of, pages_of, entries_of, size_of, Bound, IsHalfFull, IsOrdered}
 use Rattle.tree_search.specs.Stored.{Holds}
 use Rattle.tree_search.specs.Calls.{IsTree}
 use Rattle.bplus_tree.specs.Standing.{TreeStands}
 use Rattle.page_marks.specs.Marks.{Marks, marked_in}
 use Rattle.page_marks.specs.PageList.{pages_in}
 use Rattle.page_walks.specs.declared.spot.Spot.{Spot}
-use Rattle.page_walks.specs.Order.{AreBetween}
-use Rattle.page_walks.specs.Spots.{entries_at}
+use Rattle.page_walks.specs.declared.leaf.Leaf.{Leaf}
+use Rattle.page_walks.specs.declared.tree_walk.Limits.{Limits}
+use Rattle.page_walks.specs.Order.{AreBetween, AreKeysInside}
+use Rattle.page_walks.specs.Spots.{entries_at, spots_in}
 
 -- The tree stands in the pages that were reached now, each of which was not reached before, and
 -- these are the places of its entries.
@@ -26,13 +29,22 @@ pub record TreeWalked (tree : Tree) (list : List (List ℕ)) (before after : ℕ
   pub stands : TreeStands tree (pages_in list) (entries_at tree.shape list spots) own
   pub marks : Marks before after own
 
+-- so, of marks before and after, and of the leaves that were found
+abbrev pub WalksTree : Tree → List (List ℕ) → (before after : List Bool) → List Leaf → Type 0
+WalksTree tree list before after leaves =
+    TreeWalked tree list (marked_in before) (marked_in after) (spots_in leaves)
+
 -- the page is a leaf with so many entries at least, whose keys rise within these bounds
 pub record LeafFits (shape : Shape) (page : List ℕ) (floor : ℕ) (low high : Bound) : Type 0 where
   pub leaf : IsLeaf shape page
   pub large : floor ≤ length (leaf_entries shape page)
   pub rises : Ascends shape.width (leaf_entries shape page)
-  pub inside : Each (λ e. NotBelow low (take shape.width e) × Below high (take shape.width e))
-      (leaf_entries shape page)
+  pub inside : AreKeysInside shape.width low high (leaf_entries shape page)
+
+-- so, within the limits of its place
+abbrev pub IsLeafWithin : Shape → List ℕ → Limits → Type 0
+IsLeafWithin shape page limits =
+    LeafFits shape page limits.least (option_copied limits.low) (option_copied limits.high)
 
 -- the page is an inner node with so many separators at least, which rise between these bounds
 pub record InnerFits (shape : Shape) (page : List ℕ) (floor : ℕ) (low high : Bound) : Type 0 where
@@ -40,6 +52,11 @@ pub record InnerFits (shape : Shape) (page : List ℕ) (floor : ℕ) (low high :
   pub large : floor ≤ length (separators shape page)
   pub rises : Ascends shape.width (separators shape page)
   pub between : AreBetween low (separators shape page) high
+
+-- so, within the limits of its place
+abbrev pub IsInnerWithin : Shape → List ℕ → Limits → Type 0
+IsInnerWithin shape page limits =
+    InnerFits shape page limits.least (option_copied limits.low) (option_copied limits.high)
 
 -- how far a walk has come: the pages with a mark, and the entries whose places are known
 pub record Reach : Type 0 where
@@ -63,6 +80,19 @@ pub record Walked (shape : Shape) (pages : PageMap) (h page floor : ℕ) (low hi
   pub large : floor ≤ size_of h tree
   pub marks : Marks before.marks after.marks (pages_of h tree)
   pub adds : after.entries ≡ before.entries ++ entries_of h tree
+
+-- so, within the limits of its place, where the walk had come so far and has come so far now
+abbrev pub WalksBelow : Shape → List (List ℕ) → (levels page : ℕ) → Limits
+    → (before after : List Bool × List Leaf) → Type 0
+WalksBelow shape list levels page limits before after =
+    Walked shape (pages_in list) levels page limits.least (option_copied limits.low)
+    (option_copied limits.high) (reach_of shape list before.0 (spots_in before.1))
+    (reach_of shape list after.0 (spots_in after.1))
+
+-- the entries of the leaf on this page come behind those of the leaves so far
+abbrev pub AddsLeaf : Shape → List (List ℕ) → (page : ℕ) → (old new : List Leaf) → Type 0
+AddsLeaf shape list page old new = entries_at shape list (spots_in new)
+    ≡ entries_at shape list (spots_in old) ++ leaf_entries shape (slice_index_or list page [])
 
 -- the bound to the left of member i of a row
 abbrev pub bound_at : Bound → List (List ℕ) → ℕ → Bound

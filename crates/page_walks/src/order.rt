@@ -1,13 +1,12 @@
 //! The order of a node's keys.
 
-ghost use Rattle.std.specs.Prelude.{◌≡◌, IsTrue, OnOk, take};
+ghost use Rattle.std.specs.Prelude.{◌≡◌, IsTrue, OnOk};
 ghost use Rattle.std.specs.Option.{option_copied};
-ghost use Rattle.page_bytes.specs.Each.{Each};
 ghost use Rattle.tree_node.specs.Leaf.{IsLeaf, leaf_entries};
 ghost use Rattle.tree_node.specs.Inner.{IsInner, separators};
 ghost use Rattle.tree_node.specs.Order.{less, Ascends};
 ghost use Rattle.tree_search.specs.Tree.{NotBelow, Above, Below};
-ghost use Rattle.page_walks.specs.Order.{AreBetween};
+ghost use Rattle.page_walks.specs.Order.{AreSeparatorsBetween, AreLeafKeysInside};
 
 use page_bytes::PAGE_SIZE;
 use tree_node::{InnerView, LeafView, Shape};
@@ -60,8 +59,7 @@ pub fn check_keys(
 ) -> Result<(), u32>
     requires leaf { IsLeaf shape page.now }
     ensures rises { OnOk result (Ascends shape.width (leaf_entries shape page.now)) }
-    ensures inside { OnOk result (Each (λ e. NotBelow (option_copied low.entry) (take shape.width e)
-        × Below (option_copied high.entry) (take shape.width e)) (leaf_entries shape page.now)) }
+    ensures inside { OnOk result (AreLeafKeysInside shape page.now low.entry high.entry) }
 {
     let leaf = LeafView { page, shape };
     let mut above = high;
@@ -94,8 +92,7 @@ pub fn check_separators(
 ) -> Result<(), u32>
     requires inner { IsInner shape page.now }
     ensures rises { OnOk result (Ascends shape.width (separators shape page.now)) }
-    ensures between { OnOk result (AreBetween (option_copied low.entry) (separators shape page.now)
-        (option_copied high.entry)) }
+    ensures between { OnOk result (AreSeparatorsBetween shape page.now low.entry high.entry) }
 {
     let node = InnerView { page, shape };
     let mut above = high;

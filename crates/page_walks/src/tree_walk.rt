@@ -1,13 +1,9 @@
 //! A tree over the pages of a file that were read.
 
-ghost use Rattle.std.specs.Prelude.{◌≡◌, ◌++◌, ◌<◌, ◌≤◌, IfOk, OnOk, length, slice_index_or, []};
-ghost use Rattle.std.specs.Option.{option_copied};
-ghost use Rattle.tree_node.specs.Leaf.{IsLeaf, leaf_entries, leaf_room};
+ghost use Rattle.std.specs.Prelude.{◌≡◌, ◌<◌, ◌≤◌, IfOk, OnOk, length, slice_index_or, []};
+ghost use Rattle.tree_node.specs.Leaf.{IsLeaf, leaf_room};
 ghost use Rattle.node_balance.specs.Fill.{least};
-ghost use Rattle.page_marks.specs.Marks.{marked_in};
-ghost use Rattle.page_marks.specs.PageList.{pages_in};
-ghost use Rattle.page_walks.specs.Spots.{entries_at, spots_in};
-ghost use Rattle.page_walks.specs.TreeWalk.{InnerFits, LeafFits, Walked, TreeWalked, reach_of};
+ghost use Rattle.page_walks.specs.TreeWalk.{IsInnerWithin, IsLeafWithin, AddsLeaf, WalksBelow, WalksTree};
 
 use crate::leaf::{Leaf, have_entries, push};
 use crate::order::{check_keys, check_separators};
@@ -29,8 +25,7 @@ struct Limits<'a> {
 
 /// Page n is a leaf within the limits, whose keys rise.
 fn check_leaf(page: &[u8; PAGE_SIZE], n: u32, shape: Shape, limits: Limits) -> Result<(), WalkFault>
-    ensures { OnOk result (LeafFits shape page.now limits.entry.least
-        (option_copied limits.entry.low) (option_copied limits.entry.high)) }
+    ensures { OnOk result (IsLeafWithin shape page.now limits.entry) }
 {
     if !is_leaf(page, shape) {
         return Err(WalkFault::of_page(PageFault::Node, n));
@@ -52,8 +47,7 @@ fn check_inner(
     shape: Shape,
     limits: Limits,
 ) -> Result<(), WalkFault>
-    ensures { OnOk result (InnerFits shape page.now limits.entry.least
-        (option_copied limits.entry.low) (option_copied limits.entry.high)) }
+    ensures { OnOk result (IsInnerWithin shape page.now limits.entry) }
 {
     if !is_inner(page, shape) {
         return Err(WalkFault::of_page(PageFault::Node, n));
@@ -95,9 +89,7 @@ fn push_leaf(
 ) -> Result<(), WalkFault>
     requires page { page < length pages.now }
     requires leaf { IsLeaf shape (slice_index_or pages.now page []) }
-    ensures { OnOk result (entries_at shape pages.now (spots_in leaves.new.items)
-        ≡ entries_at shape pages.now (spots_in leaves.old.items)
-        ++ leaf_entries shape (slice_index_or pages.now page [])) }
+    ensures { OnOk result (AddsLeaf shape pages.now page leaves.old.items leaves.new.items) }
 {
     let bytes = &pages[page as usize];
     let count = LeafView { page: bytes, shape }.count() as u16;
@@ -114,10 +106,8 @@ fn walk_below(
     reached: &mut [bool],
     leaves: &mut Vec<Leaf>,
 ) -> Result<(), WalkFault>
-    ensures { OnOk result (Walked shape (pages_in pages.now) levels page limits.entry.least
-        (option_copied limits.entry.low) (option_copied limits.entry.high)
-        (reach_of shape pages.now reached.old (spots_in leaves.old.items))
-        (reach_of shape pages.now reached.new (spots_in leaves.new.items))) }
+    ensures { OnOk result (WalksBelow shape pages.now levels page limits.entry
+        (reached.old, leaves.old.items) (reached.new, leaves.new.items)) }
 {
     if page as usize >= pages.len() {
         return Err(WalkFault::of_page(PageFault::Node, limits.parent));
@@ -183,8 +173,7 @@ pub fn walk_tree(
     tree: &Tree,
     reached: &mut [bool],
 ) -> Result<Vec<Leaf>, WalkFault>
-    ensures { IfOk result (λ leaves. TreeWalked tree.now pages.now
-        (marked_in reached.old) (marked_in reached.new) (spots_in leaves.items)) }
+    ensures { IfOk result (λ leaves. WalksTree tree.now pages.now reached.old reached.new leaves.items) }
 {
     let mut leaves = Vec::new(alloc);
     let limits = Limits {
