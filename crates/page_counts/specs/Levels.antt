@@ -1,5 +1,5 @@
 -- What the levels of a tree have, by the tree as a value.
-use Rattle.std.specs.Prelude.{◌≡◌, ℕ, zero, suc, ◌+◌, ◌<◌, ◌^◌, List, [], ◌∷◌, length, flat_map, Some}
+use Rattle.std.specs.Prelude.{◌≡◌, ℕ, zero, suc, ◌+◌, ◌<◌, ◌^◌, List, [], ◌∷◌, length, flat_map, Some, Result, IfOk}
 use Rattle.page_bytes.specs.Each.{Each}
 use Rattle.pages.specs.PageMap.{PageMap}
 use Rattle.tree_node.specs.declared.shape.Shape.{Shape}
@@ -55,6 +55,11 @@ pub record AreCounts (shape : Shape) (list : List (List ℕ)) (h : ℕ) (tree : 
   pub levels : counts.levels.items ≡ levels_of shape h (tree ∷ [])
   pub leaves : Each (IsLeafIn shape list) counts.leaves.items
   pub entries : entries_in shape list counts.leaves.items ≡ entries_of h tree
+
+-- so, of whichever tree stands below this page
+abbrev pub CountsTree : {X : Type 0} → Shape → List (List ℕ) → (h root : ℕ) → Result TreeCounts X → Type 0
+CountsTree shape list h root result = (tree : TreeOf h) → IsTreeIn shape list h root tree
+    → IfOk result (AreCounts shape list h tree)
 
 -- the levels have all pages of the tree
 abbrev pub LevelsHaveAllPages : Type 0

@@ -30,6 +30,11 @@ pub record RunOf (values : List (List ℕ)) (run : Run) : Type 0 where
   pub length_is : (value : List ℕ) → last_of values ≡ Some value → run.length ≡ count_of value values
   pub longest : IsGreatestCount values run.longest
 
+-- so, with these values more, where all stand together
+abbrev pub TakesValues : (more : List (List ℕ)) → (old new : Run) → Type 0
+TakesValues more old new = (values : List (List ℕ)) → RunOf values old → AreTogether (values ++ more)
+    → RunOf (values ++ more) new
+
 -- so many more values can follow: those so far and these stand together, and can be counted
 pub record CanGoOn (run : Run) (more : List (List ℕ)) : Type 0 where
   pub values : List (List ℕ)

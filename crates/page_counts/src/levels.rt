@@ -3,8 +3,7 @@
 ghost use Rattle.std.specs.Prelude.{◌≡◌, ◌<◌, ◌^◌, ◌++◌, [], ◌∷◌, IfOk, OnOk, length};
 ghost use Rattle.page_bytes.specs.Each.{Each};
 ghost use Rattle.tree_node.specs.Inner.{IsInner, children};
-ghost use Rattle.tree_search.specs.Tree.{TreeOf};
-ghost use Rattle.page_counts.specs.Levels.{HasTree, IsTreeIn, AreCounts, LevelsHaveAllPages};
+ghost use Rattle.page_counts.specs.Levels.{HasTree, CountsTree, LevelsHaveAllPages};
 ghost use Rattle.page_counts.specs.Rows.{IsInnerIn, IsLeafIn, AreNodes, children_in, entries_in, leaves_in, levels_in, leaf_level, inner_level};
 
 use crate::level::{Level, TreeCounts};
@@ -156,8 +155,7 @@ pub fn count_tree(
     root: u32,
 ) -> Result<TreeCounts, AllocError>
     requires { HasTree shape pages.now height root }
-    ensures { (tree : TreeOf height) → IsTreeIn shape pages.now height root tree
-        → IfOk result (AreCounts shape pages.now height tree) }
+    ensures { CountsTree shape pages.now height root result }
 {
     let mut levels = Vec::new(alloc);
     let leaves = add_tree(alloc, pages, shape, height, root, &mut levels)?;

@@ -1,11 +1,11 @@
 //! How many entries of a tree have one value at most, where equal values stand together.
 
-ghost use Rattle.std.specs.Prelude.{◌≡◌, ◌+◌, ◌<◌, ◌≤◌, ◌^◌, ◌↔◌, ℕ, List, ◌++◌, [], ◌∷◌, Some, IsTrue, length};
+ghost use Rattle.std.specs.Prelude.{◌≡◌, ◌+◌, ◌<◌, ◌≤◌, ◌^◌, ◌↔◌, [], ◌∷◌, Some, IsTrue, length};
 ghost use Rattle.std.specs.Option.{option_copied};
 ghost use Rattle.page_bytes.specs.Each.{Each};
 ghost use Rattle.tree_node.specs.Leaf.{IsLeaf, leaf_entries};
 ghost use Rattle.page_counts.specs.Rows.{IsLeafIn, entries_in};
-ghost use Rattle.page_counts.specs.Runs.{values_of, AreTogether, IsGreatestCount, RunOf, CanGoOn, TreesKeepTogether};
+ghost use Rattle.page_counts.specs.Runs.{values_of, AreTogether, IsGreatestCount, TakesValues, CanGoOn, TreesKeepTogether};
 
 use page_bytes::PAGE_SIZE;
 use tree_node::{LeafView, Shape};
@@ -32,8 +32,7 @@ fn is_last(last: Option<&[u8]>, value: &[u8]) -> bool
 /// The values so far with one more.
 fn with_value<'a>(run: Run<'a>, value: &'a [u8]) -> Run<'a>
     requires { CanGoOn run (value.now ∷ []) }
-    ensures { (values : List (List ℕ)) → RunOf values run.entry → AreTogether (values ++ value.now ∷ [])
-        → RunOf (values ++ value.now ∷ []) result }
+    ensures { TakesValues (value.now ∷ []) run.entry result }
 {
     let length = if is_last(run.last, value) {
         run.length + 1
@@ -52,9 +51,7 @@ fn with_leaf<'a>(run: Run<'a>, page: &'a [u8; PAGE_SIZE], shape: Shape, width: u
     requires leaf { IsLeaf shape page.now }
     requires narrow { width ≤ shape.entry }
     requires go { CanGoOn run (values_of width (leaf_entries shape page.now)) }
-    ensures { (values : List (List ℕ)) → RunOf values run.entry
-        → AreTogether (values ++ values_of width (leaf_entries shape page.now))
-        → RunOf (values ++ values_of width (leaf_entries shape page.now)) result }
+    ensures { TakesValues (values_of width (leaf_entries shape page.now)) run.entry result }
 {
     let leaf = LeafView { page, shape };
     let mut run = run;
