@@ -1,5 +1,5 @@
 -- What is counted of a file whose pages stand for it.
-use Rattle.std.specs.Prelude.{◌≡◌, ℕ, ◌+◌, ◌*◌, ◌<◌, ◌^◌, List, [], ◌∷◌, length, map, slice_index_or, IsSome}
+use Rattle.std.specs.Prelude.{◌≡◌, ℕ, ◌+◌, ◌*◌, ◌<◌, ◌^◌, List, [], ◌∷◌, length, map, slice_index_or, IsSome, Result, IfOk}
 use Rattle.record_layout.specs.Schema.{Schema, value_of}
 use Rattle.indexed_file.specs.File.{Row, File}
 use Rattle.pages.specs.PageMap.{PageMap}
@@ -38,6 +38,12 @@ pub record AreKeyCounts (tree : Tree) (width : ℕ) (pages : PageMap) (entries :
   pub pages_are : key.pages ≡ length own
   pub entries_are : key.entries ≡ length entries
   pub longest_is : IsGreatestCount (values_of width entries) key.longest
+
+-- so, wherever the tree stands in the pages of the list
+abbrev pub CountsKey : {X : Type 0} → Tree → (width : ℕ) → List (List ℕ) → Result KeyStatistics X → Type 0
+CountsKey tree width list result = (map : PageMap) (entries : List (List ℕ)) (own : List ℕ)
+    (stands : TreeStands tree map entries own) → AreShown map list
+    → IfOk result (AreKeyCounts tree width map entries own stands)
 
 -- a tree that stands in pages in use which are those of the list, fewer than can be counted
 pub record HasTreeStanding (tree : Tree) (list : List (List ℕ)) : Type 0 where
@@ -116,6 +122,12 @@ pub record HasStatistics (page : ℕ → List ℕ) (header : Header) (file : Fil
   pub opened : OpenFile
   pub standing : StandBy page header opened file
   pub counted : AreStatistics header opened (live_by page header) file standing.stands counts
+
+-- so, whatever file they stand for where the pages in use are those of the list
+abbrev pub CountsFile : {X : Type 0} → Header → List (List ℕ) → Result FileStatistics X → Type 0
+CountsFile header list result = (page : ℕ → List ℕ) (opened : OpenFile) (file : File)
+    → StandBy page header opened file → AreShown (live_by page header) list
+    → IfOk result (HasStatistics page header file)
 
 -- the pages by the header stand for a file, and those in use are those of the list
 pub record HasFile (header : Header) (list : List (List ℕ)) : Type 0 where

@@ -1,14 +1,9 @@
 //! What is counted of the pages of a file.
 
-ghost use Rattle.std.specs.Prelude.{◌≡◌, ◌<◌, ◌≤◌, ◌^◌, ◌++◌, ◌∷◌, [], ℕ, List, IfOk, OnOk, length, map, slice_index_or};
-ghost use Rattle.pages.specs.PageMap.{PageMap};
-ghost use Rattle.indexed_file.specs.File.{File};
-ghost use Rattle.bplus_tree.specs.Standing.{TreeStands};
-ghost use Rattle.open_file.specs.Stands.{Stands};
-ghost use Rattle.page_counts.specs.Levels.{AreShown, all_pages};
+ghost use Rattle.std.specs.Prelude.{◌≡◌, ◌<◌, ◌≤◌, ◌^◌, ◌++◌, ◌∷◌, [], IfOk, OnOk, length};
+ghost use Rattle.page_counts.specs.Levels.{all_pages};
 ghost use Rattle.file_header.specs.Bounds.{IsHeader};
-ghost use Rattle.open_file.specs.declared.open_file.OpenFile.{OpenFile};
-ghost use Rattle.file_statistics.specs.Statistics.{AreKeyCounts, HasTreeStanding, HasFileStanding, KeysCounted, HasFile, HasStatistics, StandBy, live_by, all_key_pages};
+ghost use Rattle.file_statistics.specs.Statistics.{HasTreeStanding, HasFileStanding, CountsKey, KeysCounted, HasFile, CountsFile, all_key_pages};
 
 use crate::statistics::{FileStatistics, KeyStatistics};
 use bplus_tree::Tree;
@@ -39,9 +34,7 @@ fn count_key(
 ) -> Result<KeyStatistics, AllocError>
     requires stands { HasTreeStanding tree.now pages.now }
     requires narrow { width ≤ tree.now.shape.width }
-    ensures { (map : PageMap) (entries : List (List ℕ)) (own : List ℕ)
-        (stands : TreeStands tree.now map entries own) → AreShown map pages.now
-        → IfOk result (AreKeyCounts tree.now width map entries own stands) }
+    ensures { CountsKey tree.now width pages.now result }
 {
     level_laws();
     run_laws();
@@ -111,9 +104,7 @@ pub fn count_file(
 ) -> Result<FileStatistics, AllocError>
     requires header { IsHeader header.now }
     requires stands { HasFile header.now pages.now }
-    ensures counted { (page : ℕ → List ℕ) (opened : OpenFile) (file : File)
-        → StandBy page header.now opened file → AreShown (live_by page header.now) pages.now
-        → IfOk result (HasStatistics page header.now file) }
+    ensures counted { CountsFile header.now pages.now result }
 {
     let file = OpenFile::from_header(header);
     let keys = count_keys(alloc, pages, &file)?;
