@@ -65,6 +65,14 @@ pub record TakesUpTo {S X : Type 0} (shown : ShownPages S) (taken most : ℕ) (o
   pub asked : (shown.state new).asked ≤ (shown.state old).asked + most
   pub step : shown.Writes old new
 
+-- What a call does to pages, where the free pages were sound, and what it keeps, at a fault too.
+pub record Alters {S X : Type 0} (shown : ShownPages S)
+    (Keeps : ShownPages S → ℕ → S → S → Result X Fault → Type 0) (most : ℕ)
+    (Leaves : Result X Fault → PageMap → PageMap → Type 0 → Type 0) (old new : S)
+    (result : Result X Fault) : Type 0 where
+  pub leaves : WhereSound shown old new (Leaves result)
+  pub writes : Keeps shown most old new result
+
 -- the tree has the shape that it had, and at most so many levels above its leaves
 pub record KeepsShape (most : ℕ) (old new : Tree) : Type 0 where
   pub shape : new.shape ≡ old.shape

@@ -1,14 +1,17 @@
 -- Where a cursor is in its tree.
-use Rattle.std.specs.Prelude.{◌≡◌, ℕ, ◌+◌, ◌^◌, ◌-◌, ◌<◌, ◌≤◌, Bool, false, List, take, Option, Some, None, IsSome, Result, option_map}
+use Rattle.std.specs.Prelude.{◌≡◌, ℕ, ◌+◌, ◌^◌, ◌-◌, ◌<◌, ◌≤◌, Bool, false, List, take, Option, Some, None, IsSome, Result, IfOk, OnErr, option_map}
 use Rattle.std.specs.Option.{option_map_or}
 use Rattle.arrayvec.specs.ArrayVec.{ArrayVec}
 use Rattle.io_state.specs.declared.fault.Fault.{Fault}
 use Rattle.pages.specs.PageMap.{PageMap}
+use Rattle.pages.specs.ShownPages.{ShownPages}
+use Rattle.pages.specs.PageCalls.{ReadsPages}
 use Rattle.bplus_tree.specs.declared.tree.Tree.{Tree}
 use Rattle.bplus_tree.specs.declared.cursor.Cursor.{Cursor}
 use Rattle.tree_search.specs.declared.spot.Spot.{Spot}
 use Rattle.pages.specs.Answer.{IsAnswer}
 use Rattle.tree_search.specs.Calls.{first_after}
+use Rattle.tree_search.specs.LookUps.{WhenHonest}
 use Rattle.tree_search.specs.Spot.{StandsAt, FoundAt, begins_with}
 use Rattle.bplus_tree.specs.Standing.{TreeStands}
 
@@ -27,6 +30,11 @@ pub record Belongs (cursor : Cursor) (tree : Tree) (pages : PageMap) (entries : 
   pub at : cursor.changes ≡ tree.changes → cursor.changes < 2 ^ 64 - 1 → 0 < cursor.spot.count
       → IsCursorAt cursor tree pages entries own
 
+-- that of a tree, whatever pages it stands in
+abbrev pub IsCursorOf : Tree → Cursor → Type 0
+IsCursorOf tree cursor =
+    (pages : PageMap) (entries : List (List ℕ)) (own : List ℕ) → Belongs cursor tree pages entries own
+
 -- there is an entry behind the one that was given last, in the same leaf, and the tree has not changed since
 pub record HasNeighbour (cursor : Cursor) (tree : Tree) : Type 0 where
   pub unchanged : cursor.changes ≡ tree.changes
@@ -39,8 +47,8 @@ pub record IsBehind (cursor : Cursor) (tree : Tree) (pages : PageMap) (entries :
   pub found_is : option_map (λ e. e.items) found ≡ first_after tree.shape.width cursor.key.items entries
   pub at : FoundAt tree.shape pages own entries spot found
 
-abbrev pub LooksBehind : Cursor → Tree → PageMap → Spot → Result (Option (ArrayVec ℕ)) Fault → Type 0
-LooksBehind cursor tree pages spot result =
+abbrev pub LooksBehind : Cursor → Spot → Tree → PageMap → Result (Option (ArrayVec ℕ)) Fault → Type 0
+LooksBehind cursor spot tree pages result =
     (entries : List (List ℕ)) (own : List ℕ) → TreeStands tree pages entries own
     → Belongs cursor tree pages entries own
     → IsAnswer result (IsBehind cursor tree pages entries own spot)
@@ -76,3 +84,12 @@ CursorMoves old new tree pages result =
 abbrev pub key_after : ℕ → List ℕ → Option (ArrayVec ℕ) → List ℕ
 key_after width key None = key
 key_after width key (Some e) = take width e.items
+
+-- What a step of a cursor to the next entry leaves: at a fault the cursor is as it was.
+pub record StepsOn {S : Type 0} (shown : ShownPages S) (most : ℕ) (tree : Tree) (was is : Cursor)
+    (old new : S) (result : Result (Option (ArrayVec ℕ)) Fault) : Type 0 where
+  pub moved : WhenHonest shown old new (λ live. CursorMoves was is tree live result)
+  pub key : IfOk result (λ found. is.key.items ≡ key_after tree.shape.width was.key.items found)
+  pub near : HasNeighbour was tree → (shown.state new).asked ≤ (shown.state old).asked + 1
+  pub reads : ReadsPages shown most old new result
+  pub err : OnErr result (is ≡ was)

@@ -4,10 +4,18 @@ use Rattle.io_state.specs.declared.fault.Fault.{Fault}
 use Rattle.tree_node.specs.declared.shape.Shape.{Shape}
 use Rattle.tree_node.specs.Inner.{IsInner, separators, children}
 use Rattle.pages.specs.PageMap.{PageMap}
+use Rattle.pages.specs.ShownPages.{ShownPages}
+use Rattle.bplus_tree.specs.Changes.{CanWrite}
 use Rattle.node_balance.specs.declared.separator.Separator.{Separator}
 use Rattle.node_balance.specs.Fill.{least}
 use Rattle.tree_search.specs.Stored.{IsLeafAt, IsInnerAt}
 use Rattle.pages.specs.Answer.{IsAnswer}
+
+-- pages may be changed, and the separator has a whole key
+pub record CanLead {S : Type 0} (shown : ShownPages S) (shape : Shape) (separator : Separator)
+    (pages_now : S) : Type 0 where
+  pub width : length separator.key.items ≡ shape.width
+  pub pages : CanWrite shown pages_now
 
 -- the page is a leaf of these entries now, and every other page is as it was
 pub record HasLeaf (shape : Shape) (before after : PageMap) (page : ℕ)

@@ -1,5 +1,5 @@
 -- What an insert ensures below one page.
-use Rattle.std.specs.Prelude.{◌≡◌, ℕ, Bool, true, false, List, ◌++◌, take, Some, None, Option, Result, ⊤}
+use Rattle.std.specs.Prelude.{◌≡◌, ℕ, ◌<◌, ◌≤◌, Bool, true, false, List, ◌++◌, length, take, Some, None, Option, Result, ⊤}
 use Rattle.io_state.specs.declared.fault.Fault.{Fault}
 use Rattle.tree_node.specs.declared.shape.Shape.{Shape}
 use Rattle.pages.specs.PageMap.{PageMap}
@@ -14,7 +14,7 @@ use Rattle.bplus_tree.specs.Edits.{with_entry}
 use Rattle.bplus_tree.specs.Split.{HasWidth}
 use Rattle.tree_search.specs.Stored.{IsLeafAt}
 use Rattle.bplus_tree.specs.Grow.{HasLeaf}
-use Rattle.tree_node.specs.Leaf.{leaf_entries}
+use Rattle.tree_node.specs.Leaf.{IsLeaf, leaf_entries, leaf_room}
 use Rattle.tree_node.specs.Order.{Ascends}
 use Rattle.bplus_tree.specs.Remove.{Becomes, IsHalfFullWithRoot}
 
@@ -98,3 +98,21 @@ abbrev pub PutsInPlace : Shape → ℕ → List ℕ → Result Bool Fault → Pa
 PutsInPlace shape page e result before after is_sound =
     (entries : List (List ℕ)) → IsLeafAt shape before page entries → Ascends shape.width entries
     → IsAnswer result (λ done. HasPutInPlaceIf shape before after page e entries done × is_sound)
+
+-- what is put into the bytes of a leaf is a whole entry
+pub record CanPut (shape : Shape) (entry page : List ℕ) : Type 0 where
+  pub leaf : IsLeaf shape page
+  pub size : length entry ≡ shape.entry
+
+-- the same, and there is a place for it
+pub record CanPutAt (shape : Shape) (place : ℕ) (entry page : List ℕ) : Type 0 where
+  pub leaf : IsLeaf shape page
+  pub room : length (leaf_entries shape page) < leaf_room shape
+  pub within : place ≤ length (leaf_entries shape page)
+  pub size : length entry ≡ shape.entry
+
+-- what is left of the bytes of a leaf, which are as they were where nothing was put in
+pub record PutsInLeaf (shape : Shape) (entry old new : List ℕ) (done : Bool) : Type 0 where
+  pub leaf : IsLeaf shape new
+  pub put : PutsInBytes shape entry old new done
+  pub same : done ≡ false → new ≡ old

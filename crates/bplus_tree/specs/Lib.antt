@@ -9,8 +9,10 @@ pub mod Count
 pub mod Depth
 pub mod Cursor
 pub mod Start
+pub mod TreeCalls
 pub mod Split
 pub mod Grow
 pub mod Insert
+pub mod LookUps
 pub mod GrowRoot
 pub mod Changes

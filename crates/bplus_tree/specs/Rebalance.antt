@@ -73,6 +73,6 @@ pub record HasRead (shape : Shape) (pages : PageMap) (page place : ℕ) (node le
   pub lower : pages pair.lower ≡ Some left
   pub upper : pages pair.upper ≡ Some right
 
-abbrev pub ReadsPair : Shape → PageMap → ℕ → ℕ → (node left right : List ℕ) → Result Pair Fault → Type 0
-ReadsPair shape pages page place node left right result =
+abbrev pub ReadsPair : Shape → ℕ → ℕ → (node left right : List ℕ) → Result Pair Fault → PageMap → Type 0
+ReadsPair shape page place node left right result pages =
     IsParent shape pages page → IsAnswer result (HasRead shape pages page place node left right)

@@ -8,7 +8,7 @@ use Rattle.bplus_tree.specs.declared.remove.Shrunk.{Shrunk}
 use Rattle.bplus_tree.specs.declared.remove.Shrunk.TheVariants.{Absent, Taken}
 use Rattle.node_balance.specs.Fill.{least}
 use Rattle.arrayvec.specs.ArrayVec.{ArrayVec}
-use Rattle.tree_node.specs.Leaf.{leaf_entries}
+use Rattle.tree_node.specs.Leaf.{IsLeaf, leaf_entries}
 use Rattle.tree_node.specs.Order.{Ascends, IsRank}
 use Rattle.tree_search.specs.Tree.{TreeOf, entries_of, pages_of, size_of, Bound, IsHalfFull, IsRooted}
 use Rattle.tree_search.specs.Stored.{IsLeafAt}
@@ -69,6 +69,11 @@ Rebalances shape k page place result before after is_sound =
     → AreFullBut (IsHalfFullWithRoot shape k) (LacksOne shape k) place t.2 → 1 ≤ length t.1
     → IsAnswer result (λ short. BecomesShort shape before after (suc k) page low high (pages_of (suc k) t)
     (length t.1 - 1) (entries_of (suc k) t) short × is_sound)
+
+-- the bytes are a leaf with an entry at this place
+pub record HasPlace (shape : Shape) (place : ℕ) (page : List ℕ) : Type 0 where
+  pub leaf : IsLeaf shape page
+  pub within : place < length (leaf_entries shape page)
 
 -- the leaf has one entry less, and every other page is as it was
 pub record TakesOut (shape : Shape) (before after : PageMap) (page : ℕ) (entries : List (List ℕ))
@@ -140,3 +145,10 @@ abbrev pub TakesInPlace : Shape → ℕ → List ℕ → ArrayVec ℕ → Result
 TakesInPlace shape page key entry result before after is_sound =
     (entries : List (List ℕ)) → IsLeafAt shape before page entries → Ascends shape.width entries
     → IsAnswer result (λ done. HasTakenInPlaceIf shape before after page key entries entry done × is_sound)
+
+-- what is left of the bytes of a leaf, which are as they were where nothing was taken out
+pub record TakesFromLeaf (shape : Shape) (key old new : List ℕ) (entry : ArrayVec ℕ)
+    (done : Bool) : Type 0 where
+  pub leaf : IsLeaf shape new
+  pub taken : TakesFromBytes shape key old new entry done
+  pub same : done ≡ false → new ≡ old

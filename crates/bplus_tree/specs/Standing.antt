@@ -31,15 +31,15 @@ abbrev pub one_more : ℕ → ℕ
 one_more changes = min (changes + 1) (2 ^ 64 - 1)
 
 -- a look-up answers what `look` gives of the entries
-abbrev pub Answers : Tree → PageMap → (List (List ℕ) → Option (List ℕ))
+abbrev pub Answers : (List (List ℕ) → Option (List ℕ)) → Tree → PageMap
     → Result (Option (ArrayVec ℕ)) Fault → Type 0
-Answers tree pages look result =
+Answers look tree pages result =
     (entries : List (List ℕ)) (own : List ℕ) → TreeStands tree pages entries own
     → IsAnswer result (λ found. option_map (λ e. e.items) found ≡ look entries)
 
 -- what a look-up tells of the entry of a key
-abbrev pub Tells : (Option (List ℕ) → Bool → Type 0) → Tree → PageMap → List ℕ → Result Bool Fault → Type 0
-Tells Says tree pages key result =
+abbrev pub Tells : (Option (List ℕ) → Bool → Type 0) → List ℕ → Tree → PageMap → Result Bool Fault → Type 0
+Tells Says key tree pages result =
     (entries : List (List ℕ)) (own : List ℕ) → TreeStands tree pages entries own
     → IsAnswer result (Says (entry_of tree.shape.width key entries))
 

@@ -9,7 +9,7 @@ use Rattle.bplus_tree.specs.declared.tree.Tree.{Tree}
 use Rattle.bplus_tree.specs.Standing.{TreeStands}
 
 -- the first entry of the range, and whether the next one is in it too
-abbrev pub FindsWithin : Tree → PageMap → List ℕ → List ℕ → Result (Option First) Fault → Type 0
-FindsWithin tree pages from to result =
+abbrev pub FindsWithin : List ℕ → List ℕ → Tree → PageMap → Result (Option First) Fault → Type 0
+FindsWithin from to tree pages result =
     (entries : List (List ℕ)) (own : List ℕ) → TreeStands tree pages entries own
     → IsAnswer result (IsFirst tree.shape.width from to entries)

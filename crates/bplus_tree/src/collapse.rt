@@ -2,7 +2,7 @@
 
 ghost use Rattle.std.specs.Prelude.{◌≡◌, ◌<◌, ◌≤◌, IsTrue, IfOk};
 ghost use Rattle.tree_search.specs.LookUps.{LooksUp};
-ghost use Rattle.bplus_tree.specs.Changes.{CanWrite, WhereSound, GivesPages};
+ghost use Rattle.bplus_tree.specs.Changes.{CanWrite, WhereSound, Alters, GivesPages};
 ghost use Rattle.bplus_tree.specs.Collapse.{Sees, CollapsesInner, Collapses};
 
 use io_state::Fault;
@@ -19,9 +19,9 @@ pub struct Base {
 /// Gives the root back where it has one child only, which is the root then.
 pub fn collapse<P: Pages>(pages: &mut P, shape: Shape, root: u32, levels: u8) -> Result<Base, Fault>
     requires { CanWrite P.shown pages.old }
-    ensures collapsed { WhereSound P.shown pages.old pages.new (Collapses shape levels root result) }
+    ensures alters { Alters P.shown GivesPages 2 (Collapses shape levels root) pages.old pages.new
+        result }
     ensures height { IfOk result (λ base. base.levels ≤ levels) }
-    ensures writes { GivesPages P.shown 2 pages.old pages.new result }
 {
     if levels == 0 {
         return Ok(Base { root, levels });

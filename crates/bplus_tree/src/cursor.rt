@@ -1,9 +1,8 @@
 //! A cursor: a place among the entries of a tree that is kept from one call to the next.
 
-ghost use Rattle.std.specs.Prelude.{◌≡◌, ◌+◌, ◌*◌, ◌≤◌, ◌↔◌, ℕ, List, IsTrue, IfOk, OnErr, length, take};
-ghost use Rattle.pages.specs.PageMap.{PageMap};
+ghost use Rattle.std.specs.Prelude.{◌≡◌, ◌+◌, ◌*◌, ◌≤◌, ◌↔◌, IsTrue, length, take};
 ghost use Rattle.pages.specs.PageCalls.{ReadsPages};
-ghost use Rattle.tree_search.specs.LookUps.{WhenHonest, LooksUp};
+ghost use Rattle.tree_search.specs.LookUps.{WhenHonest};
 
 use crate::tree::Tree;
 use io_state::Fault;
@@ -21,14 +20,13 @@ pub struct Cursor {
 }
 
 impl Tree {
-    ghost use Rattle.bplus_tree.specs.Cursor.{Belongs};
+    ghost use Rattle.bplus_tree.specs.Cursor.{IsCursorOf};
 
     /// A cursor that gives the entries whose keys are above this one.
     pub fn cursor(&self, key: &[u8]) -> Cursor
         requires width { length key.now ≤ 258 }
         ensures key { result.key.items ≡ key.now }
-        ensures belongs { (pages : PageMap) (entries : List (List ℕ)) (own : List ℕ)
-            → Belongs result self.now pages entries own }
+        ensures belongs { IsCursorOf self.now result }
     {
         let mut start = TreeKey::new();
         let _ = start.try_extend_from_slice(key);
@@ -41,21 +39,16 @@ impl Tree {
 }
 
 impl Cursor {
-    ghost use Rattle.bplus_tree.specs.Cursor.{HasNeighbour, LooksBehind, CursorMoves, TellsNext, key_after};
+    ghost use Rattle.bplus_tree.specs.LookUps.{LooksAlong};
+    ghost use Rattle.bplus_tree.specs.Cursor.{HasNeighbour, LooksBehind, StepsOn, TellsNext};
 
     /// The next entry: the first one whose key is above that of the entry given last. Where there
     /// is none the cursor stays where it is, and at a fault. It asks one page mostly, and never
     /// more than twice the height.
     pub fn next<P: Pages>(&mut self, tree: &Tree, pages: &mut P) -> Result<Option<Entry>, Fault>
         requires ready { P.shown.IsReady pages.old }
-        ensures moved { WhenHonest P.shown pages.old pages.new
-            (λ live. CursorMoves self.old self.new tree.now live result) }
-        ensures key { IfOk result (λ found. self.new.key.items
-            ≡ key_after tree.now.shape.width self.old.key.items found) }
-        ensures near { HasNeighbour self.old tree.now
-            → (P.shown.state pages.new).asked ≤ (P.shown.state pages.old).asked + 1 }
-        ensures reads { ReadsPages P.shown (2 * (tree.now.levels + 1)) pages.old pages.new result }
-        ensures err { OnErr result (self.new ≡ self.old) }
+        ensures { StepsOn P.shown (2 * (tree.now.levels + 1)) tree.now self.old self.new pages.old
+            pages.new result }
     {
         if self.has_neighbour(tree) {
             return self.step(tree, pages);
@@ -106,12 +99,7 @@ impl Cursor {
     fn step<P: Pages>(&mut self, tree: &Tree, pages: &mut P) -> Result<Option<Entry>, Fault>
         requires near { HasNeighbour self.old tree.now }
         requires ready { P.shown.IsReady pages.old }
-        ensures moved { WhenHonest P.shown pages.old pages.new
-            (λ live. CursorMoves self.old self.new tree.now live result) }
-        ensures key { IfOk result (λ found. self.new.key.items
-            ≡ key_after tree.now.shape.width self.old.key.items found) }
-        ensures reads { ReadsPages P.shown 1 pages.old pages.new result }
-        ensures err { OnErr result (self.new ≡ self.old) }
+        ensures { StepsOn P.shown 1 tree.now self.old self.new pages.old pages.new result }
     {
         let Spot { leaf, place, count } = self.spot;
         let place = place + 1;
@@ -132,8 +120,7 @@ impl Cursor {
         spot: &mut Spot,
     ) -> Result<Option<Entry>, Fault>
         requires ready { P.shown.IsReady pages.old }
-        ensures { LooksUp P.shown (2 * (tree.now.levels + 1))
-            (λ live. LooksBehind self.now tree.now live spot.new) pages.old pages.new result }
+        ensures { LooksAlong P.shown tree.now (LooksBehind self.now spot.new) pages.old pages.new result }
     {
         let key = self.key.as_slice();
         next_below(pages, tree.shape, tree.root, tree.levels, key, true, spot)

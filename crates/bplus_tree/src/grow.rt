@@ -3,9 +3,9 @@
 ghost use Rattle.std.specs.Prelude.{◌≡◌, ◌≢◌, ◌+◌, ◌<◌, ◌≤◌, ◌↔◌, IsTrue, IfOk, length, insert, ◌∷◌, []};
 ghost use Rattle.tree_node.specs.Leaf.{IsLeaf, leaf_entries, leaf_room};
 ghost use Rattle.tree_node.specs.Inner.{IsInner, separators};
-ghost use Rattle.bplus_tree.specs.Changes.{CanWrite, CanInsert, WhereSound, TakesOne};
+ghost use Rattle.bplus_tree.specs.Changes.{CanInsert, WhereSound, Alters, TakesOne};
 ghost use Rattle.bplus_tree.specs.Split.{HasWidth};
-ghost use Rattle.bplus_tree.specs.Grow.{AddsToLeaf, AddsToInner, IsRootOver, AddsRoot};
+ghost use Rattle.bplus_tree.specs.Grow.{CanLead, AddsToLeaf, AddsToInner, IsRootOver, AddsRoot};
 
 use crate::two_parts::write_parts;
 use io_state::Fault;
@@ -26,9 +26,9 @@ pub fn add_to_leaf<P: Pages>(
     entry: &[u8],
 ) -> Result<Option<Separator>, Fault>
     requires { CanInsert P.shown shape entry.now pages.old }
-    ensures added { WhereSound P.shown pages.old pages.new (AddsToLeaf shape page place entry.now result) }
+    ensures alters { Alters P.shown TakesOne 4 (AddsToLeaf shape page place entry.now) pages.old
+        pages.new result }
     ensures width { IfOk result (HasWidth shape.width) }
-    ensures writes { TakesOne P.shown 4 pages.old pages.new result }
 {
     let mut lower = [0; PAGE_SIZE];
     copy(pages, page, &mut lower)?;
@@ -60,12 +60,10 @@ pub fn add_to_inner<P: Pages>(
     place: usize,
     separator: &Separator,
 ) -> Result<Option<Separator>, Fault>
-    requires width { length separator.now.key.items ≡ shape.width }
-    requires pages { CanWrite P.shown pages.old }
-    ensures added { WhereSound P.shown pages.old pages.new
-        (AddsToInner shape page place separator.now result) }
+    requires { CanLead P.shown shape separator.now pages.old }
+    ensures alters { Alters P.shown TakesOne 4 (AddsToInner shape page place separator.now) pages.old
+        pages.new result }
     ensures width { IfOk result (HasWidth shape.width) }
-    ensures writes { TakesOne P.shown 4 pages.old pages.new result }
 {
     let mut lower = [0; PAGE_SIZE];
     copy(pages, page, &mut lower)?;
@@ -94,8 +92,7 @@ pub fn add_root<P: Pages>(
     left: u32,
     separator: &Separator,
 ) -> Result<u32, Fault>
-    requires width { length separator.now.key.items ≡ shape.width }
-    requires pages { CanWrite P.shown pages.old }
+    requires { CanLead P.shown shape separator.now pages.old }
     ensures added { WhereSound P.shown pages.old pages.new (AddsRoot shape left separator.now result) }
     ensures writes { TakesOne P.shown 2 pages.old pages.new result }
 {

@@ -1,7 +1,7 @@
 //! The root after an insert.
 
 ghost use Rattle.std.specs.Prelude.{◌≡◌, ◌+◌, ◌<◌, ◌≤◌, IsTrue, IfOk};
-ghost use Rattle.bplus_tree.specs.Changes.{CanWrite, WhereSound, TakesOne};
+ghost use Rattle.bplus_tree.specs.Changes.{CanWrite, Alters, TakesOne};
 ghost use Rattle.bplus_tree.specs.Split.{HasWidth};
 ghost use Rattle.bplus_tree.specs.GrowRoot.{GrowsRoot};
 
@@ -25,9 +25,9 @@ pub fn grow_root<P: Pages>(
     requires low { levels < 19 }
     requires width { HasWidth shape.width up }
     requires pages { CanWrite P.shown pages.old }
-    ensures grown { WhereSound P.shown pages.old pages.new (GrowsRoot shape levels root up result) }
+    ensures alters { Alters P.shown TakesOne 2 (GrowsRoot shape levels root up) pages.old pages.new
+        result }
     ensures height { IfOk result (λ base. base.levels ≤ levels + 1) }
-    ensures writes { TakesOne P.shown 2 pages.old pages.new result }
 {
     match up {
         None => Ok(Base { root, levels }),

@@ -1,9 +1,10 @@
 //! Inserts by descent. A page without room is split, and a separator goes up.
 
-ghost use Rattle.std.specs.Prelude.{◌≡◌, ◌≢◌, ◌+◌, ◌*◌, ◌<◌, ◌≤◌, false, IsTrue, IfOk, length, take, insert};
-ghost use Rattle.tree_node.specs.Leaf.{IsLeaf, leaf_entries, leaf_room};
-ghost use Rattle.bplus_tree.specs.Changes.{CanInsert, WhereSound, EditsPages, TakesOne, TakesUpTo};
-ghost use Rattle.bplus_tree.specs.Insert.{Inserts, HasWholeKey, PutsBelow, PutsInPlace, PutsInBytes};
+ghost use Rattle.std.specs.Prelude.{◌+◌, ◌*◌, IfOk, insert};
+ghost use Rattle.tree_node.specs.Leaf.{leaf_entries};
+ghost use Rattle.bplus_tree.specs.Changes.{CanInsert, WhereSound, Alters, EditsPages, TakesOne, TakesUpTo};
+ghost use Rattle.bplus_tree.specs.Insert.{Inserts, HasWholeKey, PutsBelow, PutsInPlace, CanPut, CanPutAt, PutsInLeaf};
+ghost use Rattle.bplus_tree.specs.Edits.{IsLeafOf};
 
 use crate::grow::{add_to_inner, add_to_leaf};
 use io_state::Fault;
@@ -77,8 +78,7 @@ fn put_in_place<P: Pages>(
     entry: &[u8],
 ) -> Result<bool, Fault>
     requires { CanInsert P.shown shape entry.now pages.old }
-    ensures put { WhereSound P.shown pages.old pages.new (PutsInPlace shape page entry.now result) }
-    ensures writes { EditsPages P.shown 1 pages.old pages.new result }
+    ensures { Alters P.shown EditsPages 1 (PutsInPlace shape page entry.now) pages.old pages.new result }
 {
     let bytes = pages.page_mut(page)?;
     if !is_leaf(bytes, shape) {
@@ -89,11 +89,8 @@ fn put_in_place<P: Pages>(
 
 /// The same in the bytes of a leaf.
 fn put_new(page: &mut [u8; PAGE_SIZE], shape: Shape, entry: &[u8]) -> bool
-    requires leaf { IsLeaf shape page.old }
-    requires size { length entry.now ≡ shape.entry }
-    ensures leaf { IsLeaf shape page.new }
-    ensures put { PutsInBytes shape entry.now page.old page.new result }
-    ensures same { result ≡ false → page.new ≡ page.old }
+    requires { CanPut shape entry.now page.old }
+    ensures { PutsInLeaf shape entry.now page.old page.new result }
 {
     let key = &entry[..shape.width as usize];
     let place = LeafView { page, shape }.rank(key);
@@ -106,12 +103,8 @@ fn put_new(page: &mut [u8; PAGE_SIZE], shape: Shape, entry: &[u8]) -> bool
 
 /// Puts an entry before entry `place` of the bytes of a leaf.
 fn put_at(page: &mut [u8; PAGE_SIZE], shape: Shape, place: usize, entry: &[u8])
-    requires leaf { IsLeaf shape page.old }
-    requires room { length (leaf_entries shape page.old) < leaf_room shape }
-    requires within { place ≤ length (leaf_entries shape page.old) }
-    requires size { length entry.now ≡ shape.entry }
-    ensures leaf { IsLeaf shape page.new }
-    ensures put { leaf_entries shape page.new ≡ insert (leaf_entries shape page.old) place entry.now }
+    requires { CanPutAt shape place entry.now page.old }
+    ensures { IsLeafOf shape (insert (leaf_entries shape page.old) place entry.now) page.new }
 {
     LeafViewMut { page, shape }.insert_at(place, entry);
 }

@@ -4,7 +4,7 @@ ghost use Rattle.std.specs.Prelude.{◌≡◌, ◌≢◌, ◌+◌, ◌*◌, ◌<
 ghost use Rattle.tree_node.specs.Inner.{IsInner, separators, children};
 ghost use Rattle.pages.specs.PageCalls.{ReadsPages};
 ghost use Rattle.tree_search.specs.LookUps.{WhenHonest};
-ghost use Rattle.bplus_tree.specs.Changes.{CanWrite, WhereSound, GivesPages};
+ghost use Rattle.bplus_tree.specs.Changes.{CanWrite, WhereSound, Alters, GivesPages};
 ghost use Rattle.node_balance.specs.Balance.{Balances};
 ghost use Rattle.node_balance.specs.Fill.{least};
 ghost use Rattle.bplus_tree.specs.Rebalance.{EndsJoined, EndsShared, IsPairAt, ReadsPair};
@@ -53,8 +53,8 @@ fn end_joined<P: Pages>(
     left: &[u8; PAGE_SIZE],
 ) -> Result<(), Fault>
     requires { CanWrite P.shown pages.old }
-    ensures ended { WhereSound P.shown pages.old pages.new (EndsJoined page pair node.now left.now result) }
-    ensures writes { GivesPages P.shown 3 pages.old pages.new result }
+    ensures { Alters P.shown GivesPages 3 (EndsJoined page pair node.now left.now) pages.old pages.new
+        result }
 {
     store(pages, page, node)?;
     store(pages, pair.lower, left)?;
@@ -72,9 +72,8 @@ fn end_shared<P: Pages>(
     right: &[u8; PAGE_SIZE],
 ) -> Result<(), Fault>
     requires { CanWrite P.shown pages.old }
-    ensures ended { WhereSound P.shown pages.old pages.new
-        (EndsShared page pair node.now left.now right.now result) }
-    ensures writes { GivesPages P.shown 3 pages.old pages.new result }
+    ensures { Alters P.shown GivesPages 3 (EndsShared page pair node.now left.now right.now) pages.old
+        pages.new result }
 {
     store(pages, page, node)?;
     store(pages, pair.lower, left)?;
@@ -128,7 +127,7 @@ fn read_pair<P: Pages>(
     ensures inner { IfOk result (λ pair. IsInner shape node.new
         × (pair.at < length (separators shape node.new))) }
     ensures read { WhenHonest P.shown pages.old pages.new
-        (λ live. ReadsPair shape live page place node.new left.new right.new result) }
+        (ReadsPair shape page place node.new left.new right.new result) }
     ensures reads { ReadsPages P.shown 3 pages.old pages.new result }
 {
     copy(pages, page, node)?;

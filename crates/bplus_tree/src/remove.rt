@@ -3,8 +3,9 @@
 ghost use Rattle.std.specs.Prelude.{◌≡◌, ◌+◌, ◌*◌, ◌<◌, ◌≤◌, ◌↔◌, false, IsTrue, length, remove};
 ghost use Rattle.tree_node.specs.Leaf.{IsLeaf, leaf_entries};
 ghost use Rattle.node_balance.specs.Fill.{least};
-ghost use Rattle.bplus_tree.specs.Changes.{CanWrite, WhereSound, EditsPages, GivesPages};
-ghost use Rattle.bplus_tree.specs.Remove.{Removes, TakesOut, OutOfLeaf, TakesBelow, TakesInPlace, TakesFromBytes};
+ghost use Rattle.bplus_tree.specs.Changes.{CanWrite, WhereSound, Alters, EditsPages, GivesPages};
+ghost use Rattle.bplus_tree.specs.Remove.{Removes, HasPlace, OutOfLeaf, TakesBelow, TakesInPlace, TakesFromLeaf};
+ghost use Rattle.bplus_tree.specs.Edits.{IsLeafOf};
 
 use crate::rebalance::rebalance;
 use io_state::Fault;
@@ -83,8 +84,8 @@ fn take_in_place<P: Pages>(
     to: &mut Entry,
 ) -> Result<bool, Fault>
     requires { CanWrite P.shown pages.old }
-    ensures taken { WhereSound P.shown pages.old pages.new (TakesInPlace shape page key.now to.new result) }
-    ensures writes { EditsPages P.shown 1 pages.old pages.new result }
+    ensures { Alters P.shown EditsPages 1 (TakesInPlace shape page key.now to.new) pages.old pages.new
+        result }
 {
     let bytes = pages.page_mut(page)?;
     if !is_leaf(bytes, shape) {
@@ -96,9 +97,7 @@ fn take_in_place<P: Pages>(
 /// The same in the bytes of a leaf.
 fn take_spare(page: &mut [u8; PAGE_SIZE], shape: Shape, key: &[u8], to: &mut Entry) -> bool
     requires leaf { IsLeaf shape page.old }
-    ensures leaf { IsLeaf shape page.new }
-    ensures taken { TakesFromBytes shape key.now page.old page.new to.new result }
-    ensures same { result ≡ false → page.new ≡ page.old }
+    ensures { TakesFromLeaf shape key.now page.old page.new to.new result }
 {
     let leaf = LeafView { page, shape };
     let place = leaf.rank(key);
@@ -149,10 +148,8 @@ fn take_out<P: Pages>(pages: &mut P, shape: Shape, page: u32, place: usize) -> R
 
 /// Takes entry `place` out of the bytes of a leaf. The answer is whether the leaf has too little now.
 fn cut_out(page: &mut [u8; PAGE_SIZE], shape: Shape, place: usize) -> bool
-    requires leaf { IsLeaf shape page.old }
-    requires within { place < length (leaf_entries shape page.old) }
-    ensures leaf { IsLeaf shape page.new }
-    ensures removed { leaf_entries shape page.new ≡ remove (leaf_entries shape page.old) place }
+    requires { HasPlace shape place page.old }
+    ensures removed { IsLeafOf shape (remove (leaf_entries shape page.old) place) page.new }
     ensures short { IsTrue result ↔ (length (leaf_entries shape page.new) < least shape 0) }
 {
     LeafViewMut { page, shape }.remove_at(place);

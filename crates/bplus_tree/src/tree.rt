@@ -1,7 +1,6 @@
 //! A tree, from its root.
 
 ghost use Rattle.std.specs.Prelude.{◌≡◌, ◌≢◌, ◌+◌, ◌-◌, ◌*◌, ◌^◌, ◌<◌, ◌≤◌, IsTrue, IsSome, IfOk, OnOk, Ok, Err, None, length, take};
-ghost use Rattle.tree_search.specs.LookUps.{LooksUp};
 
 use crate::collapse::collapse;
 use crate::empty_leaf::write_empty_leaf;
@@ -36,6 +35,8 @@ pub struct Tree {
 
 impl Tree {
     ghost use Rattle.bplus_tree.specs.Changes.{CanWrite, CanInsert, WhereSound, GivesPages, TakesOne, TakesUpTo, KeepsShape};
+    ghost use Rattle.bplus_tree.specs.LookUps.{LooksDown, LooksAlong};
+    ghost use Rattle.bplus_tree.specs.TreeCalls.{InsertsInPages, RemovesInPages};
     ghost use Rattle.bplus_tree.specs.Within.{FindsWithin};
     ghost use Rattle.bplus_tree.specs.Depth.{IsPastAll, FindsDamage};
     ghost use Rattle.bplus_tree.specs.Standing.{Answers, Tells, MakesTree, Inserts, Removes, one_more};
@@ -72,9 +73,8 @@ impl Tree {
     /// The entry of a key. A key may have any length; one that is too short or too long is not found.
     pub fn find<P: Pages>(&self, pages: &mut P, key: &[u8]) -> Result<Option<Entry>, Fault>
         requires ready { P.shown.IsReady pages.old }
-        ensures { LooksUp P.shown (self.now.levels + 1)
-            (λ live. Answers self.now live (entry_of self.now.shape.width key.now)) pages.old pages.new
-            result }
+        ensures { LooksDown P.shown self.now (Answers (entry_of self.now.shape.width key.now)) pages.old
+            pages.new result }
     {
         find_below(pages, self.shape, self.root, self.levels, key)
     }
@@ -89,9 +89,8 @@ impl Tree {
     ) -> Result<bool, Fault>
         requires ready { P.shown.IsReady pages.old }
         requires size { self.now.shape.width + length tail.old ≡ self.now.shape.entry }
-        ensures { LooksUp P.shown (self.now.levels + 1)
-            (λ live. Tells (IsTail self.now.shape.width tail.new) self.now live key.now) pages.old
-            pages.new result }
+        ensures { LooksDown P.shown self.now (Tells (IsTail self.now.shape.width tail.new) key.now)
+            pages.old pages.new result }
     {
         find_tail(pages, self.shape, self.root, self.levels, key, tail)
     }
@@ -99,8 +98,7 @@ impl Tree {
     /// Whether a key, which may have any length, has an entry.
     pub fn has<P: Pages>(&self, pages: &mut P, key: &[u8]) -> Result<bool, Fault>
         requires ready { P.shown.IsReady pages.old }
-        ensures { LooksUp P.shown (self.now.levels + 1)
-            (λ live. Tells TellsPresence self.now live key.now) pages.old pages.new result }
+        ensures { LooksDown P.shown self.now (Tells TellsPresence key.now) pages.old pages.new result }
     {
         has_below(pages, self.shape, self.root, self.levels, key)
     }
@@ -108,9 +106,8 @@ impl Tree {
     /// The first entry whose key is not below this one, which may have any length.
     pub fn at_or_after<P: Pages>(&self, pages: &mut P, key: &[u8]) -> Result<Option<Entry>, Fault>
         requires ready { P.shown.IsReady pages.old }
-        ensures { LooksUp P.shown (2 * (self.now.levels + 1))
-            (λ live. Answers self.now live (first_from self.now.shape.width key.now)) pages.old pages.new
-            result }
+        ensures { LooksAlong P.shown self.now (Answers (first_from self.now.shape.width key.now)) pages.old
+            pages.new result }
     {
         let mut spot = Spot::nowhere();
         next_below(
@@ -127,9 +124,8 @@ impl Tree {
     /// The first entry whose key is above this one, which may have any length.
     pub fn after<P: Pages>(&self, pages: &mut P, key: &[u8]) -> Result<Option<Entry>, Fault>
         requires ready { P.shown.IsReady pages.old }
-        ensures { LooksUp P.shown (2 * (self.now.levels + 1))
-            (λ live. Answers self.now live (first_after self.now.shape.width key.now)) pages.old pages.new
-            result }
+        ensures { LooksAlong P.shown self.now (Answers (first_after self.now.shape.width key.now)) pages.old
+            pages.new result }
     {
         let mut spot = Spot::nowhere();
         next_below(
@@ -146,8 +142,7 @@ impl Tree {
     /// The entry of the greatest key.
     pub fn last<P: Pages>(&self, pages: &mut P) -> Result<Option<Entry>, Fault>
         requires ready { P.shown.IsReady pages.old }
-        ensures { LooksUp P.shown (self.now.levels + 1)
-            (λ live. Answers self.now live (last_of)) pages.old pages.new result }
+        ensures { LooksDown P.shown self.now (Answers last_of) pages.old pages.new result }
     {
         last_below(pages, self.shape, self.root, self.levels)
     }
@@ -164,8 +159,7 @@ impl Tree {
         to: &[u8],
     ) -> Result<Option<First>, Fault>
         requires ready { P.shown.IsReady pages.old }
-        ensures { LooksUp P.shown (2 * (self.now.levels + 1))
-            (λ live. FindsWithin self.now live from.now to.now) pages.old pages.new result }
+        ensures { LooksAlong P.shown self.now (FindsWithin from.now to.now) pages.old pages.new result }
     {
         first_within(pages, self.shape, self.root, self.levels, from, to)
     }
@@ -206,10 +200,7 @@ impl Tree {
     ) -> Result<Option<Entry>, Fault>
         requires low { (self.old.levels < 19) × (self.old.count < 2 ^ 64 - 1) }
         requires put { CanInsert P.shown self.old.shape entry.now pages.old }
-        ensures inserted { WhereSound P.shown pages.old pages.new
-            (Inserts self.old self.new entry.now result) }
-        ensures shape { KeepsShape (self.old.levels + 1) self.old self.new }
-        ensures changes { result ≡ Ok None → self.new.changes ≡ one_more self.old.changes }
+        ensures inserts { InsertsInPages P.shown entry.now self.old self.new pages.old pages.new result }
         ensures writes { TakesUpTo P.shown (self.old.levels + 2)
             (7 * (self.old.levels + 2)) pages.old pages.new result }
     {
@@ -253,9 +244,7 @@ impl Tree {
         key: &[u8],
     ) -> Result<Option<Entry>, Fault>
         requires { CanWrite P.shown pages.old }
-        ensures removed { WhereSound P.shown pages.old pages.new (Removes self.old self.new key.now result) }
-        ensures shape { KeepsShape self.old.levels self.old self.new }
-        ensures changes { IfOk result (λ found. IsSome found → self.new.changes ≡ one_more self.old.changes) }
+        ensures removes { RemovesInPages P.shown key.now self.old self.new pages.old pages.new result }
         ensures writes { GivesPages P.shown (7 * (self.old.levels + 2)) pages.old pages.new result }
     {
         match remove_below(pages, self.shape, self.root, self.levels, key)? {

@@ -1,7 +1,7 @@
 //! A page that has changed, and part of which may have gone to a new page.
 
 ghost use Rattle.std.specs.Prelude.{◌≡◌, ◌≢◌, ◌+◌, ◌≤◌, IsTrue, IfOk, option_map};
-ghost use Rattle.bplus_tree.specs.Changes.{CanWrite, WhereSound, TakesOne};
+ghost use Rattle.bplus_tree.specs.Changes.{CanWrite, WhereSound, Alters, TakesOne};
 ghost use Rattle.bplus_tree.specs.Split.{Splits, WritesParts};
 
 use io_state::Fault;
@@ -22,10 +22,9 @@ pub fn write_parts<P: Pages>(
     key: Option<TreeKey>,
 ) -> Result<Option<Separator>, Fault>
     requires { CanWrite P.shown pages.old }
-    ensures written { WhereSound P.shown pages.old pages.new
-        (WritesParts page lower.now upper.now key result) }
+    ensures alters { Alters P.shown TakesOne 3 (WritesParts page lower.now upper.now key) pages.old
+        pages.new result }
     ensures key { IfOk result (λ up. option_map (λ separator. separator.key) up ≡ key) }
-    ensures writes { TakesOne P.shown 3 pages.old pages.new result }
 {
     match key {
         None => {

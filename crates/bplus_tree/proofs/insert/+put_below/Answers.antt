@@ -6,7 +6,7 @@ pub returns-then-levels-eq0-clause-put : goal.returns-then-levels-eq0-clause-put
 returns-then-levels-eq0-clause-put g t c honest sound =
     let new = g.P.Pages.shown.state c.put_in_place.new.pages in
     put_leaf c.args.shape ((g.P.Pages.shown.state c.args.pages.now).live) new.live (IsTrue new.is_sound) c.args.levels c.args.page c.args.entry.now c.put_in_place.result c.if-levels-eq0.true
-    (c.put_in_place.ensures.put honest sound)
+    (c.put_in_place.ensures.leaves honest sound)
 
 pub returns-in_err-down-clause-put : goal.returns-in_err-down-clause-put
 returns-in_err-down-clause-put g t c honest sound =

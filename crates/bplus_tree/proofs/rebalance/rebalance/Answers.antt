@@ -91,7 +91,7 @@ returns-in_err-end_joined-in-Some-true-clause-rebalanced g c honest sound t low 
     let found = chosen c.args.shape before c.args.levels c.args.page c.args.place low high t c.read_pair.new.node c.in_ok-pair.pair tree apart full read.parent read.beside in
     let three = subst (λ (m : PageMap). AreThree m c.args.page c.in_ok-pair.pair.lower c.in_ok-pair.pair.upper) (sym (g.met.P.Pages.reads_live c.args.pages.now c.read_pair.new.pages c.read_pair.ensures.reads.step h1)) found.three in
     fails c.from_residual-in_err-end_joined-in-Some-true.result _ _ c.from_residual-in_err-end_joined-in-Some-true.ensures.1
-    (c.in_err-end_joined-in-Some-true.ensures.ended honest (subst (λ (b : Bool). IsTrue b) (sym (g.met.P.Pages.reads_sound c.args.pages.now c.read_pair.new.pages c.read_pair.ensures.reads.step h1)) sound) three).no_damage
+    (c.in_err-end_joined-in-Some-true.ensures.leaves honest (subst (λ (b : Bool). IsTrue b) (sym (g.met.P.Pages.reads_sound c.args.pages.now c.read_pair.new.pages c.read_pair.ensures.reads.step h1)) sound) three).no_damage
 
 pub returns-in_err-end_shared-in-Some-false-clause-rebalanced : goal.returns-in_err-end_shared-in-Some-false-clause-rebalanced
 returns-in_err-end_shared-in-Some-false-clause-rebalanced g c honest sound t low high tree apart full some =
@@ -101,7 +101,7 @@ returns-in_err-end_shared-in-Some-false-clause-rebalanced g c honest sound t low
     let found = chosen c.args.shape before c.args.levels c.args.page c.args.place low high t c.read_pair.new.node c.in_ok-pair.pair tree apart full read.parent read.beside in
     let three = subst (λ (m : PageMap). AreThree m c.args.page c.in_ok-pair.pair.lower c.in_ok-pair.pair.upper) (sym (g.met.P.Pages.reads_live c.args.pages.now c.read_pair.new.pages c.read_pair.ensures.reads.step h1)) found.three in
     fails c.from_residual-in_err-end_shared-in-Some-false.result _ _ c.from_residual-in_err-end_shared-in-Some-false.ensures.1
-    (c.in_err-end_shared-in-Some-false.ensures.ended honest (subst (λ (b : Bool). IsTrue b) (sym (g.met.P.Pages.reads_sound c.args.pages.now c.read_pair.new.pages c.read_pair.ensures.reads.step h1)) sound) three).no_damage
+    (c.in_err-end_shared-in-Some-false.ensures.leaves honest (subst (λ (b : Bool). IsTrue b) (sym (g.met.P.Pages.reads_sound c.args.pages.now c.read_pair.new.pages c.read_pair.ensures.reads.step h1)) sound) three).no_damage
 
 pub returns-in_ok-end_joined-in-Some-true-clause-rebalanced : goal.returns-in_ok-end_joined-in-Some-true-clause-rebalanced
 returns-in_ok-end_joined-in-Some-true-clause-rebalanced g c honest sound t low high tree apart full some =
@@ -111,7 +111,7 @@ returns-in_ok-end_joined-in-Some-true-clause-rebalanced g c honest sound t low h
     let found = chosen c.args.shape before c.args.levels c.args.page c.args.place low high t c.read_pair.new.node c.in_ok-pair.pair tree apart full read.parent read.beside in
     let same = g.met.P.Pages.reads_live c.args.pages.now c.read_pair.new.pages c.read_pair.ensures.reads.step h1 in
     let three = subst (λ (m : PageMap). AreThree m c.args.page c.in_ok-pair.pair.lower c.in_ok-pair.pair.upper) (sym same) found.three in
-    let ended = (c.in_ok-end_joined-in-Some-true.ensures.ended honest (subst (λ (b : Bool). IsTrue b) (sym (g.met.P.Pages.reads_sound c.args.pages.now c.read_pair.new.pages c.read_pair.ensures.reads.step h1)) sound) three).answer in
+    let ended = (c.in_ok-end_joined-in-Some-true.ensures.leaves honest (subst (λ (b : Bool). IsTrue b) (sym (g.met.P.Pages.reads_sound c.args.pages.now c.read_pair.new.pages c.read_pair.ensures.reads.step h1)) sound) three).answer in
     record {
       answer = (
         joined c.args.shape before ((g.P.Pages.shown.state c.end_joined.new.pages).live) c.args.levels c.args.page low high t c.in_ok-pair.pair c.read_pair.new.node c.read_pair.new.left c.read_pair.new.right c.balance.new.node c.balance.new.left
@@ -130,7 +130,7 @@ returns-in_ok-end_shared-in-Some-false-clause-rebalanced g c honest sound t low 
     let found = chosen c.args.shape before c.args.levels c.args.page c.args.place low high t c.read_pair.new.node c.in_ok-pair.pair tree apart full read.parent read.beside in
     let same = g.met.P.Pages.reads_live c.args.pages.now c.read_pair.new.pages c.read_pair.ensures.reads.step h1 in
     let three = subst (λ (m : PageMap). AreThree m c.args.page c.in_ok-pair.pair.lower c.in_ok-pair.pair.upper) (sym same) found.three in
-    let ended = (c.in_ok-end_shared-in-Some-false.ensures.ended honest (subst (λ (b : Bool). IsTrue b) (sym (g.met.P.Pages.reads_sound c.args.pages.now c.read_pair.new.pages c.read_pair.ensures.reads.step h1)) sound) three).answer in
+    let ended = (c.in_ok-end_shared-in-Some-false.ensures.leaves honest (subst (λ (b : Bool). IsTrue b) (sym (g.met.P.Pages.reads_sound c.args.pages.now c.read_pair.new.pages c.read_pair.ensures.reads.step h1)) sound) three).answer in
     record {
       answer = (
         shared c.args.shape before ((g.P.Pages.shown.state c.end_shared.new.pages).live) c.args.levels c.args.page low high t c.in_ok-pair.pair c.read_pair.new.node c.read_pair.new.left c.read_pair.new.right c.balance.new.node c.balance.new.left

@@ -6,7 +6,7 @@ pub returns-then-levels-eq0-clause-taken : goal.returns-then-levels-eq0-clause-t
 returns-then-levels-eq0-clause-taken g t c honest sound =
     let new = g.P.Pages.shown.state c.take_in_place.new.pages in
     take_leaf c.args.shape ((g.P.Pages.shown.state c.args.pages.now).live) new.live (IsTrue new.is_sound) c.args.levels c.args.page c.args.key.now c.take_in_place.new.to c.take_in_place.result c.if-levels-eq0.true
-    (c.take_in_place.ensures.taken honest sound)
+    (c.take_in_place.ensures.leaves honest sound)
 
 pub returns-in_err-down-clause-taken : goal.returns-in_err-down-clause-taken
 returns-in_err-down-clause-taken g t c honest sound =

@@ -36,7 +36,7 @@ returns-clause-inserted g c honest sound entries own stands =
     let a = (c.in_ok-put_below.ensures.put h1 sound stands.value None None stands.whole tt tt).answer in
     let same : mid.live ≡ before = subst (λ (b : Bool). HasPutIf old.shape before mid.live old.levels old.root None None c.args.entry.now stands.value b) c.if-branch.false a.0 in
     (subst (λ (m : PageMap). Inserts old c.insert_or_split.new.self c.args.entry.now c.insert_or_split.result m new.live (IsTrue new.is_sound)) same
-    (c.insert_or_split.ensures.inserted honest a.1)) entries own stands
+    (c.insert_or_split.ensures.inserts.inserted honest a.1)) entries own stands
 
 pub returns-then-self-ge-GREATEST_LEVELS-clause-inserted : goal.returns-then-self-ge-GREATEST_LEVELS-clause-inserted
 returns-then-self-ge-GREATEST_LEVELS-clause-inserted g c honest sound entries own stands =

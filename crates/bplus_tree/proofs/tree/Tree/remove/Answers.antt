@@ -34,4 +34,4 @@ returns-clause-removed g c honest sound entries own stands =
     let same : mid.live ≡ before =
     subst (λ (b : Bool). HasTakenIf old.shape before mid.live old.levels old.root None None c.args.key.now stands.value c.take_below.new.to.items b) c.if-branch.false a.0 in
     (subst (λ (m : PageMap). Removes old c.remove_or_rebalance.new.self c.args.key.now c.remove_or_rebalance.result m new.live (IsTrue new.is_sound)) same
-    (c.remove_or_rebalance.ensures.removed honest a.1)) entries own stands
+    (c.remove_or_rebalance.ensures.removes.removed honest a.1)) entries own stands
