@@ -6,7 +6,7 @@ use Rattle.tree_node.specs.Order.{Ascends, IsRank, IsRankAfter}
 use Rattle.pages.specs.PageMap.{PageMap}
 use Rattle.tree_search.specs.declared.descent.StepDown.{StepDown}
 use Rattle.tree_search.specs.declared.descent.Look.{Look}
-use Rattle.tree_search.specs.Stored.{IsLeafAt, IsInnerAt}
+use Rattle.tree_search.specs.Stored.{IsLeafAt, IsInnerAt, WhereRising}
 use Rattle.pages.specs.Answer.{IsAnswer}
 use Rattle.tree_search.specs.Calls.{entry_of}
 
@@ -39,3 +39,8 @@ pub record IsKeyAt (width : ℕ) (key : List ℕ) (entries : List (List ℕ)) (p
     (has : Bool) : Type 0 where
   pub present : has ≡ true → entry_of width key entries ≡ Some (slice_index_or entries place [])
   pub absent : has ≡ false → entry_of width key entries ≡ None
+
+-- the same of the bytes of a leaf whose entries rise, where the place is that of the key
+abbrev pub TellsKeyAt : Shape → List ℕ → ℕ → List ℕ → Bool → Type 0
+TellsKeyAt shape key place page has = WhereRising shape page
+    (λ entries. IsRank shape.width key entries place → IsKeyAt shape.width key entries place has)

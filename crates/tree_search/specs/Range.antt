@@ -1,5 +1,5 @@
 -- The entries whose keys lie in a range, both ends of which belong to it.
-use Rattle.std.specs.Prelude.{◌≡◌, ℕ, ◌<◌, ◌≤◌, Bool, true, false, not, ◌&&◌, List, [], ◌∷◌, ◌++◌, length, take, find, filter, slice_index_or, Option, Some, None, Result, Ok, Err, IsTrue, is_some, ⊤}
+use Rattle.std.specs.Prelude.{◌≡◌, ℕ, ◌<◌, ◌≤◌, Bool, true, false, not, ◌&&◌, List, [], ◌∷◌, ◌++◌, length, take, find, filter, slice_index_or, Option, Some, None, Result, Ok, Err, IsTrue, IfOk, is_some, ◌+◌, ⊤}
 use Rattle.std.specs.Option.{option_map_or}
 use Rattle.arrayvec.specs.ArrayVec.{ArrayVec}
 use Rattle.io_state.specs.declared.fault.Fault.{Fault}
@@ -7,6 +7,7 @@ use Rattle.tree_node.specs.declared.shape.Shape.{Shape}
 use Rattle.tree_node.specs.Order.{less, Ascends, IsRank}
 use Rattle.page_bytes.specs.Each.{Each}
 use Rattle.pages.specs.PageMap.{PageMap}
+use Rattle.pages.specs.ShownPages.{ShownPages}
 use Rattle.pages.specs.Answer.{IsAnswer}
 use Rattle.node_balance.specs.Fill.{least}
 use Rattle.tree_search.specs.declared.range.First.{First}
@@ -31,9 +32,9 @@ IsFirst width from to entries (Some first) =
     × (first.followed ≡ option_map_or (is_within width from to)
     (first_after width (take width first.entry.items) entries) false)
 
-abbrev pub FindsBelow : Shape → PageMap → (h page : ℕ) → List ℕ → List ℕ → Result (Option First) Fault
+abbrev pub FindsBelow : Shape → (h page : ℕ) → List ℕ → List ℕ → PageMap → Result (Option First) Fault
     → Type 0
-FindsBelow shape pages h page from to result =
+FindsBelow shape h page from to pages result =
     (t : TreeOf h) → IsTree shape pages h page None None t → IsHalfFull shape h t
     → IsAnswer result (IsFirst shape.width from to (entries_of h t))
 
@@ -156,3 +157,31 @@ abbrev pub Forks : Shape → PageMap → (page : ℕ) → List ℕ → List ℕ 
 Forks shape pages page from to result =
     (separators : List (List ℕ)) (below : List ℕ) → IsInnerAt shape pages page separators below
     → IsAnswer result (IsFork shape.width from to separators below)
+
+-- the same of looks that fill an entry
+abbrev pub FillsBelow : Shape → (h page : ℕ) → List ℕ → List ℕ → ArrayVec ℕ → Result (Option Bool) Fault
+    → PageMap → Type 0
+FillsBelow shape h page from to entry result pages =
+    FindsBelow shape h page from to pages (told_first entry result)
+
+abbrev pub SeesBelow : Shape → (h page : ℕ) → List ℕ → List ℕ → ArrayVec ℕ → Result Sight Fault → PageMap
+    → Type 0
+SeesBelow shape h page from to entry result pages =
+    Sights shape pages h page from to (told_seen entry result)
+
+abbrev pub SeesInLeaf : Shape → ℕ → List ℕ → List ℕ → ArrayVec ℕ → Result Sight Fault → PageMap → Type 0
+SeesInLeaf shape page from to entry result pages =
+    SightsInLeaf shape pages page from to (told_seen entry result)
+
+abbrev pub FillsFrontBelow : Shape → (h page : ℕ) → List ℕ → ArrayVec ℕ → Result (Option Bool) Fault → PageMap
+    → Type 0
+FillsFrontBelow shape h page to entry result pages = Fronts shape pages h page to (told_first entry result)
+
+abbrev pub FillsFrontOfLeaf : Shape → ℕ → List ℕ → ArrayVec ℕ → Result (Option Bool) Fault → PageMap → Type 0
+FillsFrontOfLeaf shape page to entry result pages =
+    FrontsInLeaf shape pages page to (told_first entry result)
+
+-- a look that the end of the page has stopped has asked for one page a level
+abbrev pub AsksFewAtEnd : {S : Type 0} → ShownPages S → ℕ → (old new : S) → Result Sight Fault → Type 0
+AsksFewAtEnd shown levels old new result = IfOk result (λ sight. IsUnended sight
+    → (shown.state new).asked ≤ (shown.state old).asked + (levels + 1))

@@ -6,7 +6,7 @@ use Rattle.tree_node.specs.declared.shape.Shape.{Shape}
 use Rattle.tree_node.specs.Order.{Ascends, IsRank, IsRankAfter}
 use Rattle.pages.specs.PageMap.{PageMap}
 use Rattle.tree_search.specs.Tree.{TreeOf, page_of, entries_of, size_of, Bound, IsHalfFull}
-use Rattle.tree_search.specs.Stored.{Holds, IsLeafAt, IsInnerAt}
+use Rattle.tree_search.specs.Stored.{Holds, IsLeafAt, IsInnerAt, WhereRising}
 use Rattle.pages.specs.Answer.{IsAnswer}
 use Rattle.tree_search.specs.Calls.{IsTree, entry_of, first_from, first_after, last_of}
 
@@ -100,3 +100,25 @@ abbrev pub LastChild : Shape → PageMap → ℕ → Result ℕ Fault → Type 0
 LastChild shape pages page result =
     (separators : List (List ℕ)) (below : List ℕ) → IsInnerAt shape pages page separators below
     → IsAnswer result (λ child. child ≡ slice_index below (length separators))
+
+-- the entry of a key, in a tree, in a leaf, and in the bytes of a leaf
+abbrev pub FindsKey : Shape → ℕ → ℕ → List ℕ → PageMap → Result (Option (ArrayVec ℕ)) Fault → Type 0
+FindsKey shape h page key pages result = Finds shape pages h page (entry_of shape.width key) result
+
+abbrev pub FillsKey : Shape → ℕ → List ℕ → ArrayVec ℕ → PageMap → Result Bool Fault → Type 0
+FillsKey shape page key entry pages result =
+    FillsFromLeaf shape pages page (entry_of shape.width key) entry result
+
+abbrev pub FillsFromBytes : Shape → List ℕ → List ℕ → ArrayVec ℕ → Bool → Type 0
+FillsFromBytes shape page key entry done =
+    WhereRising shape page (λ entries. IsFound (entry_of shape.width key) entries (filled entry done))
+
+-- the first entry at a key or behind it, and where `past`, the first one behind it
+abbrev pub FindsNext : Bool → Shape → ℕ → ℕ → List ℕ → PageMap → Result (Option (ArrayVec ℕ)) Fault → Type 0
+FindsNext past shape h page key pages result =
+    FindsFilled shape pages h page (first_of past shape.width key) result
+
+abbrev pub FindsNextInLeaf : Bool → Shape → ℕ → List ℕ → PageMap → Result (Option (ArrayVec ℕ)) Fault
+    → Type 0
+FindsNextInLeaf past shape page key pages result =
+    FindsInLeaf shape pages page (first_of past shape.width key) result

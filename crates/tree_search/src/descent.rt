@@ -2,10 +2,9 @@
 
 ghost use Rattle.std.specs.Prelude.{◌≡◌, ◌+◌, ◌<◌, true, IsTrue, length};
 ghost use Rattle.tree_search.specs.LookUps.{LooksUp};
-ghost use Rattle.tree_search.specs.Descent.{Steps, IsDescentStep, Looks, IsLook, IsKeyAt};
+ghost use Rattle.tree_search.specs.Descent.{Steps, IsDescentStep, Looks, IsLook, TellsKeyAt};
 ghost use Rattle.tree_node.specs.Inner.{IsInner, separators, children};
 ghost use Rattle.tree_node.specs.Leaf.{IsLeaf, leaf_entries};
-ghost use Rattle.tree_node.specs.Order.{IsRank};
 ghost use Rattle.tree_search.specs.Stored.{WhereRising};
 
 use crate::spot::entry_with;
@@ -94,9 +93,7 @@ fn find_in(page: &[u8; PAGE_SIZE], shape: Shape, key: &[u8]) -> Look
 pub fn has_key(page: &[u8; PAGE_SIZE], shape: Shape, place: usize, key: &[u8]) -> bool
     requires leaf { IsLeaf shape page.now }
     ensures within { result ≡ true → place < length (leaf_entries shape page.now) }
-    ensures key { WhereRising shape page.now
-        (λ entries. IsRank shape.width key.now entries place
-        → IsKeyAt shape.width key.now entries place result) }
+    ensures key { TellsKeyAt shape key.now place page.now result }
 {
     let leaf = LeafView { page, shape };
     if place >= leaf.count() {

@@ -6,7 +6,7 @@ ghost use Rattle.tree_node.specs.Leaf.{IsLeaf, leaf_entries};
 ghost use Rattle.tree_node.specs.Order.{less};
 ghost use Rattle.pages.specs.PageCalls.{ReadsPages};
 ghost use Rattle.tree_search.specs.LookUps.{WhenHonest, LooksUp};
-ghost use Rattle.tree_search.specs.Range.{FindsBelow, Sights, SightsInLeaf, IsSightFrom, Fronts, FrontsInLeaf, HasFront, IsFork, Forks, IsUnended, told_first, told_seen, seen, alone};
+ghost use Rattle.tree_search.specs.Range.{FindsBelow, FillsBelow, SeesBelow, SeesInLeaf, IsSightFrom, FillsFrontBelow, FillsFrontOfLeaf, HasFront, IsFork, Forks, IsUnended, AsksFewAtEnd, seen, alone};
 
 use crate::descent::{StepDown, step_in};
 use crate::search::first_child;
@@ -50,8 +50,8 @@ pub fn first_within<P: Pages>(
     to: &[u8],
 ) -> Result<Option<First>, Fault>
     requires ready { P.shown.IsReady pages.old }
-    ensures { LooksUp P.shown (2 * (levels + 1))
-        (λ live. FindsBelow shape live levels page from.now to.now) pages.old pages.new result }
+    ensures { LooksUp P.shown (2 * (levels + 1)) (FindsBelow shape levels page from.now to.now) pages.old
+        pages.new result }
 {
     let mut entry = Entry::new();
     match fill_within(pages, shape, page, levels, from, to, &mut entry)? {
@@ -73,7 +73,7 @@ fn fill_within<P: Pages>(
 ) -> Result<Option<bool>, Fault>
     requires ready { P.shown.IsReady pages.old }
     ensures found { WhenHonest P.shown pages.old pages.new
-        (λ live. FindsBelow shape live levels page from.now to.now (told_first entry.new result)) }
+        (FillsBelow shape levels page from.now to.now entry.new result) }
     ensures reads { ReadsPages P.shown (2 * (levels + 1)) pages.old pages.new result }
 {
     match look_below(pages, shape, page, levels, from, to, entry)? {
@@ -94,9 +94,8 @@ fn look_below<P: Pages>(
 ) -> Result<Sight, Fault>
     requires ready { P.shown.IsReady pages.old }
     ensures sight { WhenHonest P.shown pages.old pages.new
-        (λ live. Sights shape live levels page from.now to.now (told_seen entry.new result)) }
-    ensures open { IfOk result (λ sight. IsUnended sight
-        → (P.shown.state pages.new).asked ≤ (P.shown.state pages.old).asked + (levels + 1)) }
+        (SeesBelow shape levels page from.now to.now entry.new result) }
+    ensures open { AsksFewAtEnd P.shown levels pages.old pages.new result }
     ensures reads { ReadsPages P.shown (2 * (levels + 1)) pages.old pages.new result }
 {
     if levels == 0 {
@@ -132,7 +131,7 @@ fn look_in_leaf<P: Pages>(
 ) -> Result<Sight, Fault>
     requires ready { P.shown.IsReady pages.old }
     ensures sight { WhenHonest P.shown pages.old pages.new
-        (λ live. SightsInLeaf shape live page from.now to.now (told_seen entry.new result)) }
+        (SeesInLeaf shape page from.now to.now entry.new result) }
     ensures reads { ReadsPages P.shown 1 pages.old pages.new result }
 {
     let bytes = pages.page(page)?;
@@ -214,7 +213,7 @@ fn front_below<P: Pages>(
 ) -> Result<Option<bool>, Fault>
     requires ready { P.shown.IsReady pages.old }
     ensures front { WhenHonest P.shown pages.old pages.new
-        (λ live. Fronts shape live levels page to.now (told_first entry.new result)) }
+        (FillsFrontBelow shape levels page to.now entry.new result) }
     ensures reads { ReadsPages P.shown (levels + 1) pages.old pages.new result }
 {
     if levels == 0 {
@@ -252,7 +251,7 @@ fn front_of_leaf<P: Pages>(
 ) -> Result<Option<bool>, Fault>
     requires ready { P.shown.IsReady pages.old }
     ensures front { WhenHonest P.shown pages.old pages.new
-        (λ live. FrontsInLeaf shape live page to.now (told_first entry.new result)) }
+        (FillsFrontOfLeaf shape page to.now entry.new result) }
     ensures reads { ReadsPages P.shown 1 pages.old pages.new result }
 {
     let bytes = pages.page(page)?;

@@ -5,9 +5,9 @@ ghost use Rattle.tree_node.specs.Leaf.{IsLeaf, leaf_entries};
 ghost use Rattle.tree_search.specs.Stored.{WhereRising};
 ghost use Rattle.pages.specs.PageCalls.{ReadsPages};
 ghost use Rattle.tree_search.specs.LookUps.{WhenHonest, LooksUp};
-ghost use Rattle.tree_search.specs.Calls.{entry_of, last_of};
+ghost use Rattle.tree_search.specs.Calls.{last_of};
 ghost use Rattle.tree_search.specs.Spot.{IsInLeafIf, Spots, SpotsInLeaf, SpotsFirst, SpotsFirstInLeaf};
-ghost use Rattle.tree_search.specs.Search.{Finds, FindsFilled, FindsInLeaf, FindsFirst, FirstOfLeaf, FirstChild, FindsLast, LastOfLeaf, LastChild, IsFound, IsPlace, LeadsToLeaf, FillsFromLeaf, filled, first_of};
+ghost use Rattle.tree_search.specs.Search.{FindsKey, FindsNext, FindsNextInLeaf, FindsFirst, FirstOfLeaf, FirstChild, FindsLast, LastOfLeaf, LastChild, IsFound, IsPlace, LeadsToLeaf, FillsKey, FillsFromBytes, first_of};
 
 use crate::descent::{descend, has_key};
 use crate::spot::{Spot, entry_at, entry_in_leaf, entry_with, fill};
@@ -26,7 +26,7 @@ pub fn find_below<P: Pages>(
 ) -> Result<Option<Entry>, Fault>
     requires ready { P.shown.IsReady pages.old }
     ensures found { WhenHonest P.shown pages.old pages.new
-        (λ live. Finds shape live levels page (entry_of shape.width key.now) result) }
+        (λ live. FindsKey shape levels page key.now live result) }
     ensures reads { ReadsPages P.shown (levels + 1) pages.old pages.new result }
 {
     let leaf = leaf_below(pages, shape, page, levels, key)?;
@@ -66,9 +66,7 @@ fn find_in_leaf<P: Pages>(
     to: &mut Entry,
 ) -> Result<bool, Fault>
     requires ready { P.shown.IsReady pages.old }
-    ensures { LooksUp P.shown 1
-        (λ live. FillsFromLeaf shape live page (entry_of shape.width key.now) to.new) pages.old pages.new
-        result }
+    ensures { LooksUp P.shown 1 (FillsKey shape page key.now to.new) pages.old pages.new result }
 {
     let bytes = pages.page(page)?;
     if !is_leaf(bytes, shape) {
@@ -80,8 +78,7 @@ fn find_in_leaf<P: Pages>(
 /// The same in the bytes of a leaf.
 fn find_entry(bytes: &[u8; PAGE_SIZE], shape: Shape, key: &[u8], to: &mut Entry) -> bool
     requires leaf { IsLeaf shape bytes.now }
-    ensures { WhereRising shape bytes.now
-        (λ entries. IsFound (entry_of shape.width key.now) entries (filled to.new result)) }
+    ensures { FillsFromBytes shape bytes.now key.now to.new result }
 {
     let leaf = LeafView { page: bytes, shape };
     let place = leaf.rank(key);
@@ -105,7 +102,7 @@ pub fn next_below<P: Pages>(
 ) -> Result<Option<Entry>, Fault>
     requires ready { P.shown.IsReady pages.old }
     ensures found { WhenHonest P.shown pages.old pages.new
-        (λ live. FindsFilled shape live levels page (first_of past shape.width key.now) result) }
+        (λ live. FindsNext past shape levels page key.now live result) }
     ensures spot { WhenHonest P.shown pages.old pages.new
         (λ live. Spots shape live levels page spot.new result) }
     ensures none { result ≡ Ok None → (P.shown.state pages.new).asked ≤ (P.shown.state pages.old).asked
@@ -136,7 +133,7 @@ fn next_in_leaf<P: Pages>(
 ) -> Result<Option<Entry>, Fault>
     requires ready { P.shown.IsReady pages.old }
     ensures found { WhenHonest P.shown pages.old pages.new
-        (λ live. FindsInLeaf shape live page (first_of past shape.width key.now) result) }
+        (λ live. FindsNextInLeaf past shape page key.now live result) }
     ensures spot { WhenHonest P.shown pages.old pages.new
         (λ live. SpotsInLeaf shape live page spot.new result) }
     ensures reads { ReadsPages P.shown 1 pages.old pages.new result }

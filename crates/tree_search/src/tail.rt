@@ -1,12 +1,12 @@
 //! What the entry of a key has behind the key, and whether a key has an entry.
 
-ghost use Rattle.std.specs.Prelude.{◌≡◌, ◌+◌, IsTrue, length};
+ghost use Rattle.std.specs.Prelude.{◌+◌};
 ghost use Rattle.pages.specs.PageCalls.{ReadsPages};
 ghost use Rattle.tree_search.specs.LookUps.{WhenHonest, LooksUp};
-ghost use Rattle.tree_node.specs.Leaf.{IsLeaf, leaf_entries};
+ghost use Rattle.tree_node.specs.Leaf.{IsLeaf};
 ghost use Rattle.tree_search.specs.Stored.{WhereRising};
 ghost use Rattle.tree_search.specs.Calls.{entry_of};
-ghost use Rattle.tree_search.specs.Tail.{IsTail, TellsPresence, TellsBelow, TellsInLeaf};
+ghost use Rattle.tree_search.specs.Tail.{TellsPresence, TellsInLeaf, HasKeyBelow, TellsTail, TellsTailInLeaf, TellsTailOfBytes, CanFillTail, CanFillFromLeaf};
 
 use crate::descent::has_key;
 use crate::search::leaf_below;
@@ -25,10 +25,9 @@ pub fn find_tail<P: Pages>(
     key: &[u8],
     tail: &mut [u8],
 ) -> Result<bool, Fault>
-    requires ready { P.shown.IsReady pages.old }
-    requires size { shape.width + length tail.old ≡ shape.entry }
+    requires { CanFillTail P.shown shape tail.old pages.old }
     ensures found { WhenHonest P.shown pages.old pages.new
-        (λ live. TellsBelow (IsTail shape.width tail.new) shape live levels page key.now result) }
+        (TellsTail shape levels page key.now tail.new result) }
     ensures reads { ReadsPages P.shown (levels + 1) pages.old pages.new result }
 {
     let leaf = leaf_below(pages, shape, page, levels, key)?;
@@ -43,11 +42,8 @@ fn tail_in_leaf<P: Pages>(
     key: &[u8],
     tail: &mut [u8],
 ) -> Result<bool, Fault>
-    requires ready { P.shown.IsReady pages.old }
-    requires size { shape.width + length tail.old ≡ shape.entry }
-    ensures { LooksUp P.shown 1
-        (λ live. TellsInLeaf (IsTail shape.width tail.new) shape live page key.now) pages.old pages.new
-        result }
+    requires { CanFillTail P.shown shape tail.old pages.old }
+    ensures { LooksUp P.shown 1 (TellsTailInLeaf shape page key.now tail.new) pages.old pages.new result }
 {
     let bytes = pages.page(page)?;
     if !is_leaf(bytes, shape) {
@@ -58,10 +54,8 @@ fn tail_in_leaf<P: Pages>(
 
 /// The same in the bytes of a leaf.
 fn copy_tail(bytes: &[u8; PAGE_SIZE], shape: Shape, key: &[u8], tail: &mut [u8]) -> bool
-    requires leaf { IsLeaf shape bytes.now }
-    requires size { shape.width + length tail.old ≡ shape.entry }
-    ensures { WhereRising shape bytes.now
-        (λ entries. IsTail shape.width tail.new (entry_of shape.width key.now entries) result) }
+    requires { CanFillFromLeaf shape tail.old bytes.now }
+    ensures { TellsTailOfBytes shape bytes.now key.now tail.new result }
 {
     let leaf = LeafView { page: bytes, shape };
     let place = leaf.rank(key);
@@ -82,8 +76,7 @@ pub fn has_below<P: Pages>(
     key: &[u8],
 ) -> Result<bool, Fault>
     requires ready { P.shown.IsReady pages.old }
-    ensures told { WhenHonest P.shown pages.old pages.new
-        (λ live. TellsBelow TellsPresence shape live levels page key.now result) }
+    ensures told { WhenHonest P.shown pages.old pages.new (HasKeyBelow shape levels page key.now result) }
     ensures reads { ReadsPages P.shown (levels + 1) pages.old pages.new result }
 {
     let leaf = leaf_below(pages, shape, page, levels, key)?;
