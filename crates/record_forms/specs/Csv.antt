@@ -2,6 +2,7 @@
 -- RFC 4180, Common Format and MIME Type for Comma-Separated Values (CSV) Files: fields with commas
 -- between, and CRLF.
 use Rattle.std.specs.Prelude.{ℕ, ◌==◌, List, [], ◌∷◌, ◌++◌, flat_map, if◌then◌else◌}
+use Rattle.deck_runner.specs.Line.{shown_byte}
 
 -- a quote in a field stands twice
 abbrev pub doubled : ℕ → List ℕ
@@ -11,6 +12,10 @@ doubled byte = if byte == 34 then 34 ∷ 34 ∷ [] else byte ∷ []
 -- field is no empty line)
 abbrev pub field : List ℕ → List ℕ
 field text = 34 ∷ (flat_map doubled text ++ 34 ∷ [])
+
+-- bytes as they are shown, in a field
+abbrev pub doubled_bytes : List ℕ → List ℕ
+doubled_bytes bytes = flat_map (λ byte. flat_map doubled (shown_byte byte)) bytes
 
 -- fields, with a comma between each and the next one
 abbrev pub fields : List (List ℕ) → List ℕ

@@ -1,6 +1,7 @@
 -- A line of JSON: an object of strings, and LF.
 -- RFC 8259, The JavaScript Object Notation (JSON) Data Interchange Format: objects and strings.
 use Rattle.std.specs.Prelude.{ℕ, ◌==◌, ◌||◌, List, [], ◌∷◌, ◌++◌, flat_map, if◌then◌else◌}
+use Rattle.deck_runner.specs.Line.{shown_byte}
 
 -- a character of printable ASCII in a string: a quote and a backslash stand behind a backslash
 abbrev pub escaped : ℕ → List ℕ
@@ -9,6 +10,10 @@ escaped byte = if (byte == 34) || (byte == 92) then 92 ∷ byte ∷ [] else byte
 -- a string of printable ASCII
 abbrev pub string : List ℕ → List ℕ
 string text = 34 ∷ (flat_map escaped text ++ 34 ∷ [])
+
+-- bytes as they are shown, in a string
+abbrev pub escaped_bytes : List ℕ → List ℕ
+escaped_bytes bytes = flat_map (λ byte. flat_map escaped (shown_byte byte)) bytes
 
 -- a member of an object: its name, and a string
 pub record Member : Type 0 where

@@ -1,11 +1,11 @@
 -- The line of a record in each form, and what stands before the first one. All of this is ours.
-use Rattle.std.specs.Prelude.{ℕ, List, [], ◌∷◌, ◌++◌, map}
+use Rattle.std.specs.Prelude.{ℕ, List, [], ◌∷◌, ◌++◌, map, flat_map}
 use Rattle.record_forms.specs.declared.column.Column.{Column}
 use Rattle.record_forms.specs.declared.form.Form.{Form}
 use Rattle.record_forms.specs.declared.form.Form.TheVariants.{Text, Csv, Json}
 use Rattle.record_forms.specs.Columns.{text_of, name_of, value_of}
-use Rattle.record_forms.specs.Csv.{csv_line}
-use Rattle.record_forms.specs.Json.{Member, json_line}
+use Rattle.record_forms.specs.Csv.{field, csv_line}
+use Rattle.record_forms.specs.Json.{Member, member, json_line}
 
 -- text: the record in brackets, and LF
 abbrev pub text_line : List ℕ → List ℕ
@@ -26,3 +26,15 @@ abbrev pub header_in : Form → List ℕ
 header_in Text = []
 header_in (Csv columns) = csv_line (map name_of columns.items)
 header_in (Json columns) = []
+
+-- the values of columns in a line of CSV, each behind a comma
+abbrev pub more_values : List ℕ → List Column → List ℕ
+more_values bytes columns = flat_map (λ column. 44 ∷ field (value_of bytes column)) columns
+
+-- so the names of columns
+abbrev pub more_names : List Column → List ℕ
+more_names columns = flat_map (λ column. 44 ∷ field (name_of column)) columns
+
+-- so the members of columns in a line of JSON
+abbrev pub more_members : List ℕ → List Column → List ℕ
+more_members bytes columns = flat_map (λ column. 44 ∷ member (member_of bytes column)) columns

@@ -1,6 +1,6 @@
 -- The columns of a record that is cut at offsets, and those of a record that is described. All of
 -- this is ours.
-use Rattle.std.specs.Prelude.{◌≡◌, ℕ, ◌+◌, ◌-◌, ◌==◌, ◌&&◌, Bool, true, false, nat_lt, List, [], ◌∷◌, ◌++◌, codes, decimal, Option, Some, None, if◌then◌else◌}
+use Rattle.std.specs.Prelude.{◌≡◌, ℕ, ◌+◌, ◌-◌, ◌==◌, ◌&&◌, Bool, true, false, nat_lt, List, [], ◌∷◌, ◌++◌, map, codes, decimal, Option, Some, None, if◌then◌else◌}
 use Rattle.record_layout.specs.Layout.{Entry, Placed, Structure, Nothing, Elementary, Group, width, placed, IsLayout}
 use Rattle.record_forms.specs.declared.column.Column.{Column}
 
@@ -12,6 +12,10 @@ pub record Part : Type 0 where
 
 abbrev pub part_of : Column → Part
 part_of column = record { name = column.name.bytes; offset = column.offset; length = column.length }
+
+-- columns with these parts were added
+abbrev pub AddsParts : (old new : List Column) → List Part → Type 0
+AddsParts old new parts = map part_of new ≡ map part_of old ++ parts
 
 -- ---- cuts
 
@@ -48,6 +52,10 @@ item_part item = record {
 abbrev pub is_group : Placed → List Placed → Bool
 is_group item [] = false
 is_group item (next ∷ after) = next.field.offset == item.field.offset
+
+-- the part of an item that is no group
+abbrev pub part_if_elementary : Placed → List Placed → List Part
+part_if_elementary item after = if is_group item after then [] else item_part item ∷ []
 
 -- the elementary items, in the order of their entries
 abbrev pub item_parts : List Placed → List Part

@@ -1,8 +1,9 @@
 //! A line of CSV.
-ghost use Rattle.std.specs.Prelude.{◌≡◌, ◌∷◌, ◌++◌, [], map, flat_map, OnOk};
+ghost use Rattle.std.specs.Prelude.{◌≡◌, ◌++◌, map, flat_map, OnOk};
 ghost use Rattle.deck_runner.specs.Line.{shown_byte};
 ghost use Rattle.record_forms.specs.Columns.{text_of, name_of, value_of};
-ghost use Rattle.record_forms.specs.Csv.{doubled, field, fields, csv_line};
+ghost use Rattle.record_forms.specs.Csv.{doubled, doubled_bytes, field, fields, csv_line};
+ghost use Rattle.record_forms.specs.Lines.{more_values, more_names};
 
 use crate::column::{Column, cell_of};
 use crate::shown::{escape_of, is_plain};
@@ -24,8 +25,7 @@ fn add_byte(text: &mut Vec<u8>, byte: u8) -> Result<(), AllocError>
 
 /// Adds bytes to a field.
 fn add_bytes(text: &mut Vec<u8>, bytes: &[u8]) -> Result<(), AllocError>
-    ensures { OnOk result (text.new.items ≡ text.old.items
-        ++ flat_map (λ byte. flat_map doubled (shown_byte byte)) bytes.now) }
+    ensures { OnOk result (text.new.items ≡ text.old.items ++ doubled_bytes bytes.now) }
 {
     for byte in bytes {
         add_byte(text, *byte)?;
@@ -52,8 +52,7 @@ fn add_value(text: &mut Vec<u8>, column: &Column, bytes: &[u8]) -> Result<(), Al
 
 /// Adds the values of columns, each behind a comma.
 fn add_more_values(text: &mut Vec<u8>, columns: &[Column], bytes: &[u8]) -> Result<(), AllocError>
-    ensures { OnOk result (text.new.items ≡ text.old.items
-        ++ flat_map (λ column. 44 ∷ field (value_of bytes.now column)) columns.now) }
+    ensures { OnOk result (text.new.items ≡ text.old.items ++ more_values bytes.now columns.now) }
 {
     for column in columns {
         text.push(b',')?;
@@ -92,8 +91,7 @@ fn add_name(text: &mut Vec<u8>, column: &Column) -> Result<(), AllocError>
 
 /// Adds the names of columns, each behind a comma.
 fn add_more_names(text: &mut Vec<u8>, columns: &[Column]) -> Result<(), AllocError>
-    ensures { OnOk result (text.new.items ≡ text.old.items
-        ++ flat_map (λ column. 44 ∷ field (name_of column)) columns.now) }
+    ensures { OnOk result (text.new.items ≡ text.old.items ++ more_names columns.now) }
 {
     for column in columns {
         text.push(b',')?;

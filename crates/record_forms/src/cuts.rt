@@ -1,7 +1,7 @@
 //! Columns between cuts.
 ghost use Rattle.std.specs.Prelude.{◌≡◌, ◌≤◌, ◌<◌, ◌+◌, ◌-◌, ◌++◌, ◌∷◌, [], ℕ, List, map, flat_map, length, true, false, IfOk, OnOk};
 ghost use Rattle.record_forms.specs.Columns.{cell_of};
-ghost use Rattle.record_forms.specs.Parts.{part_of, cut_part, cut_parts, do_rise, whole_part};
+ghost use Rattle.record_forms.specs.Parts.{AddsParts, part_of, cut_part, cut_parts, do_rise, whole_part};
 
 use crate::column::Column;
 use crate::numbered::numbered;
@@ -23,8 +23,8 @@ pub enum CutFault {
 
 /// Adds column n.
 fn push_column(columns: &mut Vec<Column>, n: u32, offset: u16, length: u16) -> Result<(), CutFault>
-    ensures column { OnOk result (map part_of columns.new.items ≡ map part_of columns.old.items
-        ++ cut_part n offset length ∷ []) }
+    ensures column { OnOk result (AddsParts columns.old.items columns.new.items
+        (cut_part n offset length ∷ [])) }
     ensures memory { result ≡ Err CutFault.Order → ⊥ }
 {
     let name = numbered("column-", n);

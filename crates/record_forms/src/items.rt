@@ -1,7 +1,7 @@
 //! The columns of a record that is described.
-ghost use Rattle.std.specs.Prelude.{◌≡◌, ◌++◌, ◌∷◌, [], map, option_map, OnOk, IfOk, if◌then◌else◌};
+ghost use Rattle.std.specs.Prelude.{◌≡◌, map, option_map, OnOk, IfOk};
 ghost use Rattle.record_layout.specs.Layout.{item_of};
-ghost use Rattle.record_forms.specs.Parts.{part_of, name_or, item_part, is_group, item_parts, AreElementary};
+ghost use Rattle.record_forms.specs.Parts.{AddsParts, part_of, name_or, item_part, is_group, part_if_elementary, item_parts, AreElementary};
 
 use crate::column::Column;
 use crate::numbered::numbered;
@@ -42,9 +42,8 @@ fn is_group(item: &Placed, after: &[Placed]) -> bool
 
 /// Adds the column of an item that is no group.
 fn push_item(columns: &mut Vec<Column>, item: &Placed, after: &[Placed]) -> Result<(), AllocError>
-    ensures { OnOk result (map part_of columns.new.items ≡ map part_of columns.old.items
-        ++ (if is_group (item_of item.now) (map item_of after.now) then [] else item_part
-        (item_of item.now) ∷ [])) }
+    ensures { OnOk result (AddsParts columns.old.items columns.new.items
+        (part_if_elementary (item_of item.now) (map item_of after.now))) }
 {
     if is_group(item, after) {
         return Ok(());

@@ -1,9 +1,9 @@
 //! A line of JSON.
-ghost use Rattle.std.specs.Prelude.{◌≡◌, ◌∷◌, ◌++◌, [], map, flat_map, OnOk};
+ghost use Rattle.std.specs.Prelude.{◌≡◌, ◌++◌, map, flat_map, OnOk};
 ghost use Rattle.deck_runner.specs.Line.{shown_byte};
 ghost use Rattle.record_forms.specs.Columns.{text_of};
-ghost use Rattle.record_forms.specs.Json.{escaped, string, member, members, json_line};
-ghost use Rattle.record_forms.specs.Lines.{member_of};
+ghost use Rattle.record_forms.specs.Json.{escaped, escaped_bytes, string, member, members, json_line};
+ghost use Rattle.record_forms.specs.Lines.{member_of, more_members};
 
 use crate::column::{Column, cell_of};
 use crate::shown::{escape_of, is_plain};
@@ -26,8 +26,7 @@ fn add_byte(text: &mut Vec<u8>, byte: u8) -> Result<(), AllocError>
 
 /// Adds bytes to a string.
 fn add_bytes(text: &mut Vec<u8>, bytes: &[u8]) -> Result<(), AllocError>
-    ensures { OnOk result (text.new.items ≡ text.old.items
-        ++ flat_map (λ byte. flat_map escaped (shown_byte byte)) bytes.now) }
+    ensures { OnOk result (text.new.items ≡ text.old.items ++ escaped_bytes bytes.now) }
 {
     for byte in bytes {
         add_byte(text, *byte)?;
@@ -56,8 +55,7 @@ fn add_member(text: &mut Vec<u8>, column: &Column, bytes: &[u8]) -> Result<(), A
 
 /// Adds the members of columns, each behind a comma.
 fn add_more_members(text: &mut Vec<u8>, columns: &[Column], bytes: &[u8]) -> Result<(), AllocError>
-    ensures { OnOk result (text.new.items ≡ text.old.items
-        ++ flat_map (λ column. 44 ∷ member (member_of bytes.now column)) columns.now) }
+    ensures { OnOk result (text.new.items ≡ text.old.items ++ more_members bytes.now columns.now) }
 {
     for column in columns {
         text.push(b',')?;
