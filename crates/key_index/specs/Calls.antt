@@ -1,7 +1,9 @@
 -- What the calls of the indexes answer and leave.
-use Rattle.std.specs.Prelude.{◌≡◌, ℕ, Bool, true, false, List, find, Option, None, Some, IsSome, IsTrue, IfSome, Result, Ok, option_map, is_some}
+use Rattle.std.specs.Prelude.{◌≡◌, ◌*◌, ℕ, Bool, true, false, List, find, Option, None, Some, IsSome, IsTrue, IfSome, IfErr, Result, Ok, option_map, is_some}
 use Rattle.std.specs.Option.{option_map_or}
+use Rattle.arrayvec.specs.ArrayVec.{ArrayVec}
 use Rattle.io_state.specs.declared.fault.Fault.{Fault}
+use Rattle.io_state.specs.declared.fault.Fault.TheVariants.{Damage}
 use Rattle.record_heap.specs.declared.shape.Place.{Place}
 use Rattle.pages.specs.PageMap.{PageMap}
 use Rattle.pages.specs.Answer.{IsAnswer}
@@ -12,13 +14,13 @@ use Rattle.key_index.specs.declared.entry.AltEntry.{AltEntry}
 use Rattle.key_index.specs.declared.entry.AltFirst.{AltFirst}
 use Rattle.key_index.specs.declared.prime_index.PrimeIndex.{PrimeIndex}
 use Rattle.key_index.specs.declared.alt_index.AltIndex.{AltIndex}
-use Rattle.key_index.specs.Stored.{alt_bytes, IsAltEntry}
+use Rattle.key_index.specs.Stored.{prime_bytes, alt_bytes, IsPrimeEntry, IsAltEntry}
 use Rattle.key_index.specs.Entries.{has_prime, entry_has_value, has_rank, after_rank, with_prime, with_alt, without_prime, without_rank}
-use Rattle.key_index.specs.Standing.{PrimeStands, PrimeChanged, AltStands, AltChanged}
+use Rattle.key_index.specs.Standing.{PrimeStands, PrimeChanged, AltStands, AltChanged, prime_height, alt_height}
 
 -- a call that looks into an index and asks for so many pages at most; this holds of the pages in
 -- use where no wrong answer was taken
-pub record LooksUp {S X : Type 0} (shown : ShownPages S) (most : ℕ) (before after : S)
+pub record LooksInIndex {S X : Type 0} (shown : ShownPages S) (most : ℕ) (before after : S)
     (result : Result X Fault) (Finds : PageMap → Type 0) : Type 0 where
   pub found : IsTrue (shown.state after).is_honest → Finds (shown.state before).live
   pub reads : ReadsPages shown most before after result
@@ -119,6 +121,50 @@ AltRemoves value stamp old new result before after is_sound =
     → IsAnswer result (λ removed. AltHasRemoved before after old new value stamp entries own removed
     × is_sound)
 
+-- a look-up in the prime index that asks for one page a level at most
+abbrev pub FindsInPrime : {S : Type 0} → ShownPages S → S → S → PrimeIndex
+    → (List PrimeEntry → Option PrimeEntry) → Result (Option PrimeEntry) Fault → Type 0
+FindsInPrime shown before after index look result =
+    LooksInIndex shown (prime_height index) before after result (λ live. PrimeFinds index live look result)
+
+-- one that asks for two pages a level at most
+abbrev pub SeeksInPrime : {S : Type 0} → ShownPages S → S → S → PrimeIndex
+    → (List PrimeEntry → Option PrimeEntry) → Result (Option PrimeEntry) Fault → Type 0
+SeeksInPrime shown before after index look result =
+    LooksInIndex shown (2 * prime_height index) before after result
+    (λ live. PrimeFinds index live look result)
+
+-- a look-up of the place of the record of a value
+abbrev pub FindsPlaceInPrime : {S : Type 0} → ShownPages S → S → S → PrimeIndex → List ℕ
+    → Result (Option Place) Fault → Type 0
+FindsPlaceInPrime shown before after index value result =
+    LooksInIndex shown (prime_height index) before after result
+    (λ live. PrimeFindsPlace index live value result)
+
+-- a call that answers whether a value is there
+pub record TellsInPrime {S : Type 0} (shown : ShownPages S) (before after : S) (index : PrimeIndex)
+    (value : List ℕ) (result : Result Bool Fault) : Type 0 where
+  pub told : IsTrue (shown.state after).is_honest → PrimeTells index (shown.state before).live value result
+  pub reads : ReadsPages shown (prime_height index) before after result
+
+-- the same look-ups in the index of an alternate key
+abbrev pub FindsInAlt : {S : Type 0} → ShownPages S → S → S → AltIndex
+    → (List AltEntry → Option AltEntry) → Result (Option AltEntry) Fault → Type 0
+FindsInAlt shown before after index look result =
+    LooksInIndex shown (alt_height index) before after result (λ live. AltFinds index live look result)
+
+abbrev pub SeeksInAlt : {S : Type 0} → ShownPages S → S → S → AltIndex
+    → (List AltEntry → Option AltEntry) → Result (Option AltEntry) Fault → Type 0
+SeeksInAlt shown before after index look result =
+    LooksInIndex shown (2 * alt_height index) before after result (λ live. AltFinds index live look result)
+
+-- a look-up of the first entry of a value
+abbrev pub FindsFirstInAlt : {S : Type 0} → ShownPages S → S → S → AltIndex → List ℕ
+    → Result (Option AltFirst) Fault → Type 0
+FindsFirstInAlt shown before after index value result =
+    LooksInIndex shown (2 * alt_height index) before after result
+    (λ live. AltFindsFirst index live value result)
+
 -- what the bytes of an entry that fits are told as, where some were found
 abbrev pub TellsEntry : {E : Type 0} → (E → List ℕ) → (E → Type 0) → Option (List ℕ)
     → Result (Option E) Fault → Type 0
@@ -130,3 +176,17 @@ abbrev pub TellsFirst : ℕ → ℕ → List ℕ → Bool → Result (Option Alt
 TellsFirst width prime bytes followed result =
     (e : AltEntry) → IsAltEntry width prime e → bytes ≡ alt_bytes e
     → result ≡ Ok (Some (record { entry = e; followed = followed }))
+
+-- an entry of the prime index is told of its bytes, or they are no entry
+pub record TellsPrime (index : PrimeIndex) (found : Option (ArrayVec ℕ))
+    (result : Result (Option PrimeEntry) Fault) : Type 0 where
+  pub told : TellsEntry prime_bytes (IsPrimeEntry index.width)
+      (option_map (λ bytes. bytes.items) found) result
+  pub damage : IfErr result (λ fault. fault ≡ Damage)
+
+-- the same of an index of an alternate key
+pub record TellsAlt (index : AltIndex) (found : Option (ArrayVec ℕ))
+    (result : Result (Option AltEntry) Fault) : Type 0 where
+  pub told : TellsEntry alt_bytes (IsAltEntry index.width index.prime)
+      (option_map (λ bytes. bytes.items) found) result
+  pub damage : IfErr result (λ fault. fault ≡ Damage)

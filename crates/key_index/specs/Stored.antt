@@ -56,6 +56,18 @@ pub record IsHeight (height : ℕ) : Type 0 where
   pub levels : 1 ≤ height
   pub low : height ≤ 20
 
+-- the lengths of values and prime values, and the number of levels, of an index of an alternate key
+pub record IsAltHeader (long prime_long levels : ℕ) : Type 0 where
+  pub width : IsWidth long
+  pub prime : prime_long ≤ 250
+  pub height : IsHeight levels
+
+-- as many bytes as an entry of a value and a prime value of these lengths has
+pub record HasAltLength (long prime_long : ℕ) (bytes : List ℕ) : Type 0 where
+  pub width : long ≤ 250
+  pub prime : prime_long ≤ 250
+  pub whole : length bytes ≡ long + 8 + prime_long
+
 -- the entry of a value and a place
 abbrev pub entry_at : List ℕ → Place → PrimeEntry
 entry_at value place = record { value = record { items = value }; place = place }

@@ -1,6 +1,6 @@
 //! The index of an alternate key.
 
-ghost use Rattle.std.specs.Prelude.{◌≡◌, ◌+◌, ◌*◌, ◌≤◌, find, length, option_map, IfErr};
+ghost use Rattle.std.specs.Prelude.{◌≡◌, ◌+◌, ◌≤◌, find, IfErr};
 
 use crate::entry::{AltEntry, AltFirst};
 use crate::keys::{greatest_key, rank_key};
@@ -36,10 +36,9 @@ impl AltIndex {
     ghost use Rattle.key_index.specs.Entries.{has_rank, from_value, after_rank, past_value};
     ghost use Rattle.tree_search.specs.Calls.{last_of};
     ghost use Rattle.key_index.specs.Standing.{IsAltStored, CountsAlt, alt_height, alt_key};
-    ghost use Rattle.key_index.specs.Calls.{LooksUp, AltFinds, AltFindsFirst, AltAdds, AltRemoves, TellsEntry, TellsFirst};
-    ghost use Rattle.key_index.specs.Stored.{IsAltEntry, IsWidth, IsHeight, alt_bytes, entry_to};
-    ghost use Rattle.key_index.specs.Cost.{AltGrows};
-    ghost use Rattle.key_index.specs.Changes.{MakesIndex, AddsEntry, TakesEntry, IsNewAlt, IsAltOf};
+    ghost use Rattle.key_index.specs.Calls.{FindsInAlt, SeeksInAlt, FindsFirstInAlt, TellsAlt, TellsFirst};
+    ghost use Rattle.key_index.specs.Stored.{IsAltHeader, entry_to};
+    ghost use Rattle.key_index.specs.Changes.{MakesIndex, AddsToAlt, TakesFromAlt, MayMakeAlt, MayAddAlt, IsNewAlt, IsAltOf};
 
     /// An index without entries for values of `width` bytes and prime values of `prime` bytes.
     /// `key` is the number of the key. One page is taken for its root, which may be answered Full.
@@ -49,9 +48,7 @@ impl AltIndex {
         width: u16,
         prime: u16,
     ) -> Result<AltIndex, Fault>
-        requires pages { MayChange P.shown pages.old }
-        requires width { IsWidth width }
-        requires prime { prime ≤ 250 }
+        requires { MayMakeAlt P.shown pages.old width prime }
         ensures { MakesIndex P.shown pages.old pages.new result IsNewAlt (IsAltOf key width prime) }
     {
         let shape = Shape {
@@ -65,9 +62,7 @@ impl AltIndex {
 
     /// The index that a header tells of: the page of its root, how many levels it has, and how many entries.
     pub fn stored(key: u8, width: u16, prime: u16, root: u32, height: u8, count: u64) -> AltIndex
-        requires width { IsWidth width }
-        requires prime { prime ≤ 250 }
-        requires height { IsHeight height }
+        requires { IsAltHeader width prime height }
         ensures stored { IsAltStored result width prime root height count }
         ensures key { alt_key result ≡ key }
     {
@@ -108,8 +103,7 @@ impl AltIndex {
         stamp: u64,
     ) -> Result<Option<AltEntry>, Fault>
         requires ready { P.shown.IsReady pages.old }
-        ensures { LooksUp P.shown (alt_height self.now) pages.old pages.new result
-            (λ live. AltFinds self.now live (find (has_rank value.now stamp)) result) }
+        ensures { FindsInAlt P.shown pages.old pages.new self.now (find (has_rank value.now stamp)) result }
     {
         if value.len() != usize::from(self.width) {
             return Ok(None);
@@ -126,8 +120,7 @@ impl AltIndex {
         value: &[u8],
     ) -> Result<Option<AltEntry>, Fault>
         requires ready { P.shown.IsReady pages.old }
-        ensures { LooksUp P.shown (2 * alt_height self.now) pages.old pages.new result
-            (λ live. AltFinds self.now live (find (from_value value.now)) result) }
+        ensures { SeeksInAlt P.shown pages.old pages.new self.now (find (from_value value.now)) result }
     {
         if value.len() > usize::from(self.width) {
             return self.first_past(pages, value);
@@ -143,8 +136,7 @@ impl AltIndex {
     /// or in front of its first entry; never more than twice the height.
     pub fn first_of<P: Pages>(&self, pages: &mut P, value: &[u8]) -> Result<Option<AltFirst>, Fault>
         requires ready { P.shown.IsReady pages.old }
-        ensures { LooksUp P.shown (2 * alt_height self.now) pages.old pages.new result
-            (λ live. AltFindsFirst self.now live value.now result) }
+        ensures { FindsFirstInAlt P.shown pages.old pages.new self.now value.now result }
     {
         if value.len() != usize::from(self.width) {
             return Ok(None);
@@ -169,8 +161,7 @@ impl AltIndex {
         stamp: u64,
     ) -> Result<Option<AltEntry>, Fault>
         requires ready { P.shown.IsReady pages.old }
-        ensures { LooksUp P.shown (2 * alt_height self.now) pages.old pages.new result
-            (λ live. AltFinds self.now live (find (after_rank value.now stamp)) result) }
+        ensures { SeeksInAlt P.shown pages.old pages.new self.now (find (after_rank value.now stamp)) result }
     {
         let width = usize::from(self.width);
         if value.len() > width {
@@ -191,8 +182,7 @@ impl AltIndex {
         value: &[u8],
     ) -> Result<Option<AltEntry>, Fault>
         requires ready { P.shown.IsReady pages.old }
-        ensures { LooksUp P.shown (2 * alt_height self.now) pages.old pages.new result
-            (λ live. AltFinds self.now live (find (past_value value.now)) result) }
+        ensures { SeeksInAlt P.shown pages.old pages.new self.now (find (past_value value.now)) result }
     {
         let width = usize::from(self.width);
         let key = greatest_key(value, width, width + 8);
@@ -203,8 +193,7 @@ impl AltIndex {
     /// The entry of the greatest value, and of these the greatest stamp.
     pub fn last<P: Pages>(&self, pages: &mut P) -> Result<Option<AltEntry>, Fault>
         requires ready { P.shown.IsReady pages.old }
-        ensures { LooksUp P.shown (alt_height self.now) pages.old pages.new result
-            (λ live. AltFinds self.now live last_of result) }
+        ensures { FindsInAlt P.shown pages.old pages.new self.now last_of result }
     {
         let found = self.tree.last(pages)?;
         self.told(found)
@@ -221,11 +210,9 @@ impl AltIndex {
         stamp: u64,
         prime: &[u8],
     ) -> Result<bool, Fault>
-        requires pages { MayChange P.shown pages.old }
-        requires value { length value.now ≡ self.old.width }
-        requires prime { length prime.now ≡ self.old.prime }
-        ensures { AddsEntry P.shown pages.old pages.new self.old self.new self.old.tree result
-            (AltAdds (entry_to value.now stamp prime.now)) AltGrows }
+        requires { MayAddAlt P.shown pages.old self.old value.now prime.now }
+        ensures { AddsToAlt P.shown pages.old pages.new self.old self.new
+            (entry_to value.now stamp prime.now) result }
     {
         let entry = AltEntry::bytes(value, stamp, prime);
         let mut tree = self.tree;
@@ -247,8 +234,7 @@ impl AltIndex {
         stamp: u64,
     ) -> Result<bool, Fault>
         requires pages { MayChange P.shown pages.old }
-        ensures { TakesEntry P.shown pages.old pages.new self.old self.new self.old.tree result
-            (AltRemoves value.now stamp) AltGrows }
+        ensures { TakesFromAlt P.shown pages.old pages.new self.old self.new value.now stamp result }
     {
         if value.len() != usize::from(self.width) {
             return Ok(false);
@@ -278,9 +264,7 @@ impl AltIndex {
 
     /// The entry whose bytes the tree gave. Damage where they are not as many as an entry has.
     pub(crate) fn told(&self, found: Option<Entry>) -> Result<Option<AltEntry>, Fault>
-        ensures told { TellsEntry alt_bytes (IsAltEntry self.now.width self.now.prime)
-            (option_map (λ bytes. bytes.items) found) result }
-        ensures damage { IfErr result (λ fault. fault ≡ Fault.Damage) }
+        ensures { TellsAlt self.now found result }
     {
         let Some(bytes) = found else {
             return Ok(None);

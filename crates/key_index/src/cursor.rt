@@ -1,9 +1,7 @@
 //! A place among the entries of an index that is kept from one call to the next.
 
-ghost use Rattle.std.specs.Prelude.{◌≡◌, ◌+◌, ◌*◌, ◌≤◌, ◌↔◌, ◌++◌, ℕ, List, length, IsTrue};
+ghost use Rattle.std.specs.Prelude.{◌≡◌, ◌≤◌, ◌↔◌, ◌++◌, length, IsTrue};
 ghost use Rattle.byteorder.specs.Endian.{big_bytes};
-ghost use Rattle.pages.specs.PageMap.{PageMap};
-ghost use Rattle.pages.specs.PageCalls.{ReadsPages};
 
 use crate::alt_index::AltIndex;
 use crate::entry::{AltEntry, PrimeEntry};
@@ -26,14 +24,12 @@ pub struct AltCursor {
 }
 
 impl PrimeIndex {
-    ghost use Rattle.key_index.specs.Cursors.{PrimeBelongs};
+    ghost use Rattle.key_index.specs.Cursors.{IsPrimeCursor};
 
     /// A cursor behind a value.
     pub fn cursor(&self, value: &[u8]) -> PrimeCursor
         requires { length value.now ≡ self.now.width }
-        ensures after { result.cursor.key.items ≡ value.now }
-        ensures belongs { (pages : PageMap) (entries : List PrimeEntry) (own : List ℕ)
-            → PrimeBelongs result self.now pages entries own }
+        ensures { IsPrimeCursor result self.now value.now }
     {
         PrimeCursor {
             cursor: self.tree.cursor(value),
@@ -42,8 +38,7 @@ impl PrimeIndex {
 }
 
 impl PrimeCursor {
-    ghost use Rattle.key_index.specs.Standing.{prime_height};
-    ghost use Rattle.key_index.specs.Cursors.{PrimeMoves};
+    ghost use Rattle.key_index.specs.Cursors.{MovesInPrime};
 
     /// Whether it gives what comes after this value.
     pub fn is_after(&self, value: &[u8]) -> bool
@@ -61,9 +56,7 @@ impl PrimeCursor {
         pages: &mut P,
     ) -> Result<Option<PrimeEntry>, Fault>
         requires ready { P.shown.IsReady pages.old }
-        ensures moved { IsTrue (P.shown.state pages.new).is_honest
-            → PrimeMoves self.old self.new index.now (P.shown.state pages.old).live result }
-        ensures reads { ReadsPages P.shown (2 * prime_height index.now) pages.old pages.new result }
+        ensures { MovesInPrime P.shown pages.old pages.new self.old self.new index.now result }
     {
         let found = self.cursor.next(&index.tree, pages)?;
         index.told(found)
@@ -71,14 +64,12 @@ impl PrimeCursor {
 }
 
 impl AltIndex {
-    ghost use Rattle.key_index.specs.Cursors.{AltBelongs};
+    ghost use Rattle.key_index.specs.Cursors.{IsAltCursor};
 
     /// A cursor behind a value and stamp.
     pub fn cursor(&self, value: &[u8], stamp: u64) -> AltCursor
         requires { length value.now ≡ self.now.width }
-        ensures after { result.cursor.key.items ≡ value.now ++ big_bytes 8 stamp }
-        ensures belongs { (pages : PageMap) (entries : List AltEntry) (own : List ℕ)
-            → AltBelongs result self.now pages entries own }
+        ensures { IsAltCursor result self.now value.now stamp }
     {
         let key = rank_key(value, stamp);
         AltCursor {
@@ -88,8 +79,7 @@ impl AltIndex {
 }
 
 impl AltCursor {
-    ghost use Rattle.key_index.specs.Standing.{alt_height};
-    ghost use Rattle.key_index.specs.Cursors.{AltMoves, AltTellsNext};
+    ghost use Rattle.key_index.specs.Cursors.{MovesInAlt, TellsNextInAlt};
 
     /// Whether it gives what comes after this value and stamp.
     pub fn is_after(&self, value: &[u8], stamp: u64) -> bool
@@ -109,9 +99,7 @@ impl AltCursor {
         pages: &mut P,
     ) -> Result<Option<AltEntry>, Fault>
         requires ready { P.shown.IsReady pages.old }
-        ensures moved { IsTrue (P.shown.state pages.new).is_honest
-            → AltMoves self.old self.new index.now (P.shown.state pages.old).live result }
-        ensures reads { ReadsPages P.shown (2 * alt_height index.now) pages.old pages.new result }
+        ensures { MovesInAlt P.shown pages.old pages.new self.old self.new index.now result }
     {
         let found = self.cursor.next(&index.tree, pages)?;
         index.told(found)
@@ -121,9 +109,7 @@ impl AltCursor {
     /// it is. While the index has not changed it asks for one page mostly.
     pub fn is_followed<P: Pages>(&self, index: &AltIndex, pages: &mut P) -> Result<bool, Fault>
         requires ready { P.shown.IsReady pages.old }
-        ensures told { IsTrue (P.shown.state pages.new).is_honest
-            → AltTellsNext self.now index.now (P.shown.state pages.old).live result }
-        ensures reads { ReadsPages P.shown (2 * alt_height index.now) pages.old pages.new result }
+        ensures { TellsNextInAlt P.shown pages.old pages.new self.now index.now result }
     {
         let key = self.cursor.key.as_slice();
         let value = &key[..usize::from(index.width).min(key.len())];

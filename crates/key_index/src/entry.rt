@@ -88,7 +88,7 @@ pub fn place_in(bytes: &[u8; 6]) -> Place
 }
 
 impl AltEntry {
-    ghost use Rattle.key_index.specs.Stored.{alt_entry_in};
+    ghost use Rattle.key_index.specs.Stored.{alt_entry_in, HasAltLength};
 
     /// The bytes of an entry.
     pub fn bytes(value: &[u8], stamp: u64, prime: &[u8]) -> Entry
@@ -107,9 +107,7 @@ impl AltEntry {
 
     /// The entry of bytes whose first `width` are the value, and the last `prime` the prime value.
     pub fn read(bytes: &[u8], width: usize, prime: usize) -> AltEntry
-        requires width { width ≤ 250 }
-        requires prime { prime ≤ 250 }
-        requires long { length bytes.now ≡ width + 8 + prime }
+        requires { HasAltLength width prime bytes.now }
         ensures { result ≡ alt_entry_in width bytes.now }
     {
         AltEntry {

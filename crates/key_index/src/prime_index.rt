@@ -1,7 +1,6 @@
 //! The index of the prime key.
 
-ghost use Rattle.std.specs.Prelude.{◌≡◌, ◌+◌, ◌*◌, ◌≤◌, find, length, option_map, IsTrue, IfErr};
-ghost use Rattle.pages.specs.PageCalls.{ReadsPages};
+ghost use Rattle.std.specs.Prelude.{◌≡◌, ◌+◌, ◌≤◌, find};
 
 use crate::entry::{PrimeEntry, place_in};
 use crate::keys::greatest_key;
@@ -28,16 +27,14 @@ impl PrimeIndex {
     ghost use Rattle.key_index.specs.Entries.{has_prime, from_prime, after_prime, past_prime};
     ghost use Rattle.tree_search.specs.Calls.{last_of};
     ghost use Rattle.key_index.specs.Standing.{IsPrimeStored, CountsPrime, prime_height};
-    ghost use Rattle.key_index.specs.Calls.{LooksUp, PrimeFinds, PrimeFindsPlace, PrimeTells, PrimeAdds, PrimeRemoves, TellsEntry};
-    ghost use Rattle.key_index.specs.Stored.{IsPrimeEntry, IsWidth, IsHeight, prime_bytes, entry_at};
-    ghost use Rattle.key_index.specs.Cost.{PrimeGrows};
-    ghost use Rattle.key_index.specs.Changes.{MakesIndex, AddsEntry, TakesEntry, IsNewPrime, IsPrimeOf};
+    ghost use Rattle.key_index.specs.Calls.{FindsInPrime, SeeksInPrime, FindsPlaceInPrime, TellsInPrime, TellsPrime};
+    ghost use Rattle.key_index.specs.Stored.{IsWidth, IsHeight, entry_at};
+    ghost use Rattle.key_index.specs.Changes.{MakesIndex, AddsToPrime, TakesFromPrime, MayMakePrime, MayAddPrime, IsNewPrime, IsPrimeOf};
 
     /// An index without entries for values of `width` bytes. One page is taken for its root, which
     /// may be answered Full.
     pub fn empty<P: Pages>(pages: &mut P, width: u16) -> Result<PrimeIndex, Fault>
-        requires pages { MayChange P.shown pages.old }
-        requires width { IsWidth width }
+        requires { MayMakePrime P.shown pages.old width }
         ensures { MakesIndex P.shown pages.old pages.new result IsNewPrime (IsPrimeOf width) }
     {
         let shape = Shape {
@@ -87,8 +84,7 @@ impl PrimeIndex {
     /// The entry of a value of any length.
     pub fn find<P: Pages>(&self, pages: &mut P, value: &[u8]) -> Result<Option<PrimeEntry>, Fault>
         requires ready { P.shown.IsReady pages.old }
-        ensures { LooksUp P.shown (prime_height self.now) pages.old pages.new result
-            (λ live. PrimeFinds self.now live (find (has_prime value.now)) result) }
+        ensures { FindsInPrime P.shown pages.old pages.new self.now (find (has_prime value.now)) result }
     {
         let found = self.tree.find(pages, value)?;
         self.told(found)
@@ -97,8 +93,7 @@ impl PrimeIndex {
     /// The place of the record of a value of any length, read from the leaf.
     pub fn place_of<P: Pages>(&self, pages: &mut P, value: &[u8]) -> Result<Option<Place>, Fault>
         requires ready { P.shown.IsReady pages.old }
-        ensures { LooksUp P.shown (prime_height self.now) pages.old pages.new result
-            (λ live. PrimeFindsPlace self.now live value.now result) }
+        ensures { FindsPlaceInPrime P.shown pages.old pages.new self.now value.now result }
     {
         let mut place = [0; 6];
         if self.tree.find_tail(pages, value, &mut place)? {
@@ -110,9 +105,7 @@ impl PrimeIndex {
     /// Whether a value of any length is there.
     pub fn has<P: Pages>(&self, pages: &mut P, value: &[u8]) -> Result<bool, Fault>
         requires ready { P.shown.IsReady pages.old }
-        ensures told { IsTrue (P.shown.state pages.new).is_honest
-            → PrimeTells self.now (P.shown.state pages.old).live value.now result }
-        ensures reads { ReadsPages P.shown (prime_height self.now) pages.old pages.new result }
+        ensures { TellsInPrime P.shown pages.old pages.new self.now value.now result }
     {
         self.tree.has(pages, value)
     }
@@ -124,8 +117,7 @@ impl PrimeIndex {
         value: &[u8],
     ) -> Result<Option<PrimeEntry>, Fault>
         requires ready { P.shown.IsReady pages.old }
-        ensures { LooksUp P.shown (2 * prime_height self.now) pages.old pages.new result
-            (λ live. PrimeFinds self.now live (find (from_prime value.now)) result) }
+        ensures { SeeksInPrime P.shown pages.old pages.new self.now (find (from_prime value.now)) result }
     {
         let found = self.tree.at_or_after(pages, value)?;
         self.told(found)
@@ -139,8 +131,7 @@ impl PrimeIndex {
         value: &[u8],
     ) -> Result<Option<PrimeEntry>, Fault>
         requires ready { P.shown.IsReady pages.old }
-        ensures { LooksUp P.shown (2 * prime_height self.now) pages.old pages.new result
-            (λ live. PrimeFinds self.now live (find (after_prime value.now)) result) }
+        ensures { SeeksInPrime P.shown pages.old pages.new self.now (find (after_prime value.now)) result }
     {
         let found = self.tree.after(pages, value)?;
         self.told(found)
@@ -153,8 +144,7 @@ impl PrimeIndex {
         value: &[u8],
     ) -> Result<Option<PrimeEntry>, Fault>
         requires ready { P.shown.IsReady pages.old }
-        ensures { LooksUp P.shown (2 * prime_height self.now) pages.old pages.new result
-            (λ live. PrimeFinds self.now live (find (past_prime value.now)) result) }
+        ensures { SeeksInPrime P.shown pages.old pages.new self.now (find (past_prime value.now)) result }
     {
         let width = usize::from(self.width);
         let key = greatest_key(value, width, width);
@@ -165,8 +155,7 @@ impl PrimeIndex {
     /// The entry of the greatest value.
     pub fn last<P: Pages>(&self, pages: &mut P) -> Result<Option<PrimeEntry>, Fault>
         requires ready { P.shown.IsReady pages.old }
-        ensures { LooksUp P.shown (prime_height self.now) pages.old pages.new result
-            (λ live. PrimeFinds self.now live last_of result) }
+        ensures { FindsInPrime P.shown pages.old pages.new self.now last_of result }
     {
         let found = self.tree.last(pages)?;
         self.told(found)
@@ -182,10 +171,9 @@ impl PrimeIndex {
         value: &[u8],
         place: Place,
     ) -> Result<bool, Fault>
-        requires pages { MayChange P.shown pages.old }
-        requires value { length value.now ≡ self.old.width }
-        ensures { AddsEntry P.shown pages.old pages.new self.old self.new self.old.tree result
-            (PrimeAdds (entry_at value.now place)) PrimeGrows }
+        requires { MayAddPrime P.shown pages.old self.old value.now }
+        ensures { AddsToPrime P.shown pages.old pages.new self.old self.new
+            (entry_at value.now place) result }
     {
         let entry = PrimeEntry::bytes(value, place);
         let mut tree = self.tree;
@@ -202,8 +190,7 @@ impl PrimeIndex {
     /// is changed. No page is taken. After a fault nothing is said of the index.
     pub fn remove<P: Pages>(&mut self, pages: &mut P, value: &[u8]) -> Result<bool, Fault>
         requires pages { MayChange P.shown pages.old }
-        ensures { TakesEntry P.shown pages.old pages.new self.old self.new self.old.tree result
-            (PrimeRemoves value.now) PrimeGrows }
+        ensures { TakesFromPrime P.shown pages.old pages.new self.old self.new value.now result }
     {
         let mut tree = self.tree;
         match tree.remove(pages, value)? {
@@ -217,9 +204,7 @@ impl PrimeIndex {
 
     /// The entry whose bytes the tree gave. Damage where they are not as many as an entry has.
     pub(crate) fn told(&self, found: Option<Entry>) -> Result<Option<PrimeEntry>, Fault>
-        ensures told { TellsEntry prime_bytes (IsPrimeEntry self.now.width)
-            (option_map (λ bytes. bytes.items) found) result }
-        ensures damage { IfErr result (λ fault. fault ≡ Fault.Damage) }
+        ensures { TellsPrime self.now found result }
     {
         let Some(bytes) = found else {
             return Ok(None);

@@ -4,11 +4,14 @@ use Rattle.key_index.specs.Stored.{IsAltEntry, alt_bytes, alt_entry_in}
 use Rattle.key_index.proofs.StoredLemmas.{alt_back, told_some}
 use Rattle.key_index.proofs.alt_index.AltIndex.told.Goals as goal
 
-pub returns-clause-told : goal.returns-clause-told
-returns-clause-told c e fits same =
-    let index = c.args.self.now in
-    let is : c.read.result ≡ alt_entry_in index.width c.in-Some.bytes.items =
-    c.read.ensures ∙ ap (λ (n : ℕ). alt_entry_in n c.as_slice.result.now) c.from-width.ensures ∙ ap (alt_entry_in index.width) c.as_slice.ensures.value in
-    ap (λ x. Ok (Some x)) is
-    ∙ ap Ok (told_some alt_bytes (IsAltEntry index.width index.prime) (alt_entry_in index.width) (alt_back index.width index.prime) c.in-Some.bytes.items e fits
-    (ap (option_map (λ b. b.items)) (sym c.in-Some.is) ∙ same))
+pub returns : goal.returns
+returns c = record {
+  told = λ e fits same.
+      let index = c.args.self.now in
+      let is : c.read.result ≡ alt_entry_in index.width c.in-Some.bytes.items =
+      c.read.ensures ∙ ap (λ (n : ℕ). alt_entry_in n c.as_slice.result.now) c.from-width.ensures ∙ ap (alt_entry_in index.width) c.as_slice.ensures.value in
+      ap (λ x. Ok (Some x)) is
+      ∙ ap Ok (told_some alt_bytes (IsAltEntry index.width index.prime) (alt_entry_in index.width) (alt_back index.width index.prime) c.in-Some.bytes.items e fits
+      (ap (option_map (λ b. b.items)) (sym c.in-Some.is) ∙ same));
+  damage = tt;
+}

@@ -3,15 +3,7 @@ use Rattle.key_index.proofs.LookLemmas.{fails}
 use Rattle.key_index.proofs.prime_index.PrimeIndex.empty.Goals as goal
 
 pub returns-in_err-tree : goal.returns-in_err-tree
-returns-in_err-tree g c = record {
-  made = λ honest sound.
-      fails c.from_residual.result _ _ c.from_residual.ensures.1 (c.in_err-tree.ensures.made honest sound).no_damage;
-  width = search rules;
-  spends = search rules;
-  one = search rules;
-  cause = search rules;
-  goes = search rules;
-}
+returns-in_err-tree g c = search (rules, fails)
 
 pub returns : goal.returns
 returns g c = record {
