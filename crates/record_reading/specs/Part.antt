@@ -7,6 +7,8 @@ use Rattle.record_forms.specs.Csv.{csv_line}
 use Rattle.record_forms.specs.Json.{json_line}
 use Rattle.record_forms.specs.Lines.{line_in, member_of}
 use Rattle.record_reading.specs.declared.quoted.Quoting.{Quoting}
+use Rattle.record_reading.specs.declared.cell.Cell.{Cell}
+use Rattle.record_reading.specs.declared.line.Line.{Line}
 use Rattle.record_reading.specs.ReadLine.{AreBytes}
 use Rattle.record_reading.specs.Quoted.{inside, value_text, values_text, BeginsWithNoByte}
 
@@ -37,6 +39,13 @@ HasNoPart text_of MayFollow text from to =
 abbrev pub inside_text : Quoting → List ℕ → List ℕ → List ℕ
 inside_text quoting bytes behind = inside quoting bytes ++ behind
 
+-- bytes in quotes were read into the area, up to what is the front of no byte
+abbrev pub ReadsInside : Quoting → (text area : List ℕ) → (from to : ℕ) → (area_after : List ℕ) → Cell
+    → Type 0
+ReadsInside quoting text area from to area_after cell =
+    ReadsPart (inside_text quoting) (BeginsWithNoByte quoting) text area from to area_after cell.at
+    cell.behind.now
+
 -- what is behind a quote that ends a value
 abbrev pub EndsValue : Quoting → List ℕ → Type 0
 EndsValue quoting behind = BeginsWithNoByte quoting (34 ∷ behind)
@@ -47,12 +56,33 @@ abbrev pub ReadsValue : Quoting → (is_first : Bool) → (name text area : List
 ReadsValue quoting is_first name text area from to area_after at behind =
     ReadsPart (value_text quoting is_first name) (EndsValue quoting) text area from to area_after at behind
 
+-- so, up to where the cell tells
+abbrev pub ReadsCell : Quoting → (is_first : Bool) → (name text area : List ℕ) → (from to : ℕ)
+    → (area_after : List ℕ) → Cell → Type 0
+ReadsCell quoting is_first name text area from to area_after cell =
+    ReadsValue quoting is_first name text area from to area_after cell.at cell.behind.now
+
+-- no bytes that have room are the value of the column
+abbrev pub HasNoValue : Quoting → (is_first : Bool) → (name text : List ℕ) → (from to : ℕ) → Type 0
+HasNoValue quoting is_first name text from to =
+    HasNoPart (value_text quoting is_first name) (EndsValue quoting) text from to
+
 -- the values of columns were read into the area, from its first place on
 abbrev pub ReadsValues : Quoting → List Column → (text area area_after : List ℕ) → (at : ℕ)
     → (behind : List ℕ) → Type 0
 ReadsValues quoting columns text area area_after at behind =
     ReadsPart (values_text quoting true columns) (EndsValue quoting) text area 0 (length area) area_after
     at behind
+
+-- so, up to where the cell tells
+abbrev pub ReadsCells : Quoting → List Column → (text area area_after : List ℕ) → Cell → Type 0
+ReadsCells quoting columns text area area_after cell =
+    ReadsValues quoting columns text area area_after cell.at cell.behind.now
+
+-- no bytes that have room are the values of columns
+abbrev pub HasNoValues : Quoting → List Column → (text area : List ℕ) → Type 0
+HasNoValues quoting columns text area =
+    HasNoPart (values_text quoting true columns) (EndsValue quoting) text 0 (length area)
 
 -- the area reaches up to a place, and another one is not past that
 pub record HasPlaces (area : List ℕ) (from to : ℕ) : Type 0 where
@@ -79,3 +109,8 @@ abbrev pub ReadsFront : (List ℕ → List ℕ → List ℕ) → (text area area
     → (behind : List ℕ) → Type 0
 ReadsFront text_of text area area_after n behind =
     ReadsPart text_of Anything text area 0 (length area) area_after n behind
+
+-- so, up to where the line tells
+abbrev pub ReadsUpTo : (List ℕ → List ℕ → List ℕ) → (text area area_after : List ℕ) → Line → Type 0
+ReadsUpTo text_of text area area_after line =
+    ReadsFront text_of text area area_after line.length line.behind.now

@@ -33,6 +33,15 @@ pub record ReadsByte (quoting : Quoting) (text : List ℕ) (result : Option Show
 abbrev pub LacksFront : (List ℕ → List ℕ) → List ℕ → Type 0
 LacksFront front text = (behind : List ℕ) → text ≡ front behind → ⊥
 
+-- a text does not begin with these bytes
+abbrev pub LacksStart : List ℕ → List ℕ → Type 0
+LacksStart start text = LacksFront (λ behind. start ++ behind) text
+
+-- so many bytes at the front of a text show a byte
+abbrev pub ShowsFirst : List ℕ → ShownByte → Type 0
+ShowsFirst text first =
+    (text ≡ shown_byte first.byte ++ drop first.size text) × (first.size ≤ length text)
+
 -- a comma, if this is not the first column, and what is behind it
 abbrev pub behind_comma : (is_first : Bool) → List ℕ → List ℕ
 behind_comma true behind = behind

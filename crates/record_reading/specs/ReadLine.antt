@@ -2,6 +2,7 @@
 use Rattle.std.specs.Prelude.{◌≡◌, ◌<◌, ◌≤◌, ℕ, List, ◌++◌, length, take, drop}
 use Rattle.page_bytes.specs.Each.{Each}
 use Rattle.record_forms.specs.declared.form.Form.{Form}
+use Rattle.record_reading.specs.declared.line.Line.{Line}
 use Rattle.record_forms.specs.Lines.{line_in}
 
 -- the numbers are bytes
@@ -26,6 +27,11 @@ pub record ReadsRecord (form : Form) (text : List ℕ) (least : ℕ) (area area_
     (behind : List ℕ) : Type 0 where
   pub long : least ≤ n
   pub line : ReadsLine form text area area_after n behind
+
+-- so, up to where the line tells
+abbrev pub ReadsRecordUpTo : Form → (text : List ℕ) → (least : ℕ) → (area area_after : List ℕ) → Line → Type 0
+ReadsRecordUpTo form text least area area_after line =
+    ReadsRecord form text least area area_after line.length line.behind.now
 
 -- a text begins with the line of no record that has from so many to so many bytes
 abbrev pub BeginsWithNoRecord : Form → List ℕ → (least greatest : ℕ) → Type 0

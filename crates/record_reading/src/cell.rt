@@ -1,6 +1,5 @@
 //! The bytes in quotes.
-ghost use Rattle.record_reading.specs.Quoted.{BeginsWithNoByte};
-ghost use Rattle.record_reading.specs.Part.{ReadsPart, HasPlaces, inside_text};
+ghost use Rattle.record_reading.specs.Part.{ReadsInside, HasPlaces};
 
 use crate::quoted::{Quoting, first_quoted};
 
@@ -21,8 +20,7 @@ pub fn read_cell<'a>(
     to: usize,
 ) -> Cell<'a>
     requires { HasPlaces area.old from to }
-    ensures { ReadsPart (inside_text quoting) (BeginsWithNoByte quoting) text.now area.old from to area.new
-        result.at result.behind.now }
+    ensures { ReadsInside quoting text.now area.old from to area.new result }
 {
     let mut rest = text;
     let mut at = from;

@@ -1,7 +1,7 @@
 //! What stands before the first record of a text.
 ghost use Rattle.std.specs.Prelude.{◌≡◌, ◌++◌, MatchOption};
 ghost use Rattle.record_reading.specs.Header.{header_lines};
-ghost use Rattle.record_reading.specs.Quoted.{LacksFront};
+ghost use Rattle.record_reading.specs.Quoted.{LacksStart};
 
 use record_forms::Form;
 
@@ -17,7 +17,7 @@ pub fn header_lines(form: &Form) -> u64
 
 /// The text behind what stands before the first record. None where it does not begin with that.
 pub fn behind_header<'a>(text: &'a [u8], header: &[u8]) -> Option<&'a [u8]>
-    ensures { MatchOption result (LacksFront (λ rest. header.now ++ rest) text.now)
+    ensures { MatchOption result (LacksStart header.now text.now)
         (λ rest. text.now ≡ header.now ++ rest.now) }
 {
     text.strip_prefix(header)

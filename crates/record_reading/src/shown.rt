@@ -1,6 +1,7 @@
 //! The byte that a text begins with, as it is shown in the line of a record.
-ghost use Rattle.std.specs.Prelude.{◌≡◌, ◌<◌, ◌≤◌, ◌/◌, ◌%◌, ◌*◌, ◌+◌, ◌++◌, ◌∷◌, [], ℕ, List, drop, length, IfSome, None};
+ghost use Rattle.std.specs.Prelude.{◌≡◌, ◌<◌, ◌≤◌, ◌/◌, ◌%◌, ◌*◌, ◌+◌, ◌++◌, ◌∷◌, [], ℕ, List, IfSome, None};
 ghost use Rattle.deck_runner.specs.Line.{hex_digit, is_plain, shown_byte};
+ghost use Rattle.record_reading.specs.Quoted.{ShowsFirst};
 
 /// A byte at the front of a text, and how many bytes of the text show it.
 #[derive(Clone, Copy, Debug, PartialEq, Eq)]
@@ -45,8 +46,7 @@ fn escaped(high: u8, low: u8) -> Option<u8>
 /// The byte that the front of a text shows. None where it is the front of what is shown of no byte.
 pub fn first_byte(text: &[u8]) -> Option<ShownByte>
     ensures byte { IfSome result (λ first. first.byte < 256) }
-    ensures shown { IfSome result (λ first. (text.now ≡ shown_byte first.byte ++ drop first.size text.now)
-        × (first.size ≤ length text.now)) }
+    ensures shown { IfSome result (ShowsFirst text.now) }
     ensures none { result ≡ None → (byte : ℕ) (rest : List ℕ) → byte < 256
         → text.now ≡ shown_byte byte ++ rest → ⊥ }
 {

@@ -1,7 +1,7 @@
 //! The value of a column.
 ghost use Rattle.std.specs.Prelude.{◌≡◌, IfSome, None};
-ghost use Rattle.record_reading.specs.Quoted.{value_front, value_text, LacksFront};
-ghost use Rattle.record_reading.specs.Part.{ReadsValue, HasNoPart, HasPlaces, EndsValue};
+ghost use Rattle.record_reading.specs.Quoted.{value_front, LacksFront};
+ghost use Rattle.record_reading.specs.Part.{ReadsCell, HasNoValue, HasPlaces};
 
 use crate::cell::{Cell, read_cell};
 use crate::name::passed_label;
@@ -37,10 +37,9 @@ pub fn read_value<'a>(
     to: usize,
 ) -> Option<Cell<'a>>
     requires { HasPlaces area.old from to }
-    ensures read { IfSome result (λ cell. ReadsValue quoting is_first name.now.bytes text.now
-        area.old from to area.new cell.at cell.behind.now) }
-    ensures none { result ≡ None → HasNoPart (value_text quoting is_first name.now.bytes)
-        (EndsValue quoting) text.now from to }
+    ensures read { IfSome result
+        (ReadsCell quoting is_first name.now.bytes text.now area.old from to area.new) }
+    ensures none { result ≡ None → HasNoValue quoting is_first name.now.bytes text.now from to }
 {
     let opened = passed_front(quoting, is_first, name, text)?;
     let cell = read_cell(quoting, opened, area, from, to);

@@ -1,9 +1,9 @@
 //! The values of columns.
-ghost use Rattle.std.specs.Prelude.{◌≡◌, length, map, true, IfSome, None};
+ghost use Rattle.std.specs.Prelude.{◌≡◌, length, map, IfSome, None};
 ghost use Rattle.record_forms.specs.Parts.{part_of};
 ghost use Rattle.record_reading.specs.Whole.{AreTiled};
-ghost use Rattle.record_reading.specs.Quoted.{end_of, values_text};
-ghost use Rattle.record_reading.specs.Part.{ReadsValues, HasNoPart, EndsValue};
+ghost use Rattle.record_reading.specs.Quoted.{end_of};
+ghost use Rattle.record_reading.specs.Part.{ReadsCells, HasNoValues};
 
 use crate::cell::Cell;
 use crate::quoted::Quoting;
@@ -31,10 +31,8 @@ pub fn read_values<'a>(
     area: &mut [u8],
 ) -> Option<Cell<'a>>
     requires whole { AreTiled 0 (map part_of columns.now) (length area.old) }
-    ensures read { IfSome result (λ cell. ReadsValues quoting columns.now text.now area.old
-        area.new cell.at cell.behind.now) }
-    ensures none { result ≡ None → HasNoPart (values_text quoting true columns.now)
-        (EndsValue quoting) text.now 0 (length area.old) }
+    ensures read { IfSome result (ReadsCells quoting columns.now text.now area.old area.new) }
+    ensures none { result ≡ None → HasNoValues quoting columns.now text.now area.old }
 {
     let mut rest = text;
     let mut at = 0;
