@@ -23,6 +23,11 @@ pub record IsIndexFor (opened : OpenFile) (index : AltIndex) : Type 0 where
   pub width : index.width ≡ (key_at opened.schema (alt_key index)).length
   pub prime : index.prime ≡ (key_at opened.schema 0).length
 
+-- these bytes are as many as an entry of the index has
+pub record IsEntryFor (opened : OpenFile) (alternate : AltIndex) (entry : List ℕ) : Type 0 where
+  pub index : IsIndexFor opened alternate
+  pub long : length entry ≡ alternate.tree.shape.entry
+
 -- no two rows have one rank by key k
 abbrev pub RanksDiffer : Schema → ℕ → List Row → Type 0
 RanksDiffer schema k [] = ⊤

@@ -1,9 +1,11 @@
 -- What single entries and slots of a file show.
-use Rattle.std.specs.Prelude.{◌≡◌, ℕ, ◌+◌, ◌≤◌, ◌<◌, Bool, true, List, drop, length, take, Some, IsSome, IsTrue, find}
+use Rattle.std.specs.Prelude.{◌≡◌, ℕ, ◌+◌, ◌≤◌, ◌<◌, Bool, true, List, drop, length, take, Some, IsSome, IsTrue, find, zip}
+use Rattle.std.specs.List.{list_all}
 use Rattle.page_bytes.specs.Each.{Each}
 use Rattle.record_layout.specs.Schema.{prime_of}
+use Rattle.record_layout.specs.declared.schema.KeyPart.{KeyPart}
 use Rattle.indexed_file.specs.File.{Row}
-use Rattle.indexed_file.specs.Sound.{is_row}
+use Rattle.indexed_file.specs.Sound.{is_row, is_stamp}
 use Rattle.page_marks.specs.Marks.{marked_in}
 use Rattle.page_marks.specs.PageList.{pages_in}
 use Rattle.page_walks.specs.declared.spot.Spot.{Spot}
@@ -19,7 +21,7 @@ use Rattle.key_index.specs.Standing.{alt_key}
 use Rattle.key_index.specs.Stored.{alt_entry_in}
 use Rattle.open_file.specs.InOrder.{alt_entry as entry_of}
 use Rattle.open_file.specs.Stored.{stamps_length}
-use Rattle.open_file.specs.ReadOff.{row_off}
+use Rattle.open_file.specs.ReadOff.{stamps_off, row_off}
 use Rattle.open_file.specs.Stands.{IsShaped, is_same}
 use Rattle.open_file.specs.declared.open_file.OpenFile.{OpenFile}
 use Rattle.row_checks.specs.Rows.{prime_at, place_at, places_in, row_at}
@@ -34,6 +36,21 @@ pub record IsStoredRecord (opened : OpenFile) (stored : List ℕ) : Type 0 where
   pub least : stamps_length (drop 1 opened.schema.keys) + opened.schema.least ≤ length stored
   pub greatest : length stored ≤ stamps_length (drop 1 opened.schema.keys) + opened.schema.greatest
   pub bytes : Each (λ b. b < 256) stored
+
+-- so, and the file has a key k
+pub record HasKeyOf (opened : OpenFile) (stored : List ℕ) (k : ℕ) : Type 0 where
+  pub fits : IsStoredRecord opened stored
+  pub key : k < length opened.schema.keys
+
+-- so, and it is an alternate one
+pub record HasAlternateOf (opened : OpenFile) (stored : List ℕ) (k : ℕ) : Type 0 where
+  pub fits : IsStoredRecord opened stored
+  pub some : 1 ≤ k
+  pub key : k < length opened.schema.keys
+
+-- the bytes of stamps are those of duplicates keys, each from 1 to below the next one
+abbrev pub are_stamps_off : List KeyPart → ℕ → List ℕ → Bool
+are_stamps_off parts next bytes = list_all (λ p. is_stamp next p.0 p.1) (zip parts (stamps_off parts bytes))
 
 -- the row of stamps and a record
 abbrev pub stored_row : OpenFile → List ℕ → Row

@@ -1,5 +1,5 @@
 -- The rows that the prime index of a file leads to.
-use Rattle.std.specs.Prelude.{◌≡◌, List, [], ◌∷◌, map, IsTrue, ⊤, ℕ}
+use Rattle.std.specs.Prelude.{◌≡◌, Bool, false, List, [], ◌∷◌, map, IsTrue, ⊤, ℕ}
 use Rattle.std.specs.Ordering.{is_lt}
 use Rattle.page_bytes.specs.Each.{Each}
 use Rattle.tree_node.specs.Order.{Ascends}
@@ -7,6 +7,7 @@ use Rattle.record_layout.specs.Schema.{Schema, prime_of}
 use Rattle.indexed_file.specs.File.{Row}
 use Rattle.indexed_file.specs.Rank.{value_cmp}
 use Rattle.indexed_file.specs.Sound.{is_row}
+use Rattle.page_marks.specs.Marks.{marked_in}
 use Rattle.page_marks.specs.PageList.{pages_in}
 use Rattle.page_walks.specs.declared.spot.Spot.{Spot}
 use Rattle.page_walks.specs.Spots.{entry_at, entries_at}
@@ -16,7 +17,7 @@ use Rattle.record_heap.specs.Walk.{slots_of}
 use Rattle.key_index.specs.Stored.{prime_entry_in, prime_bytes, IsPrimeEntry}
 use Rattle.open_file.specs.InOrder.{prime_entries}
 use Rattle.open_file.specs.ReadOff.{row_off}
-use Rattle.open_file.specs.Stands.{IsPlaced}
+use Rattle.open_file.specs.Stands.{IsPlaced, IsShaped}
 use Rattle.open_file.specs.declared.open_file.OpenFile.{OpenFile}
 
 -- the bytes of an entry of the prime index
@@ -41,6 +42,14 @@ rows_in opened list spots = map (row_at opened list) spots
 -- the entries of the prime index at these places rise by their values
 abbrev pub EntriesRise : OpenFile → List (List ℕ) → List Spot → Type 0
 EntriesRise opened list spots = Ascends opened.prime.width (entries_at opened.prime.tree.shape list spots)
+
+-- the parts of the file are made for its schema, the entries of its prime index rise, and no page is
+-- marked
+pub record MayCompareRows (opened : OpenFile) (list : List (List ℕ)) (spots : List Spot)
+    (marks : List Bool) : Type 0 where
+  pub shaped : IsShaped opened
+  pub rises : EntriesRise opened list spots
+  pub none : (n : ℕ) → marked_in marks n ≡ false
 
 -- the prime values rise
 abbrev pub PrimesRise : Schema → List Row → Type 0

@@ -3,7 +3,7 @@
 ghost use Rattle.std.specs.Prelude.{◌≡◌, OnOk, IsTrue, All, length};
 ghost use Rattle.tree_node.specs.Order.{Ascends};
 ghost use Rattle.page_walks.specs.Spots.{entries_at, spots_in};
-ghost use Rattle.row_checks.specs.Alternate.{IsIndexFor, AlternateStands};
+ghost use Rattle.row_checks.specs.Alternate.{IsIndexFor, IsEntryFor, AlternateStands};
 ghost use Rattle.row_checks.specs.Leading.{HasRow, IsEntryOf, OfEachEntry};
 
 use crate::entry::{entry, entry_near, place_in};
@@ -27,8 +27,7 @@ fn is_of_row(
     entry_bytes: &[u8],
     leader: Spot,
 ) -> bool
-    requires index { IsIndexFor file.now index }
-    requires long { length entry_bytes.now ≡ index.tree.shape.entry }
+    requires { IsEntryFor file.now index entry_bytes.now }
     ensures { IsTrue result → IsEntryOf file.now pages.now index entry_bytes.now leader }
 {
     let Some(prime) = entry(pages, file.prime.tree.shape, leader) else {

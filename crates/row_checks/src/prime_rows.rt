@@ -5,7 +5,7 @@ ghost use Rattle.page_marks.specs.Marks.{marked_in};
 ghost use Rattle.page_walks.specs.Spots.{spots_in};
 ghost use Rattle.record_heap.specs.Walk.{is_one_of};
 ghost use Rattle.open_file.specs.Stands.{IsShaped};
-ghost use Rattle.row_checks.specs.Rows.{EntriesRise, RowsStand};
+ghost use Rattle.row_checks.specs.Rows.{EntriesRise, MayCompareRows, RowsStand};
 ghost use Rattle.row_checks.specs.Leading.{LeadsToRow, OfEachEntry};
 
 use crate::entry::{entry, place_in};
@@ -110,9 +110,7 @@ fn compare(
     primes: &[Leaf],
     marks: &mut [bool],
 ) -> Result<(), RowFault>
-    requires shaped { IsShaped file.now }
-    requires rises { EntriesRise file.now pages.now (spots_in primes.now) }
-    requires none { (n : ℕ) → marked_in marks.old n ≡ false }
+    requires { MayCompareRows file.now pages.now (spots_in primes.now) marks.old }
     ensures { OnOk result (RowsStand file.now pages.now own.now (spots_in primes.now)) }
 {
     mark_all(marks, own)?;

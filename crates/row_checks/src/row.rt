@@ -1,11 +1,11 @@
 //! A row: stamps, and the record behind them.
 
-ghost use Rattle.std.specs.Prelude.{◌≡◌, ◌≤◌, ◌<◌, drop, length, IsTrue};
+ghost use Rattle.std.specs.Prelude.{◌≡◌, ◌≤◌, drop, length, IsTrue};
 ghost use Rattle.record_layout.specs.Schema.{value_of};
 ghost use Rattle.indexed_file.specs.File.{stamp_of};
 ghost use Rattle.indexed_file.specs.Sound.{is_row};
 ghost use Rattle.open_file.specs.Stored.{stamps_length};
-ghost use Rattle.row_checks.specs.Leading.{IsStoredRecord, stored_row};
+ghost use Rattle.row_checks.specs.Leading.{IsStoredRecord, HasKeyOf, HasAlternateOf, stored_row};
 
 use crate::stamps::{are_stamps, stamp_at};
 use open_file::OpenFile;
@@ -30,8 +30,7 @@ pub fn is_row(file: &OpenFile, stored: &[u8]) -> bool
 
 /// The value of key k.
 pub fn value<'a>(file: &OpenFile, stored: &'a [u8], k: u8) -> &'a [u8]
-    requires fits { IsStoredRecord file.now stored.now }
-    requires key { k < length file.now.schema.keys }
+    requires { HasKeyOf file.now stored.now k }
     ensures { result.now ≡ value_of file.now.schema k (stored_row file.now stored.now).bytes }
 {
     file.schema.value(record_of(file, stored), k)
@@ -39,9 +38,7 @@ pub fn value<'a>(file: &OpenFile, stored: &'a [u8], k: u8) -> &'a [u8]
 
 /// The stamp in alternate key k, 0 in a unique one.
 pub fn stamp(file: &OpenFile, stored: &[u8], k: u8) -> u64
-    requires fits { IsStoredRecord file.now stored.now }
-    requires some { 1 ≤ k }
-    requires key { k < length file.now.schema.keys }
+    requires { HasAlternateOf file.now stored.now k }
     ensures { result ≡ stamp_of k (stored_row file.now stored.now) }
 {
     stamp_at(&file.schema.keys()[1..], stored, k as usize - 1)
