@@ -1,20 +1,23 @@
 -- What adding a record makes of an open file.
-use Rattle.std.specs.Prelude.{◌≡◌, ℕ, ◌+◌, ◌<◌, List, length, false, sum_by, None, Some, find, nat_lt, IsTrue, Result, if◌then◌else◌}
+use Rattle.std.specs.Prelude.{◌≡◌, ℕ, ◌+◌, ◌*◌, ◌<◌, List, length, false, sum_by, None, Some, find, nat_lt, IsTrue, Result, if◌then◌else◌}
 use Rattle.io_state.specs.declared.fault.Fault.{Fault}
 use Rattle.pages.specs.Answer.{IsAnswer}
 use Rattle.pages.specs.ShownPages.{ShownPages}
-use Rattle.file_changes.specs.InPages.{FileInPages}
+use Rattle.file_changes.specs.InPages.{FileInPages, in_pages}
 use Rattle.file_changes.specs.Contents.{Holds, PartsStep}
+use Rattle.file_changes.specs.Steps.{AnswersFor, TakesPages}
 use Rattle.record_layout.specs.Schema.{Schema, key_at, value_of, prime_of}
 use Rattle.indexed_file.specs.File.{File}
 use Rattle.indexed_file.specs.Change.{clashes, added, new_row}
+use Rattle.indexed_file.specs.Answers.{added_answer}
+use Rattle.indexed_file.specs.declared.answer.Added.{Added}
 use Rattle.pages.specs.PageMap.{PageMap}
 use Rattle.key_index.specs.declared.entry.AltEntry.{AltEntry}
 use Rattle.key_index.specs.declared.entry.PrimeEntry.{PrimeEntry}
 use Rattle.key_index.specs.declared.alt_index.AltIndex.{AltIndex}
 use Rattle.key_index.specs.declared.prime_index.PrimeIndex.{PrimeIndex}
 use Rattle.key_index.specs.Entries.{with_alt, with_prime, has_rank, has_prime}
-use Rattle.key_index.specs.Standing.{alt_height}
+use Rattle.key_index.specs.Standing.{alt_height, prime_height}
 use Rattle.record_heap.specs.declared.heap.Heap.{Heap}
 use Rattle.record_heap.specs.declared.shape.Place.{Place}
 use Rattle.record_heap.specs.Chain.{Slots, put}
@@ -58,33 +61,33 @@ pub record RowPut (heap : Heap) (prime : PrimeIndex) (alternates : List AltIndex
   pub parts : Parts heap prime alternates pages (put slots place (Some bytes)) primes entries
 
 -- where the parts were sound, a row of these bytes was put into the heap
-abbrev pub PutsRow : {S : Type 0} → ShownPages S → (before after : FileInPages S) → List ℕ
+abbrev pub PutsRow : {S : Type 0} → ShownPages S → List ℕ → (old new : OpenFile) → (before after : S)
     → Result Place Fault → Type 0
-PutsRow shown before after bytes result =
-    IsTrue (shown.state after.pages).is_honest → IsTrue (shown.state before.pages).is_sound
+PutsRow shown bytes old new before after result =
+    IsTrue (shown.state after).is_honest → IsTrue (shown.state before).is_sound
     → (slots : Slots) (primes : List PrimeEntry) (entries : ℕ → List AltEntry)
-    → Holds shown before (record { slots = slots; primes = primes; entries = entries })
-    → IsAnswer result (λ place. RowPut after.file.heap after.file.prime after.file.alternates.items
-    (shown.state after.pages).live slots primes entries place bytes
-    × IsTrue (shown.state after.pages).is_sound)
+    → Holds shown (in_pages old before) (record { slots = slots; primes = primes; entries = entries })
+    → IsAnswer result (λ place. RowPut new.heap new.prime new.alternates.items
+    (shown.state after).live slots primes entries place bytes
+    × IsTrue (shown.state after).is_sound)
 
 -- the slot of a new record: its stamps, and its bytes
 abbrev pub new_slot : OpenFile → List ℕ → List ℕ
 new_slot file bytes = stored file.schema (new_row file.schema file.next_stamp bytes)
 
 -- the prime index gets the entry of a record at this place, whose value it did not have
-abbrev pub prime_added : Schema → List ℕ → Place → PartsStep
-prime_added schema bytes place = record {
-  Asks = λ held. find (has_prime (prime_of schema bytes)) held.primes ≡ None;
+abbrev pub prime_added : List ℕ → Place → OpenFile → PartsStep
+prime_added bytes place file = record {
+  Asks = λ held. find (has_prime (prime_of file.schema bytes)) held.primes ≡ None;
   leaves = λ held. record held {
     primes = with_prime
-        (record { value = record { items = prime_of schema bytes }; place = place }) held.primes;
+        (record { value = record { items = prime_of file.schema bytes }; place = place }) held.primes;
   };
 }
 
 -- alternate index j gets the entry of a record, whose value and stamp it did not have
-abbrev pub entry_added : OpenFile → List ℕ → ℕ → PartsStep
-entry_added file bytes j = record {
+abbrev pub entry_added : List ℕ → ℕ → OpenFile → PartsStep
+entry_added bytes j file = record {
   Asks = λ held. find (has_rank (value_of file.schema (j + 1) bytes)
       (stamp_in file.schema file.next_stamp j)) (held.entries j) ≡ None;
   leaves = λ held. record held {
@@ -94,8 +97,8 @@ entry_added file bytes j = record {
 }
 
 -- so does each of them
-abbrev pub entries_added : OpenFile → List ℕ → PartsStep
-entries_added file bytes = record {
+abbrev pub entries_added : List ℕ → OpenFile → PartsStep
+entries_added bytes file = record {
   Asks = λ held. AreFree file.schema file.next_stamp bytes (length file.alternates.items) held.entries;
   leaves = λ held. record held {
     entries = added_below file.schema file.next_stamp bytes
@@ -112,3 +115,15 @@ AddsRecord shown before after bytes result =
     → clashes before.file.schema bytes file.rows ≡ false
     → IsAnswer result (λ u. Stands after.file (shown.state after.pages).live
     (added before.file.schema bytes file) × IsTrue (shown.state after.pages).is_sound)
+
+-- the answer is the one of the definitions, if there is room
+abbrev pub AnswersAdding : {S : Type 0} → ShownPages S → OpenFile → List ℕ → (before after : S)
+    → Result Added Fault → Type 0
+AnswersAdding shown file bytes before after result =
+    AnswersFor shown file before after (λ was stands x. x ≡ added_answer file.schema bytes was) result
+
+-- the prime index may take a page more than its tree has levels
+abbrev pub TakesPagesOfPrime : {S : Type 0} → ShownPages S → OpenFile → (before after : S)
+    → Result Unit Fault → Type 0
+TakesPagesOfPrime shown file before after result =
+    TakesPages shown (prime_height file.prime + 1) (8 * (prime_height file.prime + 1)) before after result

@@ -7,7 +7,8 @@ use Rattle.key_index.specs.declared.entry.AltEntry.{AltEntry}
 use Rattle.key_index.specs.declared.entry.PrimeEntry.{PrimeEntry}
 use Rattle.record_heap.specs.Chain.{Slots}
 use Rattle.open_file.specs.Parts.{Parts}
-use Rattle.file_changes.specs.InPages.{FileInPages}
+use Rattle.open_file.specs.declared.open_file.OpenFile.{OpenFile}
+use Rattle.file_changes.specs.InPages.{FileInPages, in_pages}
 
 -- the records of the heap, the entries of the prime index, and those of alternate index j
 pub record Contents : Type 0 where
@@ -25,14 +26,14 @@ pub record PartsStep : Type 1 where
   pub Asks : Contents → Type 0
   pub leaves : Contents → Contents
 
--- where the parts held what the change asks for, they hold what it leaves
-abbrev pub TakesStep : {S : Type 0} → ShownPages S → PartsStep → (before after : FileInPages S)
-    → Result Unit Fault → Type 0
-TakesStep shown change before after result =
-    IsTrue (shown.state after.pages).is_honest → IsTrue (shown.state before.pages).is_sound
+-- where the parts held what the file's step asks for, they hold what it leaves
+abbrev pub TakesStep : {S : Type 0} → ShownPages S → (OpenFile → PartsStep) → (old new : OpenFile)
+    → (before after : S) → Result Unit Fault → Type 0
+TakesStep shown step old new before after result =
+    IsTrue (shown.state after).is_honest → IsTrue (shown.state before).is_sound
     → (slots : Slots) (primes : List PrimeEntry) (entries : ℕ → List AltEntry)
-    → Holds shown before (record { slots = slots; primes = primes; entries = entries })
-    → change.Asks (record { slots = slots; primes = primes; entries = entries })
-    → IsAnswer result (λ u. Holds shown after (change.leaves
+    → Holds shown (in_pages old before) (record { slots = slots; primes = primes; entries = entries })
+    → (step old).Asks (record { slots = slots; primes = primes; entries = entries })
+    → IsAnswer result (λ u. Holds shown (in_pages new after) ((step old).leaves
     (record { slots = slots; primes = primes; entries = entries }))
-    × IsTrue (shown.state after.pages).is_sound)
+    × IsTrue (shown.state after).is_sound)

@@ -1,17 +1,20 @@
 -- The record of a prime value, as it is before a change.
-use Rattle.std.specs.Prelude.{◌≡◌, ℕ, ◌+◌, ◌≤◌, List, length, drop, find, slice_range, Option, None, Some, option_map}
+use Rattle.std.specs.Prelude.{◌≡◌, ℕ, ◌+◌, ◌≤◌, List, ◌++◌, length, drop, find, slice_range, Option, None, Some, option_map, Result}
+use Rattle.io_state.specs.declared.fault.Fault.{Fault}
 use Rattle.record_layout.specs.Schema.{Schema}
 use Rattle.indexed_file.specs.File.{Row, File}
-use Rattle.indexed_file.specs.Change.{row_of}
+use Rattle.indexed_file.specs.Change.{row_of, new_row}
 use Rattle.key_index.specs.declared.entry.PrimeEntry.{PrimeEntry}
 use Rattle.key_index.specs.Entries.{has_prime}
 use Rattle.record_heap.specs.declared.shape.Place.{Place}
 use Rattle.record_heap.specs.Chain.{Slots}
 use Rattle.pages.specs.PageMap.{PageMap}
+use Rattle.pages.specs.ShownPages.{ShownPages}
 use Rattle.open_file.specs.InOrder.{prime_entries}
-use Rattle.open_file.specs.Stands.{Stands}
+use Rattle.open_file.specs.Stands.{Stands, IsShaped}
 use Rattle.open_file.specs.Stored.{stored, stamps_length}
 use Rattle.open_file.specs.declared.open_file.OpenFile.{OpenFile}
+use Rattle.file_changes.specs.Steps.{AnswersFor}
 use Rattle.file_changes.specs.declared.old_record.OldRecord.{OldRecord}
 
 -- a row of these bytes and stamps
@@ -57,3 +60,20 @@ pub record HasRecordLength (file : OpenFile) (old : OldRecord) : Type 0 where
   pub least : file.heap.shape.stamps + file.heap.shape.least ≤ old.end
   pub greatest : old.end ≤ file.heap.shape.stamps + file.heap.shape.greatest
   pub many : length old.stamps.items ≡ length file.alternates.items
+
+-- the answer is the record of a prime value in the slot, where there is one
+abbrev pub AnswersFinding : {S : Type 0} → ShownPages S → OpenFile → (prime slot : List ℕ)
+    → (before after : S) → Result (Option OldRecord) Fault → Type 0
+AnswersFinding shown opened prime slot before after result =
+    AnswersFor shown opened before after (λ file stands. HasFoundIn stands prime slot) result
+
+-- the stamps of a record stand in the front of a slot
+pub record HasStampsIn (file : OpenFile) (slot : List ℕ) : Type 0 where
+  pub shaped : IsShaped file
+  pub room : file.heap.shape.stamps ≤ length slot
+
+-- the stamps of a new record, in front of it in its slot
+pub record AreNewStamps (file : OpenFile) (stamps : List ℕ) : Type 0 where
+  pub stored : (bytes : List ℕ) → stamps ++ bytes
+      ≡ stored file.schema (new_row file.schema file.next_stamp bytes)
+  pub length : length stamps ≡ file.heap.shape.stamps

@@ -1,5 +1,11 @@
 -- What removing a record makes of an open file.
-use Rattle.std.specs.Prelude.{ℕ, ◌+◌, ◌<◌, List, length, find, IsSome, nat_lt, None, if◌then◌else◌}
+use Rattle.std.specs.Prelude.{◌≡◌, ◌≢◌, ℕ, ◌+◌, ◌*◌, ◌<◌, List, length, find, slice_index_or, IsSome, nat_lt, None, Result, if◌then◌else◌}
+use Rattle.io_state.specs.declared.fault.Fault.{Fault}
+use Rattle.pages.specs.ShownPages.{ShownPages}
+use Rattle.key_index.specs.declared.alt_index.AltIndex.{AltIndex}
+use Rattle.key_index.specs.Standing.{prime_height}
+use Rattle.file_changes.specs.Adding.{levels_in}
+use Rattle.file_changes.specs.Steps.{CanChangeWith}
 use Rattle.record_layout.specs.Schema.{Schema, value_of, prime_of}
 use Rattle.indexed_file.specs.File.{Row, stamp_of}
 use Rattle.key_index.specs.declared.entry.AltEntry.{AltEntry}
@@ -9,7 +15,7 @@ use Rattle.record_heap.specs.declared.shape.Place.{Place}
 use Rattle.record_heap.specs.Chain.{Slots, put}
 use Rattle.open_file.specs.Parts.{but_at}
 use Rattle.open_file.specs.declared.open_file.OpenFile.{OpenFile}
-use Rattle.file_changes.specs.Contents.{Contents, PartsStep}
+use Rattle.file_changes.specs.Contents.{Contents, PartsStep, TakesStep}
 use Rattle.file_changes.specs.Old.{row_with}
 use Rattle.file_changes.specs.declared.old_record.OldRecord.{OldRecord}
 
@@ -40,22 +46,22 @@ without_row schema row place count held = record {
 }
 
 -- the prime index loses the entry of a record
-abbrev pub prime_lost : Schema → List ℕ → PartsStep
-prime_lost schema bytes = record {
-  Asks = λ held. IsSome (find (has_prime (prime_of schema bytes)) held.primes);
-  leaves = λ held. record held { primes = without_prime (prime_of schema bytes) held.primes };
+abbrev pub prime_lost : List ℕ → OpenFile → PartsStep
+prime_lost bytes file = record {
+  Asks = λ held. IsSome (find (has_prime (prime_of file.schema bytes)) held.primes);
+  leaves = λ held. record held { primes = without_prime (prime_of file.schema bytes) held.primes };
 }
 
 -- the slot at this place is given back
-abbrev pub slot_freed : Place → PartsStep
-slot_freed place = record {
+abbrev pub slot_freed : Place → OpenFile → PartsStep
+slot_freed place file = record {
   Asks = λ held. IsSome (held.slots place);
   leaves = λ held. record held { slots = put held.slots place None };
 }
 
 -- alternate index j loses the entry of a record, of this stamp
-abbrev pub entry_lost : OpenFile → List ℕ → ℕ → ℕ → PartsStep
-entry_lost file bytes stamp j = record {
+abbrev pub entry_lost : List ℕ → ℕ → ℕ → OpenFile → PartsStep
+entry_lost bytes stamp j file = record {
   Asks = λ held. IsSome (find (has_rank (value_of file.schema (j + 1) bytes) stamp) (held.entries j));
   leaves = λ held. record held {
     entries = but_at j
@@ -64,8 +70,8 @@ entry_lost file bytes stamp j = record {
 }
 
 -- each of them loses the entry of a record, of these stamps
-abbrev pub entries_lost : OpenFile → (bytes stamps : List ℕ) → PartsStep
-entries_lost file bytes stamps = record {
+abbrev pub entries_lost : (bytes stamps : List ℕ) → OpenFile → PartsStep
+entries_lost bytes stamps file = record {
   Asks = λ held. AreThere file.schema (row_with bytes stamps) (length file.alternates.items) held.entries;
   leaves = λ held. record held {
     entries = without_below file.schema (row_with bytes stamps)
@@ -74,9 +80,39 @@ entries_lost file bytes stamps = record {
 }
 
 -- the parts lose the record that was found, of these bytes
-abbrev pub row_lost : OpenFile → OldRecord → List ℕ → PartsStep
-row_lost file old bytes = record {
+abbrev pub row_lost : OldRecord → List ℕ → OpenFile → PartsStep
+row_lost old bytes file = record {
   Asks = λ held. HasRowAndEntries file.schema (row_with bytes old.stamps.items) old.place
       (length file.alternates.items) held.slots held.primes held.entries;
   leaves = without_row file.schema (row_with bytes old.stamps.items) old.place (length file.alternates.items);
 }
+
+-- a record of these bytes can be taken out, and has these stamps, one for each alternate key
+pub record CanTakeOut {S : Type 0} (shown : ShownPages S) (file : OpenFile) (pages : S)
+    (bytes old_stamps : List ℕ) : Type 0 where
+  pub can : CanChangeWith shown file pages bytes
+  pub stamps : length old_stamps ≡ length file.alternates.items
+
+-- only the parts change, and the path is forgotten
+abbrev pub ChangesParts : (old new : OpenFile) → Type 0
+ChangesParts old new = new ≡ record old {
+  heap = new.heap;
+  prime = new.prime;
+  alternates = new.alternates;
+  path = None;
+}
+
+-- the alternate indexes but j are as they were
+abbrev pub KeepsOtherIndexes : ℕ → (old new : OpenFile) → Type 0
+KeepsOtherIndexes j old new = (i : ℕ) (index : AltIndex) → i ≢ j
+    → slice_index_or new.alternates.items i index ≡ slice_index_or old.alternates.items i index
+
+-- the most pages that taking a record out asks for
+abbrev pub most_to_take_out : OpenFile → ℕ
+most_to_take_out file = 8 * ((prime_height file.prime + 1) + levels_in file.alternates.items) + 1
+
+-- the alternate indexes lose the entries of a record
+abbrev pub LosesEntries : {S : Type 0} → ShownPages S → (bytes stamps : List ℕ) → (old new : OpenFile)
+    → (before after : S) → Result Unit Fault → Type 0
+LosesEntries shown bytes stamps old new before after result =
+    TakesStep shown (entries_lost bytes stamps) old new before after result

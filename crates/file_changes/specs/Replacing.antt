@@ -1,5 +1,5 @@
 -- What replacing a record makes of an open file.
-use Rattle.std.specs.Prelude.{◌≡◌, ℕ, ◌+◌, ◌*◌, ◌<◌, ◌≤◌, ◌^◌, ◌||◌, ◌&&◌, Bool, true, false, not, List, length, map, drop, find, bytes_eq, nat_lt, nat_le, sum_by, IsSome, IsTrue, IsFalse, None, Some, Result, Err, IfOk, OnOk, if◌then◌else◌}
+use Rattle.std.specs.Prelude.{◌≡◌, ℕ, ◌+◌, ◌*◌, ◌<◌, ◌≤◌, ◌^◌, ◌||◌, ◌&&◌, Bool, true, false, not, List, ◌++◌, length, map, drop, find, bytes_eq, nat_lt, nat_le, sum_by, IsSome, IsTrue, IsFalse, None, Some, Result, Err, IfOk, OnOk, if◌then◌else◌}
 use Rattle.io_state.specs.declared.fault.Fault.{Fault}
 use Rattle.io_state.specs.declared.fault.Fault.TheVariants.{Full}
 use Rattle.record_layout.specs.Schema.{Schema, key_at, value_of, prime_of}
@@ -23,9 +23,10 @@ use Rattle.open_file.specs.Parts.{but_at}
 use Rattle.open_file.specs.Stands.{Stands, IsShaped, heights_of, room_of}
 use Rattle.open_file.specs.declared.open_file.OpenFile.{OpenFile}
 use Rattle.file_changes.specs.Changes.{HasChanged}
-use Rattle.file_changes.specs.Contents.{Contents, PartsStep}
-use Rattle.file_changes.specs.InPages.{FileInPages, shown_in}
+use Rattle.file_changes.specs.Contents.{Contents, PartsStep, TakesStep}
+use Rattle.file_changes.specs.InPages.{FileInPages, in_pages, shown_in}
 use Rattle.file_changes.specs.Old.{row_with, IsFoundIn}
+use Rattle.file_changes.specs.Steps.{CanLookFor, CanChangeWith, CanStore, IsRowOf, HasRoomFor, HaveEachKey, AnswersFor}
 use Rattle.file_changes.specs.Removing.{AreThere}
 use Rattle.file_changes.specs.declared.old_record.OldRecord.{OldRecord}
 
@@ -103,8 +104,8 @@ next_after schema stamp old new = if takes_stamp schema old new then stamp + 1 e
 -- ---- what each step changes
 
 -- the slot of the record that was found gets the new record
-abbrev pub slot_put : OpenFile → OldRecord → (was bytes : List ℕ) → PartsStep
-slot_put file old was bytes = record {
+abbrev pub slot_put : OldRecord → (was bytes : List ℕ) → OpenFile → PartsStep
+slot_put old was bytes file = record {
   Asks = λ held. IsSome (held.slots old.place);
   leaves = λ held. record held {
     slots = put held.slots old.place
@@ -113,8 +114,8 @@ slot_put file old was bytes = record {
 }
 
 -- alternate index j gets the new record's entry in the place of the old one's, of this stamp
-abbrev pub entry_put : OpenFile → (was : List ℕ) → ℕ → (bytes : List ℕ) → ℕ → PartsStep
-entry_put file was stamp bytes j = record {
+abbrev pub entry_put : (was : List ℕ) → ℕ → (bytes : List ℕ) → ℕ → OpenFile → PartsStep
+entry_put was stamp bytes j file = record {
   Asks = λ held. CanChangeEntry file.schema file.next_stamp was stamp bytes j (held.entries j);
   leaves = λ held. record held {
     entries = but_at j
@@ -123,8 +124,8 @@ entry_put file was stamp bytes j = record {
 }
 
 -- so does each whose value changes
-abbrev pub entries_put : OpenFile → (was stamps bytes : List ℕ) → PartsStep
-entries_put file was stamps bytes = record {
+abbrev pub entries_put : (was stamps bytes : List ℕ) → OpenFile → PartsStep
+entries_put was stamps bytes file = record {
   Asks = λ held. AreThere file.schema (row_with was stamps) (length file.alternates.items) held.entries
       × AreFreed file.schema file.next_stamp (row_with was stamps) bytes
       (length file.alternates.items) held.entries;
@@ -135,13 +136,31 @@ entries_put file was stamps bytes = record {
 }
 
 -- the parts get the new record in the place of the one that was found
-abbrev pub row_put : OpenFile → OldRecord → (was bytes : List ℕ) → PartsStep
-row_put file old was bytes = record {
+abbrev pub row_put : OldRecord → (was bytes : List ℕ) → OpenFile → PartsStep
+row_put old was bytes file = record {
   Asks = λ held. CanPutOver file.schema file.next_stamp (row_with was old.stamps.items) bytes old.place
       (length file.alternates.items) held.slots held.entries;
   leaves = with_row file.schema file.next_stamp (row_with was old.stamps.items) bytes old.place
       (length file.alternates.items);
 }
+
+-- the new record is put into the slot of the old one
+abbrev pub PutsInSlot : {S : Type 0} → ShownPages S → OldRecord → (was bytes : List ℕ) → OpenFile
+    → (before after : S) → Result Unit Fault → Type 0
+PutsInSlot shown old was bytes file before after result =
+    TakesStep shown (slot_put old was bytes) file file before after result
+
+-- its entries are put into the alternate indexes
+abbrev pub PutsEntries : {S : Type 0} → ShownPages S → (was stamps bytes : List ℕ) → (file now : OpenFile)
+    → (before after : S) → Result Unit Fault → Type 0
+PutsEntries shown was stamps bytes file now before after result =
+    TakesStep shown (entries_put was stamps bytes) file now before after result
+
+-- it is put into all parts
+abbrev pub PutsOver : {S : Type 0} → ShownPages S → OldRecord → (was bytes : List ℕ) → (file now : OpenFile)
+    → (before after : S) → Result Unit Fault → Type 0
+PutsOver shown old was bytes file now before after result =
+    TakesStep shown (row_put old was bytes) file now before after result
 
 -- ---- what is needed, answered and left
 
@@ -154,20 +173,29 @@ abbrev pub is_full_for : OpenFile → ℕ → List ℕ → List ℕ → Bool
 is_full_for file available old new = nat_lt available (need_to_put file old new)
     || (takes_stamp file.schema old new && nat_le (2 ^ 63) file.next_stamp)
 
+-- the most pages that putting the new record in asks for
+abbrev pub most_to_put : OpenFile → List ℕ → List ℕ → ℕ
+most_to_put file old new = 1 + 16 * need_to_put file old new
+
 -- the value of key k changes, and a row has the new one
 abbrev pub new_there : Schema → List ℕ → List ℕ → List Row → ℕ → Bool
 new_there schema old bytes rows k = not (bytes_eq (value_of schema k old) (value_of schema k bytes))
     && is_there (key_at schema k) bytes rows
 
+-- the answer tells whether it is so
+abbrev pub AnswersNewThere : {S : Type 0} → ShownPages S → OpenFile → (was bytes : List ℕ) → ℕ
+    → (before after : S) → Result Bool Fault → Type 0
+AnswersNewThere shown opened was bytes k before after result = AnswersFor shown opened before after
+    (λ file stands x. x ≡ new_there opened.schema was bytes file.rows k) result
+
 -- where the row of the new record's prime value has these bytes, the answer is the one of the definitions
-abbrev pub AnswersReplacing : {S : Type 0} → ShownPages S → (before : FileInPages S) → S
-    → (was bytes : List ℕ) → Result Replaced Fault → Type 0
-AnswersReplacing shown before after was bytes result =
-    IsTrue (shown.state after).is_honest → (file : File)
-    → Stands before.file (shown.state before.pages).live file
-    → (row : Row) → row_of before.file.schema (prime_of before.file.schema bytes) file ≡ Some row
+abbrev pub AnswersReplacing : {S : Type 0} → ShownPages S → OpenFile → (was bytes : List ℕ)
+    → (before after : S) → Result Replaced Fault → Type 0
+AnswersReplacing shown opened was bytes before after result =
+    IsTrue (shown.state after).is_honest → (file : File) → Stands opened (shown.state before).live file
+    → (row : Row) → row_of opened.schema (prime_of opened.schema bytes) file ≡ Some row
     → row.bytes ≡ was
-    → IsAnswer result (λ answer. answer ≡ replaced_answer_at before.file.schema bytes file (Some row))
+    → IsAnswer result (λ answer. answer ≡ replaced_answer_at opened.schema bytes file (Some row))
 
 -- the path is forgotten, and a stamp was taken where the new record takes one
 pub record LeavesPutOver (old new : OpenFile) (was bytes : List ℕ) (result : Result Unit Fault) : Type 0 where
@@ -215,3 +243,54 @@ pub record ReplacesFound {S : Type 0} (shown : ShownPages S) (old : OldRecord) (
       → LacksRoomFor (room_of before.file (shown.state before.pages).available)
       (replacement before.file.schema bytes) file
   pub keeps : KeepsFound shown before after
+
+-- the same of a file and its pages
+abbrev pub ReplacesRow : {S : Type 0} → ShownPages S → OldRecord → (was bytes : List ℕ)
+    → (file now : OpenFile) → (before after : S) → Result Replaced Fault → Type 0
+ReplacesRow shown old was bytes file now before after result =
+    ReplacesFound shown old was bytes (in_pages file before) (in_pages now after) result
+
+-- ---- what the steps ask for
+
+-- it can be looked whether a record's value of key k is there, and the old record has one
+pub record CanLookForKey {S : Type 0} (shown : ShownPages S) (file : OpenFile) (pages : S) (k : ℕ)
+    (was bytes : List ℕ) : Type 0 where
+  pub can : CanLookFor shown file pages bytes
+  pub key : k < length file.schema.keys
+  pub old : file.schema.least ≤ length was
+
+-- the old record is a row, and there is room for the new one in its place
+pub record CanPutInPlace {S : Type 0} (shown : ShownPages S) (file : OpenFile) (pages : S) (found : OldRecord)
+    (was bytes : List ℕ) : Type 0 where
+  pub can : CanStore shown file pages bytes
+  pub old : IsRowOf file (row_with was found.stamps.items)
+  pub room : HasRoomFor shown file pages (need_to_put file was bytes) (takes_stamp file.schema was bytes)
+
+-- the same of the alternate indexes alone
+pub record CanChangeIndexes {S : Type 0} (shown : ShownPages S) (file : OpenFile) (pages : S)
+    (was stamps bytes : List ℕ) : Type 0 where
+  pub can : CanChangeWith shown file pages bytes
+  pub old : IsRowOf file (row_with was stamps)
+  pub room : need_to_put file was bytes ≤ (shown.state pages).available
+
+-- the entry of the old record in alternate index j can be changed
+pub record CanPutEntry {S : Type 0} (shown : ShownPages S) (file : OpenFile) (pages : S) (j : ℕ)
+    (was bytes : List ℕ) : Type 0 where
+  pub can : CanChangeWith shown file pages bytes
+  pub old : file.schema.least ≤ length was
+  pub index : j < length file.alternates.items
+
+-- both records have a value of key k
+pub record HaveKey (file : OpenFile) (k : ℕ) (was bytes : List ℕ) : Type 0 where
+  pub key : k < length file.schema.keys
+  pub records : HaveEachKey file was bytes
+
+-- both records have a value of each key, and the old one these stamps
+pub record HaveStamps (file : OpenFile) (was old_stamps bytes : List ℕ) : Type 0 where
+  pub records : HaveEachKey file was bytes
+  pub stamps : length old_stamps ≡ length file.alternates.items
+
+-- the stamps of a record that takes the place of another, in front of it in its slot
+pub record AreStampsAfter (file : OpenFile) (was stamps bytes result : List ℕ) : Type 0 where
+  pub stored : result ++ bytes ≡ slot_after file.schema file.next_stamp (row_with was stamps) bytes
+  pub length : length result ≡ file.heap.shape.stamps

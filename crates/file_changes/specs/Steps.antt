@@ -1,5 +1,5 @@
 -- What the steps of a change ask for, and what they leave of an open file.
-use Rattle.std.specs.Prelude.{◌≡◌, ℕ, ◌+◌, ◌*◌, ◌<◌, ◌≤◌, ◌^◌, Bool, true, false, List, length, drop, slice_index_or, IsTrue, Result, IfErr}
+use Rattle.std.specs.Prelude.{◌≡◌, ℕ, ◌+◌, ◌*◌, ◌<◌, ◌≤◌, ◌^◌, Bool, true, false, List, length, drop, slice_index_or, IsTrue, Result, IfErr, ⊤}
 use Rattle.io_state.specs.declared.fault.Fault.{Fault}
 use Rattle.indexed_file.specs.File.{Row, File}
 use Rattle.pages.specs.Answer.{IsAnswer}
@@ -45,6 +45,12 @@ pub record CanStore {S : Type 0} (shown : ShownPages S) (file : OpenFile) (pages
   pub least : file.schema.least ≤ length bytes
   pub greatest : length bytes ≤ file.schema.greatest
 
+-- so can alternate index j
+pub record CanChangeIndex {S : Type 0} (shown : ShownPages S) (file : OpenFile) (pages : S) (j : ℕ)
+    (bytes : List ℕ) : Type 0 where
+  pub can : CanChangeWith shown file pages bytes
+  pub index : j < length file.alternates.items
+
 -- both records are long enough to have a value of each key
 pub record HaveEachKey (file : OpenFile) (was bytes : List ℕ) : Type 0 where
   pub shaped : IsShaped file
@@ -81,6 +87,12 @@ pub record KeepsMade (old new : OpenFile) : Type 0 where
   pub broken : new.broken ≡ old.broken
   pub shaped : IsShaped new
 
+-- a change may fail, at Full too, and leaves the mark of a broken file
+pub record KeepsMark {S X : Type 0} (shown : ShownPages S) (old new : OpenFile) (before after : S)
+    (result : Result X Fault) : Type 0 where
+  pub cause : IfErr result (IsCaused (shown.HasFailed before after) ⊤)
+  pub broken : new.broken ≡ old.broken
+
 -- only the heap changes, and its records have the lengths that they had
 pub record ChangesHeap (old new : OpenFile) : Type 0 where
   pub rest : new ≡ record old { heap = new.heap }
@@ -109,20 +121,19 @@ pages_for false index = 0
 -- only alternate index j changes of those from j on. It takes pages or not, and asks for so many
 -- for each level
 pub record ChangesAlternate {S : Type 0} (shown : ShownPages S) (j : ℕ) (takes_pages : Bool) (most : ℕ)
-    (before after : FileInPages S) (result : Result Unit Fault) : Type 0 where
-  pub rest : after.file ≡ record before.file { alternates = after.file.alternates }
-  pub shaped : IsShaped after.file
-  pub later : drop (j + 1) after.file.alternates.items ≡ drop (j + 1) before.file.alternates.items
-  pub many : length after.file.alternates.items ≡ length before.file.alternates.items
-  pub few : (index : AltIndex) → index ≡ slice_index_or before.file.alternates.items j index
-      → (shown.state before.pages).available ≤ (shown.state after.pages).available
-      + pages_for takes_pages index
-  pub cause : (index : AltIndex) → index ≡ slice_index_or before.file.alternates.items j index
-      → IfErr result (IsCaused (shown.HasFailed before.pages after.pages)
-      ((shown.state before.pages).available < pages_for takes_pages index))
-  pub asked : (index : AltIndex) → index ≡ slice_index_or before.file.alternates.items j index
-      → (shown.state after.pages).asked ≤ (shown.state before.pages).asked + most * (alt_height index + 1)
-  pub goes : shown.Writes before.pages after.pages
+    (old new : OpenFile) (before after : S) (result : Result Unit Fault) : Type 0 where
+  pub rest : new ≡ record old { alternates = new.alternates }
+  pub shaped : IsShaped new
+  pub later : drop (j + 1) new.alternates.items ≡ drop (j + 1) old.alternates.items
+  pub many : length new.alternates.items ≡ length old.alternates.items
+  pub few : (index : AltIndex) → index ≡ slice_index_or old.alternates.items j index
+      → (shown.state before).available ≤ (shown.state after).available + pages_for takes_pages index
+  pub cause : (index : AltIndex) → index ≡ slice_index_or old.alternates.items j index
+      → IfErr result (IsCaused (shown.HasFailed before after)
+      ((shown.state before).available < pages_for takes_pages index))
+  pub asked : (index : AltIndex) → index ≡ slice_index_or old.alternates.items j index
+      → (shown.state after).asked ≤ (shown.state before).asked + most * (alt_height index + 1)
+  pub goes : shown.Writes before after
 
 -- so many pages may be taken, and the fault is Full only where fewer are left
 pub record TakesPages {S X : Type 0} (shown : ShownPages S) (need most : ℕ) (old new : S)

@@ -1,18 +1,15 @@
 //! Adding a record.
 
-ghost use Rattle.std.specs.Prelude.{⊤, true, false, ◌≡◌, ◌+◌, ◌*◌, ◌≤◌, ◌<◌, length, not, sum_by, IfErr, slice_set};
-ghost use Rattle.indexed_file.specs.Answers.{added_answer};
+ghost use Rattle.std.specs.Prelude.{true, false, ◌≡◌, ◌*◌, ◌≤◌, ◌<◌, length, not, sum_by, slice_set};
 ghost use Rattle.indexed_file.specs.Room.{need_of_add};
-ghost use Rattle.pages.specs.Cause.{IsCaused};
 ghost use Rattle.pages.specs.PageCalls.{ReadsPages, WritesPages};
-ghost use Rattle.key_index.specs.Standing.{prime_height};
 ghost use Rattle.open_file.specs.Stands.{heights_of};
 ghost use Rattle.indexed_file.specs.FileChange.{addition};
 ghost use Rattle.file_changes.specs.Changes.{Changes, MayBreak};
 ghost use Rattle.file_changes.specs.Contents.{TakesStep};
-ghost use Rattle.file_changes.specs.InPages.{in_pages, shown_in, IsReadyIn};
-ghost use Rattle.file_changes.specs.Adding.{levels_in, PutsRow, AddsRecord, new_slot, prime_added, entry_added, entries_added};
-ghost use Rattle.file_changes.specs.Steps.{CanTakeRecord, CanLookFor, CanChangeWith, CanStore, HasRoomFor, AnswersFor, KeepsMade, ChangesHeap, ChangesPrime, ChangesAlternates, ChangesAlternate, TakesPages};
+ghost use Rattle.file_changes.specs.InPages.{in_pages, shown_in, IsReadyIn, MakesAddition};
+ghost use Rattle.file_changes.specs.Adding.{levels_in, PutsRow, AddsRecord, AnswersAdding, TakesPagesOfPrime, new_slot, prime_added, entry_added, entries_added};
+ghost use Rattle.file_changes.specs.Steps.{CanTakeRecord, CanLookFor, CanChangeWith, CanChangeIndex, CanStore, HasRoomFor, KeepsMark, KeepsMade, ChangesHeap, ChangesPrime, ChangesAlternates, ChangesAlternate, TakesPages};
 
 use crate::ending::breaks;
 use crate::room::is_full;
@@ -50,10 +47,8 @@ pub fn add<P: Pages>(opened: &mut OpenFile, pages: &mut P, bytes: &[u8]) -> Resu
 /// What `add` does on a file that is not broken.
 fn try_add<P: Pages>(opened: &mut OpenFile, pages: &mut P, bytes: &[u8]) -> Result<Added, Fault>
     requires { CanTakeRecord P.shown (in_pages opened.old pages.old) bytes.now }
-    ensures adds { Changes (shown_in P.shown) (addition opened.old.schema bytes.now)
-        (in_pages opened.old pages.old) (in_pages opened.new pages.new) result }
-    ensures cause { IfErr result (IsCaused (P.shown.HasFailed pages.old pages.new) ⊤) }
-    ensures broken { opened.new.broken ≡ opened.old.broken }
+    ensures adds { MakesAddition P.shown bytes.now opened.old opened.new pages.old pages.new result }
+    ensures keeps { KeepsMark P.shown opened.old opened.new pages.old pages.new result }
 {
     let Added::Done { repeated } = adding(opened, pages, bytes)? else {
         return Ok(Added::Clash);
@@ -69,8 +64,7 @@ fn try_add<P: Pages>(opened: &mut OpenFile, pages: &mut P, bytes: &[u8]) -> Resu
 /// What adding a record answers, if there is room for it.
 fn adding<P: Pages>(opened: &OpenFile, pages: &mut P, bytes: &[u8]) -> Result<Added, Fault>
     requires { CanLookFor P.shown opened.now pages.old bytes.now }
-    ensures found { AnswersFor P.shown opened.now pages.old pages.new
-        (λ file stands x. x ≡ added_answer opened.now.schema bytes.now file) result }
+    ensures found { AnswersAdding P.shown opened.now bytes.now pages.old pages.new result }
     ensures reads { ReadsPages P.shown (2 * sum_by (λ height. height) (heights_of opened.now)) pages.old
         pages.new result }
 {
@@ -107,8 +101,8 @@ fn put_in<P: Pages>(opened: &mut OpenFile, pages: &mut P, bytes: &[u8]) -> Resul
 /// Puts a new record into the heap.
 fn store<P: Pages>(opened: &mut OpenFile, pages: &mut P, bytes: &[u8]) -> Result<Place, Fault>
     requires { CanStore P.shown opened.old pages.old bytes.now }
-    ensures put { PutsRow P.shown (in_pages opened.old pages.old) (in_pages opened.new pages.new)
-        (new_slot opened.old bytes.now) result }
+    ensures put { PutsRow P.shown (new_slot opened.old bytes.now) opened.old opened.new
+        pages.old pages.new result }
     ensures file { ChangesHeap opened.old opened.new }
     ensures pages { TakesPages P.shown 1 4 pages.old pages.new result }
 {
@@ -124,11 +118,10 @@ fn add_to_prime<P: Pages>(
     bytes: &[u8],
 ) -> Result<(), Fault>
     requires { CanChangeWith P.shown opened.old pages.old bytes.now }
-    ensures added { TakesStep P.shown (prime_added opened.old.schema bytes.now place)
-        (in_pages opened.old pages.old) (in_pages opened.new pages.new) result }
+    ensures added { TakesStep P.shown (prime_added bytes.now place) opened.old opened.new
+        pages.old pages.new result }
     ensures file { ChangesPrime opened.old opened.new }
-    ensures pages { TakesPages P.shown (prime_height opened.old.prime + 1)
-        (8 * (prime_height opened.old.prime + 1)) pages.old pages.new result }
+    ensures pages { TakesPagesOfPrime P.shown opened.old pages.old pages.new result }
 {
     let value = opened.schema.value(bytes, 0);
     match opened.prime.add(pages, value, place)? {
@@ -145,8 +138,8 @@ fn add_to_alternates<P: Pages>(
 ) -> Result<(), Fault>
     requires can { CanChangeWith P.shown opened.old pages.old bytes.now }
     requires room { levels_in opened.old.alternates.items ≤ (P.shown.state pages.old).available }
-    ensures added { TakesStep P.shown (entries_added opened.old bytes.now) (in_pages opened.old pages.old)
-        (in_pages opened.new pages.new) result }
+    ensures added { TakesStep P.shown (entries_added bytes.now) opened.old opened.new
+        pages.old pages.new result }
     ensures file { ChangesAlternates opened.old opened.new }
     ensures writes { WritesPages P.shown (8 * levels_in opened.old.alternates.items) ⊥ pages.old pages.new
         result }
@@ -164,12 +157,11 @@ pub(crate) fn add_to_alternate<P: Pages>(
     j: usize,
     bytes: &[u8],
 ) -> Result<(), Fault>
-    requires can { CanChangeWith P.shown opened.old pages.old bytes.now }
-    requires index { j < length opened.old.alternates.items }
-    ensures added { TakesStep P.shown (entry_added opened.old bytes.now j) (in_pages opened.old pages.old)
-        (in_pages opened.new pages.new) result }
-    ensures alternate { ChangesAlternate P.shown j true 8 (in_pages opened.old pages.old)
-        (in_pages opened.new pages.new) result }
+    requires { CanChangeIndex P.shown opened.old pages.old j bytes.now }
+    ensures added { TakesStep P.shown (entry_added bytes.now j) opened.old opened.new
+        pages.old pages.new result }
+    ensures alternate { ChangesAlternate P.shown j true 8 opened.old opened.new
+        pages.old pages.new result }
 {
     let part = opened.schema.part(j as u8 + 1);
     let value = opened.schema.value(bytes, j as u8 + 1);

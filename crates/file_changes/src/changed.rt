@@ -1,10 +1,9 @@
 //! What a record that is to take the place of another changes, and what that needs.
 
-ghost use Rattle.std.specs.Prelude.{◌≡◌, ◌<◌, ◌++◌, not, bytes_eq, length};
+ghost use Rattle.std.specs.Prelude.{◌≡◌, ◌<◌, not, bytes_eq, length};
 ghost use Rattle.record_layout.specs.Schema.{value_of};
 ghost use Rattle.indexed_file.specs.Change.{takes_stamp};
-ghost use Rattle.file_changes.specs.Old.{row_with};
-ghost use Rattle.file_changes.specs.Replacing.{need_to_put, is_full_for, slot_after, stamp_after};
+ghost use Rattle.file_changes.specs.Replacing.{HaveKey, HaveStamps, AreStampsAfter, need_to_put, is_full_for, stamp_after};
 ghost use Rattle.file_changes.specs.Steps.{HaveEachKey};
 
 use crate::stamps::push_stamp;
@@ -13,8 +12,7 @@ use open_file::OpenFile;
 
 /// Whether two records differ in the value of a key.
 pub(crate) fn differs(opened: &OpenFile, k: usize, old: &[u8], new: &[u8]) -> bool
-    requires key { k < length opened.now.schema.keys }
-    requires records { HaveEachKey opened.now old.now new.now }
+    requires { HaveKey opened.now k old.now new.now }
     ensures { result ≡ not (bytes_eq (value_of opened.now.schema k old.now)
         (value_of opened.now.schema k new.now)) }
 {
@@ -64,11 +62,8 @@ pub(crate) fn changed_stamps(
     stamps: &[u64],
     new: &[u8],
 ) -> ArrayVec<u8, 64>
-    requires records { HaveEachKey opened.now old.now new.now }
-    requires stamps { length stamps.now ≡ length opened.now.alternates.items }
-    ensures stored { result.items ++ new.now ≡ slot_after opened.now.schema opened.now.next_stamp
-        (row_with old.now stamps.now) new.now }
-    ensures length { length result.items ≡ opened.now.heap.shape.stamps }
+    requires { HaveStamps opened.now old.now stamps.now new.now }
+    ensures { AreStampsAfter opened.now old.now stamps.now new.now result.items }
 {
     let mut changed = ArrayVec::new();
     for j in 0..opened.alternates.len() {

@@ -7,8 +7,7 @@ ghost use Rattle.open_file.specs.Stored.{stamps_length};
 ghost use Rattle.open_file.specs.ReadOff.{stamps_off};
 ghost use Rattle.open_file.specs.Stands.{IsShaped};
 ghost use Rattle.file_changes.specs.InPages.{in_pages, IsReadyIn};
-ghost use Rattle.file_changes.specs.Old.{HasFoundIn, HasRecordLength};
-ghost use Rattle.file_changes.specs.Steps.{AnswersFor};
+ghost use Rattle.file_changes.specs.Old.{AnswersFinding, HasRecordLength, HasStampsIn};
 
 use arrayvec::ArrayVec;
 use byteorder::{BigEndian, ByteOrder};
@@ -34,8 +33,7 @@ pub(crate) fn find_old<P: Pages>(
     slot: &mut [u8; 4064],
 ) -> Result<Option<OldRecord>, Fault>
     requires { IsReadyIn P.shown (in_pages opened.now pages.old) }
-    ensures found { AnswersFor P.shown opened.now pages.old pages.new
-        (λ file stands. HasFoundIn stands prime.now slot.new) result }
+    ensures found { AnswersFinding P.shown opened.now prime.now slot.new pages.old pages.new result }
     ensures within { IfOk result (λ found. IfSome found (HasRecordLength opened.now)) }
     ensures reads { ReadsPages P.shown (prime_height opened.now.prime + 1) pages.old pages.new result }
 {
@@ -67,8 +65,7 @@ pub(crate) fn record_in<'a>(opened: &OpenFile, old: &OldRecord, slot: &'a [u8]) 
 
 /// The stamps in the front of a slot, one for each alternate key, 0 for a unique one.
 fn stamps_in(opened: &OpenFile, slot: &[u8]) -> ArrayVec<u64, 8>
-    requires shaped { IsShaped opened.now }
-    requires room { opened.now.heap.shape.stamps ≤ length slot.now }
+    requires { HasStampsIn opened.now slot.now }
     ensures stamps { result.items ≡ stamps_off (drop 1 opened.now.schema.keys) slot.now }
     ensures many { length result.items ≡ length opened.now.alternates.items }
 {

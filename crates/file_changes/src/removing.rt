@@ -1,17 +1,16 @@
 //! Removing a record.
 
-ghost use Rattle.std.specs.Prelude.{◌≡◌, ◌≢◌, ℕ, ◌+◌, ◌*◌, ◌≤◌, ◌<◌, true, false, length, slice_index_or, None, IfErr, OnOk};
+ghost use Rattle.std.specs.Prelude.{◌+◌, ◌*◌, true, false, IfErr, OnOk};
 ghost use Rattle.pages.specs.Cause.{IsCaused};
 ghost use Rattle.pages.specs.PageCalls.{WritesPages};
 ghost use Rattle.key_index.specs.Standing.{prime_height};
 ghost use Rattle.open_file.specs.Stands.{IsShaped};
+ghost use Rattle.open_file.specs.Lent.{LendsToChange};
 ghost use Rattle.file_changes.specs.Adding.{levels_in};
-ghost use Rattle.indexed_file.specs.FileChange.{removal};
-ghost use Rattle.file_changes.specs.Changes.{Changes, MayBreak};
 ghost use Rattle.file_changes.specs.Contents.{TakesStep};
-ghost use Rattle.file_changes.specs.InPages.{in_pages, shown_in, IsReadyIn};
-ghost use Rattle.file_changes.specs.Removing.{prime_lost, slot_freed, entry_lost, entries_lost, row_lost};
-ghost use Rattle.file_changes.specs.Steps.{CanChangeWith, ChangesHeap, ChangesPrime, ChangesAlternates, ChangesAlternate, IsNoHigher};
+ghost use Rattle.file_changes.specs.InPages.{in_pages, IsReadyIn, MakesRemoval, RemovesRecord};
+ghost use Rattle.file_changes.specs.Removing.{CanTakeOut, ChangesParts, KeepsOtherIndexes, most_to_take_out, prime_lost, slot_freed, entry_lost, row_lost, LosesEntries};
+ghost use Rattle.file_changes.specs.Steps.{CanChangeWith, CanChangeIndex, ChangesHeap, ChangesPrime, ChangesAlternates, ChangesAlternate, IsNoHigher};
 
 use crate::adding::put_at;
 use crate::ending::breaks;
@@ -26,11 +25,8 @@ use record_heap::Place;
 ///
 /// Device, Memory, Damage, Broken, after which the file is broken.
 pub fn remove<P: Pages>(opened: &mut OpenFile, pages: &mut P, key: &Key) -> Result<bool, Fault>
-    requires ready { IsReadyIn P.shown (in_pages opened.old pages.old) }
-    ensures removes { Changes (shown_in P.shown) (removal opened.old.schema key.now.items)
-        (in_pages opened.old pages.old) (in_pages opened.new pages.new) result }
-    ensures breaks { MayBreak (shown_in P.shown) false (in_pages opened.old pages.old)
-        (in_pages opened.new pages.new) result }
+    requires { IsReadyIn P.shown (in_pages opened.old pages.old) }
+    ensures { RemovesRecord P.shown key.now.items opened.old opened.new pages.old pages.new result }
 {
     if opened.broken {
         return Err(Fault::Broken);
@@ -42,9 +38,8 @@ pub fn remove<P: Pages>(opened: &mut OpenFile, pages: &mut P, key: &Key) -> Resu
 
 /// What `remove` does on a file that is not broken.
 fn try_remove<P: Pages>(opened: &mut OpenFile, pages: &mut P, prime: &[u8]) -> Result<bool, Fault>
-    requires ready { IsReadyIn P.shown (in_pages opened.old pages.old) }
-    ensures removes { Changes (shown_in P.shown) (removal opened.old.schema prime.now)
-        (in_pages opened.old pages.old) (in_pages opened.new pages.new) result }
+    requires { IsReadyIn P.shown (in_pages opened.old pages.old) }
+    ensures removes { MakesRemoval P.shown prime.now opened.old opened.new pages.old pages.new result }
     ensures cause { IfErr result (IsCaused (P.shown.HasFailed pages.old pages.new) ⊥) }
 {
     let mut slot = [0; 4064];
@@ -64,19 +59,12 @@ fn take_out<P: Pages>(
     old: &OldRecord,
     bytes: &[u8],
 ) -> Result<(), Fault>
-    requires can { CanChangeWith P.shown opened.old pages.old bytes.now }
-    requires stamps { length old.now.stamps.items ≡ length opened.old.alternates.items }
-    ensures out { TakesStep P.shown (row_lost opened.old old.now bytes.now) (in_pages opened.old pages.old)
-        (in_pages opened.new pages.new) result }
-    ensures rest { opened.new ≡ record opened.old {
-      heap = opened.new.heap;
-      prime = opened.new.prime;
-      alternates = opened.new.alternates;
-      path = None;
-    } }
+    requires { CanTakeOut P.shown opened.old pages.old bytes.now old.now.stamps.items }
+    ensures out { TakesStep P.shown (row_lost old.now bytes.now) opened.old opened.new
+        pages.old pages.new result }
+    ensures rest { ChangesParts opened.old opened.new }
     ensures shaped { IsShaped opened.new }
-    ensures writes { WritesPages P.shown (8 * ((prime_height opened.old.prime + 1)
-        + levels_in opened.old.alternates.items) + 1) ⊥ pages.old pages.new result }
+    ensures writes { WritesPages P.shown (most_to_take_out opened.old) ⊥ pages.old pages.new result }
 {
     opened.path = None;
     remove_from_prime(opened, pages, bytes)?;
@@ -86,10 +74,9 @@ fn take_out<P: Pages>(
 
 /// Gives back the slot of a record.
 fn free_slot<P: Pages>(opened: &mut OpenFile, pages: &mut P, place: Place) -> Result<(), Fault>
-    requires ready { P.shown.IsReady pages.old }
-    requires open { P.shown.CanChange pages.old }
-    ensures freed { TakesStep P.shown (slot_freed place) (in_pages opened.old pages.old)
-        (in_pages opened.new pages.new) result }
+    requires { LendsToChange P.shown pages.old }
+    ensures freed { TakesStep P.shown (slot_freed place) opened.old opened.new
+        pages.old pages.new result }
     ensures file { ChangesHeap opened.old opened.new }
     ensures writes { WritesPages P.shown 1 ⊥ pages.old pages.new result }
 {
@@ -103,8 +90,8 @@ fn remove_from_prime<P: Pages>(
     bytes: &[u8],
 ) -> Result<(), Fault>
     requires { CanChangeWith P.shown opened.old pages.old bytes.now }
-    ensures removed { TakesStep P.shown (prime_lost opened.old.schema bytes.now)
-        (in_pages opened.old pages.old) (in_pages opened.new pages.new) result }
+    ensures removed { TakesStep P.shown (prime_lost bytes.now) opened.old opened.new
+        pages.old pages.new result }
     ensures file { ChangesPrime opened.old opened.new }
     ensures writes { WritesPages P.shown (8 * (prime_height opened.old.prime + 1)) ⊥ pages.old pages.new
         result }
@@ -123,10 +110,9 @@ fn remove_from_alternates<P: Pages>(
     bytes: &[u8],
     stamps: &[u64],
 ) -> Result<(), Fault>
-    requires can { CanChangeWith P.shown opened.old pages.old bytes.now }
-    requires stamps { length stamps.now ≡ length opened.old.alternates.items }
-    ensures removed { TakesStep P.shown (entries_lost opened.old bytes.now stamps.now)
-        (in_pages opened.old pages.old) (in_pages opened.new pages.new) result }
+    requires { CanTakeOut P.shown opened.old pages.old bytes.now stamps.now }
+    ensures removed { LosesEntries P.shown bytes.now stamps.now opened.old opened.new
+        pages.old pages.new result }
     ensures file { ChangesAlternates opened.old opened.new }
     ensures writes { WritesPages P.shown (8 * levels_in opened.old.alternates.items) ⊥ pages.old pages.new
         result }
@@ -145,15 +131,12 @@ pub(crate) fn remove_from_alternate<P: Pages>(
     bytes: &[u8],
     stamp: u64,
 ) -> Result<(), Fault>
-    requires can { CanChangeWith P.shown opened.old pages.old bytes.now }
-    requires index { j < length opened.old.alternates.items }
-    ensures removed { TakesStep P.shown (entry_lost opened.old bytes.now stamp j)
-        (in_pages opened.old pages.old) (in_pages opened.new pages.new) result }
-    ensures alternate { ChangesAlternate P.shown j false 8 (in_pages opened.old pages.old)
-        (in_pages opened.new pages.new) result }
-    ensures others { (i : ℕ) (index : AltIndex) → i ≢ j
-        → slice_index_or opened.new.alternates.items i index ≡ slice_index_or opened.old.alternates.items i
-        index }
+    requires { CanChangeIndex P.shown opened.old pages.old j bytes.now }
+    ensures removed { TakesStep P.shown (entry_lost bytes.now stamp j) opened.old opened.new
+        pages.old pages.new result }
+    ensures alternate { ChangesAlternate P.shown j false 8 opened.old opened.new
+        pages.old pages.new result }
+    ensures others { KeepsOtherIndexes j opened.old opened.new }
     ensures height { OnOk result (IsNoHigher j opened.old opened.new) }
 {
     let value = opened.schema.value(bytes, j as u8 + 1);

@@ -1,17 +1,14 @@
 //! Replacing a record.
 
-ghost use Rattle.std.specs.Prelude.{⊤, true, ◌≡◌, ◌≢◌, ◌+◌, ◌*◌, ◌≤◌, ◌<◌, length, sum_by, slice_index, IsTrue, IfOk, IfErr};
-ghost use Rattle.indexed_file.specs.Change.{takes_stamp};
+ghost use Rattle.std.specs.Prelude.{⊤, true, ◌≡◌, ◌≢◌, ◌*◌, ◌≤◌, length, sum_by, slice_index, IfOk, IfErr};
 ghost use Rattle.pages.specs.Cause.{IsCaused};
 ghost use Rattle.pages.specs.PageCalls.{ReadsPages, WritesPages};
 ghost use Rattle.open_file.specs.Stands.{heights_of};
 ghost use Rattle.file_changes.specs.Old.{row_with};
-ghost use Rattle.indexed_file.specs.FileChange.{replacement};
-ghost use Rattle.file_changes.specs.Changes.{Changes, MayBreak};
 ghost use Rattle.file_changes.specs.Contents.{TakesStep};
-ghost use Rattle.file_changes.specs.InPages.{in_pages, shown_in, IsReadyIn};
-ghost use Rattle.file_changes.specs.Replacing.{ReplacesFound, AnswersReplacing, LeavesPutOver, row_put, slot_put, entries_put, entry_put, need_to_put, new_there};
-ghost use Rattle.file_changes.specs.Steps.{CanTakeRecord, CanLookFor, CanChangeWith, CanStore, IsRowOf, HasRoomFor, AnswersFor, ChangesAlternates, ChangesAlternate};
+ghost use Rattle.file_changes.specs.InPages.{in_pages, MakesReplacement, ReplacesRecord};
+ghost use Rattle.file_changes.specs.Replacing.{CanLookForKey, CanPutInPlace, CanChangeIndexes, CanPutEntry, ReplacesRow, AnswersReplacing, AnswersNewThere, LeavesPutOver, PutsOver, PutsInSlot, PutsEntries, entry_put, need_to_put, most_to_put};
+ghost use Rattle.file_changes.specs.Steps.{CanTakeRecord, CanLookFor, CanStore, IsRowOf, KeepsMark, ChangesAlternates, ChangesAlternate};
 
 use crate::adding::add_to_alternate;
 use crate::changed::{changed_stamps, differs, is_full_to_change, takes_stamp};
@@ -33,13 +30,8 @@ pub fn replace<P: Pages>(
     pages: &mut P,
     bytes: &[u8],
 ) -> Result<Replaced, Fault>
-    requires ready { IsReadyIn P.shown (in_pages opened.old pages.old) }
-    requires least { opened.old.schema.least ≤ length bytes.now }
-    requires greatest { length bytes.now ≤ opened.old.schema.greatest }
-    ensures replaces { Changes (shown_in P.shown) (replacement opened.old.schema bytes.now)
-        (in_pages opened.old pages.old) (in_pages opened.new pages.new) result }
-    ensures breaks { MayBreak (shown_in P.shown) true (in_pages opened.old pages.old)
-        (in_pages opened.new pages.new) result }
+    requires { CanTakeRecord P.shown (in_pages opened.old pages.old) bytes.now }
+    ensures { ReplacesRecord P.shown bytes.now opened.old opened.new pages.old pages.new result }
 {
     if opened.broken {
         return Err(Fault::Broken);
@@ -56,10 +48,8 @@ fn try_replace<P: Pages>(
     bytes: &[u8],
 ) -> Result<Replaced, Fault>
     requires { CanTakeRecord P.shown (in_pages opened.old pages.old) bytes.now }
-    ensures replaces { Changes (shown_in P.shown) (replacement opened.old.schema bytes.now)
-        (in_pages opened.old pages.old) (in_pages opened.new pages.new) result }
-    ensures cause { IfErr result (IsCaused (P.shown.HasFailed pages.old pages.new) ⊤) }
-    ensures broken { opened.new.broken ≡ opened.old.broken }
+    ensures replaces { MakesReplacement P.shown bytes.now opened.old opened.new pages.old pages.new result }
+    ensures keeps { KeepsMark P.shown opened.old opened.new pages.old pages.new result }
 {
     let mut slot = [0; 4064];
     let prime = opened.schema.value(bytes, 0);
@@ -81,8 +71,8 @@ fn replace_old<P: Pages>(
 ) -> Result<Replaced, Fault>
     requires can { CanTakeRecord P.shown (in_pages opened.old pages.old) bytes.now }
     requires old { IsRowOf opened.old (row_with before.now old.now.stamps.items) }
-    ensures replaces { ReplacesFound P.shown old.now before.now bytes.now (in_pages opened.old pages.old)
-        (in_pages opened.new pages.new) result }
+    ensures replaces { ReplacesRow P.shown old.now before.now bytes.now opened.old opened.new
+        pages.old pages.new result }
     ensures some { IfOk result (λ answer. answer ≢ Replaced.Gone) }
     ensures cause { IfErr result (IsCaused (P.shown.HasFailed pages.old pages.new) ⊤) }
 {
@@ -106,8 +96,7 @@ fn replacing<P: Pages>(
 ) -> Result<Replaced, Fault>
     requires can { CanLookFor P.shown opened.now pages.old bytes.now }
     requires old { opened.now.schema.least ≤ length old.now }
-    ensures found { AnswersReplacing P.shown (in_pages opened.now pages.old) pages.new old.now bytes.now
-        result }
+    ensures found { AnswersReplacing P.shown opened.now old.now bytes.now pages.old pages.new result }
     ensures some { IfOk result (λ answer. answer ≢ Replaced.Gone) }
     ensures reads { ReadsPages P.shown (2 * sum_by (λ height. height) (heights_of opened.now)) pages.old
         pages.new result }
@@ -132,11 +121,8 @@ fn is_new_there<P: Pages>(
     old: &[u8],
     bytes: &[u8],
 ) -> Result<bool, Fault>
-    requires can { CanLookFor P.shown opened.now pages.old bytes.now }
-    requires key { k < length opened.now.schema.keys }
-    requires old { opened.now.schema.least ≤ length old.now }
-    ensures found { AnswersFor P.shown opened.now pages.old pages.new
-        (λ file stands x. x ≡ new_there opened.now.schema old.now bytes.now file.rows k) result }
+    requires { CanLookForKey P.shown opened.now pages.old k old.now bytes.now }
+    ensures found { AnswersNewThere P.shown opened.now old.now bytes.now k pages.old pages.new result }
     ensures reads { ReadsPages P.shown (2 * slice_index (heights_of opened.now) k) pages.old pages.new
         result }
 {
@@ -154,15 +140,12 @@ fn put_over<P: Pages>(
     before: &[u8],
     bytes: &[u8],
 ) -> Result<(), Fault>
-    requires can { CanStore P.shown opened.old pages.old bytes.now }
-    requires old { IsRowOf opened.old (row_with before.now old.now.stamps.items) }
-    requires room { HasRoomFor P.shown opened.old pages.old (need_to_put opened.old before.now bytes.now)
-        (takes_stamp opened.old.schema before.now bytes.now) }
-    ensures over { TakesStep P.shown (row_put opened.old old.now before.now bytes.now)
-        (in_pages opened.old pages.old) (in_pages opened.new pages.new) result }
+    requires { CanPutInPlace P.shown opened.old pages.old old.now before.now bytes.now }
+    ensures over { PutsOver P.shown old.now before.now bytes.now opened.old opened.new
+        pages.old pages.new result }
     ensures file { LeavesPutOver opened.old opened.new before.now bytes.now result }
-    ensures writes { WritesPages P.shown (1 + 16 * need_to_put opened.old before.now bytes.now) ⊥ pages.old
-        pages.new result }
+    ensures writes { WritesPages P.shown (most_to_put opened.old before.now bytes.now) ⊥ pages.old pages.new
+        result }
 {
     opened.path = None;
     set_slot(opened, pages, old, before, bytes)?;
@@ -183,8 +166,7 @@ fn set_slot<P: Pages>(
 ) -> Result<(), Fault>
     requires can { CanStore P.shown opened.now pages.old bytes.now }
     requires old { IsRowOf opened.now (row_with before.now old.now.stamps.items) }
-    ensures set { TakesStep P.shown (slot_put opened.now old.now before.now bytes.now)
-        (in_pages opened.now pages.old) (in_pages opened.now pages.new) result }
+    ensures set { PutsInSlot P.shown old.now before.now bytes.now opened.now pages.old pages.new result }
     ensures available { (P.shown.state pages.new).available ≡ (P.shown.state pages.old).available }
     ensures writes { WritesPages P.shown 1 ⊥ pages.old pages.new result }
 {
@@ -200,11 +182,9 @@ fn change_alternates<P: Pages>(
     stamps: &[u64],
     bytes: &[u8],
 ) -> Result<(), Fault>
-    requires can { CanChangeWith P.shown opened.old pages.old bytes.now }
-    requires old { IsRowOf opened.old (row_with old.now stamps.now) }
-    requires room { need_to_put opened.old old.now bytes.now ≤ (P.shown.state pages.old).available }
-    ensures put { TakesStep P.shown (entries_put opened.old old.now stamps.now bytes.now)
-        (in_pages opened.old pages.old) (in_pages opened.new pages.new) result }
+    requires { CanChangeIndexes P.shown opened.old pages.old old.now stamps.now bytes.now }
+    ensures put { PutsEntries P.shown old.now stamps.now bytes.now opened.old opened.new
+        pages.old pages.new result }
     ensures file { ChangesAlternates opened.old opened.new }
     ensures writes { WritesPages P.shown (16 * need_to_put opened.old old.now bytes.now) ⊥ pages.old
         pages.new result }
@@ -226,13 +206,11 @@ fn change_alternate<P: Pages>(
     stamp: u64,
     bytes: &[u8],
 ) -> Result<(), Fault>
-    requires can { CanChangeWith P.shown opened.old pages.old bytes.now }
-    requires old { opened.old.schema.least ≤ length old.now }
-    requires index { j < length opened.old.alternates.items }
-    ensures changed { TakesStep P.shown (entry_put opened.old old.now stamp bytes.now j)
-        (in_pages opened.old pages.old) (in_pages opened.new pages.new) result }
-    ensures alternate { ChangesAlternate P.shown j true 16 (in_pages opened.old pages.old)
-        (in_pages opened.new pages.new) result }
+    requires { CanPutEntry P.shown opened.old pages.old j old.now bytes.now }
+    ensures put { TakesStep P.shown (entry_put old.now stamp bytes.now j) opened.old opened.new
+        pages.old pages.new result }
+    ensures alternate { ChangesAlternate P.shown j true 16 opened.old opened.new
+        pages.old pages.new result }
 {
     remove_from_alternate(opened, pages, j, old, stamp)?;
     add_to_alternate(opened, pages, j, bytes)

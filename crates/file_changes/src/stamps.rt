@@ -1,10 +1,9 @@
 //! The stamps of a new record, which the heap keeps in front of it.
 
-ghost use Rattle.std.specs.Prelude.{◌≡◌, ◌+◌, ◌≤◌, ◌++◌, ℕ, List, length};
+ghost use Rattle.std.specs.Prelude.{◌≡◌, ◌+◌, ◌≤◌, ◌++◌, length};
 ghost use Rattle.byteorder.specs.Endian.{big_bytes};
-ghost use Rattle.indexed_file.specs.Change.{new_row};
-ghost use Rattle.open_file.specs.Stored.{stored};
 ghost use Rattle.open_file.specs.Stands.{IsShaped};
+ghost use Rattle.file_changes.specs.Old.{AreNewStamps};
 
 use arrayvec::ArrayVec;
 use byteorder::{BigEndian, ByteOrder};
@@ -12,10 +11,8 @@ use open_file::OpenFile;
 
 /// The stamps of a new record, eight bytes for each alternate key of duplicates.
 pub(crate) fn new_stamps(opened: &OpenFile) -> ArrayVec<u8, 64>
-    requires shaped { IsShaped opened.now }
-    ensures stored { (bytes : List ℕ) → result.items ++ bytes
-        ≡ stored opened.now.schema (new_row opened.now.schema opened.now.next_stamp bytes) }
-    ensures length { length result.items ≡ opened.now.heap.shape.stamps }
+    requires { IsShaped opened.now }
+    ensures { AreNewStamps opened.now result.items }
 {
     let mut stamps = ArrayVec::new();
     for k in 1..opened.schema.key_count() {

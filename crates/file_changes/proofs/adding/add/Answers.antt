@@ -16,4 +16,4 @@ returns-clause-adds g c = changes_marked _ _ c.try_add-added.new.opened _ _ c.if
 
 pub returns-clause-breaks : goal.returns-clause-breaks
 returns-clause-breaks g c =
-    breaks_marked _ _ c.try_add-added.new.opened _ _ c.if-opened.false _ _ _ (λ lacks. refl) _ c.breaks-opened.ensures c.try_add-added.ensures.cause
+    breaks_marked _ _ c.try_add-added.new.opened _ _ c.if-opened.false _ _ _ (λ lacks. refl) _ c.breaks-opened.ensures c.try_add-added.ensures.keeps.cause

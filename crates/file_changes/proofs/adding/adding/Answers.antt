@@ -12,8 +12,13 @@ pub loop-k-init : goal.loop-k-init
 loop-k-init g c =
     (g.met.P.Pages.reads_nothing c.args.pages.now, (λ honest file stands. at_start c.args.opened.now.schema.keys c.args.bytes.now file.rows), asked_start (g.P.Pages.shown.state c.args.pages.now).asked (heights_of c.args.opened.now))
 
-pub is_there-requires-clause-ready : goal.is_there-requires-clause-ready
-is_there-requires-clause-ready g c = g.met.P.Pages.writes_ready c.args.pages.now c.loop-k.pages (g.met.P.Pages.reads_writes c.args.pages.now c.loop-k.pages c.loop-k.invariant.0) c.requires.ready
+pub is_there-requires : goal.is_there-requires
+is_there-requires g c = record {
+  ready = g.met.P.Pages.writes_ready c.args.pages.now c.loop-k.pages (g.met.P.Pages.reads_writes c.args.pages.now c.loop-k.pages c.loop-k.invariant.0) c.requires.ready;
+  shaped = c.requires.shaped;
+  key = omega (arith, c.loop-k-test.true, c.key_count-k-end.ensures.count);
+  least = c.requires.least;
+}
 
 pub loop-k-preserved : goal.loop-k-preserved
 loop-k-preserved g c =

@@ -88,12 +88,15 @@ returns-in_err-put_in-clause-adds g c =
     (c.in_err-put_in.ensures.done honest kept file still free).no_damage)
     (kept _ _ _ c.put_in.ensures.keeps.schema (g.met.P.Pages.begins_ready start last begins c.requires.ready.pages) c.put_in.ensures.keeps.shaped begins (omega (arith, c.adding.ensures.reads.asked, c.begin.ensures.asked, c.put_in.ensures.writes.asked, need_in u.prime u.alternates.items, heights_few u.prime u.alternates.items, levels_of_all u.prime u.alternates.items)))
 
-pub returns-in_err-put_in-clause-cause : goal.returns-in_err-put_in-clause-cause
-returns-in_err-put_in-clause-cause g c =
+pub returns-in_err-put_in-clause-keeps : goal.returns-in_err-put_in-clause-keeps
+returns-in_err-put_in-clause-keeps g c =
     let moves = g.met.P.Pages.begins_on c.args.pages.now c.adding.new.pages c.begin.new.self
     (g.met.P.Pages.writes_begins c.args.pages.now c.adding.new.pages (g.met.P.Pages.reads_writes c.args.pages.now c.adding.new.pages c.adding.ensures.reads.step)) c.begin.ensures.begins in
-    fails_since c.from_residual-in_err-put_in.result _ _ _ _ _ c.from_residual-in_err-put_in.ensures.1
-    (λ failed. g.met.P.Pages.failed_later c.args.pages.now c.begin.new.self c.put_in.new.pages moves failed) (λ none. tt) c.in_err-put_in.ensures.writes.cause
+    record {
+      cause = fails_since c.from_residual-in_err-put_in.result _ _ _ _ _ c.from_residual-in_err-put_in.ensures.1
+          (λ failed. g.met.P.Pages.failed_later c.args.pages.now c.begin.new.self c.put_in.new.pages moves failed) (λ none. tt) c.in_err-put_in.ensures.writes.cause;
+      broken = c.put_in.ensures.keeps.broken;
+    }
 
 pub returns-clause-adds : goal.returns-clause-adds
 returns-clause-adds g c =

@@ -41,20 +41,11 @@ loop-j-preserved c =
           rw w.changed-is (write_none keys d stamps j c.loop-j.changed.items lt within one c.loop-j.invariant)
     ]
 
-pub returns-clause-stored : goal.returns-clause-stored
-returns-clause-stored c =
+pub returns : goal.returns
+returns c =
     let u = c.args.opened.now in
     let keys = u.schema.keys in
     let stamps = stamps_after u.next_stamp c.args.old.now c.args.new.now (drop 1 keys) c.args.stamps.now in
     let all : length keys ≤ c.loop-j.j + 1 = omega (arith, c.loop-j-test.false, c.len-j-end.ensures.value, c.requires.records.shaped.keys) in
     let whole = write_whole keys stamps c.loop-j.j c.loop-j.changed.items all c.loop-j.invariant in
-    ap (λ bs. bs ++ c.args.new.now) whole.0
-
-pub returns-clause-length : goal.returns-clause-length
-returns-clause-length c =
-    let u = c.args.opened.now in
-    let keys = u.schema.keys in
-    let stamps = stamps_after u.next_stamp c.args.old.now c.args.new.now (drop 1 keys) c.args.stamps.now in
-    let all : length keys ≤ c.loop-j.j + 1 = omega (arith, c.loop-j-test.false, c.len-j-end.ensures.value, c.requires.records.shaped.keys) in
-    let whole = write_whole keys stamps c.loop-j.j c.loop-j.changed.items all c.loop-j.invariant in
-    whole.1 ∙ sym c.requires.records.shaped.stamps
+    record { stored = ap (λ bs. bs ++ c.args.new.now) whole.0; length = whole.1 ∙ sym c.requires.records.shaped.stamps }

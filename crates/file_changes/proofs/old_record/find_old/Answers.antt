@@ -12,10 +12,10 @@ get-requires-clause-room g c =
     let shaped = c.requires.shaped in
     omega (arith, few_stamps c.args.opened.now.schema.keys shaped.is_schema.few, shaped.stamps, shaped.greatest, shaped.is_schema.limit, c.fits-slot)
 
-pub stamps_in-stamps-requires-clause-room : goal.stamps_in-stamps-requires-clause-room
-stamps_in-stamps-requires-clause-room g c =
+pub stamps_in-stamps-requires : goal.stamps_in-stamps-requires
+stamps_in-stamps-requires g c =
     let shaped = c.requires.shaped in
-    omega (arith, few_stamps c.args.opened.now.schema.keys shaped.is_schema.few, shaped.stamps, c.get.ensures.front.long, c.fits-slot)
+    record { shaped = shaped; room = omega (arith, few_stamps c.args.opened.now.schema.keys shaped.is_schema.few, shaped.stamps, c.get.ensures.front.long, c.fits-slot) }
 
 pub returns-in_err-entry-clause-found : goal.returns-in_err-entry-clause-found
 returns-in_err-entry-clause-found g c honest file stands =

@@ -10,12 +10,12 @@ use Rattle.pages.proofs.CauseLemmas.{caused_since, fails_since}
 use Rattle.file_changes.proofs.ChangingLemmas.{but_here, but_twice}
 use Rattle.file_changes.proofs.replacing.change_alternate.Goals as goal
 
-pub returns-in_err-remove_from_alternate-clause-changed : goal.returns-in_err-remove_from_alternate-clause-changed
-returns-in_err-remove_from_alternate-clause-changed g c honest sound slots primes entries p can =
+pub returns-in_err-remove_from_alternate-clause-put : goal.returns-in_err-remove_from_alternate-clause-put
+returns-in_err-remove_from_alternate-clause-put g c honest sound slots primes entries p can =
     fails c.from_residual.result _ c.from_residual.ensures.1 (c.in_err-remove_from_alternate.ensures.removed honest sound slots primes entries p can.there).no_damage _
 
-pub returns-clause-changed : goal.returns-clause-changed
-returns-clause-changed g c honest sound slots primes entries p can =
+pub returns-clause-put : goal.returns-clause-put
+returns-clause-put g c honest sound slots primes entries p can =
     let u = c.args.opened.now in
     let j = c.args.j in
     let now = c.remove_from_alternate.new.pages in

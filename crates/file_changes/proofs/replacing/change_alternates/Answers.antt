@@ -67,7 +67,7 @@ loop-j-preserved g c =
                 let before = g.met.P.Pages.writes_honestly now later step.goes honest in
                 let had = inv.changed before sound slots primes entries p there free in
                 let was = changed_here u.schema u.next_stamp row bytes j entries in
-                let done = ((rw (schema, next, sym (stamp_in_key j row)) at w.in_ok-change_alternate.ensures.changed) honest had.1 slots primes (changed_below u.schema u.next_stamp row bytes j entries) had.0
+                let done = ((rw (schema, next, sym (stamp_in_key j row)) at w.in_ok-change_alternate.ensures.put) honest had.1 slots primes (changed_below u.schema u.next_stamp row bytes j entries) had.0
                 (record { there = rw was (there j within); freed = rw was (free j within moves) })).answer in (
                   said_so new.heap new.prime new.alternates.items (g.P.Pages.shown.state later).live slots primes _ done.0 primes
                       (changed_below u.schema u.next_stamp row bytes (j + 1) entries) refl (λ i _. changed_step u.schema u.next_stamp row bytes j entries moves i),
@@ -115,7 +115,7 @@ returns-in_err-change_alternate-clause-put g c honest sound slots primes entries
     let before = g.met.P.Pages.writes_honestly now later c.change_alternate.ensures.alternate.goes honest in
     let had = inv.changed before sound slots primes entries p there free in
     let was = changed_here u.schema u.next_stamp row c.args.bytes.now j entries in
-    let failed = (rw (schema, next, sym (stamp_in_key j row)) at c.in_err-change_alternate.ensures.changed) honest had.1 slots primes (changed_below u.schema u.next_stamp row c.args.bytes.now j entries) had.0
+    let failed = (rw (schema, next, sym (stamp_in_key j row)) at c.in_err-change_alternate.ensures.put) honest had.1 slots primes (changed_below u.schema u.next_stamp row c.args.bytes.now j entries) had.0
     (record { there = rw was (there j within); freed = rw was (free j within moves) }) in
     fails c.from_residual.result _ c.from_residual.ensures.1 failed.no_damage _
 

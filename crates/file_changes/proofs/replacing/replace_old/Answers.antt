@@ -11,14 +11,28 @@ use Rattle.file_changes.proofs.FoundLemmas.{parts_later}
 use Rattle.file_changes.proofs.FullLemmas.{full_is, room_is, stamp_is, need_within}
 use Rattle.file_changes.proofs.replacing.replace_old.Goals as goal
 
-pub put_over-requires-clause-room : goal.put_over-requires-clause-room
-put_over-requires-clause-room g c =
+pub put_over-requires : goal.put_over-requires
+put_over-requires g c =
     let u = c.args.opened.now in
+    let start = c.args.pages.now in
+    let looked = c.replacing.new.pages in
+    let begun = c.begin.new.self in
+    let begins = g.met.P.Pages.begins_on start looked begun (g.met.P.Pages.writes_begins start looked (g.met.P.Pages.reads_writes start looked c.replacing.ensures.reads.step)) c.begin.ensures.begins in
     let full = sym c.is_full_to_change.ensures ∙ c.if-is_full_to_change.false in
     let room = room_is u c.pages_left.result c.args.before.now c.args.bytes.now full in
     record {
-      room = omega (arith, room, c.pages_left.ensures, c.begin.ensures.rests.available);
-      stamps = stamp_is u c.pages_left.result c.args.before.now c.args.bytes.now full;
+      can = record {
+        ready = g.met.P.Pages.begins_ready start begun begins c.requires.can.ready.pages;
+        gate = c.in_ok-begin.ensures.open;
+        shaped = c.requires.can.ready.shaped;
+        least = c.requires.can.least;
+        greatest = c.requires.can.greatest;
+      };
+      old = c.requires.old;
+      room = record {
+        room = omega (arith, room, c.pages_left.ensures, c.begin.ensures.rests.available);
+        stamps = stamp_is u c.pages_left.result c.args.before.now c.args.bytes.now full;
+      };
     }
 
 pub returns-in_err-repeated-clause-replaces : goal.returns-in_err-repeated-clause-replaces

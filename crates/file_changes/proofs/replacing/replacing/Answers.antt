@@ -24,12 +24,16 @@ loop-k-init g c =
       asked = asked_more asked asked asked (heights_of u) 0 (omega (arith, heights_many u.prime u.alternates.items)) (omega arith) (asked_start asked (heights_of u));
     }
 
-pub is_new_there-requires-clause-can : goal.is_new_there-requires-clause-can
-is_new_there-requires-clause-can g c =
+pub is_new_there-requires : goal.is_new_there-requires
+is_new_there-requires g c =
     record {
-      ready = g.met.P.Pages.writes_ready c.args.pages.now c.loop-k.pages (g.met.P.Pages.reads_writes c.args.pages.now c.loop-k.pages c.loop-k.invariant.reads) c.requires.can.ready;
-      shaped = c.requires.can.shaped;
-      least = c.requires.can.least;
+      can = record {
+        ready = g.met.P.Pages.writes_ready c.args.pages.now c.loop-k.pages (g.met.P.Pages.reads_writes c.args.pages.now c.loop-k.pages c.loop-k.invariant.reads) c.requires.can.ready;
+        shaped = c.requires.can.shaped;
+        least = c.requires.can.least;
+      };
+      key = omega (arith, c.loop-k-test.true, c.key_count-k-end.ensures.count);
+      old = c.requires.old;
     }
 
 pub loop-k-preserved : goal.loop-k-preserved

@@ -52,11 +52,14 @@ returns-in_default-clause-replaces g c =
     ∙ or_true (clashes_with_others u.schema c.args.bytes.now file))
     (kept _ _ _ refl (g.met.P.Pages.begins_ready start looked begins c.requires.ready.pages) c.requires.ready.shaped begins (omega (arith, c.find_old.ensures.reads.asked, heights_few u.prime u.alternates.items, levels_of_all u.prime u.alternates.items)))
 
-pub returns-clause-cause : goal.returns-clause-cause
-returns-clause-cause g c =
+pub returns-clause-keeps : goal.returns-clause-keeps
+returns-clause-keeps g c =
     let start = c.args.pages.now in
     let looked = c.find_old.new.pages in
-    caused_since c.replace_old.result _ _ _ _ (λ failed. g.met.P.Pages.failed_after start looked c.replace_old.new.pages (g.met.P.Pages.reads_writes start looked c.find_old.ensures.reads.step) failed) (λ x. x) c.replace_old.ensures.cause
+    record {
+      cause = caused_since c.replace_old.result _ _ _ _ (λ failed. g.met.P.Pages.failed_after start looked c.replace_old.new.pages (g.met.P.Pages.reads_writes start looked c.find_old.ensures.reads.step) failed) (λ x. x) c.replace_old.ensures.cause;
+      broken = c.replace_old.ensures.replaces.keeps.broken;
+    }
 
 pub returns-clause-replaces : goal.returns-clause-replaces
 returns-clause-replaces g c =

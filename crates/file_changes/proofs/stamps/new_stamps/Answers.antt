@@ -20,17 +20,11 @@ loop-k-preserved c =
       | else-part w ↦ rw w.stamps-is (written_skip keys d stamp c.loop-k.k c.loop-k.stamps.items lt (ap (λ (part : KeyPart). part.duplicates) (sym c.part.ensures.part) ∙ w.if-part.false) c.loop-k.invariant)
     ]
 
-pub returns-clause-stored : goal.returns-clause-stored
-returns-clause-stored c bytes =
+pub returns : goal.returns
+returns c =
     let all : length c.args.opened.now.schema.keys ≤ c.loop-k.k = omega (arith, c.loop-k-test.false, c.key_count-k-end.ensures.count) in
     let whole = written_whole c.args.opened.now.schema.keys c.args.opened.now.next_stamp c.loop-k.k c.loop-k.stamps.items all c.loop-k.invariant in
-    ap (λ bs. bs ++ bytes) whole.0
-
-pub returns-clause-length : goal.returns-clause-length
-returns-clause-length c =
-    let all : length c.args.opened.now.schema.keys ≤ c.loop-k.k = omega (arith, c.loop-k-test.false, c.key_count-k-end.ensures.count) in
-    let whole = written_whole c.args.opened.now.schema.keys c.args.opened.now.next_stamp c.loop-k.k c.loop-k.stamps.items all c.loop-k.invariant in
-    whole.1 ∙ sym c.requires.shaped.stamps
+    record { stored = λ bytes. ap (λ bs. bs ++ bytes) whole.0; length = whole.1 ∙ sym c.requires.stamps }
 
 pub push_stamp-requires : goal.push_stamp-requires
 push_stamp-requires c =
@@ -38,5 +32,5 @@ push_stamp-requires c =
     let d : KeyPart = record { offset = 0; length = 0; duplicates = false } in
     let lt : c.loop-k.k < length keys = omega (arith, c.loop-k-test.true, c.key_count-k-end.ensures.count) in
     let many = ap (λ (part : KeyPart). part.duplicates) (sym c.part.ensures.part) ∙ c.if-part.true in
-    let room = written_room keys d c.args.opened.now.next_stamp c.loop-k.k c.loop-k.stamps.items c.requires.shaped.is_schema.few lt many c.loop-k.invariant in
+    let room = written_room keys d c.args.opened.now.next_stamp c.loop-k.k c.loop-k.stamps.items c.requires.is_schema.few lt many c.loop-k.invariant in
     omega (arith, room)
