@@ -5,16 +5,22 @@ use Rattle.arrayvec.specs.ArrayVec.{ArrayVec}
 use Rattle.io_state.specs.declared.fault.Fault.{Fault}
 use Rattle.io_state.specs.declared.fault.Fault.TheVariants.{Broken}
 use Rattle.indexed_file.specs.File.{Row, File}
-use Rattle.indexed_file.specs.FileChange.{FileChange}
-use Rattle.indexed_file.specs.Rank.{highest_of}
+use Rattle.io_state.specs.declared.position.Position.{Position}
+use Rattle.io_state.specs.declared.modes.Relation.{Relation}
+use Rattle.indexed_file.specs.FileChange.{FileChange, addition, replacement, removal}
+use Rattle.indexed_file.specs.Rank.{highest_of, has_value, admits}
+use Rattle.indexed_file.specs.Room.{most_to_read, most_to_seek}
 use Rattle.indexed_file.specs.declared.answer.Found.{Found}
+use Rattle.indexed_file.specs.declared.answer.Added.{Added}
+use Rattle.indexed_file.specs.declared.answer.Replaced.{Replaced}
+use Rattle.pages.specs.Answer.{IsAnswer}
 use Rattle.record_layout.specs.Schema.{Schema}
 use Rattle.page_store.specs.ShelfState.{ShelfState}
 use Rattle.page_alloc.specs.Joining.{HasFailed}
 use Rattle.page_alloc.specs.Steps.{ReadsPages, Moves, state_of}
 use Rattle.open_file.specs.Stands.{Stands}
 use Rattle.open_file.specs.Faults.{IsCausedIn}
-use Rattle.open_file.specs.Reading.{FindsFirst}
+use Rattle.open_file.specs.Reading.{FindsFirst, Seeks}
 use Rattle.file_changes.specs.Changes.{ShownFile, Changes, MayBreak}
 use Rattle.shelf_file.specs.Standing.{IsReady, StandsFor, live_of, room_in}
 use Rattle.shelf_file.specs.declared.shelf_file.ShelfFile.{ShelfFile}
@@ -24,6 +30,11 @@ pub record IsReadyToRead (held : ShelfFile) (shelf : ShelfState) (k : ℕ) (byte
   pub ready : IsReady held shelf
   pub key : k < length held.file.schema.keys
   pub area : length bytes ≡ held.file.schema.greatest
+
+-- a call may be made that looks for a value of key k
+pub record IsReadyToSeek (held : ShelfFile) (shelf : ShelfState) (k : ℕ) : Type 0 where
+  pub ready : IsReady held shelf
+  pub key : k < length held.file.schema.keys
 
 -- a call may be made that puts this record into the file
 pub record IsReadyToWrite (held : ShelfFile) (shelf : ShelfState) (bytes : List ℕ) : Type 0 where
@@ -74,6 +85,12 @@ pub record ReadsOnShelf {X : Type 0} (most : ℕ) (before after : FileOnShelf)
   pub asked : after.held.pages.cache.asked ≤ before.held.pages.cache.asked + most
   pub step : OnlyReadsFile before.held after.held before.shelf after.shelf before.faults after.faults
 
+-- a call that makes this change of the file, or may break it
+pub record ChangesOnShelf {X : Type 0} (change : Schema → FileChange X) (before after : FileOnShelf)
+    (result : Result X Fault) : Type 0 where
+  pub changes : Changes shown_on_shelf (change before.held.file.schema) before after result
+  pub breaks : MayBreak shown_on_shelf (change before.held.file.schema).takes_pages before after result
+
 -- the greatest prime value of the rows, if there is any
 abbrev pub IsHighestPrime : Schema → List Row → Option (ArrayVec ℕ) → Type 0
 IsHighestPrime schema rows key = option_map (λ (key : ArrayVec ℕ). key.items) key ≡ highest_of schema rows
@@ -91,6 +108,29 @@ module _ {H : Type 0} (state : H → ShelfState) where
   FindsHeld k test held old new area now result = FindsFirst (state new).is_honest held.file
       (live_of held (state old)) k test area now result
 
+  -- whose key k has a value
+  abbrev pub FindsByValueHeld : ℕ → (value : List ℕ) → ShelfFile → H → H → (area now : List ℕ)
+      → Result (Option Found) Fault → Type 0
+  FindsByValueHeld k value held old new area now result = FindsFirst (state new).is_honest held.file
+      (live_of held (state old)) k (has_value held.file.schema k value) area now result
+
+  -- that a position admits
+  abbrev pub FindsNextHeld : ℕ → Position → ShelfFile → H → H → (area now : List ℕ)
+      → Result (Option Found) Fault → Type 0
+  FindsNextHeld k position held old new area now result = FindsFirst (state new).is_honest held.file
+      (live_of held (state old)) k (admits held.file.schema k position) area now result
+
+  -- a call that looks for the first value of key k that begins so related to an operand
+  abbrev pub SeeksHeld : ℕ → Relation → (operand : List ℕ) → ShelfFile → H → H
+      → Result (Option (ArrayVec ℕ)) Fault → Type 0
+  SeeksHeld k relation operand held old new result = IsTrue (state new).is_honest
+      → Seeks held.file (live_of held (state old)) k relation operand result
+
+  -- a call that looks for the greatest prime value
+  abbrev pub SeeksHighestHeld : ShelfFile → H → H → Result (Option (ArrayVec ℕ)) Fault → Type 0
+  SeeksHighestHeld held old new result = WhereStands held old new (λ file.
+      IsAnswer result (IsHighestPrime held.file.schema file.rows))
+
   -- so, of shelves that count their faults so
   module _ (count : H → ℕ) {X : Type 0} where
     -- a call that only reads, and asks for at most so many pages
@@ -98,12 +138,33 @@ module _ {H : Type 0} (state : H → ShelfState) where
     ReadsHeld most held now old new result = ReadsOnShelf most (on_shelf held (state old) (count old))
         (on_shelf now (state new) (count new)) result
 
-    -- a call that makes this change of the file
-    abbrev pub ChangesHeld : FileChange X → (held now : ShelfFile) → H → H → Result X Fault → Type 0
-    ChangesHeld change held now old new result = Changes shown_on_shelf change
+    -- one that reads a record by key k
+    abbrev pub ReadsByKeyHeld : ℕ → (held now : ShelfFile) → H → H → Result X Fault → Type 0
+    ReadsByKeyHeld k held now old new result = ReadsOnShelf (most_to_read (room_in held) k)
         (on_shelf held (state old) (count old)) (on_shelf now (state new) (count new)) result
 
-    -- a call that breaks the file at a fault other than Full, and may take pages
-    abbrev pub BreaksHeld : Bool → (held now : ShelfFile) → H → H → Result X Fault → Type 0
-    BreaksHeld takes_pages held now old new result = MayBreak shown_on_shelf takes_pages
+    -- one that looks for a value of key k
+    abbrev pub ReadsToSeekHeld : ℕ → (held now : ShelfFile) → H → H → Result X Fault → Type 0
+    ReadsToSeekHeld k held now old new result = ReadsOnShelf (most_to_seek (room_in held) k)
         (on_shelf held (state old) (count old)) (on_shelf now (state new) (count new)) result
+
+    -- a call that makes this change of the file
+    abbrev pub ChangesHeld : (Schema → FileChange X) → (held now : ShelfFile) → H → H → Result X Fault → Type 0
+    ChangesHeld change held now old new result = ChangesOnShelf change
+        (on_shelf held (state old) (count old)) (on_shelf now (state new) (count new)) result
+
+  module _ (count : H → ℕ) where
+    -- a record is added
+    abbrev pub AddsHeld : List ℕ → (held now : ShelfFile) → H → H → Result Added Fault → Type 0
+    AddsHeld bytes held now old new result = ChangesHeld count (λ schema. addition schema bytes) held now
+        old new result
+
+    -- a record is put in the place of that of its prime value
+    abbrev pub ReplacesHeld : List ℕ → (held now : ShelfFile) → H → H → Result Replaced Fault → Type 0
+    ReplacesHeld bytes held now old new result = ChangesHeld count (λ schema. replacement schema bytes)
+        held now old new result
+
+    -- the record of a prime value is taken out
+    abbrev pub RemovesHeld : List ℕ → (held now : ShelfFile) → H → H → Result Bool Fault → Type 0
+    RemovesHeld prime held now old new result = ChangesHeld count (λ schema. removal schema prime)
+        held now old new result

@@ -1,9 +1,7 @@
 //! The calls that change records.
 
-ghost use Rattle.std.specs.Prelude.{true, false};
-ghost use Rattle.indexed_file.specs.FileChange.{addition, replacement, removal};
 ghost use Rattle.shelf_file.specs.Standing.{IsReady};
-ghost use Rattle.shelf_file.specs.Calls.{IsReadyToWrite, ChangesHeld, BreaksHeld};
+ghost use Rattle.shelf_file.specs.Calls.{IsReadyToWrite, AddsHeld, ReplacesHeld, RemovesHeld};
 
 use crate::shelf_file::ShelfFile;
 use indexed_file::{Added, Replaced};
@@ -16,9 +14,7 @@ impl ShelfFile {
     /// changed; after any other fault the file is broken.
     pub fn add<S: Shelf>(&mut self, shelf: &mut S, bytes: &[u8]) -> Result<Added, Fault>
         requires { IsReadyToWrite self.old (S.state shelf.old) bytes.now }
-        ensures adds { ChangesHeld S.state S.fault_count (addition self.old.file.schema bytes.now)
-            self.old self.new shelf.old shelf.new result }
-        ensures breaks { BreaksHeld S.state S.fault_count true self.old self.new shelf.old shelf.new result }
+        ensures { AddsHeld S.state S.fault_count bytes.now self.old self.new shelf.old shelf.new result }
     {
         let mut pages = FilePages {
             file: &mut self.pages,
@@ -32,9 +28,7 @@ impl ShelfFile {
     /// broken.
     pub fn replace<S: Shelf>(&mut self, shelf: &mut S, bytes: &[u8]) -> Result<Replaced, Fault>
         requires { IsReadyToWrite self.old (S.state shelf.old) bytes.now }
-        ensures replaces { ChangesHeld S.state S.fault_count (replacement self.old.file.schema bytes.now)
-            self.old self.new shelf.old shelf.new result }
-        ensures breaks { BreaksHeld S.state S.fault_count true self.old self.new shelf.old shelf.new result }
+        ensures { ReplacesHeld S.state S.fault_count bytes.now self.old self.new shelf.old shelf.new result }
     {
         let mut pages = FilePages {
             file: &mut self.pages,
@@ -47,9 +41,7 @@ impl ShelfFile {
     /// file is broken.
     pub fn remove<S: Shelf>(&mut self, shelf: &mut S, key: &Key) -> Result<bool, Fault>
         requires ready { IsReady self.old (S.state shelf.old) }
-        ensures removes { ChangesHeld S.state S.fault_count (removal self.old.file.schema key.now.items)
-            self.old self.new shelf.old shelf.new result }
-        ensures breaks { BreaksHeld S.state S.fault_count false self.old self.new shelf.old shelf.new result }
+        ensures { RemovesHeld S.state S.fault_count key.now.items self.old self.new shelf.old shelf.new result }
     {
         let mut pages = FilePages {
             file: &mut self.pages,

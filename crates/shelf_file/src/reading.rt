@@ -1,12 +1,7 @@
 //! The calls that read records.
 
-ghost use Rattle.std.specs.Prelude.{◌<◌, length, IsTrue};
-ghost use Rattle.indexed_file.specs.Rank.{has_value, admits};
-ghost use Rattle.indexed_file.specs.Room.{most_to_read, most_to_seek};
-ghost use Rattle.pages.specs.Answer.{IsAnswer};
-ghost use Rattle.open_file.specs.Reading.{Seeks};
-ghost use Rattle.shelf_file.specs.Standing.{IsReady, live_of, room_in};
-ghost use Rattle.shelf_file.specs.Calls.{IsReadyToRead, IsHighestPrime, WhereStands, FindsHeld, ReadsHeld};
+ghost use Rattle.shelf_file.specs.Standing.{IsReady};
+ghost use Rattle.shelf_file.specs.Calls.{IsReadyToRead, IsReadyToSeek, FindsByValueHeld, FindsNextHeld, SeeksHeld, SeeksHighestHeld, ReadsByKeyHeld, ReadsToSeekHeld};
 
 use crate::shelf_file::ShelfFile;
 use indexed_file::Found;
@@ -24,10 +19,9 @@ impl ShelfFile {
         area: &mut [u8],
     ) -> Result<Option<Found>, Fault>
         requires { IsReadyToRead self.old (S.state shelf.old) k area.old }
-        ensures finds { FindsHeld S.state k (has_value self.old.file.schema k key.now.items)
-            self.old shelf.old shelf.new area.old area.new result }
-        ensures reads { ReadsHeld S.state S.fault_count (most_to_read (room_in self.old) k)
-            self.old self.new shelf.old shelf.new result }
+        ensures finds { FindsByValueHeld S.state k key.now.items self.old shelf.old shelf.new
+            area.old area.new result }
+        ensures reads { ReadsByKeyHeld S.state S.fault_count k self.old self.new shelf.old shelf.new result }
     {
         let mut pages = FilePages {
             file: &mut self.pages,
@@ -45,10 +39,9 @@ impl ShelfFile {
         area: &mut [u8],
     ) -> Result<Option<Found>, Fault>
         requires { IsReadyToRead self.old (S.state shelf.old) k area.old }
-        ensures finds { FindsHeld S.state k (admits self.old.file.schema k position.now)
-            self.old shelf.old shelf.new area.old area.new result }
-        ensures reads { ReadsHeld S.state S.fault_count (most_to_read (room_in self.old) k)
-            self.old self.new shelf.old shelf.new result }
+        ensures finds { FindsNextHeld S.state k position.now self.old shelf.old shelf.new
+            area.old area.new result }
+        ensures reads { ReadsByKeyHeld S.state S.fault_count k self.old self.new shelf.old shelf.new result }
     {
         let mut pages = FilePages {
             file: &mut self.pages,
@@ -65,12 +58,9 @@ impl ShelfFile {
         operand: &[u8],
         relation: Relation,
     ) -> Result<Option<Key>, Fault>
-        requires ready { IsReady self.old (S.state shelf.old) }
-        requires key { k < length self.old.file.schema.keys }
-        ensures found { IsTrue (S.state shelf.new).is_honest
-            → Seeks self.old.file (live_of self.old (S.state shelf.old)) k relation operand.now result }
-        ensures reads { ReadsHeld S.state S.fault_count (most_to_seek (room_in self.old) k)
-            self.old self.new shelf.old shelf.new result }
+        requires { IsReadyToSeek self.old (S.state shelf.old) k }
+        ensures found { SeeksHeld S.state k relation operand.now self.old shelf.old shelf.new result }
+        ensures reads { ReadsToSeekHeld S.state S.fault_count k self.old self.new shelf.old shelf.new result }
     {
         let mut pages = FilePages {
             file: &mut self.pages,
@@ -82,10 +72,8 @@ impl ShelfFile {
     /// The greatest prime value.
     pub fn highest<S: Shelf>(&mut self, shelf: &mut S) -> Result<Option<Key>, Fault>
         requires ready { IsReady self.old (S.state shelf.old) }
-        ensures found { WhereStands S.state self.old shelf.old shelf.new (λ file.
-            IsAnswer result (IsHighestPrime self.old.file.schema file.rows)) }
-        ensures reads { ReadsHeld S.state S.fault_count (most_to_seek (room_in self.old) 0)
-            self.old self.new shelf.old shelf.new result }
+        ensures found { SeeksHighestHeld S.state self.old shelf.old shelf.new result }
+        ensures reads { ReadsToSeekHeld S.state S.fault_count 0 self.old self.new shelf.old shelf.new result }
     {
         let mut pages = FilePages {
             file: &mut self.pages,

@@ -1,47 +1,43 @@
-use Rattle.std.proofs.Common.{true}
 use Rattle.open_file.proofs.ExitLemmas.{if_ok}
-use Rattle.indexed_file.specs.FileChange.{replacement}
 use Rattle.shelf_file.specs.declared.shelf_file.ShelfFile.{ShelfFile}
-use Rattle.shelf_file.specs.Calls.{ChangesHeld, BreaksHeld}
+use Rattle.shelf_file.specs.Calls.{ReplacesHeld}
 use Rattle.shelf_file.proofs.StepLemmas.{reads_same, at_end}
 use Rattle.shelf_file.proofs.shelf_file.ShelfFile.replace.Goals as goal
 
-pub replace-requires-clause-ready : goal.replace-requires-clause-ready
-replace-requires-clause-ready g c = record { pages = c.requires.ready.over; shaped = c.requires.ready.shaped }
+pub replace-requires : goal.replace-requires
+replace-requires g c = record {
+  ready = record { pages = c.requires.ready.over; shaped = c.requires.ready.shaped };
+  least = c.requires.least;
+  greatest = c.requires.greatest;
+}
 
-pub returns-clause-replaces : goal.returns-clause-replaces
-returns-clause-replaces g c =
+pub returns : goal.returns
+returns g c =
     let old = c.args.self.now in
     let new : ShelfFile = record { file = c.replace.new.opened; pages = c.replace.new.pages.file.now } in
-    let change = replacement old.file.schema c.args.bytes.now in
     let made = c.replace.ensures.replaces in
-    at_end (λ s. ChangesHeld g.S.Shelf.state g.S.Shelf.fault_count change old new c.args.shelf.now s c.replace.result)
+    let breaks = c.replace.ensures.breaks in
+    at_end (λ s. ReplacesHeld g.S.Shelf.state g.S.Shelf.fault_count c.args.bytes.now old new c.args.shelf.now s c.replace.result)
     _ _ c.shelf-1.given.1 made.keeps.begins.1
     (record {
-      done = made.done;
-      unmade = if_ok c.replace.result _ _ (λ x reads none. let r = reads none in reads_same old new _ _ _ _ r.0 r.1.2) made.unmade;
-      begun = made.begun;
-      room = made.room;
-      full = λ is. let r = made.full is in reads_same old new _ _ _ _ r.0 r.1.2;
-      lacks = made.lacks;
-      keeps = record {
-        schema = made.keeps.schema;
-        ready = record { over = made.keeps.ready.pages; shaped = made.keeps.ready.shaped };
-        begins = made.keeps.begins.2;
-        asked = made.keeps.asked;
+      changes = record {
+        done = made.done;
+        unmade = if_ok c.replace.result _ _ (λ x reads none. let r = reads none in reads_same old new _ _ _ _ r.0 r.1.2) made.unmade;
+        begun = made.begun;
+        room = made.room;
+        full = λ is. let r = made.full is in reads_same old new _ _ _ _ r.0 r.1.2;
+        lacks = made.lacks;
+        keeps = record {
+          schema = made.keeps.schema;
+          ready = record { over = made.keeps.ready.pages; shaped = made.keeps.ready.shaped };
+          begins = made.keeps.begins.2;
+          asked = made.keeps.asked;
+        };
       };
-    })
-
-pub returns-clause-breaks : goal.returns-clause-breaks
-returns-clause-breaks g c =
-    let old = c.args.self.now in
-    let new : ShelfFile = record { file = c.replace.new.opened; pages = c.replace.new.pages.file.now } in
-    let breaks = c.replace.ensures.breaks in
-    at_end (λ s. BreaksHeld g.S.Shelf.state g.S.Shelf.fault_count true old new c.args.shelf.now s c.replace.result)
-    _ _ c.shelf-1.given.1 c.replace.ensures.replaces.keeps.begins.1
-    (record {
-      broken = λ is. let b = breaks.broken is in (b.0, reads_same old new _ _ _ _ b.1.0 b.1.1.2);
-      breaks = breaks.breaks;
-      unbroken = breaks.unbroken;
-      cause = breaks.cause;
+      breaks = record {
+        broken = λ is. let b = breaks.broken is in (b.0, reads_same old new _ _ _ _ b.1.0 b.1.1.2);
+        breaks = breaks.breaks;
+        unbroken = breaks.unbroken;
+        cause = breaks.cause;
+      };
     })
