@@ -6,9 +6,8 @@ use Rattle.page_store.specs.Images.{Leaves}
 use Rattle.page_store.specs.ShelfState.{unit_file}
 use Rattle.page_alloc.specs.Steps.{Moves}
 use Rattle.indexed_file.specs.FileChange.{FileChange}
-use Rattle.file_changes.specs.Changes.{Changes, MayBreak}
 use Rattle.shelf_file.specs.declared.shelf_file.ShelfFile.{ShelfFile}
-use Rattle.shelf_file.specs.Calls.{on_shelf, shown_on_shelf}
+use Rattle.shelf_file.specs.Calls.{ChangesOnShelf, on_shelf}
 use Rattle.shelf_file.specs.Standing.{IsReady}
 use Rattle.shelf_library.specs.State.{LibraryState, held_at}
 use Rattle.shelf_library.specs.OneUnit.{AreUnits}
@@ -29,9 +28,7 @@ pub record MovesAt (u : ℕ) (file after : ShelfFile) (old new : LibraryState) :
   pub image_after : IsTrue new.shelf.is_honest → Leaves (unit_file new.shelf u) (unit_file new.shelf u).seen
 
 -- what each of the calls that change records leaves of the file
-pub record ChangesFile {X : Type 0} (change : Schema → FileChange X) (file after : ShelfFile)
-    (old new : LibraryState) (result : Result X Fault) : Type 0 where
-  pub changes : Changes shown_on_shelf (change file.file.schema) (on_shelf file old.shelf old.faults)
-      (on_shelf after new.shelf new.faults) result
-  pub breaks : MayBreak shown_on_shelf (change file.file.schema).takes_pages
-      (on_shelf file old.shelf old.faults) (on_shelf after new.shelf new.faults) result
+abbrev pub ChangesFile : {X : Type 0} → (Schema → FileChange X) → (file after : ShelfFile)
+    → (old new : LibraryState) → Result X Fault → Type 0
+ChangesFile change file after old new result = ChangesOnShelf change (on_shelf file old.shelf old.faults)
+    (on_shelf after new.shelf new.faults) result

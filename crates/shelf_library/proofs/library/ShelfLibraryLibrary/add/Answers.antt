@@ -42,7 +42,7 @@ invariant_of-self g c =
     let s = c.args.self.now in
     let call =
     moves_at g.S.Shelf s c.args.u c.requires.attached c.index_mut.result.now c.index_mut.ensures.value c.in-Opened.file c.in-Opened.is
-    c.add.new.self c.add.new.shelf c.add.ensures.adds.keeps.begins c.add.ensures.adds.keeps.ready
+    c.add.new.self c.add.new.shelf c.add.ensures.changes.keeps.begins c.add.ensures.changes.keeps.ready
     g.met.S.Shelf.reads_an_image in
     let after = units_after _ _ _ _ _ call in
     record {
@@ -67,11 +67,11 @@ module _ (g : given.Over) (c : goal.After-self-in-Opened-1 g) where
   call =
       let s = c.args.self.now in
       moves_at g.S.Shelf s c.args.u c.requires.attached c.index_mut.result.now c.index_mut.ensures.value c.in-Opened.file c.in-Opened.is
-      c.add.new.self c.add.new.shelf c.add.ensures.adds.keeps.begins c.add.ensures.adds.keeps.ready
+      c.add.new.self c.add.new.shelf c.add.ensures.changes.keeps.begins c.add.ensures.changes.keeps.ready
       g.met.S.Shelf.reads_an_image
 
   change : ChangesFile (λ schema. addition schema c.args.bytes.now) c.in-Opened.file c.add.new.self before later c.add.result
-  change = record { changes = c.add.ensures.adds; breaks = c.add.ensures.breaks }
+  change = c.add.ensures
 
 pub returns : goal.returns
 returns g c =

@@ -37,7 +37,7 @@ invariant_of-self g c =
     let s = c.args.self.now in
     let call =
     moves_at g.S.Shelf s c.args.u c.requires.attached c.index_mut.result.now c.index_mut.ensures.value c.in-Opened.file c.in-Opened.is
-    c.remove.new.self c.remove.new.shelf c.remove.ensures.removes.keeps.begins c.remove.ensures.removes.keeps.ready
+    c.remove.new.self c.remove.new.shelf c.remove.ensures.changes.keeps.begins c.remove.ensures.changes.keeps.ready
     g.met.S.Shelf.reads_an_image in
     let after = units_after _ _ _ _ _ call in
     record {
@@ -62,11 +62,11 @@ module _ (g : given.Over) (c : goal.After-self-in-Opened-1 g) where
   call =
       let s = c.args.self.now in
       moves_at g.S.Shelf s c.args.u c.requires.attached c.index_mut.result.now c.index_mut.ensures.value c.in-Opened.file c.in-Opened.is
-      c.remove.new.self c.remove.new.shelf c.remove.ensures.removes.keeps.begins c.remove.ensures.removes.keeps.ready
+      c.remove.new.self c.remove.new.shelf c.remove.ensures.changes.keeps.begins c.remove.ensures.changes.keeps.ready
       g.met.S.Shelf.reads_an_image
 
   change : ChangesFile (λ schema. removal schema c.args.key.now.items) c.in-Opened.file c.remove.new.self before later c.remove.result
-  change = record { changes = c.remove.ensures.removes; breaks = c.remove.ensures.breaks }
+  change = c.remove.ensures
 
 pub returns : goal.returns
 returns g c =

@@ -20,18 +20,16 @@ index_mut-requires g c =
     let within = is_within g.S.Shelf s c.args.u c.requires.attached in
     omega (arith, within, s.units.ok.0)
 
-pub seek-requires-clause-ready : goal.seek-requires-clause-ready
-seek-requires-clause-ready g c =
+pub seek-requires : goal.seek-requires
+seek-requires g c =
     let s = c.args.self.now in
-    may_call g.S.Shelf s c.args.u c.requires.attached c.index_mut.result.now c.index_mut.ensures.value
-    c.in-Opened.file c.in-Opened.is
-
-pub seek-requires-clause-key : goal.seek-requires-clause-key
-seek-requires-clause-key g c =
-    let s = c.args.self.now in
-    subst (λ (schema : Schema). c.args.k < length schema.keys)
-    (schema_is g.S.Shelf s c.args.u c.requires.attached c.index_mut.result.now c.index_mut.ensures.value
-    c.in-Opened.file c.in-Opened.is) c.requires.key
+    record {
+      ready = may_call g.S.Shelf s c.args.u c.requires.attached c.index_mut.result.now c.index_mut.ensures.value
+          c.in-Opened.file c.in-Opened.is;
+      key = subst (λ (schema : Schema). c.args.k < length schema.keys)
+          (schema_is g.S.Shelf s c.args.u c.requires.attached c.index_mut.result.now c.index_mut.ensures.value
+          c.in-Opened.file c.in-Opened.is) c.requires.key;
+    }
 
 pub unreachable-requires : goal.unreachable-requires
 unreachable-requires g c =
