@@ -1,5 +1,5 @@
 -- The answering of one request, and of the end, where answers are held. All of this is ours.
-use Rattle.std.specs.Prelude.{◌≡◌, ◌⊎◌, ℕ, List, ◌++◌, Option, Result, Ok, Err}
+use Rattle.std.specs.Prelude.{◌≡◌, ◌⊎◌, ℕ, List, ◌++◌, Option, Result, Ok, Err, OnOk, OnErr}
 use Rattle.std.specs.Io.KnownBytes.{Appends}
 use Rattle.indexed_file.specs.Shown.{Shown}
 use Rattle.request_frames.specs.Answer.{Told}
@@ -8,6 +8,7 @@ use Rattle.file_session.specs.Files.{Files}
 use Rattle.serve.specs.Answers.{Answers, answer_frame}
 use Rattle.serve.specs.Reads.{OnlyReads}
 use Rattle.held_text.specs.Output.{Adds}
+use Rattle.held_text.specs.declared.output.Refused.{Refused}
 use Rattle.serve.specs.HeldAnswers.{HandsAllOver, RefusesHeld, RefusesNext}
 use Rattle.serve.specs.Serving.{too_long}
 use Rattle.serve.specs.declared.fault.ServeFault.{ServeFault}
@@ -48,6 +49,36 @@ abbrev pub FailsOne : {S : Type 0} → Shown S → (IsNew : S → Type 0) → (b
 FailsOne shown IsNew body o old new =
     (RefusesHeld o.written o.written_after o.held × (new ≡ old))
     ⊎ AnswersAs shown IsNew body (Stays body o) old new
+
+-- a request that only reads was answered, and its answer is held; or the writer refused what was held
+pub record AnswersRead {S W : Type 0} (shown : Shown S) (IsNew : S → Type 0)
+    (contents : W → Option (List ℕ)) (body : List ℕ) (old new : Files S) (held held_after : List ℕ)
+    (out out_after : W) (result : Result (Unit {0}) Refused) : Type 0 where
+  pub answered : OnOk result (AnswersAs shown IsNew body
+      (λ told. Adds (contents out) (contents out_after) held held_after (answer_frame told)) old new)
+  pub refused : OnErr result (AnswersAs shown IsNew body
+      (λ told. RefusesHeld (contents out) (contents out_after) held) old new)
+
+-- another one was answered, and the writer took its answer behind all that was held; or it refused
+-- what was held, and the request was not performed; or it refused the answer
+pub record AnswersOther {S W : Type 0} (shown : Shown S) (IsNew : S → Type 0)
+    (contents : W → Option (List ℕ)) (body : List ℕ) (old new : Files S) (held held_after : List ℕ)
+    (out out_after : W) (result : Result (Unit {0}) Refused) : Type 0 where
+  pub answered : OnOk result (AnswersAs shown IsNew body
+      (λ told. HandsAllOver (contents out) (contents out_after)
+      (held ++ answer_frame told) held_after) old new)
+  pub refused : OnErr result ((RefusesHeld (contents out) (contents out_after) held × (new ≡ old))
+      ⊎ AnswersAs shown IsNew body
+      (λ told. RefusesNext (contents out) (contents out_after) held (answer_frame told)) old new)
+
+-- any request was answered so, or failed so
+pub record AnswersOne {S W : Type 0} (shown : Shown S) (IsNew : S → Type 0)
+    (contents : W → Option (List ℕ)) (body : List ℕ) (old new : Files S) (held held_after : List ℕ)
+    (out out_after : W) (result : Result (Unit {0}) Refused) : Type 0 where
+  pub answered : OnOk result (AnswersAs shown IsNew body
+      (Goes body (outgoing (contents out) (contents out_after) held held_after)) old new)
+  pub refused : OnErr result (FailsOne shown IsNew body
+      (outgoing (contents out) (contents out_after) held held_after) old new)
 
 -- where the requests end, the writer took all that was held, or refused it
 abbrev pub Finishes : Result Unit ServeFault → Outgoing → Result Unit ServeFault → Type 0

@@ -3,7 +3,9 @@ use Rattle.std.specs.Prelude.{◌≡◌, ◌⊎◌, ℕ, List, Option, Some, Non
 use Rattle.indexed_file.specs.Shown.{Shown}
 use Rattle.verbs.specs.declared.answer.Answer.{Answer}
 use Rattle.request_frames.specs.Answer.{Told, Refuses, Does, Tells, answer_body, framed}
-use Rattle.request_frames.specs.Request.{Described, Performed, Asked, Describing, Performing, Releasing}
+use Rattle.request_frames.specs.Reading.{request_in}
+use Rattle.request_frames.specs.Request.{Described, Performed, Asked, Describing, Performing, Releasing, described_of}
+use Rattle.request_frames.specs.declared.description.Description.{Description}
 use Rattle.request_frames.specs.declared.refusal.Refusal.TheVariants as refusal
 use Rattle.file_session.specs.Files.{Files, file_at}
 use Rattle.file_session.specs.Steps.{Describes, RefusesDescription, Performs, refusal_of_verb, record_by, Releases, refusal_of_release}
@@ -48,3 +50,17 @@ answer_frame told = framed (answer_body told)
 -- the frame tells an answer of which this is so
 abbrev pub IsFrameOf : List ℕ → (Told → Type 0) → Type 0
 IsFrameOf frame IsAnswer = (told : Told) × (frame ≡ answer_frame told) × IsAnswer told
+
+-- the frame tells the answer to a description, to a verb, and to the request that the body has
+abbrev pub TellsOfFile : {S : Type 0} → Shown S → (IsNew : S → Type 0) → Description → (old new : Files S)
+    → (frame : List ℕ) → Type 0
+TellsOfFile shown IsNew description old new frame =
+    IsFrameOf frame (λ told. AnswersDescription shown IsNew (described_of description) old told new)
+
+abbrev pub TellsVerb : {S : Type 0} → Shown S → Performed → (old new : Files S) → (frame : List ℕ) → Type 0
+TellsVerb shown p old new frame = IsFrameOf frame (λ told. AnswersVerb shown p old told new)
+
+abbrev pub TellsAnswer : {S : Type 0} → Shown S → (IsNew : S → Type 0) → (body : List ℕ)
+    → (old new : Files S) → (frame : List ℕ) → Type 0
+TellsAnswer shown IsNew body old new frame =
+    IsFrameOf frame (λ told. Answers shown IsNew (request_in body) old told new)

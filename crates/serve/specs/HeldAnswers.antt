@@ -1,6 +1,7 @@
 -- Answers that are held back, and then handed to the writer. All of this is ours.
-use Rattle.std.specs.Prelude.{◌≡◌, ◌<◌, ◌⊎◌, ℕ, List, [], ◌++◌, length, Option}
+use Rattle.std.specs.Prelude.{◌≡◌, ◌<◌, ◌⊎◌, ℕ, List, [], ◌++◌, length, Option, Result, OnOk, OnErr}
 use Rattle.std.specs.Io.KnownBytes.{Appends}
+use Rattle.held_text.specs.declared.output.Refused.{Refused}
 use Rattle.serve.specs.Input.{BeginsWithFrame}
 
 -- the writer took all that was held
@@ -12,6 +13,12 @@ abbrev pub RefusesHeld : (written written_after : Option (List ℕ)) → (held :
 RefusesHeld written written_after held =
     (0 < length held) × ((front : List ℕ) × (rest : List ℕ) × (held ≡ front ++ rest)
     × Appends written written_after front)
+
+-- the writer took all that was held, or refused it
+pub record SendsHeld (old new : Option (List ℕ)) (held held_after : List ℕ)
+    (result : Result (Unit {0}) Refused) : Type 0 where
+  pub taken : OnOk result (HandsAllOver old new held held_after)
+  pub refused : OnErr result (RefusesHeld old new held)
 
 -- before the input is asked on, the writer took all that was held; or the next frame had come
 -- whole, and nothing was done

@@ -1,5 +1,5 @@
 -- The frames of the input. All of this is ours.
-use Rattle.std.specs.Prelude.{◌≡◌, ℕ, ◌<◌, ◌≤◌, List, ◌++◌, length, take, Result, Ok, Err}
+use Rattle.std.specs.Prelude.{◌≡◌, ℕ, ◌<◌, ◌≤◌, Bool, true, false, List, [], ◌++◌, length, take, Result, Ok, Err, IfOk, OnErr}
 use Rattle.byteorder.specs.Endian.{big_bytes}
 use Rattle.request_frames.specs.Answer.{framed}
 use Rattle.standard_input.specs.Source.{Source, Gives, HasEnded, HasFailed}
@@ -12,6 +12,26 @@ pub record GivesLess (n : ℕ) (before after : Source) : Type 0 where
   pub bytes : List ℕ
   pub read : Gives before after bytes
   pub few : length bytes < n
+
+-- bytes came, as many as there was room for at most, and none only at the end; or a read failed
+pub record ReadsSome (before after : Source) (room room_after : List ℕ)
+    (result : Result ℕ InputFailed) : Type 0 where
+  pub within : IfOk result (λ n. n ≤ length room_after)
+  pub as_long : length room_after ≡ length room
+  pub bytes : IfOk result (λ n. Gives before after (take n room_after))
+  pub end : IfOk result (λ n. n ≡ 0 → 0 < length room → HasEnded after)
+  pub kept : OnErr result (Gives before after [])
+  pub failed : OnErr result (HasFailed after)
+
+-- as many bytes came as there was room for; or fewer, and then the end; or a read failed
+pub record ReadsWhole (before after : Source) (room room_after : List ℕ)
+    (result : Result Bool InputFailed) : Type 0 where
+  pub as_long : length room_after ≡ length room
+  pub whole : IfOk result (λ whole. whole ≡ true → Gives before after room_after)
+  pub short : IfOk result (λ whole. whole ≡ false → GivesLess (length room) before after)
+  pub end : IfOk result (λ whole. whole ≡ false → HasEnded after)
+  pub cut : OnErr result (GivesLess (length room) before after)
+  pub failed : OnErr result (HasFailed after)
 
 -- a whole frame stands at the front
 abbrev pub BeginsWithFrame : List ℕ → Type 0

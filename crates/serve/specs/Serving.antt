@@ -1,5 +1,5 @@
 -- The answering of the requests of an input. All of this is ours.
-use Rattle.std.specs.Prelude.{◌≡◌, ◌⊎◌, ℕ, ◌<◌, ◌≤◌, ◌-◌, ◌^◌, All, length, List, [], ◌∷◌, ◌++◌, flat_map, Option, Result, Ok, Err}
+use Rattle.std.specs.Prelude.{◌≡◌, ◌≢◌, ◌⊎◌, ℕ, ◌<◌, ◌≤◌, ◌-◌, ◌^◌, All, length, List, [], ◌∷◌, ◌++◌, flat_map, Option, Result, Ok, Err}
 use Rattle.std.specs.Io.KnownBytes.{Appends}
 use Rattle.byteorder.specs.Endian.{big_bytes}
 use Rattle.io_state.specs.declared.status.Status.{Status}
@@ -9,7 +9,8 @@ use Rattle.request_frames.specs.Reading.{request_in}
 use Rattle.request_frames.specs.declared.refusal.Refusal.TheVariants as refusal
 use Rattle.file_session.specs.Files.{Files, no_files}
 use Rattle.file_session.specs.Steps.{ClosesFirst}
-use Rattle.standard_input.specs.Source.{Source, Gives, HasEnded, HasFailed}
+use Rattle.standard_input.specs.Source.{Source, source_of, Gives, HasEnded, HasFailed}
+use Rattle.standard_input.specs.declared.standard_input.StandardInput.{StandardInput}
 use Rattle.serve.specs.Input.{IsCut}
 use Rattle.serve.specs.Answers.{Answers, answer_frame}
 use Rattle.serve.specs.Reads.{OnlyReads}
@@ -159,3 +160,20 @@ pub record Served {S : Type 0} (shown : Shown S) (IsNew : S → Type 0) (s : Str
   pub closes : List Status
   pub end : Files S
   pub closed : Closes shown last closes end
+
+-- the same of the reader and the writer themselves
+abbrev pub ServesInput : {S R W : Type 0} → Shown S → (IsNew : S → Type 0)
+    → (remaining : R → Option (List ℕ)) → (contents : W → Option (List ℕ))
+    → (input input_after : StandardInput R) → (out out_after : W) → (old new : Files S)
+    → Result Unit ServeFault → Type 0
+ServesInput shown IsNew remaining contents input input_after out out_after old new result =
+    Serves shown IsNew (streams (source_of remaining input) (source_of remaining input_after)
+    (contents out) (contents out_after)) old new result
+
+-- a whole session over them, unless it was refused for want of memory
+abbrev pub ServesAll : {S R W : Type 0} → Shown S → (IsNew : S → Type 0)
+    → (remaining : R → Option (List ℕ)) → (contents : W → Option (List ℕ))
+    → (input input_after : StandardInput R) → (out out_after : W) → Result Unit ServeFault → Type 0
+ServesAll shown IsNew remaining contents input input_after out out_after result = result ≢ Err Memory
+    → Served shown IsNew (streams (source_of remaining input) (source_of remaining input_after)
+    (contents out) (contents out_after)) result

@@ -1,9 +1,8 @@
 //! The answer to a request.
 ghost use Rattle.std.specs.Prelude.{◌≡◌};
-ghost use Rattle.request_frames.specs.Request.{described_of, performed_of};
-ghost use Rattle.request_frames.specs.Reading.{request_in};
+ghost use Rattle.request_frames.specs.Request.{performed_of};
 ghost use Rattle.request_frames.specs.Answer.{Refuses};
-ghost use Rattle.serve.specs.Answers.{IsFrameOf, answer_frame, AnswersDescription, AnswersVerb, AnswersRelease, Answers};
+ghost use Rattle.serve.specs.Answers.{IsFrameOf, answer_frame, AnswersRelease, TellsOfFile, TellsVerb, TellsAnswer};
 
 use crate::libraries::Libraries;
 use file_session::Session;
@@ -26,8 +25,8 @@ fn describe<M: Libraries>(
     description: &Description<'_>,
     frame: &mut AnswerFrame,
 )
-    ensures { IsFrameOf frame.new.items (λ told. AnswersDescription M.Library.shown (M.is_new libraries.now)
-        (described_of description.now) session.old told session.new) }
+    ensures { TellsOfFile M.Library.shown (M.is_new libraries.now) description.now
+        session.old session.new frame.new.items }
 {
     let Some(library) = libraries.make() else {
         return refuse(frame, Refusal::Memory);
@@ -44,8 +43,7 @@ fn perform<L: Library + Drop>(
     performance: &Performance<'_>,
     frame: &mut AnswerFrame,
 )
-    ensures { IsFrameOf frame.new.items (λ told. AnswersVerb L.shown
-        (performed_of performance.now) session.old told session.new) }
+    ensures { TellsVerb L.shown (performed_of performance.now) session.old session.new frame.new.items }
 {
     match session.perform(performance) {
         Ok(answer) => {
@@ -77,8 +75,8 @@ pub fn answer_request<M: Libraries>(
     body: &[u8],
     frame: &mut AnswerFrame,
 )
-    ensures { IsFrameOf frame.new.items (λ told. Answers M.Library.shown (M.is_new libraries.now)
-        (request_in body.now) session.old told session.new) }
+    ensures { TellsAnswer M.Library.shown (M.is_new libraries.now) body.now
+        session.old session.new frame.new.items }
 {
     match read_request(body) {
         Some(Request::Describe(description)) => describe(libraries, session, &description, frame),

@@ -1,6 +1,6 @@
 //! The answers that are on their way to the writer.
 ghost use Rattle.std.specs.Prelude.{OnOk, OnErr};
-ghost use Rattle.serve.specs.HeldAnswers.{HandsAllOver, RefusesHeld, MakesWay};
+ghost use Rattle.serve.specs.HeldAnswers.{RefusesHeld, SendsHeld, MakesWay};
 
 use crate::frame::has_frame;
 use crate::output::hand_on;
@@ -9,8 +9,7 @@ use std::io::Write;
 
 /// Hands all answers that are held to the writer, if there are any, and has it hand them on.
 pub fn send_held<W: Write>(held: &mut HeldText, out: &mut W) -> Result<(), Refused>
-    ensures taken { OnOk result (HandsAllOver (W.contents out.old) (W.contents out.new) held.old held.new) }
-    ensures refused { OnErr result (RefusesHeld (W.contents out.old) (W.contents out.new) held.old) }
+    ensures { SendsHeld (W.contents out.old) (W.contents out.new) held.old held.new result }
 {
     if held.is_empty() {
         return Ok(());

@@ -1,7 +1,7 @@
 //! The next frame of the input.
-ghost use Rattle.std.specs.Prelude.{◌≡◌, ◌⊎◌, ◌≤◌, ◌<◌, true, false, IfOk, OnErr, [], length, take};
-ghost use Rattle.standard_input.specs.Source.{source_of, Gives, HasEnded, HasFailed};
-ghost use Rattle.serve.specs.Input.{GivesLess, Came, BeginsWithFrame};
+ghost use Rattle.std.specs.Prelude.{◌≡◌, ◌⊎◌, ◌<◌, true, false, []};
+ghost use Rattle.standard_input.specs.Source.{source_of};
+ghost use Rattle.serve.specs.Input.{ReadsSome, ReadsWhole, Came, BeginsWithFrame};
 
 use crate::frame::length_of;
 use held_text::HeldText;
@@ -29,15 +29,8 @@ pub enum Next {
 
 /// Reads a part, and answers how many bytes came: none at the end.
 fn read_part<R: Read>(reader: &mut StandardInput<R>, part: &mut [u8]) -> Result<usize, InputFailed>
-    ensures within { IfOk result (λ n. n ≤ length part.new) }
-    ensures length { length part.new ≡ length part.old }
-    ensures bytes { IfOk result (λ n. Gives (source_of R.remaining reader.old)
-        (source_of R.remaining reader.new) (take n part.new)) }
-    ensures end { IfOk result (λ n. n ≡ 0 → 0 < length part.old
-        → HasEnded (source_of R.remaining reader.new)) }
-    ensures kept { OnErr result (Gives (source_of R.remaining reader.old)
-        (source_of R.remaining reader.new) []) }
-    ensures failed { OnErr result (HasFailed (source_of R.remaining reader.new)) }
+    ensures { ReadsSome (source_of R.remaining reader.old) (source_of R.remaining reader.new)
+        part.old part.new result }
 {
     for _ in 0..MOST_INTERRUPTED {
         match reader.read(part) {
@@ -54,15 +47,8 @@ fn read_part<R: Read>(reader: &mut StandardInput<R>, part: &mut [u8]) -> Result<
 
 /// Reads as many bytes as there is room for, and answers whether there were so many.
 fn read_whole<R: Read>(reader: &mut StandardInput<R>, room: &mut [u8]) -> Result<bool, InputFailed>
-    ensures length { length room.new ≡ length room.old }
-    ensures whole { IfOk result (λ whole. whole ≡ true
-        → Gives (source_of R.remaining reader.old) (source_of R.remaining reader.new) room.new) }
-    ensures short { IfOk result (λ whole. whole ≡ false
-        → GivesLess (length room.old) (source_of R.remaining reader.old) (source_of R.remaining reader.new)) }
-    ensures end { IfOk result (λ whole. whole ≡ false → HasEnded (source_of R.remaining reader.new)) }
-    ensures cut { OnErr result (GivesLess (length room.old) (source_of R.remaining reader.old)
-        (source_of R.remaining reader.new)) }
-    ensures failed { OnErr result (HasFailed (source_of R.remaining reader.new)) }
+    ensures { ReadsWhole (source_of R.remaining reader.old) (source_of R.remaining reader.new)
+        room.old room.new result }
 {
     let mut at = 0;
     'more: while at < room.len() {

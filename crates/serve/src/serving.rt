@@ -1,12 +1,8 @@
 //! The requests of a session, one after another.
-ghost use Rattle.std.specs.Prelude.{◌≡◌, ◌≢◌, ◌⊎◌, [], ◌++◌, List, Err, OnOk, OnErr};
+ghost use Rattle.std.specs.Prelude.{◌≡◌, [], List, Err};
 ghost use Rattle.io_state.specs.declared.status.Status.{Status as ToldStatus};
-ghost use Rattle.standard_input.specs.Source.{source_of};
-ghost use Rattle.held_text.specs.Output.{Adds};
-ghost use Rattle.serve.specs.Answers.{answer_frame};
-ghost use Rattle.serve.specs.HeldAnswers.{HandsAllOver, RefusesHeld, RefusesNext};
-ghost use Rattle.serve.specs.Serving.{streams, Serves, Closes, Served};
-ghost use Rattle.serve.specs.Answering.{outgoing, AnswersAs, Goes, FailsOne, Finishes, RefusesLength};
+ghost use Rattle.serve.specs.Serving.{ServesInput, Closes, ServesAll};
+ghost use Rattle.serve.specs.Answering.{outgoing, AnswersRead, AnswersOther, AnswersOne, Finishes, RefusesLength};
 
 use crate::answering::answer_request;
 use crate::fault::ServeFault;
@@ -31,11 +27,8 @@ fn answer_read<M: Libraries, W: Write>(
     held: &mut HeldText,
     out: &mut W,
 ) -> Result<(), Refused>
-    ensures answered { OnOk result (AnswersAs M.Library.shown (M.is_new libraries.now) body.now
-        (λ told. Adds (W.contents out.old) (W.contents out.new) held.old held.new (answer_frame told))
-        session.old session.new) }
-    ensures refused { OnErr result (AnswersAs M.Library.shown (M.is_new libraries.now) body.now
-        (λ told. RefusesHeld (W.contents out.old) (W.contents out.new) held.old) session.old session.new) }
+    ensures { AnswersRead M.Library.shown (M.is_new libraries.now) W.contents body.now
+        session.old session.new held.old held.new out.old out.new result }
 {
     let mut answer = AnswerFrame::new();
     answer_request(libraries, session, body, &mut answer);
@@ -51,14 +44,8 @@ fn answer_other<M: Libraries, W: Write>(
     held: &mut HeldText,
     out: &mut W,
 ) -> Result<(), Refused>
-    ensures answered { OnOk result (AnswersAs M.Library.shown (M.is_new libraries.now) body.now
-        (λ told. HandsAllOver (W.contents out.old) (W.contents out.new)
-        (held.old ++ answer_frame told) held.new) session.old session.new) }
-    ensures refused { OnErr result ((RefusesHeld (W.contents out.old) (W.contents out.new) held.old
-        × (session.new ≡ session.old))
-        ⊎ AnswersAs M.Library.shown (M.is_new libraries.now) body.now
-        (λ told. RefusesNext (W.contents out.old) (W.contents out.new) held.old (answer_frame told))
-        session.old session.new) }
+    ensures { AnswersOther M.Library.shown (M.is_new libraries.now) W.contents body.now
+        session.old session.new held.old held.new out.old out.new result }
 {
     send_held(held, out)?;
     let mut frame = AnswerFrame::new();
@@ -74,11 +61,8 @@ fn answer<M: Libraries, W: Write>(
     held: &mut HeldText,
     out: &mut W,
 ) -> Result<(), Refused>
-    ensures answered { OnOk result (AnswersAs M.Library.shown (M.is_new libraries.now) body.now
-        (Goes body.now (outgoing (W.contents out.old) (W.contents out.new) held.old held.new)) session.old
-        session.new) }
-    ensures refused { OnErr result (FailsOne M.Library.shown (M.is_new libraries.now) body.now
-        (outgoing (W.contents out.old) (W.contents out.new) held.old held.new) session.old session.new) }
+    ensures { AnswersOne M.Library.shown (M.is_new libraries.now) W.contents body.now
+        session.old session.new held.old held.new out.old out.new result }
 {
     if only_reads(body) {
         answer_read(libraries, session, body, held, out)
@@ -125,9 +109,8 @@ fn answer_all<M: Libraries, R: Read + ReadsAhead, W: Write>(
     out: &mut W,
 ) -> Result<(), ServeFault>
     requires none_held { held.old ≡ [] }
-    ensures { Serves M.Library.shown (M.is_new libraries.now)
-        (streams (source_of R.remaining input.old) (source_of R.remaining input.new) (W.contents out.old)
-        (W.contents out.new)) session.old session.new result }
+    ensures { ServesInput M.Library.shown (M.is_new libraries.now) R.remaining W.contents
+        input.old input.new out.old out.new session.old session.new result }
 {
     let mut buffer = [0; LENGTH_LIMIT];
     for _ in 0..u64::MAX {
@@ -169,9 +152,8 @@ pub fn serve<M: Libraries, R: Read + ReadsAhead, W: Write>(
     input: &mut StandardInput<R>,
     out: &mut W,
 ) -> Result<(), ServeFault>
-    ensures served { result ≢ Err ServeFault.Memory → Served M.Library.shown (M.is_new libraries.now)
-        (streams (source_of R.remaining input.old) (source_of R.remaining input.new) (W.contents out.old)
-        (W.contents out.new)) result }
+    ensures served { ServesAll M.Library.shown (M.is_new libraries.now) R.remaining W.contents
+        input.old input.new out.old out.new result }
     ensures memory { result ≡ Err ServeFault.Memory → (input.new ≡ input.old) × (out.new ≡ out.old) }
 {
     let Ok(session) = Session::new(alloc) else {
