@@ -5,9 +5,8 @@ use Rattle.io_state.specs.declared.statement.FileStatement.TheVariants.{Close}
 use Rattle.procedure_division.specs.declared.statement.Statement.TheVariants.{Perform}
 use Rattle.deck_runner.specs.Stretches.{IsStretch, AreStretchesInPart, ClosesAt, ClosesAtInPart}
 use Rattle.deck_runner.specs.Running.{run_file}
-use Rattle.deck_runner.specs.State.{state, point_in, Leads}
+use Rattle.deck_runner.specs.State.{state, point_in}
 use Rattle.deck_runner.specs.Parts.{CloseOf}
-use Rattle.deck_runner.specs.HeldLines.{so_far, Come}
 use Rattle.deck_runner.proofs.VerbLemmas.{run_here, of_any}
 use Rattle.deck_runner.proofs.StateLemmas.{leads_as, no_line}
 use Rattle.deck_runner.proofs.ToldLemmas.{come_as, come_in_part_as}
@@ -39,28 +38,19 @@ returns g c =
     let get = slice_get_read files (length files) c.args.u file refl c.requires.part_is c.index-file.ensures in
     let first = state c.args.library.now c.args.self.now in
     let next = state c.run_verb.new.library c.run_verb.new.self in
-    let close = Perform c.args.u (Close false) in
-    let before = so_far (g.W.Write.contents c.args.out.now) c.args.held.now in
-    let after = so_far (g.W.Write.contents c.run_verb.new.out) c.run_verb.new.held in
+    let closed = sym c.if-not-open.ensures in
+    let here = run_here world files c.args.u file get in
     record {
       goes = c.run_verb.ensures.goes;
       few = c.run_verb.ensures.few;
-      done =
-          let P = Leads g.L.Library.shown first next (IsStretch g.L.Library.shown close) in
-          let Q = Leads g.L.Library.shown first next (ClosesAt g.L.Library.shown c.args.u) in
-          IfOk-weaker c.run_verb.result (λ end. Come before after end P) (λ end. Come before after end Q)
-          (λ end told. come_as before after end P Q told
-          (leads_as g.L.Library.shown first next (IsStretch g.L.Library.shown close) (ClosesAt g.L.Library.shown c.args.u)
-          (λ lines p.
-          is_closed g.L.Library.shown c.args.u (point_in g.L.Library.shown first) (point_in g.L.Library.shown next) lines (run_file world c.args.u file) (run_here world files c.args.u file get) (sym c.if-not-open.ensures) p)))
+      done = IfOk-weaker c.run_verb.result _ _
+          (λ end told. come_as _ _ end _ _ told
+          (leads_as g.L.Library.shown first next (IsStretch g.L.Library.shown (Perform c.args.u (Close false))) (ClosesAt g.L.Library.shown c.args.u)
+          (λ lines p. is_closed g.L.Library.shown c.args.u (point_in g.L.Library.shown first) (point_in g.L.Library.shown next) lines (run_file world c.args.u file) here closed p)))
           c.run_verb.ensures.done;
-      refused =
-          let One = AreStretchesInPart g.L.Library.shown (close ∷ []) in
-          let Part = ClosesAtInPart g.L.Library.shown c.args.u in
-          on_err_weaker c.run_verb.result
-          (λ part. come_in_part_as before after.written (Leads g.L.Library.shown first next One) (Leads g.L.Library.shown first next Part) part
-          (leads_as g.L.Library.shown first next One Part
-          (λ lines p.
-          is_closed_in_part g.L.Library.shown c.args.u (point_in g.L.Library.shown first) (point_in g.L.Library.shown next) lines (run_file world c.args.u file) (run_here world files c.args.u file get) (sym c.if-not-open.ensures) p)))
+      refused = on_err_weaker c.run_verb.result
+          (λ part. come_in_part_as _ _ _ _ part
+          (leads_as g.L.Library.shown first next (AreStretchesInPart g.L.Library.shown (Perform c.args.u (Close false) ∷ [])) (ClosesAtInPart g.L.Library.shown c.args.u)
+          (λ lines p. is_closed_in_part g.L.Library.shown c.args.u (point_in g.L.Library.shown first) (point_in g.L.Library.shown next) lines (run_file world c.args.u file) here closed p)))
           c.run_verb.ensures.refused;
     }
