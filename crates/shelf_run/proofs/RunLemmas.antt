@@ -1,5 +1,5 @@
 -- What the run over a library over a shelf says of the files of the shelf.
-use Rattle.std.proofs.Common.{◌≡◌, ℕ, List, [], ◌∷◌, length, All, Option, IsTrue, refl, sym, ap, subst, ◌∙◌, ◌++◌}
+use Rattle.std.proofs.Common.{◌≡◌, ℕ, List, [], ◌∷◌, length, All, Option, Result, Ok, Err, IfErr, IsTrue, refl, sym, ap, subst, ◌∙◌, ◌++◌}
 use Rattle.std.proofs.lemmas.List.Elements.{All-weaker}
 use Rattle.indexed_file.specs.Calls.{Keeps}
 use Rattle.indexed_file.specs.World.{World, named_in}
@@ -26,6 +26,11 @@ use Rattle.shelf_run.proofs.FilesLemmas.{AreSound, world_at_first, named_same, s
 use Rattle.shelf_run.proofs.WorldLemmas.{runs_from}
 use Rattle.shelf_run.proofs.StatesLemmas.{stays, runs_whole, runs_in_part}
 use Rattle.shelf_run.proofs.MomentsLemmas.{AreReal, over_run, over_broken_off}
+
+-- two facts of a fault make a third
+pub refused_with : {T E : Type 0} (r : Result T E) (P Q R : E → Type 0) → ((fault : E) → P fault → Q fault → R fault) → IfErr r P → IfErr r Q → IfErr r R
+refused_with (Ok end) P Q R both p q = tt
+refused_with (Err fault) P Q R both p q = both fault p q
 
 -- a library has the limits that were given
 pub record HasGiven (limit frames : ℕ) (state : LibraryState) : Type 0 where

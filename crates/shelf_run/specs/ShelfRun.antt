@@ -1,5 +1,5 @@
 -- What a run of a deck leaves of a shelf. All of this is ours.
-use Rattle.std.specs.Prelude.{ℕ, List, [], Option, IsTrue}
+use Rattle.std.specs.Prelude.{◌≡◌, ◌≢◌, ◌≤◌, ℕ, true, List, [], Option, IsTrue}
 use Rattle.indexed_file.specs.Images.{Stays}
 use Rattle.indexed_file.specs.Shown.{Shown}
 use Rattle.indexed_file.specs.World.{World, named_in}
@@ -8,7 +8,10 @@ use Rattle.deck_reader.specs.declared.deck.Deck.{Deck}
 use Rattle.deck_reader.specs.Deck.{IsDeck}
 use Rattle.deck_runner.specs.Beginning.{SameElsewhere, SameNames}
 use Rattle.deck_runner.specs.declared.run_end.RunEnd.{RunEnd}
-use Rattle.deck_runner.specs.DeckRun.{RunsExactly}
+use Rattle.deck_runner.specs.declared.fault.RunFault.{RunFault}
+use Rattle.deck_runner.specs.declared.fault.RunFault.TheVariants.{Output}
+use Rattle.deck_runner.specs.RunEnd.{Told, ToldInPart}
+use Rattle.deck_runner.specs.DeckRun.{RunsExactly, IsRefusedDeck}
 use Rattle.deck_runner.specs.Line.{Line}
 use Rattle.deck_runner.specs.NoFalseFile.{RunsWhole, RunsInPart}
 use Rattle.shelf_library.specs.Crashes.{AllPass}
@@ -84,3 +87,40 @@ pub record LeavesFiles (old new : ShelfState) : Type 0 where
 abbrev pub StaysSound : (old new : ShelfState) → Type 0
 StaysSound old new = IsTrue new.is_honest → (name : List ℕ) → IsSoundImage (old.file name).seen
     → IsSoundImage (new.file name).seen
+
+-- ---- what a run over a shelf asks for, and what it leaves
+
+-- no name is attached to the shelf, and the files may have pages for a header and marks at least
+pub record CanRunOn (limit : ℕ) (shelf : ShelfState) : Type 0 where
+  pub names : shelf.names ≡ []
+  pub limit_is : 16 ≤ limit
+
+-- a run whose end is clean was exact
+abbrev pub IsExactOn : {D W : Type 0} → (state : D → ShelfState) → (contents : W → Option (List ℕ)) → List ℕ
+    → (old new : D) → (out out_after : W) → RunEnd → Type 0
+IsExactOn state contents bytes old new out out_after end =
+    end.clean ≡ true → IsExactRun bytes (state old) (state new) (contents out) (contents out_after) end
+
+-- a run that came to its end: the writer has the lines of a whole run over the shelf
+abbrev pub HasRunOn : {D W : Type 0} → (state : D → ShelfState) → (fault_count : D → ℕ)
+    → (contents : W → Option (List ℕ)) → List ℕ → (limit frames : ℕ) → (old new : D) → (out out_after : W)
+    → RunEnd → Type 0
+HasRunOn state fault_count contents bytes limit frames old new out out_after end =
+    OnShelf bytes (state old) (state new) (λ deck. Told (contents out) (contents out_after) end
+    (Runs limit frames (state old) (state new) (fault_count old) (fault_count new) deck))
+
+-- one whose writer refused a line: it has the lines before it, and a proper front of that one
+abbrev pub HasBrokenOffOn : {D W : Type 0} → (state : D → ShelfState) → (fault_count : D → ℕ)
+    → (contents : W → Option (List ℕ)) → List ℕ → (limit frames : ℕ) → (old new : D) → (out out_after : W)
+    → RunFault → Type 0
+HasBrokenOffOn state fault_count contents bytes limit frames old new out out_after fault =
+    fault ≡ Output → OnShelf bytes (state old) (state new) (λ deck. ToldInPart (contents out)
+    (contents out_after)
+    (BreaksOff limit frames (state old) (state new) (fault_count old) (fault_count new) deck))
+
+-- a run that was refused: unless the writer refused a line, nothing was written, and nothing has come
+-- of it; and what the fault says of the bytes is true
+pub record IsRefusedOn {D W : Type 0} (state : D → ShelfState) (bytes : List ℕ) (old new : D)
+    (out out_after : W) (fault : RunFault) : Type 0 where
+  pub nothing : fault ≢ Output → (out_after ≡ out) × LeavesFiles (state old) (state new)
+  pub bytes_are : IsRefusedDeck bytes fault

@@ -1,9 +1,7 @@
 //! The run.
-ghost use Rattle.std.specs.Prelude.{◌≡◌, ◌≢◌, ◌≤◌, [], true, IfOk, IfErr};
+ghost use Rattle.std.specs.Prelude.{IfOk, IfErr};
 ghost use Rattle.std.specs.NonZero.{non_zero_usize_get};
-ghost use Rattle.deck_runner.specs.DeckRun.{IsRefusedDeck};
-ghost use Rattle.deck_runner.specs.RunEnd.{Told, ToldInPart};
-ghost use Rattle.shelf_run.specs.ShelfRun.{OnShelf, IsExactRun, Runs, BreaksOff, LeavesFiles, StaysSound};
+ghost use Rattle.shelf_run.specs.ShelfRun.{CanRunOn, IsExactOn, HasRunOn, HasBrokenOffOn, IsRefusedOn, StaysSound};
 
 use deck_runner::{RunEnd, RunFault, run_deck};
 use page_store::Shelf;
@@ -28,23 +26,13 @@ pub fn run_on_shelf<S: Shelf, W: Write>(
     frames: NonZeroUsize,
     out: &mut W,
 ) -> (S, Result<RunEnd, RunFault>)
-    requires names { (S.state shelf).names ≡ [] }
-    requires limit { 16 ≤ limit }
-    ensures exact { IfOk result.1 (λ end. end.clean ≡ true →
-        IsExactRun bytes.now (S.state shelf) (S.state result.0) (W.contents out.old)
-        (W.contents out.new) end) }
-    ensures run { IfOk result.1 (λ end. OnShelf bytes.now (S.state shelf) (S.state result.0) (λ deck.
-        Told (W.contents out.old) (W.contents out.new) end
-        (Runs limit (non_zero_usize_get frames) (S.state shelf) (S.state result.0) (S.fault_count shelf)
-        (S.fault_count result.0) deck))) }
-    ensures output { IfErr result.1 (λ fault. fault ≡ RunFault.Output
-        → OnShelf bytes.now (S.state shelf) (S.state result.0) (λ deck.
-        ToldInPart (W.contents out.old) (W.contents out.new)
-        (BreaksOff limit (non_zero_usize_get frames) (S.state shelf) (S.state result.0)
-        (S.fault_count shelf) (S.fault_count result.0) deck))) }
-    ensures nothing { IfErr result.1 (λ fault. fault ≢ RunFault.Output →
-        (out.new ≡ out.old) × LeavesFiles (S.state shelf) (S.state result.0)) }
-    ensures refused { IfErr result.1 (IsRefusedDeck bytes.now) }
+    requires { CanRunOn limit (S.state shelf) }
+    ensures exact { IfOk result.1 (IsExactOn S.state W.contents bytes.now shelf result.0 out.old out.new) }
+    ensures run { IfOk result.1 (HasRunOn S.state S.fault_count W.contents bytes.now
+        limit (non_zero_usize_get frames) shelf result.0 out.old out.new) }
+    ensures output { IfErr result.1 (HasBrokenOffOn S.state S.fault_count W.contents bytes.now
+        limit (non_zero_usize_get frames) shelf result.0 out.old out.new) }
+    ensures refused { IfErr result.1 (IsRefusedOn S.state bytes.now shelf result.0 out.old out.new) }
     ensures sound { StaysSound (S.state shelf) (S.state result.0) }
 {
     let mut library = ShelfLibrary::new(alloc, shelf, limit, frames);

@@ -53,7 +53,7 @@ pub returns-in-Err-clause-nothing : goal.returns-in-Err-clause-nothing
 returns-in-Err-clause-nothing g c =
     let shelf = c.run_on_shelf-shelf.result.0 in
     λ other.
-    let nothing = IfErr-at_err _ c.in-Err.is c.run_on_shelf-shelf.ensures.nothing (λ is. other (c.of_run.ensures ∙ ap told_as is)) in (
+    let nothing = (IfErr-at_err _ c.in-Err.is c.run_on_shelf-shelf.ensures.refused).nothing (λ is. other (c.of_run.ensures ∙ ap told_as is)) in (
       nothing.0,
       left_from_first g.D.Disk.unseen (string_bytes c.args.folder) c.new-shelf.result.units.items c.new-shelf.result.folder.calls.events c.new-shelf.ensures.units c.new-shelf.ensures.calls
           (folder_after g.D.Disk.unseen shelf.units.items shelf.folder.calls.events) nothing.1,
@@ -61,7 +61,7 @@ returns-in-Err-clause-nothing g c =
 
 pub returns-in-Err-clause-refused : goal.returns-in-Err-clause-refused
 returns-in-Err-clause-refused g c =
-    λ fault is. no_deck c.args.bytes.now c.in-Err.fault (IfErr-at_err _ c.in-Err.is c.run_on_shelf-shelf.ensures.refused) fault (sym c.of_run.ensures ∙ is)
+    λ fault is. no_deck c.args.bytes.now c.in-Err.fault (IfErr-at_err _ c.in-Err.is c.run_on_shelf-shelf.ensures.refused).bytes_are fault (sym c.of_run.ensures ∙ is)
 
 pub returns-in-Err-clause-sound : goal.returns-in-Err-clause-sound
 returns-in-Err-clause-sound g c =

@@ -1,18 +1,14 @@
-use Rattle.std.proofs.Common.{◌≡◌, ◌≢◌, ℕ, true, List, [], length, ap, sym, subst, ◌∙◌, IsTrue}
+use Rattle.std.proofs.Common.{◌≡◌, ℕ, List, [], length, ap, sym, subst, ◌∙◌, IsTrue}
 use Rattle.std.proofs.lemmas.Result.{IfOk-weaker, IfErr-weaker}
 use Rattle.std.specs.NonZero.{non_zero_usize_get}
-use Rattle.deck_runner.specs.declared.fault.RunFault.TheVariants.{Output}
-use Rattle.deck_runner.specs.Beginning.{WhereFilesAreTrue, IsUntouched}
-use Rattle.deck_runner.specs.DeckRun.{OfDeck, RunsExactly}
-use Rattle.deck_runner.specs.NoFalseFile.{RunsWhole, RunsInPart}
-use Rattle.deck_runner.specs.RunEnd.{Told, ToldInPart}
+use Rattle.deck_runner.specs.DeckRun.{IsExactIfClean, HasRunWhole, HasRunInPart, HasDoneNothing, IsRefusedDeck}
+use Rattle.deck_runner.specs.RunEnd.{ToldInPart}
 use Rattle.indexed_file.specs.Calls.{Keeps}
 use Rattle.page_store.specs.Images.{Leaves}
 use Rattle.shelf_library.specs.Library.{shown_by}
 use Rattle.shelf_library.specs.State.{LibraryState, AreLimited}
-use Rattle.shelf_library.specs.Units.{world_of}
 use Rattle.shelf_library.specs.declared.library.ShelfLibrary.{ShelfLibrary}
-use Rattle.shelf_run.specs.ShelfRun.{OnShelf, IsExactRun, Runs, BreaksOff, LeavesFiles, StaysSound, shown_in}
+use Rattle.shelf_run.specs.ShelfRun.{OnShelf, IsExactRun, BreaksOff, LeavesFiles, StaysSound, IsExactOn, HasRunOn, HasBrokenOffOn, IsRefusedOn, shown_in}
 use Rattle.shelf_run.proofs.RunLemmas as run
 use Rattle.shelf_run.proofs.shelf_run.run_on_shelf.Goals as goal
 use Rattle.shelf_run.proofs.shelf_run.run_on_shelf.Given as given
@@ -90,10 +86,8 @@ returns-clause-exact g c =
     let written = g.W.Write.contents c.args.out.now in
     let written_after = g.W.Write.contents c.run_deck-end.new.out in
     IfOk-weaker c.run_deck-end.result
-    (λ end. end.clean ≡ true → OfDeck (shown_by (state g c)) bytes c.new-library.result c.run_deck-end.new.library (λ deck.
-    WhereFilesAreTrue (shown_by (state g c)) c.new-library.result c.run_deck-end.new.library deck
-    (RunsExactly written written_after (world_of (old g c).shelf (old g c).held) (world_of (new g c).shelf (new g c).held) end deck)))
-    (λ end. end.clean ≡ true → IsExactRun bytes (g.S.Shelf.state c.args.shelf) (g.S.Shelf.state c.into_shelf.result) written written_after end)
+    (IsExactIfClean (shown_by (state g c)) g.W.Write.contents bytes c.new-library.result c.run_deck-end.new.library c.args.out.now c.run_deck-end.new.out)
+    (IsExactOn g.S.Shelf.state g.W.Write.contents bytes c.args.shelf c.into_shelf.result c.args.out.now c.run_deck-end.new.out)
     (λ end exact clean. carried g c (λ first last. IsExactRun bytes (g.S.Shelf.state first) (g.S.Shelf.state last) written written_after end)
     (run.exact_run (old g c) (new g c) (none g c) (empty g c) (many g c) (keeps g c) (an_image g c) bytes written written_after end (exact clean)))
     c.run_deck-end.ensures.exact
@@ -105,13 +99,10 @@ returns-clause-run g c =
     let written = g.W.Write.contents c.args.out.now in
     let written_after = g.W.Write.contents c.run_deck-end.new.out in
     IfOk-weaker c.run_deck-end.result
-    (λ end. OfDeck (shown_by (state g c)) bytes c.new-library.result c.run_deck-end.new.library (λ deck.
-    Told written written_after end (RunsWhole (shown_by (state g c)) c.new-library.result c.run_deck-end.new.library deck)))
-    (λ end. OnShelf bytes (g.S.Shelf.state c.args.shelf) (g.S.Shelf.state c.into_shelf.result) (λ deck. Told written written_after end
-    (Runs c.args.limit (frames g c) (g.S.Shelf.state c.args.shelf) (g.S.Shelf.state c.into_shelf.result) (g.S.Shelf.fault_count c.args.shelf) (g.S.Shelf.fault_count c.into_shelf.result) deck)))
+    (HasRunWhole (shown_by (state g c)) g.W.Write.contents bytes c.new-library.result c.run_deck-end.new.library c.args.out.now c.run_deck-end.new.out)
+    (HasRunOn g.S.Shelf.state g.S.Shelf.fault_count g.W.Write.contents bytes c.args.limit (frames g c) c.args.shelf c.into_shelf.result c.args.out.now c.run_deck-end.new.out)
     (λ end runs. carried g c
-    (λ first last. OnShelf bytes (g.S.Shelf.state first) (g.S.Shelf.state last) (λ deck. Told written written_after end
-    (Runs c.args.limit (frames g c) (g.S.Shelf.state first) (g.S.Shelf.state last) (g.S.Shelf.fault_count first) (g.S.Shelf.fault_count last) deck)))
+    (λ first last. HasRunOn g.S.Shelf.state g.S.Shelf.fault_count g.W.Write.contents bytes c.args.limit (frames g c) first last c.args.out.now c.run_deck-end.new.out end)
     (run.runs_on (old g c) (new g c) (none g c) (empty g c) (many g c) (keeps g c) (an_image g c) c.args.limit (frames g c) (first_given g c) (last_given g c) (limits g c) bytes written written_after end
     (run.whole_in (state g c) bytes c.new-library.result c.run_deck-end.new.library written written_after end runs)))
     c.run_deck-end.ensures.run
@@ -123,10 +114,8 @@ returns-clause-output g c =
     let written = g.W.Write.contents c.args.out.now in
     let written_after = g.W.Write.contents c.run_deck-end.new.out in
     IfErr-weaker c.run_deck-end.result
-    (λ fault. fault ≡ Output → OfDeck (shown_by (state g c)) bytes c.new-library.result c.run_deck-end.new.library (λ deck.
-    ToldInPart written written_after (RunsInPart (shown_by (state g c)) c.new-library.result c.run_deck-end.new.library deck)))
-    (λ fault. fault ≡ Output → OnShelf bytes (g.S.Shelf.state c.args.shelf) (g.S.Shelf.state c.into_shelf.result) (λ deck. ToldInPart written written_after
-    (BreaksOff c.args.limit (frames g c) (g.S.Shelf.state c.args.shelf) (g.S.Shelf.state c.into_shelf.result) (g.S.Shelf.fault_count c.args.shelf) (g.S.Shelf.fault_count c.into_shelf.result) deck)))
+    (HasRunInPart (shown_by (state g c)) g.W.Write.contents bytes c.new-library.result c.run_deck-end.new.library c.args.out.now c.run_deck-end.new.out)
+    (HasBrokenOffOn g.S.Shelf.state g.S.Shelf.fault_count g.W.Write.contents bytes c.args.limit (frames g c) c.args.shelf c.into_shelf.result c.args.out.now c.run_deck-end.new.out)
     (λ fault runs is. carried g c
     (λ first last. OnShelf bytes (g.S.Shelf.state first) (g.S.Shelf.state last) (λ deck. ToldInPart written written_after
     (BreaksOff c.args.limit (frames g c) (g.S.Shelf.state first) (g.S.Shelf.state last) (g.S.Shelf.fault_count first) (g.S.Shelf.fault_count last) deck)))
@@ -134,16 +123,19 @@ returns-clause-output g c =
     (run.part_in (state g c) bytes c.new-library.result c.run_deck-end.new.library written written_after (runs is))))
     c.run_deck-end.ensures.output
 
-pub returns-clause-nothing : goal.returns-clause-nothing
+pub returns-clause-refused : goal.returns-clause-refused
 unfolding state old new frames
-returns-clause-nothing g c =
-    IfErr-weaker c.run_deck-end.result
-    (λ fault. fault ≢ Output → (c.run_deck-end.new.out ≡ c.args.out.now) × IsUntouched (shown_by (state g c)) c.new-library.result c.run_deck-end.new.library)
-    (λ fault. fault ≢ Output → (c.run_deck-end.new.out ≡ c.args.out.now) × LeavesFiles (g.S.Shelf.state c.args.shelf) (g.S.Shelf.state c.into_shelf.result))
-    (λ fault nothing is. let of = nothing is in (
-      of.0,
-      carried g c (λ first last. LeavesFiles (g.S.Shelf.state first) (g.S.Shelf.state last))
-          (run.leaves_files (old g c) (new g c) (none g c) (empty g c) (many g c) (keeps g c) (an_image g c)
-          (run.untouched_in (state g c) c.new-library.result c.run_deck-end.new.library of.1)),
-    ))
-    c.run_deck-end.ensures.nothing
+returns-clause-refused g c =
+    run.refused_with c.run_deck-end.result
+    (HasDoneNothing (shown_by (state g c)) c.new-library.result c.run_deck-end.new.library c.args.out.now c.run_deck-end.new.out) (IsRefusedDeck c.args.bytes.now)
+    (IsRefusedOn g.S.Shelf.state c.args.bytes.now c.args.shelf c.into_shelf.result c.args.out.now c.run_deck-end.new.out)
+    (λ fault nothing bytes_are. record {
+      nothing = λ other. (
+        (nothing other).0,
+        carried g c (λ first last. LeavesFiles (g.S.Shelf.state first) (g.S.Shelf.state last))
+            (run.leaves_files (old g c) (new g c) (none g c) (empty g c) (many g c) (keeps g c) (an_image g c)
+            (run.untouched_in (state g c) c.new-library.result c.run_deck-end.new.library (nothing other).1)),
+      );
+      bytes_are = bytes_are;
+    })
+    c.run_deck-end.ensures.nothing c.run_deck-end.ensures.refused
