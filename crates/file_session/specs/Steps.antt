@@ -1,5 +1,5 @@
 -- What each call on a session changes. All of this is ours.
-use Rattle.std.specs.Prelude.{◌≡◌, ℕ, Bool, true, false, not, List, [], ◌∷◌, ◌++◌, length, drop, replicate, nat_lt, Option, Some, None, unwrap_or, IsTrue, IsFalse, Result, Ok, Err, if◌then◌else◌}
+use Rattle.std.specs.Prelude.{◌≡◌, ◌≤◌, ℕ, Bool, true, false, not, List, [], ◌∷◌, ◌++◌, length, drop, replicate, nat_lt, Option, Some, None, unwrap_or, IsTrue, IsFalse, Result, Ok, Err, IfOk, OnErr, if◌then◌else◌}
 use Rattle.io_state.specs.declared.statement.FileStatement.{FileStatement}
 use Rattle.io_state.specs.declared.statement.FileStatement.TheVariants.{Open, Close, ReadNext, Read, Start, Write, Rewrite, Delete}
 use Rattle.io_state.specs.declared.status.Status.{Status}
@@ -112,6 +112,12 @@ refusal_of_verb files p = refusal_by (file_at files p.file) p
 abbrev pub with_bytes : {S : Type 0} → List ℕ → FileInMemory S → FileInMemory S
 with_bytes bytes file = record file { area = bytes ++ drop (length bytes) file.area }
 
+-- a file has performed the statement, with the bytes put into its area, and has its name
+pub record PerformsWith {S : Type 0} (shown : Shown S) (statement : FileStatement) (n : ℕ) (bytes : List ℕ)
+    (old : NumberedFile S) (answer : Answer) (new : NumberedFile S) : Type 0 where
+  pub performed : IsPerformed shown 0 statement n (with_bytes bytes old.memory) answer new.memory
+  pub name : new.name ≡ old.name
+
 -- the file of a place has performed the statement, with the bytes put into its area
 pub record PerformsAt {S : Type 0} (shown : Shown S) (p : Performed) (old : Option (NumberedFile S))
     (answer : Answer) (new : Option (NumberedFile S)) : Type 0 where
@@ -135,6 +141,18 @@ pub record Performs {S : Type 0} (shown : Shown S) (p : Performed) (old : Files 
       (with_bytes p.bytes before.memory) answer after.memory
   pub places : new.places ≡ (with_file old p.file (Some after)).places
   pub opened : new.opened ≡ order_after p.file (is_open after) old.opened
+
+-- a verb was performed, or refused, and then nothing was changed
+pub record PerformsOrRefuses {S : Type 0} (shown : Shown S) (p : Performed) (old new : Files S)
+    (result : Result Answer Refusal) : Type 0 where
+  pub performed : IfOk result (λ answer. Performs shown p old answer new)
+  pub refused : refusal_in result ≡ refusal_of_verb old p
+  pub err : OnErr result (new ≡ old)
+
+-- these are the bytes of a record, and no more than a record can have
+pub record IsRecord (bytes shown : List ℕ) : Type 0 where
+  pub record_is : shown ≡ bytes
+  pub short : length shown ≤ 4000
 
 -- the record that an answer has delivered into the area of a file: no bytes where it delivered none
 abbrev pub record_by : {S : Type 0} → Option (NumberedFile S) → Option ℕ → List ℕ
@@ -165,6 +183,13 @@ pub record Releases {S : Type 0} (number : ℕ) (old : Files S) (library : S) (n
   pub was : file_at old number ≡ Some file
   pub given : library ≡ file.memory.library
   pub files : new ≡ with_file old number None
+
+-- a file was given up, or that was refused, and then nothing was changed
+pub record ReleasesOrRefuses {S : Type 0} (number : ℕ) (old new : Files S)
+    (result : Result S Refusal) : Type 0 where
+  pub released : IfOk result (λ library. Releases number old library new)
+  pub refused : refusal_in result ≡ refusal_of_release old number
+  pub err : OnErr result (new ≡ old)
 
 -- ---- the file that was opened first is closed
 

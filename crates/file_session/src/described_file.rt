@@ -2,10 +2,10 @@
 ghost use Rattle.std.specs.Prelude.{◌≡◌, ◌≤◌, ◌++◌, drop, length as count_of, true, false, not, nat_lt, bytes_eq, unwrap_or, [], None};
 ghost use Rattle.io_state.specs.declared.statement.FileStatement.TheVariants.{Close};
 ghost use Rattle.verbs.specs.Held.{record_in, silent};
-ghost use Rattle.verbs.specs.Fits.{Fits, HasOperands};
-ghost use Rattle.verbs.specs.Performed.{IsPerformed, in_memory};
+ghost use Rattle.verbs.specs.Fits.{Fits};
+ghost use Rattle.verbs.specs.Performed.{in_memory};
 ghost use Rattle.file_session.specs.Files.{NumberedFile, schema_of, is_open};
-ghost use Rattle.file_session.specs.Steps.{is_of_keys, with_bytes};
+ghost use Rattle.file_session.specs.Steps.{is_of_keys, PerformsWith, IsRecord};
 
 use indexed_file::Library;
 use io_state::{FileName, FileStatement, Status};
@@ -104,10 +104,7 @@ impl<L: Library + Drop> DescribedFile<L> {
     pub fn perform(&mut self, statement: &FileStatement, length: u16, bytes: &[u8]) -> Answer
         requires key { is_of_keys (schema_of self.old) statement.now ≡ true }
         requires room { count_of bytes.now ≤ count_of self.old.memory.area }
-        ensures performed { IsPerformed L.shown 0 statement.now «length»
-            (with_bytes bytes.now self.old.memory)
-            result self.new.memory }
-        ensures name { self.new.name ≡ self.old.name }
+        ensures { PerformsWith L.shown statement.now «length» bytes.now self.old result self.new }
     {
         put_first(&mut self.area, bytes);
         self.connector
@@ -116,9 +113,7 @@ impl<L: Library + Drop> DescribedFile<L> {
 
     /// Performs CLOSE.
     pub fn close(&mut self) -> Status
-        ensures performed { IsPerformed L.shown 0 (Close false) 0 (with_bytes [] self.old.memory)
-            (silent result) self.new.memory }
-        ensures name { self.new.name ≡ self.old.name }
+        ensures closes { PerformsWith L.shown (Close false) 0 [] self.old (silent result) self.new }
         ensures closed { is_open self.new ≡ false }
     {
         self.connector.close(&mut self.library, 0, false)
@@ -126,8 +121,7 @@ impl<L: Library + Drop> DescribedFile<L> {
 
     /// The record that an answer has delivered into the area, of no bytes where it delivered none.
     pub fn record(&self, length: Option<u16>) -> &[u8]
-        ensures record { result.now ≡ unwrap_or (record_in self.now.memory.area «length») [] }
-        ensures short { count_of result.now ≤ 4000 }
+        ensures { IsRecord (unwrap_or (record_in self.now.memory.area «length») []) result.now }
     {
         match length {
             Some(length) => &self.area[..usize::from(length).min(self.area.len())],

@@ -2,7 +2,7 @@
 ghost use Rattle.std.specs.Prelude.{◌≡◌, OnOk, IfOk, IfSome, IfErr, OnErr, replicate, length as count_of};
 ghost use Rattle.request_frames.specs.Request.{described_of};
 ghost use Rattle.file_session.specs.Files.{is_free, is_named};
-ghost use Rattle.file_session.specs.Steps.{Describes, RefusesDescription, Releases, refusal_in, refusal_of_release, schema_described, IsDescribedOver};
+ghost use Rattle.file_session.specs.Steps.{Describes, RefusesDescription, ReleasesOrRefuses, schema_described, IsDescribedOver};
 
 use crate::described_file::DescribedFile;
 use crate::place;
@@ -85,9 +85,7 @@ impl<L: Library + Drop> Session<L> {
 
     /// Gives up the file of a number, which is free again, and gives its library back.
     pub fn release(&mut self, number: u8) -> Result<L, Refusal>
-        ensures released { IfOk result (λ library. Releases number self.old library self.new) }
-        ensures refused { refusal_in result ≡ refusal_of_release self.old number }
-        ensures err { OnErr result (self.new ≡ self.old) }
+        ensures { ReleasesOrRefuses number self.old self.new result }
     {
         if !self.has_place(number) {
             return Err(Refusal::Number);

@@ -1,7 +1,6 @@
 //! A verb is performed.
-ghost use Rattle.std.specs.Prelude.{◌≡◌, IfOk, OnErr};
 ghost use Rattle.request_frames.specs.Request.{performed_of};
-ghost use Rattle.file_session.specs.Steps.{Performs, refusal_in, refusal_of_verb};
+ghost use Rattle.file_session.specs.Steps.{PerformsOrRefuses};
 
 use crate::place;
 use crate::session::Session;
@@ -13,10 +12,7 @@ impl<L: Library + Drop> Session<L> {
     /// Puts the bytes into the beginning of the file's record area, and performs the statement.
     /// `record` has the record that was delivered.
     pub fn perform(&mut self, performance: &Performance<'_>) -> Result<Answer, Refusal>
-        ensures performed { IfOk result (λ answer.
-            Performs L.shown (performed_of performance.now) self.old answer self.new) }
-        ensures refused { refusal_in result ≡ refusal_of_verb self.old (performed_of performance.now) }
-        ensures err { OnErr result (self.new ≡ self.old) }
+        ensures { PerformsOrRefuses L.shown (performed_of performance.now) self.old self.new result }
     {
         if !self.has_place(performance.file) {
             return Err(Refusal::Number);

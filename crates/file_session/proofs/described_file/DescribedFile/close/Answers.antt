@@ -7,11 +7,13 @@ use Rattle.file_session.specs.Fields.{numbered_file}
 use Rattle.file_session.specs.Steps.{with_bytes}
 use Rattle.file_session.proofs.described_file.DescribedFile.close.Goals as goal
 
-pub returns-clause-performed : goal.returns-clause-performed
-returns-clause-performed g c =
-    subst (λ (file : NumberedFile _). IsPerformed g.L.Library.shown 0 (Close false) 0 (with_bytes [] file.memory) (silent c.close.result)
-    (in_memory c.close.new.self c.close.new.lib c.self.inside.area.items))
-    {x = numbered_file c.self.inside} {y = c.args.self.now} (search rules) (c.close.ensures.performed 0 c.self.inside.area.items)
+pub returns-clause-closes : goal.returns-clause-closes
+returns-clause-closes g c = record {
+  performed = subst (λ (file : NumberedFile _). IsPerformed g.L.Library.shown 0 (Close false) 0 (with_bytes [] file.memory) (silent c.close.result)
+      (in_memory c.close.new.self c.close.new.lib c.self.inside.area.items))
+      {x = numbered_file c.self.inside} {y = c.args.self.now} (search rules) (c.close.ensures.performed 0 c.self.inside.area.items);
+  name = search rules;
+}
 
 pub invariant_of-self : goal.invariant_of-self
 invariant_of-self g c =

@@ -11,19 +11,18 @@ invariant_of-self-2 g c =
     c.from.result c.index_mut-place.result.now c.perform.new.place c.in_ok-answer.answer c.note.new.self
     c.self.invariant (search rules) (search (rules, arith)) c.index_mut-place.ensures.value c.in_ok-answer.ensures.performed (search rules)
 
-pub returns-clause-performed : goal.returns-clause-performed
-returns-clause-performed g c =
-    subst (λ (files : Files _). Performs g.L.Library.shown (performed_of c.args.performance.now) files c.in_ok-answer.answer
-    (changed_to (record { places = c.self.inside.files.items; opened = c.self.inside.order }) c.from.result c.perform.new.place c.note.new.self))
-    {x = record { places = c.self.inside.files.items; opened = c.self.inside.order }} {y = c.args.self.now} (search rules)
-    (performed_performs g.L.Library.shown (performed_of c.args.performance.now) (record { places = c.self.inside.files.items; opened = c.self.inside.order })
-    c.from.result c.index_mut-place.result.now c.perform.new.place c.in_ok-answer.answer c.note.new.self
-    c.self.invariant (search rules) (search (rules, arith)) c.index_mut-place.ensures.value c.in_ok-answer.ensures.performed (search rules))
-
-pub returns-clause-refused : goal.returns-clause-refused
-returns-clause-refused g c =
-    c.in_ok-answer.ensures.refused
-    ∙ ap (λ (place : Option (NumberedFile _)). refusal_by place (performed_of c.args.performance.now))
-    (sym (place_is (record { places = c.self.inside.files.items; opened = c.self.inside.order }) c.from.result c.args.performance.now.file c.index_mut-place.result.now
-    c.self.invariant (search rules) (search (rules, arith)) c.index_mut-place.ensures.value))
-    ∙ ap (λ (files : Files _). refusal_of_verb files (performed_of c.args.performance.now)) {x = record { places = c.self.inside.files.items; opened = c.self.inside.order }} {y = c.args.self.now} (search rules)
+pub returns : goal.returns
+returns g c = record {
+  performed = subst (λ (files : Files _). Performs g.L.Library.shown (performed_of c.args.performance.now) files c.in_ok-answer.answer
+      (changed_to (record { places = c.self.inside.files.items; opened = c.self.inside.order }) c.from.result c.perform.new.place c.note.new.self))
+      {x = record { places = c.self.inside.files.items; opened = c.self.inside.order }} {y = c.args.self.now} (search rules)
+      (performed_performs g.L.Library.shown (performed_of c.args.performance.now) (record { places = c.self.inside.files.items; opened = c.self.inside.order })
+      c.from.result c.index_mut-place.result.now c.perform.new.place c.in_ok-answer.answer c.note.new.self
+      c.self.invariant (search rules) (search (rules, arith)) c.index_mut-place.ensures.value c.in_ok-answer.ensures.performed (search rules));
+  refused = c.in_ok-answer.ensures.refused
+      ∙ ap (λ (place : Option (NumberedFile _)). refusal_by place (performed_of c.args.performance.now))
+      (sym (place_is (record { places = c.self.inside.files.items; opened = c.self.inside.order }) c.from.result c.args.performance.now.file c.index_mut-place.result.now
+      c.self.invariant (search rules) (search (rules, arith)) c.index_mut-place.ensures.value))
+      ∙ ap (λ (files : Files _). refusal_of_verb files (performed_of c.args.performance.now)) {x = record { places = c.self.inside.files.items; opened = c.self.inside.order }} {y = c.args.self.now} (search rules);
+  err = tt;
+}
