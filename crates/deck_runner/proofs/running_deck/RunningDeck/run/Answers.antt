@@ -1,9 +1,8 @@
 use Rattle.std.proofs.Common.{refl, inl, inr, rules}
 use Rattle.deck_runner.specs.Steps.{until_stop, closes_from}
 use Rattle.deck_runner.specs.Stretches.{IsStretch, AreStretches, AreStretchesInPart, ClosesFiles, ClosesInPart, IsRunOver, IsBrokenOff}
-use Rattle.deck_runner.specs.State.{state, point_in, Leads}
+use Rattle.deck_runner.specs.State.{state, point_in}
 use Rattle.deck_runner.specs.RunEnd.{followed}
-use Rattle.deck_runner.specs.HeldLines.{so_far}
 use Rattle.deck_runner.proofs.StateLemmas.{goes_then, leads_as, done_then, refused_then, all_refused}
 use Rattle.deck_runner.proofs.StepLemmas.{all_in_part}
 use Rattle.deck_runner.proofs.ToldLemmas.{come_in_part_as, told_all, told_in_part, held_then}
@@ -16,11 +15,8 @@ returns-in_err-stopped g c =
     let next = state c.run_to_stop.new.library c.run_to_stop.new.self in
     let Part = AreStretchesInPart shown (until_stop c.args.statements.now) in
     let Off = IsBrokenOff shown c.args.statements.now in
-    let before = so_far (g.W.Write.contents c.args.out.now) c.args.held.now in
-    let written = g.W.Write.contents c.run_to_stop.new.out in
     all_refused shown g.W.Write.contents c.args.statements.now c.args.library.now _ c.args.self.now _ c.args.out.now _ c.from_residual.result (search rules) c.run_to_stop.ensures.goes
-    (told_in_part before written (Leads shown first next Off) c.requires.none_held
-    (come_in_part_as before written (Leads shown first next Part) (Leads shown first next Off) c.in_err-stopped.ensures.refused (leads_as shown first next Part Off (λ lines p. inl p))))
+    (told_in_part _ _ _ c.requires.none_held (come_in_part_as _ _ _ _ c.in_err-stopped.ensures.refused (leads_as shown first next Part Off (λ lines p. inl p))))
 
 pub returns-in_err-closed : goal.returns-in_err-closed
 returns-in_err-closed g c =
@@ -30,13 +26,11 @@ returns-in_err-closed g c =
     let next = state c.close_all.new.library c.close_all.new.self in
     let Done = AreStretches shown (until_stop c.args.statements.now) in
     let Off = IsBrokenOff shown c.args.statements.now in
-    let before = so_far (g.W.Write.contents c.args.out.now) c.args.held.now in
-    let between = so_far (g.W.Write.contents c.run_to_stop.new.out) c.run_to_stop.new.held in
     let goes = c.run_to_stop.ensures.goes in
     let more = c.close_all.ensures.goes in
     all_refused shown g.W.Write.contents c.args.statements.now c.args.library.now _ c.args.self.now _ c.args.out.now _ c.from_residual-in_err-closed.result (search rules) (goes_then shown first stopped next goes more)
-    (told_in_part before (g.W.Write.contents c.close_all.new.out) (Leads shown first next Off) c.requires.none_held
-    (refused_then shown first stopped next before between (g.W.Write.contents c.close_all.new.out) c.in_ok-stopped.stopped Done (ClosesInPart shown) Off goes more
+    (told_in_part _ _ _ c.requires.none_held
+    (refused_then shown first stopped next _ _ _ c.in_ok-stopped.stopped Done (ClosesInPart shown) Off goes more
     c.in_ok-stopped.ensures.done c.in_err-closed.ensures.refused (λ xs ys p q. inr (point_in shown stopped, xs, ys, p, q, refl))))
 
 pub returns-in_err-hand_over : goal.returns-in_err-hand_over
@@ -47,16 +41,13 @@ returns-in_err-hand_over g c =
     let next = state c.close_all.new.library c.close_all.new.self in
     let Done = AreStretches shown (until_stop c.args.statements.now) in
     let Off = IsBrokenOff shown c.args.statements.now in
-    let before = so_far (g.W.Write.contents c.args.out.now) c.args.held.now in
-    let between = so_far (g.W.Write.contents c.run_to_stop.new.out) c.run_to_stop.new.held in
-    let behind = so_far (g.W.Write.contents c.close_all.new.out) c.close_all.new.held in
     let both = followed c.in_ok-stopped.stopped c.in_ok-closed.closed in
     let goes = c.run_to_stop.ensures.goes in
     let more = c.close_all.ensures.goes in
     all_refused shown g.W.Write.contents c.args.statements.now c.args.library.now _ c.args.self.now _ c.args.out.now _ c.from_residual-in_err-hand_over.result (search rules) (goes_then shown first stopped next goes more)
-    (told_in_part before (g.W.Write.contents c.hand_over.new.out) (Leads shown first next Off) c.requires.none_held
-    (held_then before behind (g.W.Write.contents c.hand_over.new.out) both (Leads shown first next Off)
-    (done_then shown first stopped next before between behind c.in_ok-stopped.stopped c.in_ok-closed.closed both Done (ClosesFiles shown) Off goes more
+    (told_in_part _ _ _ c.requires.none_held
+    (held_then _ _ _ both _
+    (done_then shown first stopped next _ _ _ c.in_ok-stopped.stopped c.in_ok-closed.closed both Done (ClosesFiles shown) Off goes more
     c.in_ok-stopped.ensures.done c.in_ok-closed.ensures.done refl
     (λ xs ys p q. inr (point_in shown stopped, xs, ys, p, all_in_part (IsStretch shown) (closes_from 0 (point_in shown stopped).run.files) (point_in shown stopped) (point_in shown next) ys q, refl)))
     c.in_err-hand_over.ensures.refused))
@@ -69,15 +60,12 @@ returns g c =
     let next = state c.close_all.new.library c.close_all.new.self in
     let Done = AreStretches shown (until_stop c.args.statements.now) in
     let Whole = IsRunOver shown c.args.statements.now in
-    let before = so_far (g.W.Write.contents c.args.out.now) c.args.held.now in
-    let between = so_far (g.W.Write.contents c.run_to_stop.new.out) c.run_to_stop.new.held in
-    let behind = so_far (g.W.Write.contents c.close_all.new.out) c.close_all.new.held in
     let goes = c.run_to_stop.ensures.goes in
     let more = c.close_all.ensures.goes in
     record {
       goes = goes_then shown first stopped next goes more;
-      done = told_all before behind (g.W.Write.contents c.hand_over.new.out) c.followed_by.result (Leads shown first next Whole) c.requires.none_held
-          (done_then shown first stopped next before between behind c.in_ok-stopped.stopped c.in_ok-closed.closed c.followed_by.result Done (ClosesFiles shown) Whole goes more
+      done = told_all _ _ _ c.followed_by.result _ c.requires.none_held
+          (done_then shown first stopped next _ _ _ c.in_ok-stopped.stopped c.in_ok-closed.closed c.followed_by.result Done (ClosesFiles shown) Whole goes more
           c.in_ok-stopped.ensures.done c.in_ok-closed.ensures.done c.followed_by.ensures (λ xs ys p q. (point_in shown stopped, xs, ys, p, q, refl)))
           c.in_ok-hand_over.ensures.written;
       refused = tt;
