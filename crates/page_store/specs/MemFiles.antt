@@ -1,5 +1,7 @@
 -- Files in memory, each under its name.
-use Rattle.std.specs.Prelude.{ℕ, zero, suc, List, [], ◌∷◌, Option, Some, None, MatchOption, option_map, if◌then◌else◌, bytes_eq, ◌+◌, ◌≤◌, Bool, true, false, ◌≡◌, length, get_or, set}
+use Rattle.std.specs.Prelude.{ℕ, zero, suc, List, [], ◌∷◌, Option, Some, None, MatchOption, option_map, if◌then◌else◌, bytes_eq, ◌+◌, ◌≤◌, Bool, true, false, ◌≡◌, length, get_or, set, Result, IfOk, OnOk, OnErr, IsOkUnless}
+use Rattle.io_state.specs.declared.fault.Fault.{Fault}
+use Rattle.io_state.specs.declared.fault.Fault.TheVariants.{Memory}
 use Rattle.page_store.specs.DeviceFile.{DeviceFile, absent, synced, IsWithin}
 use Rattle.page_store.specs.Images.{durable}
 use Rattle.page_store.specs.Events.{steps}
@@ -20,6 +22,20 @@ filled_file byte f = filled byte (durable (steps f.log.items)).ranges 0 f.bytes.
 -- a file that has just been synced
 abbrev pub just_synced : List ℕ → DeviceFile
 just_synced bytes = record { seen = Some bytes; log = synced bytes ∷ [] }
+
+-- a file is made, named so, of which this is true, unless memory is lacking
+pub record MakesMemFile (IsNamed : MemFile → Type 0) (IsMade : DeviceFile → Type 0) (result : Result MemFile Fault) : Type 0 where
+  pub named : IfOk result IsNamed
+  pub made : IfOk result (λ file. IsMade (file_of file))
+  pub only_memory : IsOkUnless result Memory
+
+-- a file changes, and keeps its name: how it goes where memory is there, and how where it is lacking
+pub record ChangesMemFile (Done Failed : DeviceFile → DeviceFile → Type 0) (old new : MemFile)
+    (result : Result (Unit {0}) Fault) : Type 0 where
+  pub name : new.name ≡ old.name
+  pub done : OnOk result (Done (file_of old) (file_of new))
+  pub failed : OnErr result (Failed (file_of old) (file_of new))
+  pub only_memory : IsOkUnless result Memory
 
 -- the file of this name
 abbrev pub file_in : List MemFile → List ℕ → DeviceFile

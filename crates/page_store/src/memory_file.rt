@@ -19,17 +19,14 @@ pub(crate) struct MemFile {
 }
 
 impl MemFile {
-    ghost use Rattle.std.specs.Prelude.{◌≡◌, ◌≤◌, length, OnOk, OnErr, IfOk, IsOkUnless};
-    ghost use Rattle.io_state.specs.declared.fault.Fault.TheVariants.{Memory};
+    ghost use Rattle.std.specs.Prelude.{◌≡◌, ◌≤◌, length};
     ghost use Rattle.page_store.specs.DeviceFile.{absent};
     ghost use Rattle.page_store.specs.Calls.{Created, Written, WriteFails, Synced};
-    ghost use Rattle.page_store.specs.MemFiles.{file_of, just_synced};
+    ghost use Rattle.page_store.specs.MemFiles.{just_synced, MakesMemFile, ChangesMemFile};
 
     /// A file that was made now, without a byte.
     pub(crate) fn new(alloc: Global, name: FileName) -> Result<MemFile, Fault>
-        ensures name { IfOk result (λ file. file.name ≡ name) }
-        ensures made { IfOk result (λ file. Created absent (file_of file)) }
-        ensures only_memory { IsOkUnless result Memory }
+        ensures { MakesMemFile (λ file. file.name ≡ name) (Created absent) result }
     {
         let mut log = Vec::new(alloc);
         log.push(Event::Created).map_err(|_| Fault::Memory)?;
@@ -42,9 +39,8 @@ impl MemFile {
 
     /// A file that has just been synced.
     pub(crate) fn restored(alloc: Global, name: FileName, bytes: Vec<u8>) -> Result<MemFile, Fault>
-        ensures name { IfOk result (λ file. file.name ≡ name) }
-        ensures synced { IfOk result (λ file. file_of file ≡ just_synced bytes.items) }
-        ensures only_memory { IsOkUnless result Memory }
+        ensures { MakesMemFile (λ file. file.name ≡ name) (λ file. file ≡ just_synced bytes.items)
+            result }
     {
         let kept = bytes.to_vec(alloc).map_err(|_| Fault::Memory)?;
         let mut log = Vec::new(alloc);
@@ -55,11 +51,8 @@ impl MemFile {
     /// Writes bytes over those that are there, and past the end.
     pub(crate) fn write(&mut self, at: usize, bytes: &[u8]) -> Result<(), Fault>
         requires { at ≤ length self.old.bytes.items }
-        ensures name { self.new.name ≡ self.old.name }
-        ensures written { OnOk result (Written at bytes.now (file_of self.old) (file_of self.new)) }
-        ensures failed { OnErr result (WriteFails at (length bytes.now) (file_of self.old)
-            (file_of self.new)) }
-        ensures only_memory { IsOkUnless result Memory }
+        ensures { ChangesMemFile (Written at bytes.now) (WriteFails at (length bytes.now))
+            self.old self.new result }
     {
         self.log
             .push(Event::Wrote(at, bytes.len()))
@@ -69,10 +62,7 @@ impl MemFile {
 
     /// Keeps the bytes as those that a crash leaves.
     pub(crate) fn sync(&mut self, alloc: Global) -> Result<(), Fault>
-        ensures name { self.new.name ≡ self.old.name }
-        ensures synced { OnOk result (Synced (file_of self.old) (file_of self.new)) }
-        ensures failed { OnErr result (file_of self.new ≡ file_of self.old) }
-        ensures only_memory { IsOkUnless result Memory }
+        ensures { ChangesMemFile Synced (λ old new. new ≡ old) self.old self.new result }
     {
         let kept = self.bytes.to_vec(alloc).map_err(|_| Fault::Memory)?;
         self.log

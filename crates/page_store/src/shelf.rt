@@ -1,5 +1,5 @@
 //! Files by name, as the layers above see them.
-ghost use Rattle.std.specs.Prelude.{◌≡◌, ◌+◌, ℕ, List, length, map, is_some, None, IsTrue, IfOk, OnOk, OnErr, IsOkUnless};
+ghost use Rattle.std.specs.Prelude.{◌≡◌, ◌+◌, ℕ, List, length, map, is_some, None, IsTrue, OnOk, OnErr, IsOkUnless};
 ghost use Rattle.io_state.specs.declared.fault.Fault.TheVariants.{Memory};
 ghost use Rattle.page_store.specs.DeviceFile.{content, IsWithin, IsThere};
 ghost use Rattle.page_store.specs.Images.{Leaves};

@@ -18,10 +18,10 @@ returns-in_err-create g c = record {
 pub returns-in_err-write : goal.returns-in_err-write
 returns-in_err-write g c =
     let f = unit_file (g.S.Shelf.state c.args.shelf.now) c.args.unit in
+    let same = sym (c.write.ensures.only.honest ∙ c.create.ensures.only.honest) in
     record {
       images = λ honest.
-          let was = sym (c.write.ensures.only.honest ∙ c.create.ensures.only.honest) ∙ honest in
-          let none = absent_image f (c.requires.file was) (g.met.S.Shelf.reads_an_image c.args.shelf.now _ was) in
+          let none = absent_image f (c.requires.file (same ∙ honest)) (g.met.S.Shelf.reads_an_image c.args.shelf.now _ (same ∙ honest)) in
           starting_failed f none _ _ c.in_ok-create.ensures.done c.in_err-write.ensures.failed;
       opens = search rules;
       failed = at_err _ _ _ (λ honest.
@@ -33,14 +33,12 @@ returns-in_err-write g c =
 pub returns : goal.returns
 returns g c =
     let f = unit_file (g.S.Shelf.state c.args.shelf.now) c.args.unit in
+    let same = sym (c.write.ensures.only.honest ∙ c.create.ensures.only.honest) in
     record {
       images = λ honest.
-          let was = sym (c.write.ensures.only.honest ∙ c.create.ensures.only.honest) ∙ honest in
-          let none = absent_image f (c.requires.file was) (g.met.S.Shelf.reads_an_image c.args.shelf.now _ was) in
+          let none = absent_image f (c.requires.file (same ∙ honest)) (g.met.S.Shelf.reads_an_image c.args.shelf.now _ (same ∙ honest)) in
           starting_done f none _ _ c.in_ok-create.ensures.done c.in_ok-write.ensures.done;
-      opens = λ honest.
-          let was = sym (c.write.ensures.only.honest ∙ c.create.ensures.only.honest) ∙ honest in
-          opens_started f _ _ (c.requires.file was) c.in_ok-create.ensures.done c.in_ok-write.ensures.done;
+      opens = λ honest. opens_started f _ _ (c.requires.file (same ∙ honest)) c.in_ok-create.ensures.done c.in_ok-write.ensures.done;
       failed = tt;
       only = search rules;
       cause = search rules;

@@ -7,15 +7,15 @@ use Rattle.page_store.proofs.memory_shelf.keep_left.Goals as goal
 pub returns-in_ok-map_err-in-Some-clause-this : goal.returns-in_ok-map_err-in-Some-clause-this
 returns-in_ok-map_err-in-Some-clause-this c name is none =
     let left = c.in_ok-left-in-Some.left in
-    let named : has_name left name ≡ true = ap (λ (n : _). bytes_eq n.bytes name) c.in_ok-left-in-Some.ensures.name ∙ is in
+    let named : has_name left name ≡ true = ap (λ (n : _). bytes_eq n.bytes name) c.in_ok-left-in-Some.ensures.named ∙ is in
     let pushed : c.push.new.self.items ≡ c.args.files.now.items ++ left ∷ [] = search rules in
     let image = sym (ap (option_map (λ (v : _). v.items)) c.in-Some.is) ∙ c.in_ok-bytes.ensures.left in
-    let kept = crashed_some c.args.image c.args.file.now left c.in-Some.bytes.items image c.in_ok-left-in-Some.ensures.synced in
+    let kept = crashed_some c.args.image c.args.file.now left c.in-Some.bytes.items image c.in_ok-left-in-Some.ensures.made in
     rw (pushed, file_push c.args.files.now.items left name none named) kept
 
 pub returns-in_ok-map_err-in-Some-clause-others : goal.returns-in_ok-map_err-in-Some-clause-others
 returns-in_ok-map_err-in-Some-clause-others c name isnt =
     let left = c.in_ok-left-in-Some.left in
     let pushed : c.push.new.self.items ≡ c.args.files.now.items ++ left ∷ [] = search rules in
-    let other = ap (λ (n : _). bytes_eq n.bytes name) c.in_ok-left-in-Some.ensures.name ∙ isnt in
+    let other = ap (λ (n : _). bytes_eq n.bytes name) c.in_ok-left-in-Some.ensures.named ∙ isnt in
     rw pushed (push_other c.args.files.now.items left name other)

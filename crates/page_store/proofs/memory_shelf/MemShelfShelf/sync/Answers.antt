@@ -18,7 +18,7 @@ returns c =
     let f = c.index_mut-file.result.now in
     let d = changed c.args.self.now.files.items _ c.in-Some.place f c.sync.new.self c.in-Some.ensures.found c.index_mut-file.ensures.value c.sync.ensures.name in
     record {
-      done = rw (d.was, d.this) c.sync.ensures.synced;
+      done = rw (d.was, d.this) c.sync.ensures.done;
       failed = rw (d.was, d.this) (unchanged c.sync.result (file_of f) (file_of c.sync.new.self) c.sync.ensures.failed);
       only = record { names = refl; others = d.others; honest = refl };
       cause = search rules;

@@ -15,7 +15,7 @@ returns c =
     let f = c.index_mut-file.result.now in
     let d = changed c.args.self.now.files.items _ c.in-Some.place f c.write.new.self c.in-Some.ensures.found c.index_mut-file.ensures.value c.write.ensures.name in
     record {
-      done = rw (d.was, d.this) c.write.ensures.written;
+      done = rw (d.was, d.this) c.write.ensures.done;
       failed = rw (d.was, d.this) c.write.ensures.failed;
       only = record { names = refl; others = d.others; honest = refl };
       cause = search rules;
