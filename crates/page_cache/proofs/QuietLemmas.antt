@@ -4,8 +4,7 @@ use Rattle.page_store.specs.DeviceFile.{DeviceFile}
 use Rattle.page_store.proofs.MomentLemmas.{quiet_none, quiet_then}
 use Rattle.page_store.specs.ShelfState.{ShelfState, unit_name, unit_file, OnlyAnswers, ChangesOnly, IsQuiet}
 use Rattle.page_cache.specs.Quietly.{GoesQuietly}
-use Rattle.page_cache.specs.Cached.{IsOver}
-use Rattle.page_cache.specs.Calls.{OnlyLooks, KeepsPages}
+use Rattle.page_cache.specs.Calls.{KeepsPages}
 use Rattle.page_cache.specs.declared.cache.Cache.{Cache}
 
 pub reads_quietly : (unit : ℕ) (a b : ShelfState) → OnlyAnswers a b → GoesQuietly unit a b
@@ -38,15 +37,6 @@ changes_quietly unit a b only quiet = record {
   others = record { names = only.names; others = only.others; honest = λ h. sym only.honest ∙ h };
   quiet = quiet;
 }
-
-pub looks_nowhere : (c : Cache) (a : ShelfState) → OnlyLooks c c a a
-looks_nowhere c a = record { clean = λ h. h; file = λ h. refl }
-
-pub looks_then : (c d e : Cache) (x y z : ShelfState) → OnlyLooks c d x y → OnlyLooks d e y z → OnlyLooks c e x z
-looks_then c d e x y z cd de = record { clean = λ h. de.clean (cd.clean h); file = λ h. de.file (cd.clean h) ∙ cd.file h }
-
-pub keeps_nothing : (c : Cache) (a : ShelfState) → IsOver c a → KeepsPages c c a a
-keeps_nothing c a over = record { over = over; pages = λ h. refl; keeps = record { store = refl; cap = refl }; goes = goes_nowhere c.store.unit a }
 
 pub keeps_then : (c d e : Cache) (x y z : ShelfState) → KeepsPages c d x y → KeepsPages d e y z → KeepsPages c e x z
 keeps_then c d e x y z cd de = record {

@@ -154,7 +154,3 @@ looks_rewritten state count c before after n frame result over is changed w goes
   looks = nothing_clean c (state before) (state after) n frame is changed;
   cause = cause;
 }
-
-pub by_result : {P Q G : Type 0} (r : Result (Unit {0}) Fault) → OnOk r P → OnErr r Q → (P → G) → (Q → G) → G
-by_result (Ok x) p q f g = f p
-by_result (Err x) p q f g = g q

@@ -21,6 +21,10 @@ HoldsPage unit n shelf page = IsTrue shelf.is_honest → page_of (content (unit_
 abbrev pub header_with : ℕ → ShelfState → List ℕ → List ℕ
 header_with unit shelf page = page_over 0 (content (unit_file shelf unit)) page
 
+-- they were written so
+abbrev pub HoldsHeader : ℕ → (before after : ShelfState) → List ℕ → Type 0
+HoldsHeader unit before after page = HoldsPage unit 0 after (header_with unit before page)
+
 -- at each moment a crash leaves what it could leave before, or a refused file
 abbrev pub MayRefuse : ℕ → ShelfState → ShelfState → Type 0
 MayRefuse unit before after = IsTrue after.is_honest

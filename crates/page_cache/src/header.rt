@@ -3,7 +3,7 @@ ghost use Rattle.std.specs.Prelude.{◌≡◌, OnOk};
 ghost use Rattle.page_store.specs.Gate.{AllOpen, SameOrRefused};
 ghost use Rattle.page_store.specs.ShelfState.{WhereHonest, FileGoes, OnlyAnswers, ChangesOnly, FaultHasCause};
 ghost use Rattle.page_cache.specs.Cached.{IsOver, IsOverHeader};
-ghost use Rattle.page_cache.specs.HeaderCalls.{header_with, WasPage, HoldsPage, MayClose, IsClosedAnew, OpensGate};
+ghost use Rattle.page_cache.specs.HeaderCalls.{WasPage, HoldsHeader, MayClose, IsClosedAnew, OpensGate};
 ghost use Rattle.page_cache.specs.Calls.{ShowsSame, PagesStay};
 
 use crate::cache::Cache;
@@ -35,8 +35,8 @@ impl Cache {
         page: &[u8; PAGE_SIZE],
     ) -> Result<(), Fault>
         requires { IsOverHeader self.old (S.state shelf.old) }
-        ensures written { OnOk result (HoldsPage self.old.store.unit 0 (S.state shelf.new)
-            (header_with self.old.store.unit (S.state shelf.old) page.now)) }
+        ensures written { OnOk result
+            (HoldsHeader self.old.store.unit (S.state shelf.old) (S.state shelf.new) page.now) }
         ensures same { self.new ≡ self.old }
         ensures stay { PagesStay S.state S.fault_count self.old.asked self.old self.new shelf.old shelf.new
             result }
