@@ -8,6 +8,7 @@ use Rattle.indexed_file.specs.File.{Row, File}
 use Rattle.indexed_file.specs.World.{World, Named, Absent as NoFile, Closed, Unsound as Refused, OnlyAt, name_at, named_at, named_in, holding_at, schema_at, file_at, is_open}
 use Rattle.indexed_file.specs.Calls.{Keeps, HasRisen}
 use Rattle.indexed_file.specs.Shown.{Shown}
+use Rattle.indexed_file.specs.Believed.{Believed}
 use Rattle.record_listing.specs.declared.asked.Asked.{Asked}
 use Rattle.record_listing.specs.declared.end.ListEnd.{ListEnd}
 use Rattle.record_listing.specs.declared.end.ListEnd.TheVariants.{Listed, Absent, Unsound, NoKey, Damaged}
@@ -106,6 +107,28 @@ EndsWhereSound shown library form asked schema before behind result =
     (file : File) → named_at (shown.world library) 0 ≡ Closed schema file
     → Ends form asked (Closed schema file) before behind result
 
+-- the name of unit 0 stands for a file of this schema
+abbrev pub HasFileOf : {S : Type 0} → Shown S → S → Schema → Type 0
+HasFileOf shown library schema = (file : File) × (named_at (shown.world library) 0 ≡ Closed schema file)
+
+-- a list of the open file of unit 0, between two states of the library, ends so
+abbrev pub EndsOpen : {S : Type 0} → Shown S → (old new : S) → Form → Asked
+    → (before behind : Option (List ℕ)) → Result ListEnd ListFault → Type 0
+EndsOpen shown old new form asked before behind result =
+    Believed shown 0 old new (Ends form asked (file_when_closed shown old) before behind result)
+
+-- a list of unit 0, where its name stands for a file of this schema
+abbrev pub EndsSound : {S : Type 0} → Shown S → (old new : S) → Form → Asked → Schema
+    → (before behind : Option (List ℕ)) → Result ListEnd ListFault → Type 0
+EndsSound shown old new form asked schema before behind result =
+    Believed shown 0 old new (EndsWhereSound shown old form asked schema before behind result)
+
+-- a list of what the name of unit 0 stands for
+abbrev pub EndsAttached : {S : Type 0} → Shown S → (old new : S) → Form → Asked
+    → (before behind : Option (List ℕ)) → Result ListEnd ListFault → Type 0
+EndsAttached shown old new form asked before behind result =
+    Believed shown 0 old new (Ends form asked (named_at (shown.world old) 0) before behind result)
+
 -- unit 0 is attached, and not open
 pub record HasShutUnit {S : Type 0} (shown : Shown S) (library : S) : Type 0 where
   pub attached : 0 < length (shown.world library).units
@@ -118,6 +141,12 @@ TrueFor shown name old new fact = IsTrue (shown.is_honest new) → shown.IsShown
 -- the same of what the name stood for
 abbrev pub TrueOf : {S : Type 0} → Shown S → (name : List ℕ) → (old new : S) → (Named → Type 0) → Type 0
 TrueOf shown name old new fact = TrueFor shown name old new (fact (named_in (shown.world old) name))
+
+-- a list of what a name stands for
+abbrev pub EndsNamed : {S : Type 0} → Shown S → (name : List ℕ) → (old new : S) → Form → Asked
+    → (before behind : Option (List ℕ)) → Result ListEnd ListFault → Type 0
+EndsNamed shown name old new form asked before behind result =
+    TrueOf shown name old new (λ named. Ends form asked named before behind result)
 
 -- each name stands for what it stood for
 abbrev pub NamesStay : (old new : World) → Type 0

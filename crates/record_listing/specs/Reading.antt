@@ -1,8 +1,9 @@
 -- The rows of an open file, one after another, and the text on its way to the writer.
-use Rattle.std.specs.Prelude.{◌≡◌, ◌<◌, ◌≤◌, ℕ, zero, suc, ◌+◌, List, [], ◌∷◌, ◌++◌, length, take, false, Option, Some, None, Result, Ok, Err, IsTrue, IfErr, if◌then◌else◌}
+use Rattle.std.specs.Prelude.{◌≡◌, ◌<◌, ◌≤◌, ℕ, zero, suc, ◌+◌, List, [], ◌∷◌, ◌++◌, length, take, false, Option, Some, None, Result, Ok, Err, IsTrue, IfOk, IfErr, if◌then◌else◌}
 use Rattle.std.specs.Option.{option_map_or}
 use Rattle.std.specs.Io.KnownBytes.{Appends}
 use Rattle.arrayvec.specs.ArrayVec.{ArrayVec}
+use Rattle.io_state.specs.declared.fault.Fault.{Fault}
 use Rattle.io_state.specs.declared.fault.Fault.TheVariants.{Memory}
 use Rattle.io_state.specs.declared.position.Position.{Position}
 use Rattle.io_state.specs.declared.position.Position.TheVariants.{From, After}
@@ -21,7 +22,8 @@ use Rattle.record_listing.specs.declared.rows.Stop.TheVariants.{Library as GaveU
 use Rattle.record_listing.specs.Listed.{is_past}
 use Rattle.record_forms.specs.declared.form.Form.{Form}
 use Rattle.held_text.specs.Output.{AppendsFront, Holds}
-use Rattle.record_listing.specs.Lines.{lines_of}
+use Rattle.record_listing.specs.Lines.{lines_of, list_of}
+use Rattle.record_forms.specs.Lines.{line_in}
 
 -- unit 0 has an open file that is not broken, which has key k and records of so many bytes at most
 pub record HasOpenFile {S : Type 0} (shown : Shown S) (library : S) (k greatest : ℕ) : Type 0 where
@@ -77,6 +79,12 @@ abbrev pub GoesOnIn : {S : Type 0} → Shown S → S → ℕ → Option (ArrayVe
 GoesOnIn shown library k to position area found =
     GoesOn (schema_at (shown.world library) 0) (file_at (shown.world library) 0) k to position area found
 
+-- so they go on where a call answers, between two states of the library
+abbrev pub GoesOnTruly : {S : Type 0} → Shown S → (old new : S) → ℕ → Option (ArrayVec ℕ) → Position → List ℕ
+    → Result (Option Found) Fault → Type 0
+GoesOnTruly shown old new k to position area result =
+    Believed shown 0 old new (IfOk result (GoesOnIn shown old k to position area))
+
 -- of the lines of these rows all are on their way but those of the rest: the writer took some
 -- bytes, and the others are held
 pub record IsOnItsWay (form : Form) (rows rest : List Row) (before now : Option (List ℕ))
@@ -116,6 +124,12 @@ HoldsLine before now held held_after line (Err (GaveUp fault)) =
     (fault ≡ Memory) × (now ≡ before) × (held_after ≡ held)
 HoldsLine before now held held_after line (Err NotTaken) = AppendsFront before now (held ++ line)
 
+-- the line of the record in the first bytes of an area is held so
+abbrev pub HoldsRecord : Form → (size : ℕ) → (area : List ℕ) → (before now : Option (List ℕ))
+    → (held held_after : List ℕ) → Result Unit Stop → Type 0
+HoldsRecord form size area before now held held_after result =
+    HoldsLine before now held held_after (line_in form (take size area)) result
+
 -- why not all lines are written: a call of the library answered a fault that it may answer; or the
 -- writer refused one
 abbrev pub MayStop : {S : Type 0} → Shown S → S → S → Stop → Type 0
@@ -129,6 +143,18 @@ pub record ReadsRows {S : Type 0} (shown : Shown S) (asked : Asked) (old new : S
   pub rows : Believed shown 0 old new
       (Comes (rows_asked (schema_at (shown.world old) 0) (file_at (shown.world old) 0) asked))
   pub cause : IfErr result (MayStop shown old new)
+
+-- the rows of unit 0 that are asked for were read, and their lines are on their way
+abbrev pub BringsOut : {S : Type 0} → Shown S → Asked → (old new : S) → Form → (before now : Option (List ℕ))
+    → (held : List ℕ) → Result Unit Stop → Type 0
+BringsOut shown asked old new form before now held result =
+    ReadsRows shown asked old new (λ rows. ComesOut form rows before now held result) result
+
+-- they were read, and their list was written, or a front of it
+abbrev pub WritesOut : {S : Type 0} → Shown S → Asked → (old new : S) → Form → (before now : Option (List ℕ))
+    → Result Unit Stop → Type 0
+WritesOut shown asked old new form before now result =
+    ReadsRows shown asked old new (λ rows. IsWritten (list_of form rows) before now result) result
 
 -- the lines of rows that came out so far are written, once those that are held are handed over
 abbrev pub HandsOver : (old new : Option (List ℕ)) → (held : List ℕ) → (came result : Result Unit Stop)

@@ -1,10 +1,8 @@
 //! The list of a file.
 ghost use Rattle.std.specs.Prelude.{◌≡◌, ◌<◌, length, IsTrue, IsFalse, OnOk};
-ghost use Rattle.indexed_file.specs.File.{File};
-ghost use Rattle.indexed_file.specs.World.{Closed, named_at, holding_at, schema_at, is_open, is_looked};
-ghost use Rattle.indexed_file.specs.Believed.{Believed};
+ghost use Rattle.indexed_file.specs.World.{holding_at, schema_at, is_open, is_looked};
 ghost use Rattle.indexed_file.specs.Calls.{Keeps, NamesFile};
-ghost use Rattle.record_listing.specs.Listing.{end_of, file_when_closed, Ends, EndsWhereSound, HasShutUnit, Leaves, NamesStay, TellsWhy, TrueFor, TrueOf};
+ghost use Rattle.record_listing.specs.Listing.{end_of, EndsOpen, EndsSound, EndsAttached, EndsNamed, HasFileOf, HasShutUnit, Leaves, NamesStay, TellsWhy, TrueFor};
 ghost use Rattle.record_listing.specs.Reading.{CanListFile};
 
 use crate::asked::Asked;
@@ -41,8 +39,8 @@ fn list_open<L: Library, W: Write>(
     out: &mut W,
 ) -> Result<ListEnd, ListFault>
     requires { CanListFile L.shown lib.old asked.key greatest }
-    ensures ends { Believed L.shown 0 lib.old lib.new (Ends form.now asked
-        (file_when_closed L.shown lib.old) (W.contents out.old) (W.contents out.new) result) }
+    ensures ends { EndsOpen L.shown lib.old lib.new form.now asked (W.contents out.old)
+        (W.contents out.new) result }
     ensures leaves { Leaves L.shown (NamesFile 0 (L.shown.world lib.old) (L.shown.world lib.old)) lib.old
         lib.new result }
 {
@@ -63,10 +61,9 @@ fn list_sound<L: Library, W: Write>(
     requires attached { 0 < length (L.shown.world lib.old).units }
     requires looked { IsTrue (is_looked (holding_at (L.shown.world lib.old) 0)) }
     requires schema { schema_at (L.shown.world lib.old) 0 ≡ schema.now }
-    ensures ends { Believed L.shown 0 lib.old lib.new (EndsWhereSound L.shown lib.old form.now asked
-        schema.now (W.contents out.old) (W.contents out.new) result) }
-    ensures leaves { Leaves L.shown ((file : File)
-        × (named_at (L.shown.world lib.old) 0 ≡ Closed schema.now file)) lib.old lib.new result }
+    ensures ends { EndsSound L.shown lib.old lib.new form.now asked schema.now (W.contents out.old)
+        (W.contents out.new) result }
+    ensures leaves { Leaves L.shown (HasFileOf L.shown lib.old schema.now) lib.old lib.new result }
 {
     if usize::from(asked.key) >= schema.key_count() {
         return Ok(ListEnd::NoKey);
@@ -86,8 +83,8 @@ fn list_attached<L: Library, W: Write>(
     out: &mut W,
 ) -> Result<ListEnd, ListFault>
     requires { HasShutUnit L.shown lib.old }
-    ensures ends { Believed L.shown 0 lib.old lib.new (Ends form.now asked
-        (named_at (L.shown.world lib.old) 0) (W.contents out.old) (W.contents out.new) result) }
+    ensures ends { EndsAttached L.shown lib.old lib.new form.now asked (W.contents out.old)
+        (W.contents out.new) result }
     ensures leaves { Leaves L.shown (Unit {0}) lib.old lib.new result }
 {
     match lib.look(0) {
@@ -111,8 +108,8 @@ pub fn list_records<L: Library, W: Write>(
     form: &Form,
     out: &mut W,
 ) -> Result<ListEnd, ListFault>
-    ensures ends { TrueOf L.shown name.bytes lib.old lib.new (λ named. Ends form.now asked named
-        (W.contents out.old) (W.contents out.new) result) }
+    ensures ends { EndsNamed L.shown name.bytes lib.old lib.new form.now asked (W.contents out.old)
+        (W.contents out.new) result }
     ensures named { TrueFor L.shown name.bytes lib.old lib.new
         (NamesStay (L.shown.world lib.old) (L.shown.world lib.new)) }
     ensures closed { OnOk result (IsFalse (is_open (holding_at (L.shown.world lib.new) 0))) }

@@ -1,8 +1,7 @@
 //! The next record.
-ghost use Rattle.std.specs.Prelude.{length, IfOk, IfErr};
+ghost use Rattle.std.specs.Prelude.{length, IfErr};
 ghost use Rattle.indexed_file.specs.Calls.{MayAnswerShut};
-ghost use Rattle.indexed_file.specs.Believed.{Believed};
-ghost use Rattle.record_listing.specs.Reading.{HasOpenFile, Reads, GoesOnIn};
+ghost use Rattle.record_listing.specs.Reading.{HasOpenFile, Reads, GoesOnTruly};
 
 use crate::asked::is_past;
 use indexed_file::{Found, Library};
@@ -19,8 +18,7 @@ pub fn next_record<L: Library>(
 ) -> Result<Option<Found>, Fault>
     requires { HasOpenFile L.shown lib.old k (length area.old) }
     ensures reads { Reads L.shown lib.old lib.new }
-    ensures goes { Believed L.shown 0 lib.old lib.new (IfOk result
-        (GoesOnIn L.shown lib.old k to.now position.now area.new)) }
+    ensures goes { GoesOnTruly L.shown lib.old lib.new k to.now position.now area.new result }
     ensures fault { IfErr result (MayAnswerShut L.shown 0 lib.old lib.new) }
 {
     match lib.next(0, k, position, area) {

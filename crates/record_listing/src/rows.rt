@@ -1,8 +1,7 @@
 //! The records of an open file, one after another.
-ghost use Rattle.std.specs.Prelude.{◌≡◌, ◌⊎◌, [], take, length, IfOk, IfErr, true, false};
-ghost use Rattle.record_forms.specs.Lines.{line_in, header_in};
-ghost use Rattle.record_listing.specs.Lines.{list_of};
-ghost use Rattle.record_listing.specs.Reading.{CanListFile, ReadsRows, IsWritten, HandsOver, HoldsLine, ComesOut};
+ghost use Rattle.std.specs.Prelude.{◌≡◌, ◌⊎◌, [], length, IfOk, IfErr, true, false};
+ghost use Rattle.record_forms.specs.Lines.{header_in};
+ghost use Rattle.record_listing.specs.Reading.{CanListFile, BringsOut, WritesOut, IsWritten, HandsOver, HoldsRecord};
 
 use crate::asked::Asked;
 use crate::next::next_record;
@@ -31,8 +30,8 @@ fn hold_record<W: Write>(
     size: u16,
     out: &mut W,
 ) -> Result<(), Stop>
-    ensures { HoldsLine (W.contents out.old) (W.contents out.new) lines.old lines.new
-        (line_in form.now (take size area.now)) result }
+    ensures { HoldsRecord form.now size area.now (W.contents out.old) (W.contents out.new) lines.old
+        lines.new result }
 {
     line.clear();
     if append_line(line, form, &area[..usize::from(size).min(area.len())]).is_err() {
@@ -57,8 +56,8 @@ fn hold_rows<L: Library, W: Write>(
 ) -> Result<(), Stop>
     requires can { CanListFile L.shown lib.old asked.key (length area.old) }
     requires empty { lines.old ≡ [] }
-    ensures { ReadsRows L.shown asked lib.old lib.new (λ rows. ComesOut form.now rows
-        (W.contents out.old) (W.contents out.new) lines.new result) result }
+    ensures { BringsOut L.shown asked lib.old lib.new form.now (W.contents out.old) (W.contents out.new)
+        lines.new result }
 {
     let Asked {
         key,
@@ -147,8 +146,8 @@ pub fn write_rows<L: Library, W: Write>(
     out: &mut W,
 ) -> Result<(), Stop>
     requires { CanListFile L.shown lib.old asked.key greatest }
-    ensures { ReadsRows L.shown asked lib.old lib.new (λ rows. IsWritten (list_of form.now rows)
-        (W.contents out.old) (W.contents out.new) result) result }
+    ensures { WritesOut L.shown asked lib.old lib.new form.now (W.contents out.old)
+        (W.contents out.new) result }
 {
     let Ok(mut area) = blank_area(alloc, greatest) else {
         return Err(Stop::Library(Fault::Memory));
