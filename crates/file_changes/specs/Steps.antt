@@ -45,7 +45,7 @@ pub record CanStore {S : Type 0} (shown : ShownPages S) (file : OpenFile) (pages
   pub least : file.schema.least ≤ length bytes
   pub greatest : length bytes ≤ file.schema.greatest
 
--- so can alternate index j
+-- a record that is long enough may be put into alternate index j, or taken out of it
 pub record CanChangeIndex {S : Type 0} (shown : ShownPages S) (file : OpenFile) (pages : S) (j : ℕ)
     (bytes : List ℕ) : Type 0 where
   pub can : CanChangeWith shown file pages bytes

@@ -1,10 +1,11 @@
-use Rattle.std.proofs.Common.{◌≡◌, ◌≤◌, ◌<◌, length, not, false, true, Bool, refl, sym, ap, subst, ◌∙◌, arith}
+use Rattle.std.proofs.Common.{◌≤◌, ◌<◌, length, false, sym, ap, subst, ◌∙◌, arith}
 use Rattle.record_layout.specs.declared.schema.KeyPart.{KeyPart}
 use Rattle.open_file.specs.Stands.{Stands, heights_of}
 use Rattle.pages.proofs.CauseLemmas.{fails_since}
 use Rattle.open_file.proofs.ExitLemmas.{fails}
 use Rattle.open_file.proofs.HeightLemmas.{heights_many}
 use Rattle.open_file.proofs.LookLemmas.{at_start, step_absent, step_repeated, clash_found, clash_told, done_told, asked_start, asked_more, asked_in_all, asked_so_far, was_true}
+use Rattle.file_changes.proofs.SeenLemmas.{was_false}
 use Rattle.file_changes.proofs.adding.adding.Goals as goal
 use Rattle.file_changes.proofs.adding.adding.Goals.{then-branch+else-not-part, else-branch}
 
@@ -77,10 +78,6 @@ returns-then-not-part-clause-found g c honest file stands =
           (ap (λ part. part.duplicates) (sym c.part.ensures.part) ∙ was_false _ c.if-not-part.true) on);
       no_damage = tt;
     }
-  where
-    was_false : (b : Bool) → not b ≡ true → b ≡ false
-    was_false true h = sym h
-    was_false false h = refl
 
 pub returns-then-not-part-clause-reads : goal.returns-then-not-part-clause-reads
 returns-then-not-part-clause-reads g c =
