@@ -1,8 +1,8 @@
 -- The pages of a file that were read into a list, one after another.
 use Rattle.std.specs.Prelude.{◌≡◌, ℕ, ◌<◌, ◌≤◌, ◌*◌, Bool, true, false, List, [], Option, Result}
-use Rattle.std.specs.Prelude.{IfOk, IfErr, length, flat_map, slice_index_or}
+use Rattle.std.specs.Prelude.{IfOk, IfErr, length, take, flat_map, slice_index_or}
 use Rattle.std.specs.Option.{IfSome}
-use Rattle.std.specs.Io.KnownBytes.{Consumes, IsAtEnd}
+use Rattle.std.specs.Io.KnownBytes.{Consumes, IsAtEnd, Keeps}
 use Rattle.page_bytes.specs.Each.{Each}
 use Rattle.page_store.specs.Pages.{page_of}
 use Rattle.file_checker.specs.declared.verdict.CheckFault.{CheckFault}
@@ -33,6 +33,30 @@ pub record ReadsOrEnds (n : ℕ) (Came : Option (List ℕ) → Option (List ℕ)
   pub end : IfOk result (λ whole. whole ≡ false → IsAtEnd after)
   pub input : IfErr result (λ fault. (fault ≡ Input) × HasGivenLess before after n)
 
+-- a call that is to read a page
+abbrev pub ReadsPageOrEnds : (page : List ℕ) → (before after : Option (List ℕ)) → Result Bool CheckFault
+    → Type 0
+ReadsPageOrEnds page before after result =
+    ReadsOrEnds 4096 (λ old new. Consumes old new page) before after result
+
+-- a call that is to read so many pages, which nobody keeps
+abbrev pub SkipsOrEnds : (count : ℕ) → (before after : Option (List ℕ)) → Result Bool CheckFault → Type 0
+SkipsOrEnds count before after result =
+    ReadsOrEnds (4096 * count) (λ old new. HasGiven old new (4096 * count)) before after result
+
+-- for want of input, nothing was read
+abbrev pub KeepsOnInput : (before after : Option (List ℕ)) → CheckFault → Type 0
+KeepsOnInput before after fault = (fault ≡ Input) × Keeps before after
+
+-- a call that reads the bytes that came into the front of a part: none at the end
+pub record TakesPart (before after : Option (List ℕ)) (old new : List ℕ)
+    (result : Result ℕ CheckFault) : Type 0 where
+  pub within : IfOk result (λ n. n ≤ length new)
+  pub long : length new ≡ length old
+  pub bytes : IfOk result (λ n. Consumes before after (take n new))
+  pub end : IfOk result (λ n. n ≡ 0 → 0 < length old → IsAtEnd after)
+  pub input : IfErr result (KeepsOnInput before after)
+
 -- it had some whole pages, so many at most, that were read
 pub record HasGivenPages (before after : Option (List ℕ)) (most : ℕ) : Type 0 where
   pub count : ℕ
@@ -62,6 +86,24 @@ WhereRead after list fact = (known : Option (List ℕ)) → AreRead known after 
 -- where the first list is of all pages that came before, the second is of all that came until now
 abbrev pub ReadsOn : Option (List ℕ) → Option (List ℕ) → List (List ℕ) → List (List ℕ) → Type 0
 ReadsOn before after list more = WhereRead before list (λ known. AreRead known after more)
+
+-- a call that is to read pages behind those of a list until there are so many: they came
+abbrev pub ComesWhole : (before after : Option (List ℕ)) → (old new : List (List ℕ)) → Result Bool CheckFault
+    → Type 0
+ComesWhole before after old new result =
+    IfOk result (λ whole. whole ≡ true → ReadsOn before after old new)
+
+-- or there were too few
+abbrev pub FindsTooFew : (count : ℕ) → (before : Option (List ℕ)) → (old : List (List ℕ))
+    → Result Bool CheckFault → Type 0
+FindsTooFew count before old result =
+    IfOk result (λ whole. whole ≡ false → WhereRead before old (HasLess (4096 * count)))
+
+-- or it gave up
+abbrev pub BreaksOffAt : (count : ℕ) → (before after : Option (List ℕ)) → (old : List (List ℕ))
+    → Result Bool CheckFault → Type 0
+BreaksOffAt count before after old result =
+    IfErr result (λ fault. WhereRead before old (λ known. BreaksOff known after count fault))
 
 -- these are the first pages of a file
 pub record AreFirstPages (bytes : List ℕ) (list : List (List ℕ)) : Type 0 where

@@ -1,5 +1,5 @@
 -- What is found of the parts of a file whose pages were read into a list.
-use Rattle.std.specs.Prelude.{◌≡◌, ℕ, ◌<◌, Bool, List, IsSome, length, slice_index_or}
+use Rattle.std.specs.Prelude.{◌≡◌, ℕ, ◌<◌, Bool, false, List, IsSome, length, slice_index_or}
 use Rattle.indexed_file.specs.File.{File}
 use Rattle.page_marks.specs.Marks.{Marks, marked_in}
 use Rattle.page_marks.specs.PageList.{pages_in}
@@ -12,6 +12,7 @@ use Rattle.page_walks.specs.WholeFile.{used_in}
 use Rattle.bplus_tree.specs.Standing.{TreeStands}
 use Rattle.key_index.specs.declared.alt_index.AltIndex.{AltIndex}
 use Rattle.file_header.specs.declared.header.Header.{Header}
+use Rattle.file_header.specs.Bounds.{IsHeader}
 use Rattle.open_file.specs.declared.open_file.OpenFile.{OpenFile}
 use Rattle.open_file.specs.Headers.{IsOpenedBy}
 use Rattle.open_file.specs.Stands.{Stands}
@@ -51,3 +52,9 @@ pub record PagesStand (header : Header) (list : List (List ℕ)) : Type 0 where
   pub stands : Stands opened (used_in list header.first_free header.free) file
   pub sound : IsSome (chain (page_in list) (length list) header.first_free header.free)
   pub records_are : length file.rows ≡ header.records
+
+-- this is the header of a file of as many pages as there are marks, and no page is marked
+pub record MayCheckParts (of : Header) (list : List (List ℕ)) (marks : List Bool) : Type 0 where
+  pub header : IsHeader of
+  pub clear : (n : ℕ) → marked_in marks n ≡ false
+  pub many : length marks ≡ length list

@@ -102,3 +102,9 @@ pub record ExaminesBehind {X : Type 0} (first : List ℕ) (verdict : X → Verdi
   pub read : (bytes : List ℕ) → Consumes (Some bytes) before first
       → IfOk result (λ found. IsReadFor bytes after (verdict found))
   pub fault : (bytes : List ℕ) → Consumes (Some bytes) before first → IfErr result (GivesUp bytes after)
+
+-- so a file is refused by its first page
+abbrev pub RefusesBehind : (first : List ℕ) → (before after : Option (List ℕ)) → Result Reason CheckFault
+    → Type 0
+RefusesBehind first before after result =
+    ExaminesBehind first (λ reason. Unsound reason) before after result

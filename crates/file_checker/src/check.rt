@@ -3,7 +3,7 @@
 ghost use Rattle.std.specs.Prelude.{◌≡◌, None};
 ghost use Rattle.file_header.specs.Reading.{header_in, IsFirstPage};
 ghost use Rattle.file_checker.specs.Findings.{verdict_of};
-ghost use Rattle.file_checker.specs.Sound.{Examines, ExaminesBehind};
+ghost use Rattle.file_checker.specs.Sound.{Examines, ExaminesBehind, RefusesBehind};
 
 use crate::finding::Finding;
 use crate::parts::check_pages;
@@ -28,8 +28,7 @@ const CLOSED: u8 = b'C';
 /// Why a file is refused by its first page, behind which the reader stands.
 fn refusal<R: Read>(reader: &mut R, first: &[u8; PAGE_SIZE]) -> Result<Reason, CheckFault>
     requires { header_in first.now ≡ None }
-    ensures { ExaminesBehind first.now (λ reason. Verdict.Unsound reason)
-        (R.remaining reader.old) (R.remaining reader.new) result }
+    ensures { RefusesBehind first.now (R.remaining reader.old) (R.remaining reader.new) result }
 {
     let pages = BigEndian::read_u32(&first[PAGES..PAGES_END]);
     if !skip_pages(reader, pages.saturating_sub(1))? {

@@ -7,7 +7,7 @@ ghost use Rattle.file_header.specs.Bounds.{IsHeader};
 ghost use Rattle.open_file.specs.Stands.{IsShaped};
 ghost use Rattle.file_checker.specs.Later.{ChecksPages, StopsWalk};
 ghost use Rattle.file_checker.specs.Lost.{HasUnmarked};
-ghost use Rattle.file_checker.specs.Parts.{AllFound, AlternatesCount};
+ghost use Rattle.file_checker.specs.Parts.{AllFound, AlternatesCount, MayCheckParts};
 
 use crate::stop::Stop;
 use crate::verdict::Reason;
@@ -66,9 +66,7 @@ fn check_parts(
     header: &Header,
     reached: &mut [bool],
 ) -> Result<(), Stop>
-    requires header { IsHeader header.now }
-    requires clear { (n : ℕ) → marked_in reached.old n ≡ false }
-    requires many { length reached.old ≡ length pages.now }
+    requires { MayCheckParts header.now pages.now reached.old }
     ensures { ChecksPages header.now pages.now result }
 {
     let file = OpenFile::from_header(header);

@@ -1,9 +1,9 @@
 //! The pages of a file, as a reader gives them.
 
-ghost use Rattle.std.specs.Prelude.{◌≡◌, ◌≤◌, ◌<◌, ◌*◌, true, false, [], ◌∷◌, ◌++◌, IfOk, IfErr};
-ghost use Rattle.std.specs.Prelude.{OnOk, length, take};
-ghost use Rattle.std.specs.Io.KnownBytes.{Consumes, IsAtEnd, Keeps};
-ghost use Rattle.file_checker.specs.Bytes.{HasLess, HasGiven, BreaksOff, ReadsOn, ReadsOrEnds, WhereRead};
+ghost use Rattle.std.specs.Prelude.{◌≡◌, ◌≤◌, true, false, [], ◌∷◌, ◌++◌, IfOk, IfErr};
+ghost use Rattle.std.specs.Prelude.{OnOk, length};
+ghost use Rattle.std.specs.Io.KnownBytes.{IsAtEnd};
+ghost use Rattle.file_checker.specs.Bytes.{TakesPart, ReadsPageOrEnds, SkipsOrEnds, ComesWhole, FindsTooFew, BreaksOffAt};
 
 use crate::verdict::CheckFault;
 use page_bytes::PAGE_SIZE;
@@ -14,13 +14,7 @@ const MOST_INTERRUPTED: u32 = 1000;
 
 /// Reads a part, and answers how many bytes came: none at the end.
 fn read_part<R: Read>(reader: &mut R, part: &mut [u8]) -> Result<usize, CheckFault>
-    ensures within { IfOk result (λ n. n ≤ length part.new) }
-    ensures length { length part.new ≡ length part.old }
-    ensures bytes { IfOk result (λ n. Consumes (R.remaining reader.old) (R.remaining reader.new)
-        (take n part.new)) }
-    ensures end { IfOk result (λ n. n ≡ 0 → 0 < length part.old → IsAtEnd (R.remaining reader.new)) }
-    ensures input { IfErr result (λ fault. (fault ≡ CheckFault.Input)
-        × Keeps (R.remaining reader.old) (R.remaining reader.new)) }
+    ensures { TakesPart (R.remaining reader.old) (R.remaining reader.new) part.old part.new result }
 {
     for _ in 0..MOST_INTERRUPTED {
         match reader.read(part) {
@@ -37,8 +31,7 @@ fn read_part<R: Read>(reader: &mut R, part: &mut [u8]) -> Result<usize, CheckFau
 
 /// Reads a page, and answers whether there were enough bytes for it.
 pub fn read_page<R: Read>(reader: &mut R, page: &mut [u8; PAGE_SIZE]) -> Result<bool, CheckFault>
-    ensures { ReadsOrEnds 4096 (λ before after. Consumes before after page.new)
-        (R.remaining reader.old) (R.remaining reader.new) result }
+    ensures { ReadsPageOrEnds page.new (R.remaining reader.old) (R.remaining reader.new) result }
 {
     let mut at = 0;
     'more: while at < PAGE_SIZE {
@@ -53,8 +46,7 @@ pub fn read_page<R: Read>(reader: &mut R, page: &mut [u8; PAGE_SIZE]) -> Result<
 
 /// Reads so many pages, which nobody keeps, and answers whether there were enough bytes for them.
 pub fn skip_pages<R: Read>(reader: &mut R, count: u32) -> Result<bool, CheckFault>
-    ensures { ReadsOrEnds (4096 * count) (λ before after. HasGiven before after (4096 * count))
-        (R.remaining reader.old) (R.remaining reader.new) result }
+    ensures { SkipsOrEnds count (R.remaining reader.old) (R.remaining reader.new) result }
 {
     let mut page = [0; PAGE_SIZE];
     for _ in 0..count {
@@ -97,14 +89,13 @@ pub fn read_pages<R: Read>(
     pages: &mut Vec<[u8; PAGE_SIZE]>,
 ) -> Result<bool, CheckFault>
     requires { length pages.old.items ≤ count }
-    ensures read { IfOk result (λ whole. whole ≡ true
-        → ReadsOn (R.remaining reader.old) (R.remaining reader.new) pages.old.items pages.new.items) }
+    ensures read { ComesWhole (R.remaining reader.old) (R.remaining reader.new) pages.old.items
+        pages.new.items result }
     ensures many { IfOk result (λ whole. whole ≡ true → length pages.new.items ≡ count) }
-    ensures short { IfOk result (λ whole. whole ≡ false
-        → WhereRead (R.remaining reader.old) pages.old.items (HasLess (4096 * count))) }
+    ensures short { FindsTooFew count (R.remaining reader.old) pages.old.items result }
     ensures end { IfOk result (λ whole. whole ≡ false → IsAtEnd (R.remaining reader.new)) }
-    ensures fault { IfErr result (λ fault. WhereRead (R.remaining reader.old) pages.old.items
-        (λ known. BreaksOff known (R.remaining reader.new) count fault)) }
+    ensures fault { BreaksOffAt count (R.remaining reader.old) (R.remaining reader.new)
+        pages.old.items result }
 {
     let wanted = count as usize;
     let mut page = [0; PAGE_SIZE];
