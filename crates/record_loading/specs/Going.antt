@@ -6,15 +6,16 @@ use Rattle.record_layout.specs.Schema.{Schema}
 use Rattle.indexed_file.specs.World.{OnlyAt, named_at}
 use Rattle.indexed_file.specs.Calls.{Keeps}
 use Rattle.indexed_file.specs.Shown.{Shown}
+use Rattle.indexed_file.specs.Believed.{Believed}
 use Rattle.verbs.specs.Connector.{FileState}
 use Rattle.verbs.specs.Fits.{Fits}
-use Rattle.verbs.specs.Held.{state_of, held_at_start}
+use Rattle.verbs.specs.Held.{Held, state_of, held_at_start}
 use Rattle.verbs.specs.Performed.{FileInMemory, StaysStanding, Trusted, in_memory, state_in}
 use Rattle.record_forms.specs.declared.form.Form.{Form}
 use Rattle.record_reading.specs.Whole.{IsWhole}
 use Rattle.record_loading.specs.declared.end.LinesEnd.{LinesEnd}
 use Rattle.record_loading.specs.declared.end.LoadEnd.{LoadEnd}
-use Rattle.record_loading.specs.Loading.{Listing, LinesLeave, Loads}
+use Rattle.record_loading.specs.Loading.{Listing, listing, LinesLeave, Loads}
 use Rattle.record_loading.specs.Real.{AllStayReal}
 
 -- the area is as long as the greatest record, of which the columns of the form are the whole
@@ -56,6 +57,12 @@ pub record WritesListing {S : Type 0} (shown : Shown S) (list : Listing) (before
   pub lines : Trusted shown 0 (in_memory before.held before.library []) after
       (LeavesLines shown list end before after)
 
+-- so, from one state of the connector and the library to another, of a text in a form
+abbrev pub WritesLinesOf : {S : Type 0} → Shown S → Form → (text : List ℕ) → (held : Held) → (old : S)
+    → (area : List ℕ) → (held_after : Held) → (new : S) → LinesEnd → Type 0
+WritesLinesOf shown form text held old area held_after new end =
+    WritesListing shown (listing form text) (in_memory held old area) (in_memory held_after new []) end
+
 -- a load leaves the file of unit 0 so, which was closed, and no image becomes a false one
 pub record LoadsUnit {S : Type 0} (shown : Shown S) (schema : Schema) (mode : OpenMode) (list : Listing)
     (area : List ℕ) (old : S) (end : LoadEnd) (new : S) : Type 0 where
@@ -64,3 +71,9 @@ pub record LoadsUnit {S : Type 0} (shown : Shown S) (schema : Schema) (mode : Op
       (shown.world old) 0 area) end after
   pub named : named_at (shown.world new) 0 ≡ after.named
   pub real : AllStayReal shown old new
+
+-- so, as far as the library is to be believed
+abbrev pub LoadsUnitTruly : {S : Type 0} → Shown S → (old new : S) → Schema → OpenMode → Listing
+    → (area : List ℕ) → LoadEnd → Type 0
+LoadsUnitTruly shown old new schema mode list area end =
+    Believed shown 0 old new (LoadsUnit shown schema mode list area old end new)

@@ -141,6 +141,12 @@ abbrev pub LoadsTruly : {S : Type 0} → Shown S → (name : List ℕ) → Schem
 LoadsTruly shown name schema mode list old new end =
     TrueFor shown name old new (LoadsNamed name schema mode list (shown.world old) end (shown.world new))
 
+-- so a load of a text in a form does
+abbrev pub LoadsText : {S : Type 0} → Shown S → (name : List ℕ) → Schema → Load → Form → (text : List ℕ)
+    → (old new : S) → LoadEnd → Type 0
+LoadsText shown name schema load form text old new end =
+    LoadsTruly shown name schema (mode_of load) (listing form text) old new end
+
 -- every other name stands for what it stood for
 abbrev pub OthersStay : (name : List ℕ) → (old new : World) → Type 0
 OthersStay name old new = (other : List ℕ) → bytes_eq name other ≡ false

@@ -1,14 +1,13 @@
 //! The loading of records into a file.
 ghost use Rattle.std.specs.Prelude.{◌≡◌, replicate, OnErr, IfOk};
 ghost use Rattle.indexed_file.specs.World.{OnlyAt};
-ghost use Rattle.indexed_file.specs.Believed.{Believed};
 ghost use Rattle.indexed_file.specs.Calls.{Keeps};
 ghost use Rattle.deck_runner.specs.Beginning.{IsUntouched};
 ghost use Rattle.record_forms.specs.Lines.{header_in};
 ghost use Rattle.record_reading.specs.Whole.{IsWhole};
 ghost use Rattle.record_listing.specs.Listing.{HasShutUnit, TrueFor};
-ghost use Rattle.record_loading.specs.Loading.{listing, mode_of, LoadsTruly, OthersStay};
-ghost use Rattle.record_loading.specs.Going.{HasAreaFor, LoadsUnit};
+ghost use Rattle.record_loading.specs.Loading.{listing, LoadsText, OthersStay};
+ghost use Rattle.record_loading.specs.Going.{HasAreaFor, LoadsUnitTruly};
 ghost use Rattle.record_loading.specs.Real.{AllStayReal};
 
 use crate::end::{Load, LoadEnd, LoadFault, mode_of};
@@ -53,8 +52,8 @@ fn load_attached<L: Library, P: Progress>(
     requires unit { HasShutUnit L.shown lib.old }
     requires area { HasAreaFor form.now schema.now area.old }
     requires header { header.now ≡ header_in form.now }
-    ensures loads { Believed L.shown 0 lib.old lib.new
-        (LoadsUnit L.shown schema.now mode (listing form.now text.now) area.old lib.old result lib.new) }
+    ensures loads { LoadsUnitTruly L.shown lib.old lib.new schema.now mode (listing form.now text.now)
+        area.old result }
     ensures only { OnlyAt 0 (L.shown.world lib.old) (L.shown.world lib.new) }
     ensures keeps { Keeps L.shown lib.old lib.new }
 {
@@ -97,8 +96,8 @@ pub fn load_records<L: Library, P: Progress>(
     progress: &mut P,
 ) -> Result<LoadEnd, LoadFault>
     requires whole { IsWhole form.now schema.now.greatest }
-    ensures loads { IfOk result (LoadsTruly L.shown name.bytes schema.now (mode_of load)
-        (listing form.now text.now) lib.old lib.new) }
+    ensures loads { IfOk result
+        (LoadsText L.shown name.bytes schema.now load form.now text.now lib.old lib.new) }
     ensures real { TrueFor L.shown name.bytes lib.old lib.new (AllStayReal L.shown lib.old lib.new) }
     ensures others { OthersStay name.bytes (L.shown.world lib.old) (L.shown.world lib.new) }
     ensures memory { OnErr result (IsUntouched L.shown lib.old lib.new) }

@@ -1,9 +1,8 @@
 //! The records of lines are written into an open file.
-ghost use Rattle.std.specs.Prelude.{◌≡◌, ◌++◌, []};
+ghost use Rattle.std.specs.Prelude.{◌≡◌, ◌++◌};
 ghost use Rattle.record_forms.specs.Lines.{header_in};
 ghost use Rattle.verbs.specs.Performed.{in_memory};
-ghost use Rattle.record_loading.specs.Loading.{listing};
-ghost use Rattle.record_loading.specs.Going.{TakesLines, WritesListing};
+ghost use Rattle.record_loading.specs.Going.{TakesLines, WritesLinesOf};
 
 use crate::end::LinesEnd;
 use indexed_file::Library;
@@ -33,8 +32,8 @@ fn write_lines<L: Library, P: Progress>(
 ) -> LinesEnd
     requires takes { TakesLines L.shown form.now least (in_memory connector.old lib.old area.old) }
     requires lines { text.now ≡ header_in form.now ++ lines.now }
-    ensures { WritesListing L.shown (listing form.now text.now) (in_memory connector.old lib.old area.old)
-        (in_memory connector.new lib.new []) result }
+    ensures { WritesLinesOf L.shown form.now text.now connector.old lib.old area.old
+        connector.new lib.new result }
 {
     let mut rest = lines;
     let mut records = 0;
@@ -75,8 +74,8 @@ pub fn write_listing<L: Library, P: Progress>(
 ) -> LinesEnd
     requires takes { TakesLines L.shown form.now least (in_memory connector.old lib.old area.old) }
     requires header { header.now ≡ header_in form.now }
-    ensures { WritesListing L.shown (listing form.now text.now) (in_memory connector.old lib.old area.old)
-        (in_memory connector.new lib.new []) result }
+    ensures { WritesLinesOf L.shown form.now text.now connector.old lib.old area.old
+        connector.new lib.new result }
 {
     let Some(lines) = behind_header(text, header) else {
         return LinesEnd::NoRecord { line: 1 };
