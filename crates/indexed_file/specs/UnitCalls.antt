@@ -1,19 +1,23 @@
 -- The kinds of calls on a unit: what each call of a kind promises, besides its answer.
-use Rattle.std.specs.Prelude.{◌≡◌, ◌≢◌, ℕ, ◌≤◌, List, Option, None, Result, Ok, Err, OnOk, OnErr, IfOk, IfErr, IsTrue, IsFalse}
+use Rattle.std.specs.Prelude.{◌≡◌, ◌≢◌, ℕ, ◌≤◌, ◌⊎◌, List, Option, None, option_map, Result, Ok, Err, OnOk, OnErr, IfOk, IfErr, IsOkUnless, IsTrue, IsFalse}
+use Rattle.arrayvec.specs.ArrayVec.{ArrayVec}
 use Rattle.io_state.specs.declared.fault.Fault.{Fault}
-use Rattle.io_state.specs.declared.fault.Fault.TheVariants.{Full, Broken as BrokenUnit}
+use Rattle.io_state.specs.declared.fault.Fault.TheVariants.{Memory, Full, Broken as BrokenUnit}
+use Rattle.io_state.specs.declared.modes.Relation.{Relation}
+use Rattle.io_state.specs.declared.position.Position.{Position}
 use Rattle.record_layout.specs.Schema.{Schema}
 use Rattle.indexed_file.specs.File.{Row, empty_file}
-use Rattle.indexed_file.specs.World.{OnlyAt, Unsound, Shut, Opened, holding_at, named_at, name_at, schema_at, file_at, is_open, is_broken}
+use Rattle.indexed_file.specs.World.{World, OnlyAt, Unsound, Shut, Opened, holding_at, named_at, name_at, schema_at, file_at, is_open, is_broken, opened_from, attached}
 use Rattle.indexed_file.specs.declared.answer.Found.{Found}
-use Rattle.indexed_file.specs.Answers.{area_after}
+use Rattle.indexed_file.specs.declared.answer.Seen.{Seen}
+use Rattle.indexed_file.specs.Answers.{area_after, seen_of}
 use Rattle.indexed_file.specs.FileChange.{FileChange, has_room_for, LacksRoomFor}
-use Rattle.indexed_file.specs.UnitAnswers.{found_at, world_changed}
+use Rattle.indexed_file.specs.UnitAnswers.{found_at, world_changed, row_by_key, row_next, row_sought, key_at, highest_at}
 use Rattle.indexed_file.specs.Room.{most_to_read, most_to_change, room_of_new}
 use Rattle.indexed_file.specs.Shown.{Shown}
 use Rattle.indexed_file.specs.Believed.{Believed}
 use Rattle.indexed_file.specs.Images.{Trace, AllStay, CallGoes, untouched, trace_of_change, trace_of_shut}
-use Rattle.indexed_file.specs.Calls.{Keeps, OnlyReads, MayAnswer, MayAnswerShut, LeavesBroken, SamePages, is_unmade, AsksAtMost}
+use Rattle.indexed_file.specs.Calls.{Keeps, OnlyReads, MayAnswer, MayAnswerShut, LeavesBroken, SamePages, StaysOrUnsound, NamesFile, is_unmade, AsksAtMost}
 
 -- the count of a unit's pages begins again, and nothing else changes
 pub record RestartsCount {S : Type 0} (shown : Shown S) (u : ℕ) (old new : S) : Type 0 where
@@ -111,3 +115,80 @@ pub record IsNew {S : Type 0} (shown : Shown S) (u : ℕ) (schema : Schema) (old
   pub holding : holding_at (shown.world new) u ≡ Opened schema empty_file
   pub truly : shown.IsShownTruly new (name_at (shown.world old) u)
   pub room : shown.room new u ≡ room_of_new (shown.page_limit new) schema
+
+-- ---- what a call answers and leaves of its unit, in so many words
+
+-- unit u is open with this schema
+abbrev pub IsOpenAs : World → ℕ → Schema → Type 0
+IsOpenAs world u schema = IsTrue (is_open (holding_at world u)) × (schema_at world u ≡ schema)
+
+-- of a library before and after a call
+module _ {S : Type 0} (shown : Shown S) where
+  -- the units are those of these names, where the call was answered
+  abbrev pub AttachesUnits : List (List ℕ) → S → S → Result (Unit {0}) Fault → Type 0
+  AttachesUnits names old new result =
+      OnOk result ((shown.world new).units ≡ attached (shown.world old) names)
+
+  -- a call that was not answered lacked memory, and leaves the world
+  abbrev pub LacksMemoryAtMost : S → S → Result (Unit {0}) Fault → Type 0
+  LacksMemoryAtMost old new result = OnErr result (shown.world new ≡ shown.world old)
+      × IsOkUnless result Memory
+
+  module _ (u : ℕ) where
+    -- a look tells what the name stands for
+    abbrev pub TellsNamed : S → S → Result Seen Fault → Type 0
+    TellsNamed old new result = IsTrue (shown.is_honest new)
+        → IfOk result (λ seen. seen ≡ seen_of (named_at (shown.world old) u))
+
+    -- the name stays or is unsound, where a file was not made
+    abbrev pub StaysOrUnsoundAtFault : S → S → Result (Unit {0}) Fault → Type 0
+    StaysOrUnsoundAtFault old new result = IsTrue (shown.is_honest new)
+        → OnErr result (StaysOrUnsound u (shown.world old) (shown.world new))
+
+    -- the unit has the file that its name stood for, where it was opened, and so many pages
+    abbrev pub OpensNamed : S → S → Result (Unit {0}) Fault → Type 0
+    OpensNamed old new result = IsTrue (shown.is_honest new)
+        → OnOk result (holding_at (shown.world new) u ≡ opened_from (named_at (shown.world old) u))
+
+    abbrev pub KeepsPageCounts : S → S → Result (Unit {0}) Fault → Type 0
+    KeepsPageCounts old new result = IsTrue (shown.is_honest new)
+        → OnOk result (shown.page_counts new u ≡ shown.page_counts old u)
+
+    -- the first row of a value of key k is found, and that which comes next at a position
+    abbrev pub FindsByKey : (k : ℕ) → (value before after : List ℕ) → S → S
+        → Result (Option Found) Fault → Type 0
+    FindsByKey k value before after old new result =
+        FindsRow shown u k (row_by_key (shown.world old) u k value) before after old new result
+
+    abbrev pub FindsNext : (k : ℕ) → Position → (before after : List ℕ) → S → S
+        → Result (Option Found) Fault → Type 0
+    FindsNext k position before after old new result =
+        FindsRow shown u k (row_next (shown.world old) u k position) before after old new result
+
+    -- the value of key k is told of the row that a START looks for; and the greatest prime value
+    abbrev pub FindsValue : (k : ℕ) → Relation → (operand : List ℕ) → S → S
+        → Result (Option (ArrayVec ℕ)) Fault → Type 0
+    FindsValue k relation operand old new result = Believed shown u old new (IfOk result
+        (λ found. found ≡ key_at (shown.world old) u k (row_sought (shown.world old) u k relation operand)))
+
+    abbrev pub FindsHighest : S → S → Result (Option (ArrayVec ℕ)) Fault → Type 0
+    FindsHighest old new result = Believed shown u old new (IfOk result
+        (λ found. option_map (λ (key : ArrayVec ℕ). key.items) found ≡ highest_at (shown.world old) u))
+
+    -- the name stands for the file of a unit that was shut; at a fault for that, or it is unsound
+    abbrev pub NamesFileAtShut : S → S → Result (Unit {0}) Fault → Type 0
+    NamesFileAtShut old new result = Believed shown u old new
+        (OnOk result (NamesFile u (shown.world old) (shown.world new)))
+
+    abbrev pub NamesFileAtFault : S → S → Result (Unit {0}) Fault → Type 0
+    NamesFileAtFault old new result = Believed shown u old new (IfErr result (λ fault. fault ≢ BrokenUnit
+        → NamesFile u (shown.world old) (shown.world new) ⊎ (named_at (shown.world new) u ≡ Unsound)))
+
+    -- the name of a broken unit stays, and so does one that stands for the file
+    abbrev pub KeepsNameOfBroken : S → S → Result (Unit {0}) Fault → Type 0
+    KeepsNameOfBroken old new result = IsTrue (is_broken (holding_at (shown.world old) u))
+        → (result ≡ Err BrokenUnit) × (named_at (shown.world new) u ≡ named_at (shown.world old) u)
+
+    abbrev pub KeepsNameOfFile : S → S → Type 0
+    KeepsNameOfFile old new = Believed shown u old new (NamesFile u (shown.world old) (shown.world old)
+        → named_at (shown.world new) u ≡ named_at (shown.world old) u)
