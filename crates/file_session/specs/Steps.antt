@@ -150,7 +150,7 @@ pub record PerformsOrRefuses {S : Type 0} (shown : Shown S) (p : Performed) (old
   pub err : OnErr result (new ≡ old)
 
 -- these are the bytes of a record, and no more than a record can have
-pub record IsRecord (bytes shown : List ℕ) : Type 0 where
+pub record ShowsRecord (bytes shown : List ℕ) : Type 0 where
   pub record_is : shown ≡ bytes
   pub short : length shown ≤ 4000
 

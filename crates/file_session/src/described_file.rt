@@ -5,7 +5,7 @@ ghost use Rattle.verbs.specs.Held.{record_in, silent};
 ghost use Rattle.verbs.specs.Fits.{Fits};
 ghost use Rattle.verbs.specs.Performed.{in_memory};
 ghost use Rattle.file_session.specs.Files.{NumberedFile, schema_of, is_open};
-ghost use Rattle.file_session.specs.Steps.{is_of_keys, PerformsWith, IsRecord};
+ghost use Rattle.file_session.specs.Steps.{is_of_keys, PerformsWith, ShowsRecord};
 
 use indexed_file::Library;
 use io_state::{FileName, FileStatement, Status};
@@ -121,7 +121,7 @@ impl<L: Library + Drop> DescribedFile<L> {
 
     /// The record that an answer has delivered into the area, of no bytes where it delivered none.
     pub fn record(&self, length: Option<u16>) -> &[u8]
-        ensures { IsRecord (unwrap_or (record_in self.now.memory.area «length») []) result.now }
+        ensures { ShowsRecord (unwrap_or (record_in self.now.memory.area «length») []) result.now }
     {
         match length {
             Some(length) => &self.area[..usize::from(length).min(self.area.len())],

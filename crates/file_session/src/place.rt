@@ -2,7 +2,7 @@
 ghost use Rattle.std.specs.Prelude.{◌≡◌, None, Some, IfOk, IfSome, OnErr};
 ghost use Rattle.request_frames.specs.Request.{performed_of};
 ghost use Rattle.file_session.specs.Files.{is_open_in, has_name};
-ghost use Rattle.file_session.specs.Steps.{PerformsAt, ClosesAt, ReleasesAt, refusal_in, refusal_by, refusal_of_file, record_by, IsRecord};
+ghost use Rattle.file_session.specs.Steps.{PerformsAt, ClosesAt, ReleasesAt, refusal_in, refusal_by, refusal_of_file, record_by, ShowsRecord};
 
 use crate::described_file::DescribedFile;
 use indexed_file::Library;
@@ -32,7 +32,7 @@ pub fn has_name<L: Library + Drop>(place: &Option<DescribedFile<L>>, name: &[u8]
 
 /// The record that an answer has delivered into the area of the file.
 pub fn record<L: Library + Drop>(place: &Option<DescribedFile<L>>, length: Option<u16>) -> &[u8]
-    ensures { IsRecord (record_by place.now «length») result.now }
+    ensures { ShowsRecord (record_by place.now «length») result.now }
 {
     match place {
         Some(file) => file.record(length),

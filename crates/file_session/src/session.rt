@@ -1,7 +1,7 @@
 //! The files of a session.
 ghost use Rattle.std.specs.Prelude.{◌≡◌, ◌≤◌, nat_lt, false, None, length, IfOk};
 ghost use Rattle.file_session.specs.Files.{AreFiles, no_files, file_at};
-ghost use Rattle.file_session.specs.Steps.{record_by, IsRecord};
+ghost use Rattle.file_session.specs.Steps.{record_by, ShowsRecord};
 
 use crate::described_file::DescribedFile;
 use crate::opening_order::OpeningOrder;
@@ -66,7 +66,7 @@ impl<L: Library + Drop> Session<L> {
 
     /// The record that an answer has delivered into the area of a file, of no bytes where it delivered none.
     pub fn record(&self, number: u8, length: Option<u16>) -> &[u8]
-        ensures { IsRecord (record_by (file_at self.now number) «length») result.now }
+        ensures { ShowsRecord (record_by (file_at self.now number) «length») result.now }
     {
         if !self.has_place(number) {
             return &[];

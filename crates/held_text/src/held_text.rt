@@ -1,6 +1,6 @@
 //! The text that is on its way to a writer.
 ghost use Rattle.std.specs.Prelude.{◌≡◌, ◌<◌, ◌≤◌, [], ◌++◌, length, true, false, IfOk, OnOk, OnErr};
-ghost use Rattle.held_text.specs.Output.{AppendsFront, HandsOver, Adds, Holds};
+ghost use Rattle.held_text.specs.Output.{AppendsFront, HandsHeldOver, Adds, Holds};
 
 use crate::output::{Refused, write_text};
 use std::alloc::{AllocError, Global};
@@ -46,7 +46,7 @@ impl HeldText {
 
     /// Hands all that is held to the writer. A refusal leaves a proper front of it in the writer.
     pub fn hand_over<W: Write>(&mut self, out: &mut W) -> Result<(), Refused>
-        ensures { HandsOver (W.contents out.old) (W.contents out.new) self.old self.new result }
+        ensures { HandsHeldOver (W.contents out.old) (W.contents out.new) self.old self.new result }
     {
         write_text(out, self.text.as_slice())?;
         self.text.clear();
