@@ -3,7 +3,8 @@
 ghost use Rattle.std.specs.Prelude.{◌+◌, ◌*◌, IfOk, insert};
 ghost use Rattle.tree_node.specs.Leaf.{leaf_entries};
 ghost use Rattle.bplus_tree.specs.Changes.{CanInsert, WhereSound, Alters, EditsPages, TakesOne, TakesUpTo};
-ghost use Rattle.bplus_tree.specs.Insert.{Inserts, HasWholeKey, PutsBelow, PutsInPlace, CanPut, CanPutAt, PutsInLeaf};
+ghost use Rattle.bplus_tree.specs.Insert.{Inserts, HasWholeKey, PutsBelow, PutsInPlace, CanPut, CanPutAt};
+ghost use Rattle.bplus_tree.specs.Insert.{PutsInLeaf};
 ghost use Rattle.bplus_tree.specs.Edits.{IsLeafOf};
 
 use crate::grow::{add_to_inner, add_to_leaf};

@@ -4,7 +4,8 @@ ghost use Rattle.std.specs.Prelude.{◌≡◌, ◌+◌, ◌*◌, ◌<◌, ◌≤
 ghost use Rattle.tree_node.specs.Leaf.{IsLeaf, leaf_entries};
 ghost use Rattle.node_balance.specs.Fill.{least};
 ghost use Rattle.bplus_tree.specs.Changes.{CanWrite, WhereSound, Alters, EditsPages, GivesPages};
-ghost use Rattle.bplus_tree.specs.Remove.{Removes, HasPlace, OutOfLeaf, TakesBelow, TakesInPlace, TakesFromLeaf};
+ghost use Rattle.bplus_tree.specs.Remove.{Removes, HasPlace, OutOfLeaf, TakesBelow, TakesInPlace};
+ghost use Rattle.bplus_tree.specs.Remove.{TakesFromLeaf};
 ghost use Rattle.bplus_tree.specs.Edits.{IsLeafOf};
 
 use crate::rebalance::rebalance;

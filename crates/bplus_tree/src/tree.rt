@@ -1,6 +1,7 @@
 //! A tree, from its root.
 
-ghost use Rattle.std.specs.Prelude.{◌≡◌, ◌≢◌, ◌+◌, ◌-◌, ◌*◌, ◌^◌, ◌<◌, ◌≤◌, IsTrue, IsSome, IfOk, OnOk, Ok, Err, None, length, take};
+ghost use Rattle.std.specs.Prelude.{◌≡◌, ◌≢◌, ◌+◌, ◌-◌, ◌*◌, ◌^◌, ◌<◌, ◌≤◌, IsTrue, IsSome, IfOk, OnOk, Ok};
+ghost use Rattle.std.specs.Prelude.{Err, None, length, take};
 
 use crate::collapse::collapse;
 use crate::empty_leaf::write_empty_leaf;
@@ -34,7 +35,8 @@ pub struct Tree {
 }
 
 impl Tree {
-    ghost use Rattle.bplus_tree.specs.Changes.{CanWrite, CanInsert, WhereSound, GivesPages, TakesOne, TakesUpTo, KeepsShape};
+    ghost use Rattle.bplus_tree.specs.Changes.{CanWrite, CanInsert, WhereSound, GivesPages, TakesOne};
+    ghost use Rattle.bplus_tree.specs.Changes.{TakesUpTo, KeepsShape};
     ghost use Rattle.bplus_tree.specs.LookUps.{LooksDown, LooksAlong};
     ghost use Rattle.bplus_tree.specs.TreeCalls.{InsertsInPages, RemovesInPages};
     ghost use Rattle.bplus_tree.specs.Within.{FindsWithin};

@@ -8,7 +8,8 @@ use Rattle.deck_entries.specs.FileControlEntry.{select_behind}
 use Rattle.deck_entries.specs.FileControlEntry.{FileControlEntry}
 use Rattle.deck_words.specs.Word.{Word}
 use Rattle.deck_entries.specs.declared.divisions.Divisions.{Divisions}
-use Rattle.deck_entries.specs.FileDescription.{FileDescription, StorageEntry, description_behind, storage_item, with_one}
+use Rattle.deck_entries.specs.FileDescription.{FileDescription, StorageEntry, description_behind}
+use Rattle.deck_entries.specs.FileDescription.{storage_item, with_one}
 
 -- two words and a period
 abbrev pub heading : List ℕ → List ℕ → Rule (Unit {0})

@@ -1,7 +1,8 @@
 -- The file control entry.
 -- ANSI X3.23-1985, Indexed I-O module, FILE-CONTROL entry. Which clauses there are, that INDEXED
 -- and RECORD KEY have to stand, and what a file name is, is ours.
-use Rattle.std.specs.Prelude.{ℕ, ◌==◌, Bool, true, false, ◌&&◌, ◌||◌, List, [], ◌∷◌, ◌++◌, length, nat_le, nat_lt, unwrap_or, if◌then◌else◌, codes, Option, Some, None, option_map}
+use Rattle.std.specs.Prelude.{ℕ, ◌==◌, Bool, true, false, ◌&&◌, ◌||◌, List, [], ◌∷◌, ◌++◌, length, nat_le}
+use Rattle.std.specs.Prelude.{nat_lt, unwrap_or, if◌then◌else◌, codes, Option, Some, None, option_map}
 use Rattle.std.specs.Char.{is_ascii_digit}
 use Rattle.std.specs.List.{list_all, list_any}
 use Rattle.std.specs.Str.{bytes_eq}

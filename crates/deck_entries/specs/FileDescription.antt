@@ -1,7 +1,8 @@
 -- File description entries, their items, and the items of the working storage. ANSI X3.23-1985,
 -- Indexed I-O module, file description entry, and Nucleus module, data description entry. Which
 -- clauses there are is ours.
-use Rattle.std.specs.Prelude.{ℕ, Bool, true, false, not, ◌&&◌, List, [], ◌∷◌, ◌++◌, nat_le, if◌then◌else◌, codes, Option, Some, None}
+use Rattle.std.specs.Prelude.{ℕ, Bool, true, false, not, ◌&&◌, List, [], ◌∷◌, ◌++◌, nat_le, if◌then◌else◌}
+use Rattle.std.specs.Prelude.{codes, Option, Some, None}
 use Rattle.std.specs.List.{list_any}
 use Rattle.std.specs.Str.{bytes_eq}
 use Rattle.record_layout.specs.Layout.{Entry}

@@ -5,7 +5,8 @@ ghost use Rattle.deck_words.specs.Class.{begins};
 ghost use Rattle.deck_words.specs.Rule.{some_onto, where_it_gives};
 ghost use Rattle.deck_words.specs.Reading.{Reads};
 ghost use Rattle.deck_words.specs.Scanning.{map_result};
-ghost use Rattle.deck_entries.specs.FileDescription.{level, item_name, may_item_name, picture_clause, may_picture_clause, item, with_one};
+ghost use Rattle.deck_entries.specs.FileDescription.{level, item_name, may_item_name, picture_clause};
+ghost use Rattle.deck_entries.specs.FileDescription.{may_picture_clause, item, with_one};
 
 use crate::record_length::number_of;
 use crate::words::expect_one;

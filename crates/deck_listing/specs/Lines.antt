@@ -1,10 +1,12 @@
 -- The lines of the list of a deck. Their form is ours.
-use Rattle.std.specs.Prelude.{ℕ, ◌==◌, ◌&&◌, Bool, true, false, List, [], ◌∷◌, ◌++◌, codes, decimal, find, is_some, Option, Some, None, option_and_then, if◌then◌else◌}
+use Rattle.std.specs.Prelude.{ℕ, ◌==◌, ◌&&◌, Bool, true, false, List, [], ◌∷◌, ◌++◌, codes, decimal, find}
+use Rattle.std.specs.Prelude.{is_some, Option, Some, None, option_and_then, if◌then◌else◌}
 use Rattle.io_state.specs.declared.modes.Access.{Access}
 use Rattle.io_state.specs.declared.modes.Access.TheVariants.{Sequential, Random, Dynamic}
 use Rattle.io_state.specs.declared.modes.OpenMode.TheVariants.{Input, Output, InputOutput, Extend}
 use Rattle.io_state.specs.declared.statement.FileStatement.{FileStatement}
-use Rattle.io_state.specs.declared.statement.FileStatement.TheVariants.{Open, Close, ReadNext, Read, Start, Write, Rewrite, Delete}
+use Rattle.io_state.specs.declared.statement.FileStatement.TheVariants.{Open, Close, ReadNext, Read, Start}
+use Rattle.io_state.specs.declared.statement.FileStatement.TheVariants.{Write, Rewrite, Delete}
 use Rattle.record_layout.specs.Layout.{Placed}
 use Rattle.record_layout.specs.declared.schema.KeyPart.{KeyPart}
 use Rattle.deck_listing.specs.Verbs.{Verb}

@@ -14,7 +14,8 @@ use Rattle.deck_listing.specs.declared.place.Mark.{Mark}
 use Rattle.deck_listing.specs.declared.place.Mark.TheVariants.{Nothing, VerbWord, Paragraph}
 use Rattle.deck_listing.specs.Places.{role_of, place_behind, mark_of}
 use Rattle.deck_listing.specs.Verbs.{Verb, verbs_behind}
-use Rattle.deck_listing.specs.Lines.{item_line, key_name, key_line, heading, lengths_text, access_word, optional_word, verb_line, lineless_verb, paragraph_line}
+use Rattle.deck_listing.specs.Lines.{item_line, key_name, key_line, heading, lengths_text, access_word}
+use Rattle.deck_listing.specs.Lines.{optional_word, verb_line, lineless_verb, paragraph_line}
 
 -- ---- files
 

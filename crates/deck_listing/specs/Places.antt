@@ -6,7 +6,8 @@ use Rattle.std.specs.Str.{bytes_eq}
 use Rattle.deck_words.specs.Word.{Word, WordKind}
 use Rattle.deck_words.specs.Word as kind
 use Rattle.deck_listing.specs.declared.place.Role.{Role}
-use Rattle.deck_listing.specs.declared.place.Role.TheVariants.{Heading, Period, Files, Verb, Other, Phrase, Name}
+use Rattle.deck_listing.specs.declared.place.Role.TheVariants.{Heading, Period, Files, Verb, Other, Phrase}
+use Rattle.deck_listing.specs.declared.place.Role.TheVariants.{Name}
 use Rattle.deck_listing.specs.declared.place.Place.{Place}
 use Rattle.deck_listing.specs.declared.place.Place.TheVariants.{Description, Sentence, Statement, Naming}
 use Rattle.deck_listing.specs.declared.place.Mark.{Mark}

@@ -1,7 +1,9 @@
 //! The lines of the list of a deck.
 ghost use Rattle.std.specs.Prelude.{◌≡◌, ◌++◌, option_map, string_bytes, OnOk};
 ghost use Rattle.record_layout.specs.Layout.{item_of};
-ghost use Rattle.deck_listing.specs.Lines.{item_name, digits_word, item_line, key_kind, key_line, access_word, optional_word, lengths_text, heading_with, verb_text, verb_line, lineless_verb, paragraph_line};
+ghost use Rattle.deck_listing.specs.Lines.{item_name, digits_word, item_line, key_kind, key_line};
+ghost use Rattle.deck_listing.specs.Lines.{access_word, optional_word, lengths_text, heading_with, verb_text};
+ghost use Rattle.deck_listing.specs.Lines.{verb_line, lineless_verb, paragraph_line};
 
 use crate::verbs::Verb;
 use io_state::{Access, FileStatement, Name, OpenMode};

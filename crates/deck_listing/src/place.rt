@@ -1,6 +1,7 @@
 //! What stands at a word of a deck.
 ghost use Rattle.std.specs.Prelude.{◌≡◌};
-ghost use Rattle.deck_listing.specs.Places.{is_files, is_verb, is_other, is_phrase, role_by, role_of, place_behind, mark_of};
+ghost use Rattle.deck_listing.specs.Places.{is_files, is_verb, is_other, is_phrase, role_by, role_of};
+ghost use Rattle.deck_listing.specs.Places.{place_behind, mark_of};
 
 use deck_words::{Word, WordText};
 

@@ -2,7 +2,8 @@
 -- last CLOSE of a change that answered 00 left, or for that of a CLOSE in progress or one that
 -- failed since, or is refused; before the first such CLOSE it may also be as in an image at the
 -- start. All of this is ours.
-use Rattle.std.specs.Prelude.{◌≡◌, ℕ, Bool, true, false, List, [], ◌∷◌, ◌++◌, Option, Some, None, bytes_eq, if◌then◌else◌, IsTrue}
+use Rattle.std.specs.Prelude.{◌≡◌, ℕ, Bool, true, false, List, [], ◌∷◌, ◌++◌, Option, Some, None, bytes_eq}
+use Rattle.std.specs.Prelude.{if◌then◌else◌, IsTrue}
 use Rattle.std.specs.List.{list_all}
 use Rattle.indexed_file.specs.World.{World, Named}
 use Rattle.indexed_file.specs.Images.{Trace, untouched, is_one_of}

@@ -9,7 +9,8 @@ use Rattle.deck_runner.specs.declared.run_end.RunEnd.{RunEnd}
 use Rattle.deck_runner.specs.declared.running_deck.RunningDeck.{RunningDeck}
 use Rattle.deck_runner.specs.Line.{Line}
 use Rattle.deck_runner.specs.Steps.{until_stop}
-use Rattle.deck_runner.specs.Stretches.{Point, IsStretch, AreStretches, AreStretchesInPart, ClosesAt, ClosesAtInPart, ClosesFiles, ClosesInPart, IsRunOver, IsBrokenOff}
+use Rattle.deck_runner.specs.Stretches.{Point, IsStretch, AreStretches, AreStretchesInPart, ClosesAt}
+use Rattle.deck_runner.specs.Stretches.{ClosesAtInPart, ClosesFiles, ClosesInPart, IsRunOver, IsBrokenOff}
 use Rattle.deck_runner.specs.Conditions.{CanPerform, IsStatementIn}
 use Rattle.deck_runner.specs.State.{State, state, IsSafeIn, GoesOn, Leads}
 use Rattle.deck_runner.specs.RunEnd.{Told, ToldInPart}

@@ -1,15 +1,18 @@
 -- A run as steps: each statement answers and leaves what it should, or a fault has marred it. All
 -- of this is ours.
-use Rattle.std.specs.Prelude.{◌≡◌, ℕ, suc, true, false, List, [], ◌∷◌, ◌++◌, slice_get, Option, Some, None, ◌⊎◌, if◌then◌else◌}
+use Rattle.std.specs.Prelude.{◌≡◌, ℕ, suc, true, false, List, [], ◌∷◌, ◌++◌, slice_get, Option, Some, None}
+use Rattle.std.specs.Prelude.{◌⊎◌, if◌then◌else◌}
 use Rattle.std.specs.List.{list_all}
 use Rattle.verbs.specs.Connector.{Outcome}
 use Rattle.io_state.specs.declared.statement.FileStatement.{FileStatement}
 use Rattle.io_state.specs.declared.statement.FileStatement.TheVariants.{Close}
 use Rattle.verbs.specs.Marred.{Step}
 use Rattle.procedure_division.specs.declared.statement.Statement.{Statement}
-use Rattle.procedure_division.specs.declared.statement.Statement.TheVariants.{Perform, Move, MoveLength, StopRun}
+use Rattle.procedure_division.specs.declared.statement.Statement.TheVariants.{Perform, Move, MoveLength}
+use Rattle.procedure_division.specs.declared.statement.Statement.TheVariants.{StopRun}
 use Rattle.deck_runner.specs.Line.{Line, is_clean}
-use Rattle.deck_runner.specs.Run.{RunFile, Run, change_at, record_length, items_after_read, after, is_stop, is_still_open, lines_of_run, after_run}
+use Rattle.deck_runner.specs.Run.{RunFile, Run, change_at, record_length, items_after_read, after, is_stop}
+use Rattle.deck_runner.specs.Run.{is_still_open, lines_of_run, after_run}
 
 -- ---- a statement
 

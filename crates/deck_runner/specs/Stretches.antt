@@ -14,11 +14,13 @@ use Rattle.verbs.specs.Performed.{StatusHasCause}
 use Rattle.verbs.specs.Traces.{trace_of}
 use Rattle.verbs.specs.Verbs.{perform}
 use Rattle.procedure_division.specs.declared.statement.Statement.{Statement}
-use Rattle.procedure_division.specs.declared.statement.Statement.TheVariants.{Perform, Move, MoveLength, StopRun}
+use Rattle.procedure_division.specs.declared.statement.Statement.TheVariants.{Perform, Move, MoveLength}
+use Rattle.procedure_division.specs.declared.statement.Statement.TheVariants.{StopRun}
 use Rattle.deck_runner.specs.Line.{Line, is_clean}
 use Rattle.deck_runner.specs.Run.{RunFile, Run, record_length, lines_of_run}
 use Rattle.deck_runner.specs.Running.{unit_names}
-use Rattle.deck_runner.specs.Steps.{IsStep, AreStepsOf, IsRunOf, AreStepsInPart, IsRunInPart, close_at, closes_from}
+use Rattle.deck_runner.specs.Steps.{IsStep, AreStepsOf, IsRunOf, AreStepsInPart, IsRunInPart, close_at}
+use Rattle.deck_runner.specs.Steps.{closes_from}
 
 -- a point between two steps: the run there, and the library
 pub record Point (S : Type 0) : Type 0 where

@@ -2,7 +2,8 @@
 ghost use Rattle.std.specs.Prelude.{IfOk, IfErr};
 ghost use Rattle.indexed_file.specs.Calls.{Keeps};
 ghost use Rattle.deck_reader.specs.Deck.{CanBeRun};
-ghost use Rattle.deck_runner.specs.DeckRun.{IsExactIfClean, HasRunWhole, HasRunInPart, HasDoneNothing, IsRefusedDeck, RunsRead};
+ghost use Rattle.deck_runner.specs.DeckRun.{IsExactIfClean, HasRunWhole, HasRunInPart, HasDoneNothing};
+ghost use Rattle.deck_runner.specs.DeckRun.{IsRefusedDeck, RunsRead};
 
 use crate::beginning::begin;
 use crate::fault::RunFault;

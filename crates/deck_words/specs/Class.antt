@@ -1,5 +1,6 @@
 -- The classes of words that the grammar speaks of, and which of them no word is both of.
-use Rattle.std.specs.Prelude.{ℕ, Bool, true, false, not, ◌&&◌, ◌||◌, List, [], ◌∷◌, length, nat_le, Option, Some, None, codes}
+use Rattle.std.specs.Prelude.{ℕ, Bool, true, false, not, ◌&&◌, ◌||◌, List, [], ◌∷◌, length, nat_le, Option}
+use Rattle.std.specs.Prelude.{Some, None, codes}
 use Rattle.std.specs.List.{list_all, list_any}
 use Rattle.std.specs.Str.{bytes_eq}
 use Rattle.deck_words.specs.Name.{is_name, is_number}

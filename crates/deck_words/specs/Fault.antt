@@ -1,7 +1,8 @@
 -- The faults of a deck, and what is told of them.
 use Rattle.std.specs.Prelude.{◌≡◌, ◌≢◌, ℕ, Result, IfErr}
 use Rattle.deck_words.specs.declared.fault.Cause.{Cause}
-use Rattle.deck_words.specs.declared.fault.Cause.TheVariants.{BadWord, Expected, Unknown, Twice, NotAllowed, Limit, Layout}
+use Rattle.deck_words.specs.declared.fault.Cause.TheVariants.{BadWord, Expected, Unknown, Twice, NotAllowed}
+use Rattle.deck_words.specs.declared.fault.Cause.TheVariants.{Limit, Layout}
 use Rattle.deck_words.specs.declared.fault.DeckFault.{DeckFault}
 use Rattle.deck_words.specs.declared.fault.Refusal.{Refusal}
 use Rattle.deck_words.specs.declared.fault.Refusal.TheVariants.{Memory, Fault}

@@ -1,5 +1,6 @@
 -- The piece at the front of what is left of a deck, as it is found from the front.
-use Rattle.std.specs.Prelude.{ℕ, ◌+◌, ◌==◌, Bool, true, ◌&&◌, ◌||◌, if◌then◌else◌, List, [], ◌∷◌, length, take, drop, nat_le, nat_lt, Option, Some, None, option_map}
+use Rattle.std.specs.Prelude.{ℕ, ◌+◌, ◌==◌, Bool, true, ◌&&◌, ◌||◌, if◌then◌else◌, List, [], ◌∷◌, length}
+use Rattle.std.specs.Prelude.{take, drop, nat_le, nat_lt, Option, Some, None, option_map}
 use Rattle.std.specs.List.{prefix_len}
 use Rattle.deck_words.specs.ByteClass.{is_space, is_mark, is_of_run}
 use Rattle.deck_words.specs.Literal.{cut_literal}

@@ -1,5 +1,6 @@
 -- The words that are still to come at a place of a deck.
-use Rattle.std.specs.Prelude.{◌≡◌, ◌+◌, ◌<◌, ◌≤◌, ℕ, zero, suc, Bool, if◌then◌else◌, List, [], ◌∷◌, ◌++◌, length, Option, Some, None, MatchOption, codes}
+use Rattle.std.specs.Prelude.{◌≡◌, ◌+◌, ◌<◌, ◌≤◌, ℕ, zero, suc, Bool, if◌then◌else◌, List, [], ◌∷◌, ◌++◌}
+use Rattle.std.specs.Prelude.{length, Option, Some, None, MatchOption, codes}
 use Rattle.deck_words.specs.Word.{Word, word_of, Period}
 use Rattle.deck_words.specs.Words.{Rest}
 use Rattle.deck_words.specs.Front.{Next, piece_at}

@@ -1,6 +1,7 @@
 -- Rules of a grammar: which words spell a value, and how the words are read. `Spells` is the
 -- grammar; `reads` looks one word ahead, and `is_fit` says that this is enough.
-use Rattle.std.specs.Prelude.{◌≡◌, ℕ, zero, suc, Bool, true, false, not, ◌&&◌, ◌⊎◌, if◌then◌else◌, List, [], ◌∷◌, ◌++◌, length, Option, Some, None, option_and_then, option_map, IsTrue}
+use Rattle.std.specs.Prelude.{◌≡◌, ℕ, zero, suc, Bool, true, false, not, ◌&&◌, ◌⊎◌, if◌then◌else◌, List, []}
+use Rattle.std.specs.Prelude.{◌∷◌, ◌++◌, length, Option, Some, None, option_and_then, option_map, IsTrue}
 use Rattle.deck_words.specs.Class.{Class, is_in, begins, all_apart}
 use Rattle.deck_words.specs.Word.{Word}
 

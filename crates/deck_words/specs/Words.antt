@@ -1,12 +1,15 @@
 -- The words of a deck, and its faults. A deck is cut into pieces, and each piece gives its words;
 -- no order of reading is known here.
 -- ANSI X3.23-1985, Nucleus module, character-strings and separators. The limits, and the two marks, are ours.
-use Rattle.std.specs.Prelude.{◌≡◌, ℕ, ◌+◌, ◌-◌, ◌<◌, ◌≤◌, ◌==◌, Bool, ◌&&◌, ◌||◌, if◌then◌else◌, List, [], ◌∷◌, ◌++◌, length, take, map, slice_index, nat_le, Option, Some, None, option_map, IsTrue, codes}
+use Rattle.std.specs.Prelude.{◌≡◌, ℕ, ◌+◌, ◌-◌, ◌<◌, ◌≤◌, ◌==◌, Bool, ◌&&◌, ◌||◌, if◌then◌else◌, List, []}
+use Rattle.std.specs.Prelude.{◌∷◌, ◌++◌, length, take, map, slice_index, nat_le, Option, Some, None}
+use Rattle.std.specs.Prelude.{option_map, IsTrue, codes}
 use Rattle.std.specs.List.{list_all}
 use Rattle.std.specs.Str.{bytes_eq}
 use Rattle.deck_words.specs.ByteClass.{is_space, is_mark, is_of_run, is_of_literal, is_of_word, capital}
 use Rattle.deck_words.specs.Fault.{told}
-use Rattle.deck_words.specs.declared.fault.Cause.TheVariants.{BadWord, Expected, Unknown, Twice, NotAllowed, Limit, Layout}
+use Rattle.deck_words.specs.declared.fault.Cause.TheVariants.{BadWord, Expected, Unknown, Twice, NotAllowed}
+use Rattle.deck_words.specs.declared.fault.Cause.TheVariants.{Limit, Layout}
 use Rattle.deck_words.specs.declared.fault.DeckFault.{DeckFault}
 use Rattle.deck_words.specs.declared.fault.Refusal.{Refusal}
 use Rattle.deck_words.specs.declared.fault.Refusal.TheVariants.{Memory, Fault}

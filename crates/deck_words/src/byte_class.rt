@@ -1,6 +1,7 @@
 //! The classes of a deck's bytes.
 ghost use Rattle.std.specs.Prelude.{◌≡◌};
-ghost use Rattle.deck_words.specs.ByteClass.{is_space, is_mark, is_of_run, is_of_literal, is_of_word, capital};
+ghost use Rattle.deck_words.specs.ByteClass.{is_space, is_mark, is_of_run, is_of_literal, is_of_word};
+ghost use Rattle.deck_words.specs.ByteClass.{capital};
 
 /// Space, tab, line feed and carriage return.
 pub fn is_space_byte(byte: u8) -> bool

@@ -2,7 +2,8 @@
 ghost use Rattle.std.specs.Prelude.{◌≡◌, ◌≢◌, [], ◌∷◌, map, drop, Some, length, MatchResult};
 ghost use Rattle.std.specs.Bool.{OnTrue, OnFalse};
 ghost use Rattle.std.specs.List.{list_any};
-ghost use Rattle.deck_words.specs.Class.{begins, is_in, this, names, numbers, levels, pictures, signs, periods};
+ghost use Rattle.deck_words.specs.Class.{begins, is_in, this, names, numbers, levels, pictures, signs};
+ghost use Rattle.deck_words.specs.Class.{periods};
 ghost use Rattle.deck_words.specs.Rule.{one};
 ghost use Rattle.deck_words.specs.Scanning.{map_result};
 ghost use Rattle.deck_words.specs.Notation.{the, may, eaten, name, literal, period};

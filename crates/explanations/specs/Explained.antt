@@ -1,5 +1,6 @@
 -- Which words name what is explained. All of this is ours.
-use Rattle.std.specs.Prelude.{ℕ, ◌+◌, List, [], ◌∷◌, codes, bytes_eq, find, Option, None, option_map, if◌then◌else◌}
+use Rattle.std.specs.Prelude.{ℕ, ◌+◌, List, [], ◌∷◌, codes, bytes_eq, find, Option, None, option_map}
+use Rattle.std.specs.Prelude.{if◌then◌else◌}
 use denote.Ref.{Bor}
 
 -- a table: in each row the number as it is written, and the text

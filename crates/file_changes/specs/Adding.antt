@@ -1,5 +1,6 @@
 -- What adding a record makes of an open file.
-use Rattle.std.specs.Prelude.{◌≡◌, ℕ, ◌+◌, ◌*◌, ◌<◌, List, length, false, sum_by, None, Some, find, nat_lt, IsTrue, Result, if◌then◌else◌}
+use Rattle.std.specs.Prelude.{◌≡◌, ℕ, ◌+◌, ◌*◌, ◌<◌, List, length, false, sum_by, None, Some, find, nat_lt}
+use Rattle.std.specs.Prelude.{IsTrue, Result, if◌then◌else◌}
 use Rattle.io_state.specs.declared.fault.Fault.{Fault}
 use Rattle.pages.specs.Answer.{IsAnswer}
 use Rattle.pages.specs.ShownPages.{ShownPages}

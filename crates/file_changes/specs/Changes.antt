@@ -1,6 +1,7 @@
 -- A change of an open file, said once for all that make it: what is answered and left, when nothing
 -- is changed, and when the file breaks.
-use Rattle.std.specs.Prelude.{◌≡◌, ◌≢◌, ◌≤◌, ◌+◌, ℕ, Bool, true, false, Result, Err, IsTrue, IsFalse, IfOk, IfErr, OnOk}
+use Rattle.std.specs.Prelude.{◌≡◌, ◌≢◌, ◌≤◌, ◌+◌, ℕ, Bool, true, false, Result, Err, IsTrue, IsFalse, IfOk}
+use Rattle.std.specs.Prelude.{IfErr, OnOk}
 use Rattle.io_state.specs.declared.fault.Fault.{Fault}
 use Rattle.io_state.specs.declared.fault.Fault.TheVariants.{Full, Broken}
 use Rattle.record_layout.specs.Schema.{Schema}

@@ -1,5 +1,6 @@
 -- The record of a prime value, as it is before a change.
-use Rattle.std.specs.Prelude.{◌≡◌, ℕ, ◌+◌, ◌≤◌, List, ◌++◌, length, drop, find, slice_range, Option, None, Some, option_map, Result}
+use Rattle.std.specs.Prelude.{◌≡◌, ℕ, ◌+◌, ◌≤◌, List, ◌++◌, length, drop, find, slice_range, Option, None}
+use Rattle.std.specs.Prelude.{Some, option_map, Result}
 use Rattle.io_state.specs.declared.fault.Fault.{Fault}
 use Rattle.record_layout.specs.Schema.{Schema}
 use Rattle.indexed_file.specs.File.{Row, File}

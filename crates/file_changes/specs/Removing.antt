@@ -1,5 +1,6 @@
 -- What removing a record makes of an open file.
-use Rattle.std.specs.Prelude.{◌≡◌, ◌≢◌, ℕ, ◌+◌, ◌*◌, ◌<◌, List, length, find, slice_index_or, IsSome, nat_lt, None, Result, if◌then◌else◌}
+use Rattle.std.specs.Prelude.{◌≡◌, ◌≢◌, ℕ, ◌+◌, ◌*◌, ◌<◌, List, length, find, slice_index_or, IsSome, nat_lt}
+use Rattle.std.specs.Prelude.{None, Result, if◌then◌else◌}
 use Rattle.io_state.specs.declared.fault.Fault.{Fault}
 use Rattle.pages.specs.ShownPages.{ShownPages}
 use Rattle.key_index.specs.declared.alt_index.AltIndex.{AltIndex}

@@ -1,5 +1,7 @@
 -- What replacing a record makes of an open file.
-use Rattle.std.specs.Prelude.{◌≡◌, ℕ, ◌+◌, ◌*◌, ◌<◌, ◌≤◌, ◌^◌, ◌||◌, ◌&&◌, Bool, true, false, not, List, ◌++◌, length, map, drop, find, bytes_eq, nat_lt, nat_le, sum_by, IsSome, IsTrue, IsFalse, None, Some, Result, Err, IfOk, OnOk, if◌then◌else◌}
+use Rattle.std.specs.Prelude.{◌≡◌, ℕ, ◌+◌, ◌*◌, ◌<◌, ◌≤◌, ◌^◌, ◌||◌, ◌&&◌, Bool, true, false, not, List, ◌++◌}
+use Rattle.std.specs.Prelude.{length, map, drop, find, bytes_eq, nat_lt, nat_le, sum_by, IsSome, IsTrue}
+use Rattle.std.specs.Prelude.{IsFalse, None, Some, Result, Err, IfOk, OnOk, if◌then◌else◌}
 use Rattle.io_state.specs.declared.fault.Fault.{Fault}
 use Rattle.io_state.specs.declared.fault.Fault.TheVariants.{Full}
 use Rattle.record_layout.specs.Schema.{Schema, key_at, value_of, prime_of}
@@ -26,7 +28,8 @@ use Rattle.file_changes.specs.Changes.{HasChanged}
 use Rattle.file_changes.specs.Contents.{Contents, PartsStep, TakesStep}
 use Rattle.file_changes.specs.InPages.{FileInPages, in_pages, shown_in}
 use Rattle.file_changes.specs.Old.{row_with, IsFoundIn}
-use Rattle.file_changes.specs.Steps.{CanLookFor, CanChangeWith, CanStore, IsRowOf, HasRoomFor, HaveEachKey, AnswersFor}
+use Rattle.file_changes.specs.Steps.{CanLookFor, CanChangeWith, CanStore, IsRowOf, HasRoomFor, HaveEachKey}
+use Rattle.file_changes.specs.Steps.{AnswersFor}
 use Rattle.file_changes.specs.Removing.{AreThere}
 use Rattle.file_changes.specs.declared.old_record.OldRecord.{OldRecord}
 

@@ -1,5 +1,6 @@
 -- What the steps of a change ask for, and what they leave of an open file.
-use Rattle.std.specs.Prelude.{◌≡◌, ℕ, ◌+◌, ◌*◌, ◌<◌, ◌≤◌, ◌^◌, Bool, true, false, List, length, drop, slice_index_or, IsTrue, Result, IfErr, ⊤}
+use Rattle.std.specs.Prelude.{◌≡◌, ℕ, ◌+◌, ◌*◌, ◌<◌, ◌≤◌, ◌^◌, Bool, true, false, List, length, drop}
+use Rattle.std.specs.Prelude.{slice_index_or, IsTrue, Result, IfErr, ⊤}
 use Rattle.io_state.specs.declared.fault.Fault.{Fault}
 use Rattle.indexed_file.specs.File.{Row, File}
 use Rattle.pages.specs.Answer.{IsAnswer}

@@ -8,8 +8,11 @@ ghost use Rattle.indexed_file.specs.FileChange.{addition};
 ghost use Rattle.file_changes.specs.Changes.{Changes, MayBreak};
 ghost use Rattle.file_changes.specs.Contents.{TakesStep};
 ghost use Rattle.file_changes.specs.InPages.{in_pages, shown_in, IsReadyIn, MakesAddition};
-ghost use Rattle.file_changes.specs.Adding.{levels_in, PutsRow, AddsRecord, AnswersAdding, TakesPagesOfPrime, new_slot, prime_added, entry_added, entries_added};
-ghost use Rattle.file_changes.specs.Steps.{CanTakeRecord, CanLookFor, CanChangeWith, CanChangeIndex, CanStore, HasRoomFor, KeepsMark, KeepsMade, ChangesHeap, ChangesPrime, ChangesAlternates, ChangesAlternate, TakesPages};
+ghost use Rattle.file_changes.specs.Adding.{levels_in, PutsRow, AddsRecord, AnswersAdding, TakesPagesOfPrime};
+ghost use Rattle.file_changes.specs.Adding.{new_slot, prime_added, entry_added, entries_added};
+ghost use Rattle.file_changes.specs.Steps.{CanTakeRecord, CanLookFor, CanChangeWith, CanChangeIndex};
+ghost use Rattle.file_changes.specs.Steps.{CanStore, HasRoomFor, KeepsMark, KeepsMade, ChangesHeap};
+ghost use Rattle.file_changes.specs.Steps.{ChangesPrime, ChangesAlternates, ChangesAlternate, TakesPages};
 
 use crate::ending::breaks;
 use crate::room::is_full;

@@ -3,7 +3,8 @@
 ghost use Rattle.std.specs.Prelude.{◌≡◌, ◌<◌, not, bytes_eq, length};
 ghost use Rattle.record_layout.specs.Schema.{value_of};
 ghost use Rattle.indexed_file.specs.Change.{takes_stamp};
-ghost use Rattle.file_changes.specs.Replacing.{HaveKey, HaveStamps, AreStampsAfter, need_to_put, is_full_for, stamp_after};
+ghost use Rattle.file_changes.specs.Replacing.{HaveKey, HaveStamps, AreStampsAfter, need_to_put, is_full_for};
+ghost use Rattle.file_changes.specs.Replacing.{stamp_after};
 ghost use Rattle.file_changes.specs.Steps.{HaveEachKey};
 
 use crate::stamps::push_stamp;

@@ -9,8 +9,10 @@ ghost use Rattle.open_file.specs.Lent.{LendsToChange};
 ghost use Rattle.file_changes.specs.Adding.{levels_in};
 ghost use Rattle.file_changes.specs.Contents.{TakesStep};
 ghost use Rattle.file_changes.specs.InPages.{in_pages, IsReadyIn, MakesRemoval, RemovesRecord};
-ghost use Rattle.file_changes.specs.Removing.{CanTakeOut, ChangesParts, KeepsOtherIndexes, most_to_take_out, prime_lost, slot_freed, entry_lost, row_lost, LosesEntries};
-ghost use Rattle.file_changes.specs.Steps.{CanChangeWith, CanChangeIndex, ChangesHeap, ChangesPrime, ChangesAlternates, ChangesAlternate, IsNoHigher};
+ghost use Rattle.file_changes.specs.Removing.{CanTakeOut, ChangesParts, KeepsOtherIndexes, most_to_take_out};
+ghost use Rattle.file_changes.specs.Removing.{prime_lost, slot_freed, entry_lost, row_lost, LosesEntries};
+ghost use Rattle.file_changes.specs.Steps.{CanChangeWith, CanChangeIndex, ChangesHeap, ChangesPrime};
+ghost use Rattle.file_changes.specs.Steps.{ChangesAlternates, ChangesAlternate, IsNoHigher};
 
 use crate::adding::put_at;
 use crate::ending::breaks;

@@ -7,8 +7,12 @@ ghost use Rattle.open_file.specs.Stands.{heights_of};
 ghost use Rattle.file_changes.specs.Old.{row_with};
 ghost use Rattle.file_changes.specs.Contents.{TakesStep};
 ghost use Rattle.file_changes.specs.InPages.{in_pages, MakesReplacement, ReplacesRecord};
-ghost use Rattle.file_changes.specs.Replacing.{CanLookForKey, CanPutInPlace, CanChangeIndexes, CanPutEntry, ReplacesRow, AnswersReplacing, AnswersNewThere, LeavesPutOver, PutsOver, PutsInSlot, PutsEntries, entry_put, need_to_put, most_to_put};
-ghost use Rattle.file_changes.specs.Steps.{CanTakeRecord, CanLookFor, CanStore, IsRowOf, KeepsMark, ChangesAlternates, ChangesAlternate};
+ghost use Rattle.file_changes.specs.Replacing.{CanLookForKey, CanPutInPlace, CanChangeIndexes, CanPutEntry};
+ghost use Rattle.file_changes.specs.Replacing.{ReplacesRow, AnswersReplacing, AnswersNewThere, LeavesPutOver};
+ghost use Rattle.file_changes.specs.Replacing.{PutsOver, PutsInSlot, PutsEntries, entry_put, need_to_put};
+ghost use Rattle.file_changes.specs.Replacing.{most_to_put};
+ghost use Rattle.file_changes.specs.Steps.{CanTakeRecord, CanLookFor, CanStore, IsRowOf, KeepsMark};
+ghost use Rattle.file_changes.specs.Steps.{ChangesAlternates, ChangesAlternate};
 
 use crate::adding::add_to_alternate;
 use crate::changed::{changed_stamps, differs, is_full_to_change, takes_stamp};

@@ -3,7 +3,8 @@
 ghost use Rattle.std.specs.Prelude.{◌≡◌, ◌≤◌, true, false, [], ◌∷◌, ◌++◌, IfOk, IfErr};
 ghost use Rattle.std.specs.Prelude.{OnOk, length};
 ghost use Rattle.std.specs.Io.KnownBytes.{IsAtEnd};
-ghost use Rattle.file_checker.specs.Bytes.{TakesPart, ReadsPageOrEnds, SkipsOrEnds, ComesWhole, FindsTooFew, BreaksOffAt};
+ghost use Rattle.file_checker.specs.Bytes.{TakesPart, ReadsPageOrEnds, SkipsOrEnds, ComesWhole, FindsTooFew};
+ghost use Rattle.file_checker.specs.Bytes.{BreaksOffAt};
 
 use crate::verdict::CheckFault;
 use page_bytes::PAGE_SIZE;

@@ -2,7 +2,8 @@
 -- 77-level items. ANSI X3.23-1985, Indexed I-O module, FILE-CONTROL entry, file description entry
 -- and RECORD clause. That data names are unique in a deck, and that a 77-level item is one of
 -- digits, is ours.
-use Rattle.std.specs.Prelude.{◌≡◌, ℕ, ◌≤◌, ◌==◌, Bool, true, false, not, ◌&&◌, List, [], ◌∷◌, ◌++◌, nat_le, nat_lt, slice_get, position, if◌then◌else◌, Option, Some, None}
+use Rattle.std.specs.Prelude.{◌≡◌, ℕ, ◌≤◌, ◌==◌, Bool, true, false, not, ◌&&◌, List, [], ◌∷◌, ◌++◌, nat_le}
+use Rattle.std.specs.Prelude.{nat_lt, slice_get, position, if◌then◌else◌, Option, Some, None}
 use Rattle.std.specs.List.{list_all, list_any, find}
 use Rattle.std.specs.Str.{bytes_eq}
 use Rattle.io_state.specs.declared.modes.Access.{Access}

@@ -1,11 +1,13 @@
 //! A file, as its entry and its description describe it.
-ghost use Rattle.std.specs.Prelude.{◌≡◌, ◌≤◌, ◌≢◌, ℕ, false, List, Option, map, option_map, OnErr, IfOk, IfErr};
+ghost use Rattle.std.specs.Prelude.{◌≡◌, ◌≤◌, ◌≢◌, ℕ, false, List, Option, map, option_map, OnErr, IfOk};
+ghost use Rattle.std.specs.Prelude.{IfErr};
 ghost use Rattle.record_layout.specs.Layout.{Placed as PlacedItem, entry_of, IsLayout, length_of};
 ghost use Rattle.record_layout.specs.Schema.{Schema as Keys, IsSchema};
 ghost use Rattle.record_layout.specs.SchemaFault.{GivesSchema};
 ghost use Rattle.record_layout.specs.declared.fault.LayoutFault.{LayoutFault};
 ghost use Rattle.deck_words.specs.Fault.{IsFault, HasNoneIfRefused};
-ghost use Rattle.file_control.specs.Description.{FileDesc as File, record_name, described_by, GivesKeys, least_length, DependsOn, IsFile, are_new};
+ghost use Rattle.file_control.specs.Description.{FileDesc as File, record_name, described_by, GivesKeys};
+ghost use Rattle.file_control.specs.Description.{least_length, DependsOn, IsFile, are_new};
 ghost use Rattle.file_control.specs.Checks.{are_keys_named};
 ghost use Rattle.file_control.specs.FieldPlaces.{AreFields};
 

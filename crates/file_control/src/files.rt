@@ -2,7 +2,8 @@
 ghost use Rattle.std.specs.Prelude.{◌≡◌, ℕ, List, [], ◌∷◌, option_map, OnOk, IfOk, IfErr};
 ghost use Rattle.std.specs.Str.{bytes_eq};
 ghost use Rattle.deck_words.specs.Fault.{HasNoneIfRefused};
-ghost use Rattle.file_control.specs.Description.{FileDesc as File, LengthItem as Digits, description_of_file, AreFiles, AreNoFiles, AreItems, HaveDigits};
+ghost use Rattle.file_control.specs.Description.{FileDesc as File, LengthItem as Digits, description_of_file};
+ghost use Rattle.file_control.specs.Description.{AreFiles, AreNoFiles, AreItems, HaveDigits};
 
 use crate::data_names::DataNames;
 use crate::file::{FileDesc, file};

@@ -1,5 +1,6 @@
 -- A test for each fact that is asked of a header, so that the header in a page can be computed.
-use Rattle.std.specs.Prelude.{ℕ, ◌+◌, ◌^◌, ◌==◌, Bool, true, false, not, ◌&&◌, List, [], ◌∷◌, length, nat_lt, nat_le}
+use Rattle.std.specs.Prelude.{ℕ, ◌+◌, ◌^◌, ◌==◌, Bool, true, false, not, ◌&&◌, List, [], ◌∷◌, length, nat_lt}
+use Rattle.std.specs.Prelude.{nat_le}
 use Rattle.std.specs.List.{list_all}
 use Rattle.record_layout.specs.declared.schema.KeyPart.{KeyPart}
 use Rattle.record_layout.specs.Schema.{Schema}

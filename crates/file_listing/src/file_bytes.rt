@@ -1,5 +1,6 @@
 //! A shelf whose one file has given bytes, and is never written.
-ghost use Rattle.std.specs.Prelude.{◌≡◌, ◌+◌, ◌≤◌, ◌<◌, ◌^◌, ◌-◌, ℕ, [], length, map, get_or, take, drop, min, IsErrOf};
+ghost use Rattle.std.specs.Prelude.{◌≡◌, ◌+◌, ◌≤◌, ◌<◌, ◌^◌, ◌-◌, ℕ, [], length, map, get_or, take, drop};
+ghost use Rattle.std.specs.Prelude.{min, IsErrOf};
 ghost use Rattle.io_state.specs.declared.fault.Fault.TheVariants.{Device};
 ghost use Rattle.file_listing.specs.Shelf.{is_nil};
 

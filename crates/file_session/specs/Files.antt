@@ -1,5 +1,7 @@
 -- The files of a session, by their numbers. All of this is ours.
-use Rattle.std.specs.Prelude.{◌≡◌, ◌<◌, ◌≤◌, ℕ, ◌&&◌, Bool, true, false, not, All, List, [], ◌∷◌, ◌++◌, length, replicate, slice_index_or, slice_set, nat_lt, eqb, bytes_eq, Option, Some, None, is_none, is_some, if◌then◌else◌}
+use Rattle.std.specs.Prelude.{◌≡◌, ◌<◌, ◌≤◌, ℕ, ◌&&◌, Bool, true, false, not, All, List, [], ◌∷◌, ◌++◌}
+use Rattle.std.specs.Prelude.{length, replicate, slice_index_or, slice_set, nat_lt, eqb, bytes_eq, Option}
+use Rattle.std.specs.Prelude.{Some, None, is_none, is_some, if◌then◌else◌}
 use Rattle.std.specs.List.{list_any, filter, IsDistinct}
 use Rattle.indexed_file.specs.Shown.{Shown}
 use Rattle.record_layout.specs.Schema.{Schema}

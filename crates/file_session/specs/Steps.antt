@@ -1,7 +1,10 @@
 -- What each call on a session changes. All of this is ours.
-use Rattle.std.specs.Prelude.{◌≡◌, ◌≤◌, ℕ, Bool, true, false, not, List, [], ◌∷◌, ◌++◌, length, drop, replicate, nat_lt, Option, Some, None, unwrap_or, IsTrue, IsFalse, Result, Ok, Err, IfOk, OnErr, if◌then◌else◌}
+use Rattle.std.specs.Prelude.{◌≡◌, ◌≤◌, ℕ, Bool, true, false, not, List, [], ◌∷◌, ◌++◌, length, drop}
+use Rattle.std.specs.Prelude.{replicate, nat_lt, Option, Some, None, unwrap_or, IsTrue, IsFalse, Result, Ok}
+use Rattle.std.specs.Prelude.{Err, IfOk, OnErr, if◌then◌else◌}
 use Rattle.io_state.specs.declared.statement.FileStatement.{FileStatement}
-use Rattle.io_state.specs.declared.statement.FileStatement.TheVariants.{Open, Close, ReadNext, Read, Start, Write, Rewrite, Delete}
+use Rattle.io_state.specs.declared.statement.FileStatement.TheVariants.{Open, Close, ReadNext, Read, Start}
+use Rattle.io_state.specs.declared.statement.FileStatement.TheVariants.{Write, Rewrite, Delete}
 use Rattle.io_state.specs.declared.status.Status.{Status}
 use Rattle.record_layout.specs.Schema.{Schema, IsSchema, schema_of_fields}
 use Rattle.indexed_file.specs.Shown.{Shown}
@@ -14,9 +17,11 @@ use Rattle.verbs.specs.Performed.{FileInMemory, IsPerformed}
 use Rattle.request_frames.specs.FileName.{is_file_name}
 use Rattle.request_frames.specs.Request.{Described, Performed}
 use Rattle.request_frames.specs.declared.Refusal.{Refusal}
-use Rattle.request_frames.specs.declared.Refusal.TheVariants.{NoRequest, TooLong, Number, Description, Name, Memory, Key}
+use Rattle.request_frames.specs.declared.Refusal.TheVariants.{NoRequest, TooLong, Number, Description, Name}
+use Rattle.request_frames.specs.declared.Refusal.TheVariants.{Memory, Key}
 use Rattle.request_frames.specs.declared.Refusal.TheVariants.{Open as IsOpen}
-use Rattle.file_session.specs.Files.{NumberedFile, Files, file_at, with_file, schema_of, is_open, is_free, is_named, order_after}
+use Rattle.file_session.specs.Files.{NumberedFile, Files, file_at, with_file, schema_of, is_open, is_free}
+use Rattle.file_session.specs.Files.{is_named, order_after}
 
 -- why a call was refused, if it was
 abbrev pub refusal_in : {X : Type 0} → Result X Refusal → Option Refusal

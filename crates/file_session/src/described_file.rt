@@ -1,5 +1,6 @@
 //! A described file.
-ghost use Rattle.std.specs.Prelude.{◌≡◌, ◌≤◌, ◌++◌, drop, length as count_of, true, false, not, nat_lt, bytes_eq, unwrap_or, [], None};
+ghost use Rattle.std.specs.Prelude.{◌≡◌, ◌≤◌, ◌++◌, drop, length as count_of, true, false, not, nat_lt};
+ghost use Rattle.std.specs.Prelude.{bytes_eq, unwrap_or, [], None};
 ghost use Rattle.io_state.specs.declared.statement.FileStatement.TheVariants.{Close};
 ghost use Rattle.verbs.specs.Held.{record_in, silent};
 ghost use Rattle.verbs.specs.Fits.{Fits};

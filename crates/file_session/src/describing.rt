@@ -2,7 +2,8 @@
 ghost use Rattle.std.specs.Prelude.{◌≡◌, OnOk, IfOk, IfSome, IfErr, OnErr, replicate, length as count_of};
 ghost use Rattle.request_frames.specs.Request.{described_of};
 ghost use Rattle.file_session.specs.Files.{is_free, is_named};
-ghost use Rattle.file_session.specs.Steps.{Describes, RefusesDescription, ReleasesOrRefuses, schema_described, IsDescribedOver};
+ghost use Rattle.file_session.specs.Steps.{Describes, RefusesDescription, ReleasesOrRefuses};
+ghost use Rattle.file_session.specs.Steps.{schema_described, IsDescribedOver};
 
 use crate::described_file::DescribedFile;
 use crate::place;

@@ -2,7 +2,8 @@
 ghost use Rattle.std.specs.Prelude.{◌≡◌, None, Some, IfOk, IfSome, OnErr};
 ghost use Rattle.request_frames.specs.Request.{performed_of};
 ghost use Rattle.file_session.specs.Files.{is_open_in, has_name};
-ghost use Rattle.file_session.specs.Steps.{PerformsAt, ClosesAt, ReleasesAt, refusal_in, refusal_by, refusal_of_file, record_by, ShowsRecord};
+ghost use Rattle.file_session.specs.Steps.{PerformsAt, ClosesAt, ReleasesAt, refusal_in, refusal_by};
+ghost use Rattle.file_session.specs.Steps.{refusal_of_file, record_by, ShowsRecord};
 
 use crate::described_file::DescribedFile;
 use indexed_file::Library;

@@ -3,7 +3,8 @@
 ghost use Rattle.std.specs.Prelude.{◌≡◌, ◌<◌, ◌≤◌, ◌^◌, ◌++◌, ◌∷◌, [], IfOk, OnOk, length};
 ghost use Rattle.page_counts.specs.Levels.{all_pages};
 ghost use Rattle.file_header.specs.Bounds.{IsHeader};
-ghost use Rattle.file_statistics.specs.Statistics.{HasTreeStanding, HasFileStanding, CountsKey, KeysCounted, HasFile, CountsFile, all_key_pages};
+ghost use Rattle.file_statistics.specs.Statistics.{HasTreeStanding, HasFileStanding, CountsKey, KeysCounted};
+ghost use Rattle.file_statistics.specs.Statistics.{HasFile, CountsFile, all_key_pages};
 
 use crate::statistics::{FileStatistics, KeyStatistics};
 use bplus_tree::Tree;

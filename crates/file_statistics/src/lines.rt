@@ -1,7 +1,10 @@
 //! The lines.
 ghost use Rattle.std.specs.Prelude.{◌≡◌, ◌++◌, ◌+◌, ◌<◌, ◌≤◌, ◌^◌, length, replicate, decimal, OnOk, IfOk};
 ghost use Rattle.page_counts.specs.declared.level.Level.{Level};
-ghost use Rattle.file_statistics.specs.Lines.{bar_of, level_place, level_fill, level_line, level_lines, key_entries, key_start, key_text, keys_text, number_behind, count_text, other_pages, kinds_text, page_line, slot_line, text_of};
+ghost use Rattle.file_statistics.specs.Lines.{bar_of, level_place, level_fill, level_line, level_lines};
+ghost use Rattle.file_statistics.specs.Lines.{key_entries, key_start, key_text, keys_text, number_behind};
+ghost use Rattle.file_statistics.specs.Lines.{count_text, other_pages, kinds_text, page_line, slot_line};
+ghost use Rattle.file_statistics.specs.Lines.{text_of};
 
 use crate::statistics::{FileStatistics, KeyStatistics};
 use itoa::Buffer;

@@ -1,5 +1,6 @@
 -- What was asked of a folder, and what it answered.
-use Rattle.std.specs.Prelude.{ℕ, zero, suc, ◌+◌, ◌-◌, ◌^◌, min, Bool, false, not, List, [], ◌∷◌, ◌++◌, codes, Option, Some, None, is_some, length, slice_index, ◌==◌, if◌then◌else◌}
+use Rattle.std.specs.Prelude.{ℕ, zero, suc, ◌+◌, ◌-◌, ◌^◌, min, Bool, false, not, List, [], ◌∷◌, ◌++◌, codes}
+use Rattle.std.specs.Prelude.{Option, Some, None, is_some, length, slice_index, ◌==◌, if◌then◌else◌}
 
 pub data Event : Type 0 where
   -- the calls that follow are on the files of the folder of this path

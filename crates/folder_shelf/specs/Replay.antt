@@ -1,8 +1,10 @@
 -- What an honest folder holds after these calls and answers.
-use Rattle.std.specs.Prelude.{ℕ, ◌+◌, ◌==◌, nat_le, Bool, true, false, not, ◌&&◌, ◌||◌, if◌then◌else◌, List, [], ◌∷◌, ◌++◌, length, take, drop, bytes_eq, Some, None, is_some}
+use Rattle.std.specs.Prelude.{ℕ, ◌+◌, ◌==◌, nat_le, Bool, true, false, not, ◌&&◌, ◌||◌, if◌then◌else◌, List}
+use Rattle.std.specs.Prelude.{[], ◌∷◌, ◌++◌, length, take, drop, bytes_eq, Some, None, is_some}
 use Rattle.page_store.specs.DeviceFile.{DeviceFile, created, wrote, synced, content, overlay}
 use Rattle.page_store.specs.ShelfState.{ShelfState}
-use Rattle.folder_shelf.specs.Events.{Event, folder_path, in_folder, named, made, measured, read, held, written, flushed, looked}
+use Rattle.folder_shelf.specs.Events.{Event, folder_path, in_folder, named, made, measured, read, held}
+use Rattle.folder_shelf.specs.Events.{written, flushed, looked}
 
 -- what no code can read of a folder on a disk
 pub record Unseen : Type 0 where

@@ -1,5 +1,6 @@
 -- What reads give of an honest folder is one of the images, as a shelf promises.
-use Rattle.std.proofs.Common.{◌≡◌, ◌≤◌, ◌==◌, nat_le, ℕ, List, [], ◌∷◌, ◌++◌, Option, Some, None, true, false, IsTrue, is_some, not, ◌&&◌, ◌||◌, length, bytes_eq, subst, inl, inr, arith}
+use Rattle.std.proofs.Common.{◌≡◌, ◌≤◌, ◌==◌, nat_le, ℕ, List, [], ◌∷◌, ◌++◌, Option, Some, None, true, false}
+use Rattle.std.proofs.Common.{IsTrue, is_some, not, ◌&&◌, ◌||◌, length, bytes_eq, subst, inl, inr, arith}
 use Rattle.std.proofs.lemmas.Bool.{cases_Bool, and_parts, leb-true}
 use Rattle.std.proofs.lemmas.List.{length-take}
 use Rattle.page_store.specs.DeviceFile.{DeviceFile, wrote, content, overlay}
@@ -8,7 +9,8 @@ use Rattle.page_store.proofs.ImageLemmas.{leaves_written, leaves_synced}
 use Rattle.page_store.proofs.TornLemmas.{part_torn}
 use Rattle.page_store.proofs.FileLemmas.{some_bytes}
 use Rattle.page_store.proofs.MadeLemmas.{made_image}
-use Rattle.folder_shelf.specs.Events.{Event, in_folder, named, made, measured, read, held, written, flushed, looked}
+use Rattle.folder_shelf.specs.Events.{Event, in_folder, named, made, measured, read, held, written, flushed}
+use Rattle.folder_shelf.specs.Events.{looked}
 use Rattle.folder_shelf.specs.Replay.{Unseen, Folder, put, now, has, left_of, after, replay}
 
 abbrev Sound : DeviceFile → Type 0

@@ -2,7 +2,8 @@
 ghost use Rattle.std.specs.Prelude.{◌≡◌, ◌∷◌, [], string_bytes, IfOk, IsOkUnless};
 ghost use Rattle.std.proofs.Props.{props};
 ghost use Rattle.io_state.specs.declared.fault.Fault.TheVariants.{Memory};
-ghost use Rattle.folder_shelf.specs.Events.{in_folder, folder_path, file_path, made, measured, read, held, written, flushed, looked};
+ghost use Rattle.folder_shelf.specs.Events.{in_folder, folder_path, file_path, made, measured, read, held};
+ghost use Rattle.folder_shelf.specs.Events.{written, flushed, looked};
 ghost use Rattle.folder_shelf.specs.Noting.{NotesCall, NotesNothing};
 
 use crate::record::Record;

@@ -1,5 +1,6 @@
 //! A shelf over a folder of the system: a unit is the file of that name in the folder.
-ghost use Rattle.std.specs.Prelude.{◌≡◌, ◌+◌, ◌-◌, ◌^◌, ◌<◌, min, map, length, get_or, [], ◌∷◌, string_bytes, IsTrue, IsErrOf};
+ghost use Rattle.std.specs.Prelude.{◌≡◌, ◌+◌, ◌-◌, ◌^◌, ◌<◌, min, map, length, get_or, [], ◌∷◌, string_bytes};
+ghost use Rattle.std.specs.Prelude.{IsTrue, IsErrOf};
 ghost use Rattle.std.proofs.Props.{props};
 ghost use Rattle.io_state.specs.declared.fault.Fault.TheVariants.{Device};
 ghost use Rattle.page_store.specs.ShelfState.{FaultHasCause};

@@ -1,7 +1,8 @@
 //! A list of calls and answers that only clauses read.
 ghost use Rattle.std.specs.Prelude.{◌≡◌, List, [], ◌∷◌};
 ghost use Rattle.std.specs.Borrow.{ftrue};
-ghost use Rattle.folder_shelf.specs.Events.{Event, event_of, event, asked, in_folder, made, measured, read, held, written, flushed, looked};
+ghost use Rattle.folder_shelf.specs.Events.{Event, event_of, event, asked, in_folder, made, measured, read};
+ghost use Rattle.folder_shelf.specs.Events.{held, written, flushed, looked};
 
 use io_state::FileName;
 use std::marker::{Model, PhantomData};

@@ -1,5 +1,6 @@
 -- A change of a file of rows: what it answers and leaves, and when nothing is changed.
-use Rattle.std.specs.Prelude.{ℕ, Bool, true, false, not, ◌||◌, List, Option, None, Some, is_some, IsTrue, IsFalse, if◌then◌else◌}
+use Rattle.std.specs.Prelude.{ℕ, Bool, true, false, not, ◌||◌, List, Option, None, Some, is_some, IsTrue}
+use Rattle.std.specs.Prelude.{IsFalse, if◌then◌else◌}
 use Rattle.record_layout.specs.Schema.{Schema, prime_of}
 use Rattle.indexed_file.specs.File.{Row, File}
 use Rattle.indexed_file.specs.Change.{clashes, added, row_of, clashes_with_others, replaced, removed}
@@ -8,7 +9,8 @@ use Rattle.indexed_file.specs.Room.{Room, is_full_to_add, is_full_to_replace}
 use Rattle.indexed_file.specs.declared.answer.Added.{Added}
 use Rattle.indexed_file.specs.declared.answer.Added.TheVariants.{Done as DoneAdding, Clash as ClashAdding}
 use Rattle.indexed_file.specs.declared.answer.Replaced.{Replaced}
-use Rattle.indexed_file.specs.declared.answer.Replaced.TheVariants.{Done as DoneReplacing, Clash as ClashReplacing, Gone}
+use Rattle.indexed_file.specs.declared.answer.Replaced.TheVariants.{Done as DoneReplacing}
+use Rattle.indexed_file.specs.declared.answer.Replaced.TheVariants.{Clash as ClashReplacing, Gone}
 
 -- what it answers and leaves, whether an answer tells that it was made, whether it clashes, whether
 -- it lacks room, and whether it may take pages at all

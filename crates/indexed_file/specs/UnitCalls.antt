@@ -1,5 +1,6 @@
 -- The kinds of calls on a unit: what each call of a kind promises, besides its answer.
-use Rattle.std.specs.Prelude.{◌≡◌, ◌≢◌, ℕ, ◌≤◌, ◌⊎◌, List, Option, None, option_map, Result, Ok, Err, OnOk, OnErr, IfOk, IfErr, IsOkUnless, IsTrue, IsFalse}
+use Rattle.std.specs.Prelude.{◌≡◌, ◌≢◌, ℕ, ◌≤◌, ◌⊎◌, List, Option, None, option_map, Result, Ok, Err, OnOk}
+use Rattle.std.specs.Prelude.{OnErr, IfOk, IfErr, IsOkUnless, IsTrue, IsFalse}
 use Rattle.arrayvec.specs.ArrayVec.{ArrayVec}
 use Rattle.io_state.specs.declared.fault.Fault.{Fault}
 use Rattle.io_state.specs.declared.fault.Fault.TheVariants.{Memory, Full, Broken as BrokenUnit}
@@ -7,17 +8,20 @@ use Rattle.io_state.specs.declared.modes.Relation.{Relation}
 use Rattle.io_state.specs.declared.position.Position.{Position}
 use Rattle.record_layout.specs.Schema.{Schema}
 use Rattle.indexed_file.specs.File.{Row, empty_file}
-use Rattle.indexed_file.specs.World.{World, OnlyAt, Unsound, Shut, Opened, holding_at, named_at, name_at, schema_at, file_at, is_open, is_broken, opened_from, attached}
+use Rattle.indexed_file.specs.World.{World, OnlyAt, Unsound, Shut, Opened, holding_at, named_at, name_at}
+use Rattle.indexed_file.specs.World.{schema_at, file_at, is_open, is_broken, opened_from, attached}
 use Rattle.indexed_file.specs.declared.answer.Found.{Found}
 use Rattle.indexed_file.specs.declared.answer.Seen.{Seen}
 use Rattle.indexed_file.specs.Answers.{area_after, seen_of}
 use Rattle.indexed_file.specs.FileChange.{FileChange, has_room_for, LacksRoomFor}
-use Rattle.indexed_file.specs.UnitAnswers.{found_at, world_changed, row_by_key, row_next, row_sought, key_at, highest_at}
+use Rattle.indexed_file.specs.UnitAnswers.{found_at, world_changed, row_by_key, row_next, row_sought, key_at}
+use Rattle.indexed_file.specs.UnitAnswers.{highest_at}
 use Rattle.indexed_file.specs.Room.{most_to_read, most_to_change, room_of_new}
 use Rattle.indexed_file.specs.Shown.{Shown}
 use Rattle.indexed_file.specs.Believed.{Believed}
 use Rattle.indexed_file.specs.Images.{Trace, AllStay, CallGoes, untouched, trace_of_change, trace_of_shut}
-use Rattle.indexed_file.specs.Calls.{Keeps, OnlyReads, MayAnswer, MayAnswerShut, LeavesBroken, SamePages, StaysOrUnsound, NamesFile, is_unmade, AsksAtMost}
+use Rattle.indexed_file.specs.Calls.{Keeps, OnlyReads, MayAnswer, MayAnswerShut, LeavesBroken, SamePages}
+use Rattle.indexed_file.specs.Calls.{StaysOrUnsound, NamesFile, is_unmade, AsksAtMost}
 
 -- the count of a unit's pages begins again, and nothing else changes
 pub record RestartsCount {S : Type 0} (shown : Shown S) (u : ℕ) (old new : S) : Type 0 where

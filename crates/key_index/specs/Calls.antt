@@ -1,5 +1,6 @@
 -- What the calls of the indexes answer and leave.
-use Rattle.std.specs.Prelude.{◌≡◌, ◌*◌, ℕ, Bool, true, false, List, find, Option, None, Some, IsSome, IsTrue, IfSome, IfErr, Result, Ok, option_map, is_some}
+use Rattle.std.specs.Prelude.{◌≡◌, ◌*◌, ℕ, Bool, true, false, List, find, Option, None, Some, IsSome, IsTrue}
+use Rattle.std.specs.Prelude.{IfSome, IfErr, Result, Ok, option_map, is_some}
 use Rattle.std.specs.Option.{option_map_or}
 use Rattle.arrayvec.specs.ArrayVec.{ArrayVec}
 use Rattle.io_state.specs.declared.fault.Fault.{Fault}
@@ -15,8 +16,10 @@ use Rattle.key_index.specs.declared.entry.AltFirst.{AltFirst}
 use Rattle.key_index.specs.declared.prime_index.PrimeIndex.{PrimeIndex}
 use Rattle.key_index.specs.declared.alt_index.AltIndex.{AltIndex}
 use Rattle.key_index.specs.Stored.{prime_bytes, alt_bytes, IsPrimeEntry, IsAltEntry}
-use Rattle.key_index.specs.Entries.{has_prime, entry_has_value, has_rank, after_rank, with_prime, with_alt, without_prime, without_rank}
-use Rattle.key_index.specs.Standing.{PrimeStands, PrimeChanged, AltStands, AltChanged, prime_height, alt_height}
+use Rattle.key_index.specs.Entries.{has_prime, entry_has_value, has_rank, after_rank, with_prime, with_alt}
+use Rattle.key_index.specs.Entries.{without_prime, without_rank}
+use Rattle.key_index.specs.Standing.{PrimeStands, PrimeChanged, AltStands, AltChanged, prime_height}
+use Rattle.key_index.specs.Standing.{alt_height}
 
 -- a call that looks into an index and asks for so many pages at most; this holds of the pages in
 -- use where no wrong answer was taken

@@ -1,5 +1,6 @@
 -- Where a cursor is in its index.
-use Rattle.std.specs.Prelude.{◌≡◌, ℕ, ◌*◌, ◌^◌, ◌<◌, Bool, false, IsTrue, List, ◌++◌, length, map, find, Option, Some, None, Result}
+use Rattle.std.specs.Prelude.{◌≡◌, ℕ, ◌*◌, ◌^◌, ◌<◌, Bool, false, IsTrue, List, ◌++◌, length, map, find}
+use Rattle.std.specs.Prelude.{Option, Some, None, Result}
 use Rattle.std.specs.Option.{option_map_or}
 use Rattle.byteorder.specs.Endian.{big_bytes}
 use Rattle.io_state.specs.declared.fault.Fault.{Fault}

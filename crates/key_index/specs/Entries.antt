@@ -1,5 +1,6 @@
 -- Entries of the indexes, in the order of their ranks.
-use Rattle.std.specs.Prelude.{ℕ, Bool, not, List, [], ◌∷◌, length, take, filter, bytes_eq, ◌&&◌, ◌==◌, if◌then◌else◌}
+use Rattle.std.specs.Prelude.{ℕ, Bool, not, List, [], ◌∷◌, length, take, filter, bytes_eq, ◌&&◌, ◌==◌}
+use Rattle.std.specs.Prelude.{if◌then◌else◌}
 use Rattle.std.specs.Ordering.{is_ge, is_gt, is_lt}
 use Rattle.key_index.specs.Rank.{value_cmp, rank_cmp}
 use Rattle.key_index.specs.declared.entry.PrimeEntry.{PrimeEntry}

@@ -38,7 +38,8 @@ impl AltIndex {
     ghost use Rattle.key_index.specs.Standing.{IsAltStored, CountsAlt, alt_height, alt_key};
     ghost use Rattle.key_index.specs.Calls.{FindsInAlt, SeeksInAlt, FindsFirstInAlt, TellsAlt, TellsFirst};
     ghost use Rattle.key_index.specs.Stored.{IsAltHeader, entry_to};
-    ghost use Rattle.key_index.specs.Changes.{MakesIndex, AddsToAlt, TakesFromAlt, MayMakeAlt, MayAddAlt, IsNewAlt, IsAltOf};
+    ghost use Rattle.key_index.specs.Changes.{MakesIndex, AddsToAlt, TakesFromAlt, MayMakeAlt, MayAddAlt};
+    ghost use Rattle.key_index.specs.Changes.{IsNewAlt, IsAltOf};
 
     /// An index without entries for values of `width` bytes and prime values of `prime` bytes.
     /// `key` is the number of the key. One page is taken for its root, which may be answered Full.

@@ -1,6 +1,7 @@
 //! What the crates above cite of an index that stands.
 
-ghost use Rattle.key_index.specs.Laws.{prime_reads, prime_is_live, prime_is_kept, prime_stands_aside, alt_reads, alt_is_live, alt_is_kept, alt_stands_aside};
+ghost use Rattle.key_index.specs.Laws.{prime_reads, prime_is_live, prime_is_kept, prime_stands_aside};
+ghost use Rattle.key_index.specs.Laws.{alt_reads, alt_is_live, alt_is_kept, alt_stands_aside};
 
 /// Laws of a prime index that stands: what is read off its pages are its entries, its pages are in
 /// use, it stands while they stay, and a change of something else leaves it standing. It does

@@ -27,9 +27,11 @@ impl PrimeIndex {
     ghost use Rattle.key_index.specs.Entries.{has_prime, from_prime, after_prime, past_prime};
     ghost use Rattle.tree_search.specs.Calls.{last_of};
     ghost use Rattle.key_index.specs.Standing.{IsPrimeStored, CountsPrime, prime_height};
-    ghost use Rattle.key_index.specs.Calls.{FindsInPrime, SeeksInPrime, FindsPlaceInPrime, TellsInPrime, TellsPrime};
+    ghost use Rattle.key_index.specs.Calls.{FindsInPrime, SeeksInPrime, FindsPlaceInPrime, TellsInPrime};
+    ghost use Rattle.key_index.specs.Calls.{TellsPrime};
     ghost use Rattle.key_index.specs.Stored.{IsWidth, IsHeight, entry_at};
-    ghost use Rattle.key_index.specs.Changes.{MakesIndex, AddsToPrime, TakesFromPrime, MayMakePrime, MayAddPrime, IsNewPrime, IsPrimeOf};
+    ghost use Rattle.key_index.specs.Changes.{MakesIndex, AddsToPrime, TakesFromPrime, MayMakePrime};
+    ghost use Rattle.key_index.specs.Changes.{MayAddPrime, IsNewPrime, IsPrimeOf};
 
     /// An index without entries for values of `width` bytes. One page is taken for its root, which
     /// may be answered Full.

@@ -2,8 +2,10 @@
 
 ghost use Rattle.std.specs.Prelude.{◌≡◌, ◌+◌, length, [], take, slice_index_or};
 ghost use Rattle.tree_node.specs.Leaf.{leaf_entries, HasEntryAt, CanMergeLeaf, LeavesInOrder};
-ghost use Rattle.tree_node.specs.Inner.{separators, HasSeparatorAt, CanMergeInner, CanBorrowChild, InnersInOrder};
-ghost use Rattle.node_balance.specs.Balance.{CanTake, LosesSeparator, ChangesSeparator, LeavesJoined, InnersJoined, Balances};
+ghost use Rattle.tree_node.specs.Inner.{separators, HasSeparatorAt, CanMergeInner, CanBorrowChild};
+ghost use Rattle.tree_node.specs.Inner.{InnersInOrder};
+ghost use Rattle.node_balance.specs.Balance.{CanTake, LosesSeparator, ChangesSeparator, LeavesJoined};
+ghost use Rattle.node_balance.specs.Balance.{InnersJoined, Balances};
 
 use page_bytes::PAGE_SIZE;
 use tree_node::{

@@ -8,7 +8,8 @@ use Rattle.indexed_file.specs.declared.answer.Found.{Found}
 use Rattle.pages.specs.ShownPages.{ShownPages}
 use Rattle.pages.specs.PageCalls.{ReadsPages}
 use Rattle.open_file.specs.Stands.{heights_of}
-use Rattle.open_file.specs.Asked.{OfHonestPages, AsksFor, AsksAlone, pages_to_read, pages_to_seek, most_by_key, most_by_unique_key}
+use Rattle.open_file.specs.Asked.{OfHonestPages, AsksFor, AsksAlone, pages_to_read, pages_to_seek}
+use Rattle.open_file.specs.Asked.{most_by_key, most_by_unique_key}
 use Rattle.open_file.specs.Faults.{ReadsFile}
 use Rattle.open_file.specs.Reading.{FindsByValue, FindsNext, Seeks, TellsHighest, TellsThere}
 use Rattle.open_file.specs.Steps.{StandsStill}

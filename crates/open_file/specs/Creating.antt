@@ -1,5 +1,6 @@
 -- A new open file.
-use Rattle.std.specs.Prelude.{◌≡◌, ℕ, ◌+◌, ◌*◌, ◌<◌, ◌≤◌, List, [], length, map, slice_index_or, None, Result, OnOk, IsTrue, IsFalse}
+use Rattle.std.specs.Prelude.{◌≡◌, ℕ, ◌+◌, ◌*◌, ◌<◌, ◌≤◌, List, [], length, map, slice_index_or, None, Result}
+use Rattle.std.specs.Prelude.{OnOk, IsTrue, IsFalse}
 use Rattle.io_state.specs.declared.fault.Fault.{Fault}
 use Rattle.record_layout.specs.Schema.{Schema, key_at}
 use Rattle.indexed_file.specs.File.{empty_file}

@@ -1,5 +1,6 @@
 -- Where READ NEXT goes on in an index.
-use Rattle.std.specs.Prelude.{◌≡◌, ℕ, ◌+◌, ◌-◌, ◌<◌, List, ◌++◌, length, slice_index_or, Option, None, Some, ⊤}
+use Rattle.std.specs.Prelude.{◌≡◌, ℕ, ◌+◌, ◌-◌, ◌<◌, List, ◌++◌, length, slice_index_or, Option, None, Some}
+use Rattle.std.specs.Prelude.{⊤}
 use Rattle.byteorder.specs.Endian.{big_bytes}
 use Rattle.pages.specs.PageMap.{PageMap}
 use Rattle.key_index.specs.declared.entry.PrimeEntry.{PrimeEntry}

@@ -1,5 +1,6 @@
 -- What the calls answer that look for a row.
-use Rattle.std.specs.Prelude.{◌≡◌, ℕ, ◌≤◌, Bool, List, length, drop, Option, None, Some, Result, Ok, OnOk, OnErr, IsTrue, option_map}
+use Rattle.std.specs.Prelude.{◌≡◌, ℕ, ◌≤◌, Bool, List, length, drop, Option, None, Some, Result, Ok, OnOk}
+use Rattle.std.specs.Prelude.{OnErr, IsTrue, option_map}
 use Rattle.record_layout.specs.Schema.{Schema, key_at, value_of}
 use Rattle.indexed_file.specs.File.{Row, File}
 use Rattle.indexed_file.specs.Change.{row_of, is_there}

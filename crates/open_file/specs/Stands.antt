@@ -1,5 +1,6 @@
 -- An open file stands for a list of rows.
-use Rattle.std.specs.Prelude.{◌≡◌, ℕ, ◌+◌, ◌<◌, ◌≤◌, ◌^◌, Bool, ◌==◌, ◌&&◌, List, ◌∷◌, length, map, slice_index_or, drop, find, IsSome, IsTrue}
+use Rattle.std.specs.Prelude.{◌≡◌, ℕ, ◌+◌, ◌<◌, ◌≤◌, ◌^◌, Bool, ◌==◌, ◌&&◌, List, ◌∷◌, length, map}
+use Rattle.std.specs.Prelude.{slice_index_or, drop, find, IsSome, IsTrue}
 use Rattle.record_layout.specs.Schema.{Schema, IsSchema, key_at}
 use Rattle.indexed_file.specs.File.{Row, File}
 use Rattle.indexed_file.specs.Sound.{is_file}

@@ -1,5 +1,6 @@
 -- The entries that READ NEXT and START come to.
-use Rattle.std.specs.Prelude.{◌≡◌, ℕ, ◌*◌, Bool, true, false, List, length, take, find, bytes_eq, slice_index, Option, Result}
+use Rattle.std.specs.Prelude.{◌≡◌, ℕ, ◌*◌, Bool, true, false, List, length, take, find, bytes_eq, slice_index}
+use Rattle.std.specs.Prelude.{Option, Result}
 use Rattle.std.specs.Option.{option_map_or}
 use Rattle.io_state.specs.declared.fault.Fault.{Fault}
 use Rattle.io_state.specs.declared.position.Position.{Position}
@@ -18,7 +19,8 @@ use Rattle.key_index.specs.declared.entry.PrimeEntry.{PrimeEntry}
 use Rattle.key_index.specs.declared.entry.AltEntry.{AltEntry}
 use Rattle.key_index.specs.declared.entry.AltFirst.{AltFirst}
 use Rattle.key_index.specs.Calls.{PrimeFinds, AltFinds, IsAltFirst}
-use Rattle.key_index.specs.Entries.{from_prime, after_prime, past_prime, entry_has_value, from_value, after_rank, past_value}
+use Rattle.key_index.specs.Entries.{from_prime, after_prime, past_prime, entry_has_value, from_value}
+use Rattle.key_index.specs.Entries.{after_rank, past_value}
 use Rattle.open_file.specs.InOrder.{alt_entries, prime_entries}
 use Rattle.open_file.specs.Stands.{Stands, heights_of}
 use Rattle.open_file.specs.Asked.{OfHonestPages, AsksAlone}

@@ -4,7 +4,8 @@ ghost use Rattle.std.specs.Prelude.{◌≡◌, ◌-◌, length, drop, IfOk};
 ghost use Rattle.record_layout.specs.Schema.{IsSchema};
 ghost use Rattle.open_file.specs.Stored.{stamps_length};
 ghost use Rattle.open_file.specs.Lent.{LendsToChange};
-ghost use Rattle.open_file.specs.Creating.{IsNewOpenFile, AreAllIndexesOf, MakesNewFile, MakesIndexes, TakesTreePages};
+ghost use Rattle.open_file.specs.Creating.{IsNewOpenFile, AreAllIndexesOf, MakesNewFile, MakesIndexes};
+ghost use Rattle.open_file.specs.Creating.{TakesTreePages};
 
 use crate::open_file::OpenFile;
 use arrayvec::ArrayVec;

@@ -7,7 +7,8 @@ ghost use Rattle.key_index.specs.Standing.{alt_height};
 ghost use Rattle.open_file.specs.Lent.{LendsByIndex, LendsBehind, IsAlternateBy};
 ghost use Rattle.open_file.specs.Asked.{AsksAlone};
 ghost use Rattle.open_file.specs.Paths.{TakesPrimeCursor, TakesAltCursor};
-ghost use Rattle.open_file.specs.Steps.{admits_prime, admits_alt, TellsNextOfKey, MovesPath, StepsInPrime, StepsInAlternate};
+ghost use Rattle.open_file.specs.Steps.{admits_prime, admits_alt, TellsNextOfKey, MovesPath, StepsInPrime};
+ghost use Rattle.open_file.specs.Steps.{StepsInAlternate};
 
 use crate::open_file::OpenFile;
 use io_state::{Fault, Position};

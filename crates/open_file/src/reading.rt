@@ -3,9 +3,11 @@
 ghost use Rattle.std.specs.Prelude.{◌≡◌, ◌+◌, None, Ok};
 ghost use Rattle.pages.specs.PageCalls.{ReadsPages};
 ghost use Rattle.key_index.specs.Standing.{prime_height};
-ghost use Rattle.open_file.specs.Lent.{LendsPages, LendsArea, LendsAreaBy, LendsAreaByAlternate, IsAlternate, IsAlternateBy};
+ghost use Rattle.open_file.specs.Lent.{LendsPages, LendsArea, LendsAreaBy, LendsAreaByAlternate, IsAlternate};
+ghost use Rattle.open_file.specs.Lent.{IsAlternateBy};
 ghost use Rattle.open_file.specs.Asked.{AsksAlone, most_by_key, most_by_unique_key, most_by_entry};
-ghost use Rattle.open_file.specs.Reading.{FindsByValue, ReadsAtPlace, ReadsByPrime, ReadsByEntry, TellsByEntry, ReadsInto};
+ghost use Rattle.open_file.specs.Reading.{FindsByValue, ReadsAtPlace, ReadsByPrime, ReadsByEntry};
+ghost use Rattle.open_file.specs.Reading.{TellsByEntry, ReadsInto};
 ghost use Rattle.open_file.specs.Steps.{TellsFirstOf};
 ghost use Rattle.open_file.specs.Calls.{ReadsByKey, SeeksHighest};
 

@@ -1,5 +1,6 @@
 -- The free pages, each of which names the next, and the pages in use.
-use Rattle.std.specs.Prelude.{ℕ, zero, suc, ltb, ◌&&◌, ◌==◌, not, Bool, if◌then◌else◌, nat_eq, List, [], ◌∷◌, Option, Some, None}
+use Rattle.std.specs.Prelude.{ℕ, zero, suc, ltb, ◌&&◌, ◌==◌, not, Bool, if◌then◌else◌, nat_eq, List, [], ◌∷◌}
+use Rattle.std.specs.Prelude.{Option, Some, None}
 use Rattle.std.specs.List.{list_any}
 use Rattle.page_alloc.specs.FreePage.{is_free, next_of}
 use Rattle.pages.specs.PageMap.{PageMap}

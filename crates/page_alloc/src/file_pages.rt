@@ -19,7 +19,8 @@ impl<'a, S: Shelf> Pages for FilePages<'a, S> {
     ghost use Rattle.page_alloc.specs.Joining.{HasFailed as Failed};
     ghost use Rattle.page_alloc.specs.PagedFile.{IsOpenOver};
     ghost use Rattle.page_alloc.specs.Steps.{state_of, ReadsPages, Goes as GoesOn, Moves as MovesOn};
-    ghost use Rattle.page_alloc.specs.StepLaws.{goes_nothing, goes_on, goes_moves, reads_nothing, reads_on, moves_on, failed_before, failed_after};
+    ghost use Rattle.page_alloc.specs.StepLaws.{goes_nothing, goes_on, goes_moves, reads_nothing, reads_on};
+    ghost use Rattle.page_alloc.specs.StepLaws.{moves_on, failed_before, failed_after};
 
     ghost shown = { record {
       state = λ p. state_of p.file.now (S.Shelf.state p.shelf.now);

@@ -4,7 +4,8 @@ ghost use Rattle.std.specs.NonZero.{non_zero_usize_get};
 ghost use Rattle.page_store.specs.ShelfState.{HasUnit, KeepsOthers, FaultHasCause};
 ghost use Rattle.page_cache.specs.Calls.{ShowsSame};
 ghost use Rattle.page_cache.specs.HeaderCalls.{OpensGate};
-ghost use Rattle.page_alloc.specs.PagedFile.{IsOpenOver, IsNewPagedFile, IsOldPagedFile, StandsOrRefused, MayShut, IsShut};
+ghost use Rattle.page_alloc.specs.PagedFile.{IsOpenOver, IsNewPagedFile, IsOldPagedFile, StandsOrRefused};
+ghost use Rattle.page_alloc.specs.PagedFile.{MayShut, IsShut};
 ghost use Rattle.page_alloc.specs.Steps.{MovesOnShelf};
 
 use crate::pager::Pager;

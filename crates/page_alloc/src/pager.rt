@@ -3,7 +3,8 @@ ghost use Rattle.std.specs.Prelude.{◌≡◌, ◌<◌, OnOk, OnErr, ⊤};
 ghost use Rattle.page_cache.specs.Cached.{IsOver, IsOverPage};
 ghost use Rattle.page_cache.specs.Calls.{KeepsPages};
 ghost use Rattle.page_alloc.specs.Joining.{available_of, HasNoRoom, IsJoined};
-ghost use Rattle.page_alloc.specs.PagerCalls.{AnswersNext, FailsOnly, FailsToTake, FailsToGive, FailsToFollow, AsksOnce, PagerGoes, TakesPage, GivesPage};
+ghost use Rattle.page_alloc.specs.PagerCalls.{AnswersNext, FailsOnly, FailsToTake, FailsToGive};
+ghost use Rattle.page_alloc.specs.PagerCalls.{FailsToFollow, AsksOnce, PagerGoes, TakesPage, GivesPage};
 ghost use Rattle.page_alloc.specs.Taking.{Freed};
 
 use crate::free_page;

@@ -1,5 +1,6 @@
 -- What a loan of a held page leaves.
-use Rattle.std.specs.Prelude.{◌≡◌, ◌≢◌, ℕ, Bool, List, Result, Some, true, is_some, IsTrue, option_map, slice_get, ⊤}
+use Rattle.std.specs.Prelude.{◌≡◌, ◌≢◌, ℕ, Bool, List, Result, Some, true, is_some, IsTrue, option_map}
+use Rattle.std.specs.Prelude.{slice_get, ⊤}
 use Rattle.std.specs.Borrow.{LendsSoOk, follows_so, MutBor, Fml, u8, Array}
 use mathlib.Core.Option.{none}
 use Rattle.io_state.specs.declared.fault.Fault.{Fault}

@@ -1,10 +1,12 @@
 //! The cache, and what it reads and writes.
-ghost use Rattle.std.specs.Prelude.{◌≡◌, ◌-◌, ◌^◌, ◌<◌, ◌≤◌, length, slice_get, option_map, None, Some, IsSome, IsTrue, IfOk, OnOk, OnErr};
+ghost use Rattle.std.specs.Prelude.{◌≡◌, ◌-◌, ◌^◌, ◌<◌, ◌≤◌, length, slice_get, option_map, None, Some};
+ghost use Rattle.std.specs.Prelude.{IsSome, IsTrue, IfOk, OnOk, OnErr};
 ghost use Rattle.std.specs.NonZero.{non_zero_usize_get};
 ghost use Rattle.lru.specs.LruCache.{lru_cache};
 ghost use Rattle.page_store.specs.ShelfState.{OnlyAnswers, FaultHasCause};
 ghost use Rattle.page_cache.specs.Cached.{frame_of, IsOver, IsOverPage, IsOverMissing, IsClean, IsEmptyCache};
-ghost use Rattle.page_cache.specs.Calls.{asked_once, KeepsFrames, ChangesFrames, PagesStay, LooksUp, PutsZeros};
+ghost use Rattle.page_cache.specs.Calls.{asked_once, KeepsFrames, ChangesFrames, PagesStay, LooksUp};
+ghost use Rattle.page_cache.specs.Calls.{PutsZeros};
 ghost use Rattle.page_cache.specs.HeaderCalls.{WasPage};
 ghost use Rattle.page_cache.specs.Lending.{SameFrames, PutsFirst};
 ghost use Rattle.page_cache.specs.Pushing.{Pushes};

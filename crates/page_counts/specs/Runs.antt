@@ -1,5 +1,6 @@
 -- How many of some values are equal at most, where equal ones stand together.
-use Rattle.std.specs.Prelude.{◌≡◌, ℕ, ◌≤◌, ◌<◌, ◌^◌, List, [], ◌++◌, length, map, take, filter, bytes_eq, slice_index_or, Some}
+use Rattle.std.specs.Prelude.{◌≡◌, ℕ, ◌≤◌, ◌<◌, ◌^◌, List, [], ◌++◌, length, map, take, filter, bytes_eq}
+use Rattle.std.specs.Prelude.{slice_index_or, Some}
 use Rattle.std.specs.Option.{option_copied}
 use Rattle.tree_search.specs.Calls.{last_of}
 use Rattle.tree_search.specs.Tree.{TreeOf, Bound, IsOrdered, entries_of}

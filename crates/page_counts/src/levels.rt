@@ -4,7 +4,8 @@ ghost use Rattle.std.specs.Prelude.{◌≡◌, ◌<◌, ◌^◌, ◌++◌, [], �
 ghost use Rattle.page_bytes.specs.Each.{Each};
 ghost use Rattle.tree_node.specs.Inner.{IsInner, children};
 ghost use Rattle.page_counts.specs.Levels.{HasTree, CountsTree, LevelsHaveAllPages};
-ghost use Rattle.page_counts.specs.Rows.{IsInnerIn, IsLeafIn, AreNodes, children_in, entries_in, leaves_in, levels_in, leaf_level, inner_level};
+ghost use Rattle.page_counts.specs.Rows.{IsInnerIn, IsLeafIn, AreNodes, children_in, entries_in, leaves_in};
+ghost use Rattle.page_counts.specs.Rows.{levels_in, leaf_level, inner_level};
 
 use crate::level::{Level, TreeCounts};
 use page_bytes::PAGE_SIZE;

@@ -5,7 +5,8 @@ ghost use Rattle.std.specs.Option.{option_copied};
 ghost use Rattle.page_bytes.specs.Each.{Each};
 ghost use Rattle.tree_node.specs.Leaf.{IsLeaf, leaf_entries};
 ghost use Rattle.page_counts.specs.Rows.{IsLeafIn, entries_in};
-ghost use Rattle.page_counts.specs.Runs.{values_of, AreTogether, IsGreatestCount, TakesValues, CanGoOn, TreesKeepTogether};
+ghost use Rattle.page_counts.specs.Runs.{values_of, AreTogether, IsGreatestCount, TakesValues, CanGoOn};
+ghost use Rattle.page_counts.specs.Runs.{TreesKeepTogether};
 
 use page_bytes::PAGE_SIZE;
 use tree_node::{LeafView, Shape};

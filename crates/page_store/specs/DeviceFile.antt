@@ -1,5 +1,6 @@
 -- A file on a shelf: what reads give, and what has been asked of it since the shelf first met it.
-use Rattle.std.specs.Prelude.{◌≡◌, ℕ, ◌+◌, ◌<◌, ◌≤◌, max, List, [], ◌++◌, length, take, drop, slice_index, Option, Some, None, IsTrue, is_some}
+use Rattle.std.specs.Prelude.{◌≡◌, ℕ, ◌+◌, ◌<◌, ◌≤◌, max, List, [], ◌++◌, length, take, drop, slice_index}
+use Rattle.std.specs.Prelude.{Option, Some, None, IsTrue, is_some}
 
 -- what matters to a crash: the file was made, n bytes were written (or tried) at `at`, or it was
 -- synced, and these were its bytes

@@ -1,5 +1,6 @@
 -- What a fuse counts, and when it fails a call.
-use Rattle.std.specs.Prelude.{◌≡◌, ◌⊎◌, Result, IsErr, IsErrOf, ℕ, ◌+◌, ◌-◌, ◌^◌, min, Bool, true, false, ◌==◌, ◌&&◌, ◌||◌, if◌then◌else◌}
+use Rattle.std.specs.Prelude.{◌≡◌, ◌⊎◌, Result, IsErr, IsErrOf, ℕ, ◌+◌, ◌-◌, ◌^◌, min, Bool, true, false}
+use Rattle.std.specs.Prelude.{◌==◌, ◌&&◌, ◌||◌, if◌then◌else◌}
 use Rattle.io_state.specs.declared.fault.Fault.{Fault}
 use Rattle.io_state.specs.declared.fault.Fault.TheVariants.{Device, Memory}
 use Rattle.page_store.specs.ShelfState.{FaultHasCause}

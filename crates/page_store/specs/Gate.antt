@@ -1,5 +1,6 @@
 -- The gate: the first byte of a file says whether its pages can be relied on.
-use Rattle.std.specs.Prelude.{◌≡◌, ◌⊎◌, ℕ, ◌<◌, ◌==◌, if◌then◌else◌, List, [], ◌∷◌, length, drop, Option, Some, None}
+use Rattle.std.specs.Prelude.{◌≡◌, ◌⊎◌, ℕ, ◌<◌, ◌==◌, if◌then◌else◌, List, [], ◌∷◌, length, drop, Option}
+use Rattle.std.specs.Prelude.{Some, None}
 use Rattle.page_store.specs.DeviceFile.{DeviceFile, IsWithin, content}
 use Rattle.page_store.specs.Images.{Leaves, IsSettled}
 use Rattle.page_store.specs.Calls.{Written, WriteFails, Synced, SyncFails}

@@ -1,5 +1,6 @@
 -- What a crash may leave of a file.
-use Rattle.std.specs.Prelude.{◌≡◌, ℕ, ◌+◌, ◌<◌, leb, ltb, Bool, true, false, ◌&&◌, ◌||◌, IsTrue, List, [], ◌∷◌, length, slice_index, Option, Some, None, is_some}
+use Rattle.std.specs.Prelude.{◌≡◌, ℕ, ◌+◌, ◌<◌, leb, ltb, Bool, true, false, ◌&&◌, ◌||◌, IsTrue, List, []}
+use Rattle.std.specs.Prelude.{◌∷◌, length, slice_index, Option, Some, None, is_some}
 use Rattle.page_store.specs.DeviceFile.{FileStep, created, wrote, synced, DeviceFile, bytes_or_none, content}
 
 -- what a crash cannot touch: the bytes at the last sync, if there was one; whether the file was

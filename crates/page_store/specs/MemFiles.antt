@@ -1,5 +1,7 @@
 -- Files in memory, each under its name.
-use Rattle.std.specs.Prelude.{ℕ, zero, suc, List, [], ◌∷◌, Option, Some, None, MatchOption, option_map, if◌then◌else◌, bytes_eq, ◌+◌, ◌≤◌, Bool, true, false, ◌≡◌, length, get_or, set, Result, IfOk, OnOk, OnErr, IsOkUnless}
+use Rattle.std.specs.Prelude.{ℕ, zero, suc, List, [], ◌∷◌, Option, Some, None, MatchOption, option_map}
+use Rattle.std.specs.Prelude.{if◌then◌else◌, bytes_eq, ◌+◌, ◌≤◌, Bool, true, false, ◌≡◌, length, get_or, set}
+use Rattle.std.specs.Prelude.{Result, IfOk, OnOk, OnErr, IsOkUnless}
 use Rattle.io_state.specs.declared.fault.Fault.{Fault}
 use Rattle.io_state.specs.declared.fault.Fault.TheVariants.{Memory}
 use Rattle.page_store.specs.DeviceFile.{DeviceFile, absent, synced, IsWithin}

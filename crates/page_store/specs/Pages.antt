@@ -1,5 +1,6 @@
 -- The pages of a file.
-use Rattle.std.specs.Prelude.{◌≡◌, ℕ, zero, suc, ◌+◌, ◌-◌, ◌*◌, ◌/◌, ◌^◌, min, max, Bool, IsTrue, List, length, take, drop}
+use Rattle.std.specs.Prelude.{◌≡◌, ℕ, zero, suc, ◌+◌, ◌-◌, ◌*◌, ◌/◌, ◌^◌, min, max, Bool, IsTrue, List}
+use Rattle.std.specs.Prelude.{length, take, drop}
 use Rattle.page_store.specs.DeviceFile.{DeviceFile, content, IsWithin}
 use Rattle.page_store.specs.Calls.{Written, WriteFails}
 use Rattle.page_store.specs.declared.store.Store.{Store}

@@ -4,7 +4,8 @@ use Rattle.io_state.specs.declared.fault.Fault.{Fault}
 use Rattle.page_store.specs.DeviceFile.{DeviceFile}
 use Rattle.page_store.specs.Gate.{WasOrRefused, SameOrRefused, OnlyGate, Opens}
 use Rattle.page_store.specs.Moments.{Throughout}
-use Rattle.page_store.specs.ShelfState.{ShelfState, HasUnit, unit_file, WhereHonest, FileGoes, OnlyAnswers, ChangesOnly, KeepsOthers, FaultHasCause}
+use Rattle.page_store.specs.ShelfState.{ShelfState, HasUnit, unit_file, WhereHonest, FileGoes, OnlyAnswers}
+use Rattle.page_store.specs.ShelfState.{ChangesOnly, KeepsOthers, FaultHasCause}
 
 -- the unit is attached, and where the shelf is honest this is true of its file
 pub record HasUnitWith (shelf : ShelfState) (u : ℕ) (P : DeviceFile → Type 0) : Type 0 where

@@ -1,5 +1,6 @@
 -- What a shelf shows, and what a call leaves of it.
-use Rattle.std.specs.Prelude.{◌≡◌, ◌⊎◌, ℕ, ◌+◌, ◌-◌, ◌^◌, ◌<◌, ◌≤◌, min, Bool, IsTrue, List, [], length, get_or, Result, IsErrOf, OnErr}
+use Rattle.std.specs.Prelude.{◌≡◌, ◌⊎◌, ℕ, ◌+◌, ◌-◌, ◌^◌, ◌<◌, ◌≤◌, min, Bool, IsTrue, List, [], length}
+use Rattle.std.specs.Prelude.{get_or, Result, IsErrOf, OnErr}
 use Rattle.io_state.specs.declared.fault.Fault.{Fault}
 use Rattle.io_state.specs.declared.fault.Fault.TheVariants.{Device, Memory}
 use Rattle.page_store.specs.DeviceFile.{DeviceFile}

@@ -6,7 +6,8 @@ use Rattle.page_store.specs.Gate.{AllRefused, ClosedOrRefused, SameOrRefused, Op
 use Rattle.page_store.specs.Images.{IsSettled}
 use Rattle.page_store.specs.Moments.{Throughout}
 use Rattle.page_store.specs.Pages.{page_of, PageWritten, PageFails, HasPages, IsStoreOf}
-use Rattle.page_store.specs.ShelfState.{ShelfState, unit_file, WhereHonest, FileGoes, OnlyAnswers, ChangesOnly, KeepsOthers, IsQuiet, FaultHasCause}
+use Rattle.page_store.specs.ShelfState.{ShelfState, unit_file, WhereHonest, FileGoes, OnlyAnswers}
+use Rattle.page_store.specs.ShelfState.{ChangesOnly, KeepsOthers, IsQuiet, FaultHasCause}
 use Rattle.page_store.specs.ShelfCalls.{GoesHonestly, StaysOrRefuses}
 use Rattle.page_store.specs.declared.store.Store.{Store}
 

@@ -2,11 +2,13 @@
 ghost use Rattle.std.specs.Prelude.{◌≡◌, ◌+◌, length, None, ⊤};
 ghost use Rattle.page_store.specs.declared.fuse.Call.TheVariants.{Create, Sync, Other};
 ghost use Rattle.page_store.specs.DeviceFile.{IsWithin, IsThere};
-ghost use Rattle.page_store.specs.Calls.{TellsWhetherThere, TellsSize, Created, CreateFails, Synced, SyncFails};
+ghost use Rattle.page_store.specs.Calls.{TellsWhetherThere, TellsSize, Created, CreateFails, Synced};
+ghost use Rattle.page_store.specs.Calls.{SyncFails};
 ghost use Rattle.page_store.specs.ShelfState.{HasUnit};
 ghost use Rattle.page_store.specs.ShelfCalls.{HasUnitWith};
 ghost use Rattle.page_store.specs.Fuses.{capped, calls_of, unused_fuse};
-ghost use Rattle.page_store.specs.FusedCalls.{AsksBehindFuse, ReadsBehindFuse, ChangesBehindFuse, WritesBehindFuse};
+ghost use Rattle.page_store.specs.FusedCalls.{AsksBehindFuse, ReadsBehindFuse, ChangesBehindFuse};
+ghost use Rattle.page_store.specs.FusedCalls.{WritesBehindFuse};
 
 use crate::fuse::{Call, Fuse, Kind, Turn};
 use crate::shelf::Shelf;

@@ -1,9 +1,11 @@
 //! Files by name, as the layers above see them.
-ghost use Rattle.std.specs.Prelude.{◌≡◌, ◌+◌, ℕ, List, length, map, is_some, None, IsTrue, OnOk, OnErr, IsOkUnless};
+ghost use Rattle.std.specs.Prelude.{◌≡◌, ◌+◌, ℕ, List, length, map, is_some, None, IsTrue, OnOk, OnErr};
+ghost use Rattle.std.specs.Prelude.{IsOkUnless};
 ghost use Rattle.io_state.specs.declared.fault.Fault.TheVariants.{Memory};
 ghost use Rattle.page_store.specs.DeviceFile.{content, IsWithin, IsThere};
 ghost use Rattle.page_store.specs.Images.{Leaves};
-ghost use Rattle.page_store.specs.Calls.{ReadsBytes, Created, CreateFails, Written, WriteFails, Synced, SyncFails};
+ghost use Rattle.page_store.specs.Calls.{ReadsBytes, Created, CreateFails, Written, WriteFails, Synced};
+ghost use Rattle.page_store.specs.Calls.{SyncFails};
 ghost use Rattle.page_store.specs.ShelfState.{ShelfState, HasUnit, attached_as};
 ghost use Rattle.page_store.specs.ShelfCalls.{HasUnitWith, AsksUnit, ChangesUnitFile};
 

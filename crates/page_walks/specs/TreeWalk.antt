@@ -1,5 +1,6 @@
 -- What a walk finds of a tree.
-use Rattle.std.specs.Prelude.{◌≡◌, ℕ, zero, suc, ◌≤◌, Bool, List, [], ◌∷◌, ◌++◌, length, map, flat_map, take, slice_index_or, Some, ⊤}
+use Rattle.std.specs.Prelude.{◌≡◌, ℕ, zero, suc, ◌≤◌, Bool, List, [], ◌∷◌, ◌++◌, length, map, flat_map, take}
+use Rattle.std.specs.Prelude.{slice_index_or, Some, ⊤}
 use Rattle.std.specs.Option.{option_copied}
 use Rattle.page_bytes.specs.Each.{Each}
 use Rattle.pages.specs.PageMap.{PageMap}
@@ -9,7 +10,8 @@ use Rattle.tree_node.specs.Leaf.{IsLeaf, leaf_entries}
 use Rattle.tree_node.specs.Inner.{IsInner, separators}
 use Rattle.node_balance.specs.Fill.{least}
 use Rattle.bplus_tree.specs.declared.tree.Tree.{Tree}
-use Rattle.tree_search.specs.Tree.{TreeOf, page_of, pages_of, entries_of, size_of, Bound, IsHalfFull, IsOrdered}
+use Rattle.tree_search.specs.Tree.{TreeOf, page_of, pages_of, entries_of, size_of, Bound, IsHalfFull}
+use Rattle.tree_search.specs.Tree.{IsOrdered}
 use Rattle.tree_search.specs.Stored.{Holds}
 use Rattle.tree_search.specs.Calls.{IsTree}
 use Rattle.bplus_tree.specs.Standing.{TreeStands}

@@ -1,5 +1,6 @@
 -- What a call leaves of the pages that takes one, gives one back, writes one, or opens the gate.
-use Rattle.std.specs.Prelude.{◌≡◌, ◌≢◌, ℕ, ◌+◌, ◌≤◌, List, Some, IsSome, IsTrue, Result, IfOk, IfErr, OnOk, OnErr}
+use Rattle.std.specs.Prelude.{◌≡◌, ◌≢◌, ℕ, ◌+◌, ◌≤◌, List, Some, IsSome, IsTrue, Result, IfOk, IfErr, OnOk}
+use Rattle.std.specs.Prelude.{OnErr}
 use Rattle.io_state.specs.declared.fault.Fault.{Fault}
 use Rattle.io_state.specs.declared.fault.Fault.TheVariants.{Damage}
 use Rattle.pages.specs.PageMap.{Writes, Takes, Gives}

@@ -1,6 +1,7 @@
 -- What the procedure knows of the deck's descriptions, and what its names stand for. Data names are
 -- unique in a deck.
-use Rattle.std.specs.Prelude.{ℕ, List, bytes_eq, position, slice_get, Option, is_some, option_map, option_and_then}
+use Rattle.std.specs.Prelude.{ℕ, List, bytes_eq, position, slice_get, Option, is_some, option_map}
+use Rattle.std.specs.Prelude.{option_and_then}
 use Rattle.std.specs.Option.{option_map_or}
 use Rattle.io_state.specs.declared.modes.Access.{Access}
 use Rattle.io_state.specs.declared.modes.Access.TheVariants.{Sequential}

@@ -7,7 +7,10 @@ use Rattle.deck_words.specs.Rule.{Rule, onto}
 use Rattle.deck_words.specs.Notation.{the, name, period, ◌▸◌, ◌◂◌, ◌∣◌, ◌<$>◌}
 use Rattle.procedure_division.specs.declared.statement.Statement.{Statement}
 use Rattle.procedure_division.specs.Names.{Names}
-use Rattle.procedure_division.specs.StatementRules.{joined, some_of, open_statement, close_statement, read_statement, start_statement, write_statement, rewrite_statement, delete_statement, move_statement, stop_statement}
+use Rattle.procedure_division.specs.StatementRules.{joined, some_of, open_statement, close_statement}
+use Rattle.procedure_division.specs.StatementRules.{read_statement, start_statement, write_statement}
+use Rattle.procedure_division.specs.StatementRules.{rewrite_statement, delete_statement, move_statement}
+use Rattle.procedure_division.specs.StatementRules.{stop_statement}
 
 unfoldable pub statement : Names → Rule (List Statement)
 statement names =

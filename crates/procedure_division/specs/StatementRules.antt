@@ -2,7 +2,8 @@
 -- X3.23-1985, Indexed I-O module, general formats of the CLOSE, DELETE, OPEN, READ, REWRITE, START
 -- and WRITE statements; Nucleus module, those of the MOVE and STOP statements. Which phrases there
 -- are is ours.
-use Rattle.std.specs.Prelude.{ℕ, Bool, true, false, not, ◌||◌, List, [], ◌∷◌, ◌++◌, if◌then◌else◌, codes, Option, Some, None, option_and_then, Result}
+use Rattle.std.specs.Prelude.{ℕ, Bool, true, false, not, ◌||◌, List, [], ◌∷◌, ◌++◌, if◌then◌else◌, codes}
+use Rattle.std.specs.Prelude.{Option, Some, None, option_and_then, Result}
 use Rattle.std.specs.List.{list_all}
 use Rattle.std.specs.Char.{is_ascii_digit}
 use Rattle.io_state.specs.declared.modes.Access.{Access}
@@ -24,11 +25,14 @@ use Rattle.deck_words.specs.Reading.{Reads}
 use Rattle.deck_words.specs.declared.fault.Refusal.{Refusal}
 use Rattle.deck_words.specs.Word.{Word}
 use Rattle.io_state.specs.declared.statement.FileStatement.{FileStatement}
-use Rattle.io_state.specs.declared.statement.FileStatement.TheVariants.{Open, Close, ReadNext, Read, Start, Write, Rewrite, Delete}
+use Rattle.io_state.specs.declared.statement.FileStatement.TheVariants.{Open, Close, ReadNext, Read, Start}
+use Rattle.io_state.specs.declared.statement.FileStatement.TheVariants.{Write, Rewrite, Delete}
 use Rattle.procedure_division.specs.declared.statement.Statement.{Statement}
-use Rattle.procedure_division.specs.declared.statement.Statement.TheVariants.{Perform, Move, MoveLength, StopRun}
+use Rattle.procedure_division.specs.declared.statement.Statement.TheVariants.{Perform, Move, MoveLength}
+use Rattle.procedure_division.specs.declared.statement.Statement.TheVariants.{StopRun}
 use Rattle.procedure_division.specs.Following.{followed, where_allowed}
-use Rattle.procedure_division.specs.Names.{Names, file_of, record_of, item_in, item_of, length_item_of, access_at, prime_length, key_of, led_key_of}
+use Rattle.procedure_division.specs.Names.{Names, file_of, record_of, item_in, item_of, length_item_of}
+use Rattle.procedure_division.specs.Names.{access_at, prime_length, key_of, led_key_of}
 
 -- ---- lists of statements
 

@@ -1,6 +1,7 @@
 //! The CLOSE statement.
 ghost use Rattle.deck_words.specs.Reading.{Reads};
-ghost use Rattle.procedure_division.specs.StatementRules.{AddsStatements, some_of, lock, closed, close_statement};
+ghost use Rattle.procedure_division.specs.StatementRules.{AddsStatements, some_of, lock, closed};
+ghost use Rattle.procedure_division.specs.StatementRules.{close_statement};
 
 use crate::file_name::file;
 use crate::names::Names;

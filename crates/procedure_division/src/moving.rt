@@ -4,7 +4,8 @@ ghost use Rattle.std.specs.List.{list_all};
 ghost use Rattle.std.specs.Char.{is_ascii_digit};
 ghost use Rattle.record_layout.specs.Area.{is_taken_by, sent};
 ghost use Rattle.deck_words.specs.Reading.{Reads};
-ghost use Rattle.procedure_division.specs.StatementRules.{AddsStatements, some_of, figure, source, sent_by_literal};
+ghost use Rattle.procedure_division.specs.StatementRules.{AddsStatements, some_of, figure, source};
+ghost use Rattle.procedure_division.specs.StatementRules.{sent_by_literal};
 ghost use Rattle.procedure_division.specs.StatementRules.{receiver, receivers, move_statement};
 
 use crate::names::Names;

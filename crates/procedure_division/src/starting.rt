@@ -3,7 +3,8 @@ ghost use Rattle.std.specs.Prelude.{◌≡◌};
 ghost use Rattle.deck_words.specs.Reading.{Reads};
 ghost use Rattle.procedure_division.specs.StatementRules.{AddsStatements, greater, not_less, relation};
 ghost use Rattle.procedure_division.specs.StatementRules.{file_to_start, led_key};
-ghost use Rattle.procedure_division.specs.StatementRules.{start_by, start_phrase, start_operand, start_statement};
+ghost use Rattle.procedure_division.specs.StatementRules.{start_by, start_phrase, start_operand};
+ghost use Rattle.procedure_division.specs.StatementRules.{start_statement};
 
 use crate::names::Names;
 use crate::statement::Statement;

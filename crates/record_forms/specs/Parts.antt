@@ -1,7 +1,9 @@
 -- The columns of a record that is cut at offsets, and those of a record that is described. All of
 -- this is ours.
-use Rattle.std.specs.Prelude.{◌≡◌, ℕ, ◌+◌, ◌-◌, ◌==◌, ◌&&◌, Bool, true, false, nat_lt, List, [], ◌∷◌, ◌++◌, map, codes, decimal, Option, Some, None, if◌then◌else◌}
-use Rattle.record_layout.specs.Layout.{Entry, Placed, Structure, Nothing, Elementary, Group, width, placed, IsLayout}
+use Rattle.std.specs.Prelude.{◌≡◌, ℕ, ◌+◌, ◌-◌, ◌==◌, ◌&&◌, Bool, true, false, nat_lt, List, [], ◌∷◌, ◌++◌}
+use Rattle.std.specs.Prelude.{map, codes, decimal, Option, Some, None, if◌then◌else◌}
+use Rattle.record_layout.specs.Layout.{Entry, Placed, Structure, Nothing, Elementary, Group, width, placed}
+use Rattle.record_layout.specs.Layout.{IsLayout}
 use Rattle.record_forms.specs.declared.column.Column.{Column}
 
 -- what a column says: its name, and its place

@@ -1,5 +1,6 @@
 //! Columns between cuts.
-ghost use Rattle.std.specs.Prelude.{◌≡◌, ◌≤◌, ◌<◌, ◌+◌, ◌-◌, ◌++◌, ◌∷◌, [], ℕ, List, map, flat_map, length, true, false, IfOk, OnOk};
+ghost use Rattle.std.specs.Prelude.{◌≡◌, ◌≤◌, ◌<◌, ◌+◌, ◌-◌, ◌++◌, ◌∷◌, [], ℕ, List, map, flat_map, length};
+ghost use Rattle.std.specs.Prelude.{true, false, IfOk, OnOk};
 ghost use Rattle.record_forms.specs.Columns.{cell_of};
 ghost use Rattle.record_forms.specs.Parts.{AddsParts, part_of, cut_part, cut_parts, do_rise, whole_part};
 

@@ -1,7 +1,8 @@
 //! The columns of a record that is described.
 ghost use Rattle.std.specs.Prelude.{◌≡◌, map, option_map, OnOk, IfOk};
 ghost use Rattle.record_layout.specs.Layout.{item_of};
-ghost use Rattle.record_forms.specs.Parts.{AddsParts, part_of, name_or, item_part, is_group, part_if_elementary, item_parts, AreElementary};
+ghost use Rattle.record_forms.specs.Parts.{AddsParts, part_of, name_or, item_part, is_group};
+ghost use Rattle.record_forms.specs.Parts.{part_if_elementary, item_parts, AreElementary};
 
 use crate::column::Column;
 use crate::numbered::numbered;

@@ -1,5 +1,6 @@
 -- Places of slots: those in use, and the chain of the free ones.
-use Rattle.std.specs.Prelude.{◌≡◌, ◌≢◌, ◌⊎◌, ℕ, ◌≤◌, ◌<◌, Bool, ◌==◌, ◌&&◌, List, [], ◌∷◌, Option, Some, None, ⊤, if◌then◌else◌}
+use Rattle.std.specs.Prelude.{◌≡◌, ◌≢◌, ◌⊎◌, ℕ, ◌≤◌, ◌<◌, Bool, ◌==◌, ◌&&◌, List, [], ◌∷◌, Option, Some, None}
+use Rattle.std.specs.Prelude.{⊤, if◌then◌else◌}
 use Rattle.page_bytes.specs.Each.{Each}
 use Rattle.record_heap.specs.declared.shape.Place.{Place}
 

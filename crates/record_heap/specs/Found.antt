@@ -1,5 +1,6 @@
 -- What the calls of a heap ensure.
-use Rattle.std.specs.Prelude.{◌≡◌, ◌≢◌, ◌≤◌, ◌+◌, ℕ, List, Option, Some, None, IsSome, IsTrue, Result, ◌++◌, drop, length, ⊤}
+use Rattle.std.specs.Prelude.{◌≡◌, ◌≢◌, ◌≤◌, ◌+◌, ℕ, List, Option, Some, None, IsSome, IsTrue, Result, ◌++◌}
+use Rattle.std.specs.Prelude.{drop, length, ⊤}
 use Rattle.pages.specs.PageMap.{PageMap}
 use Rattle.pages.specs.Owners.{ChangesPages}
 use Rattle.pages.specs.PagesState.{PagesState}

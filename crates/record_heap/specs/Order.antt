@@ -1,5 +1,6 @@
 -- The order of a heap's chains: which free slot is taken next, and where a new page stands.
-use Rattle.std.specs.Prelude.{◌≡◌, ℕ, zero, suc, List, [], ◌∷◌, ◌++◌, IsSome, IsTrue, Option, Result, IfOk, OnOk, ⊤}
+use Rattle.std.specs.Prelude.{◌≡◌, ℕ, zero, suc, List, [], ◌∷◌, ◌++◌, IsSome, IsTrue, Option, Result, IfOk}
+use Rattle.std.specs.Prelude.{OnOk, ⊤}
 use Rattle.pages.specs.PageMap.{PageMap}
 use Rattle.pages.specs.PagesState.{PagesState}
 use Rattle.pages.specs.ShownPages.{ShownPages}

@@ -1,5 +1,6 @@
 -- The bytes of one slot of a heap page.
-use Rattle.std.specs.Prelude.{◌≡◌, ◌≤◌, ◌<◌, ℕ, ◌+◌, ◌/◌, ◌==◌, ◌&&◌, nat_lt, nat_le, max, Bool, List, take, drop, length, ◌++◌, slice_index, Option, Some, None, option_map, if◌then◌else◌}
+use Rattle.std.specs.Prelude.{◌≡◌, ◌≤◌, ◌<◌, ℕ, ◌+◌, ◌/◌, ◌==◌, ◌&&◌, nat_lt, nat_le, max, Bool, List, take}
+use Rattle.std.specs.Prelude.{drop, length, ◌++◌, slice_index, Option, Some, None, option_map, if◌then◌else◌}
 use Rattle.byteorder.specs.Endian.{big_number}
 use Rattle.record_heap.specs.declared.shape.Shape.{Shape}
 use Rattle.record_heap.specs.declared.shape.Place.{Place}

@@ -1,5 +1,6 @@
 -- The slots of a heap page.
-use Rattle.std.specs.Prelude.{◌≡◌, ◌+◌, ◌<◌, ℕ, Some, nat_lt, List, [], ◌∷◌, ◌++◌, take, drop, length, replicate, slice_index_or, slice_set, if◌then◌else◌}
+use Rattle.std.specs.Prelude.{◌≡◌, ◌+◌, ◌<◌, ℕ, Some, nat_lt, List, [], ◌∷◌, ◌++◌, take, drop, length}
+use Rattle.std.specs.Prelude.{replicate, slice_index_or, slice_set, if◌then◌else◌}
 use Rattle.byteorder.specs.Endian.{big_bytes}
 use Rattle.page_bytes.specs.Chunks.{chunks}
 use Rattle.record_heap.specs.declared.shape.Shape.{Shape}

@@ -1,7 +1,8 @@
 //! One call on one page.
 
 ghost use Rattle.std.specs.Prelude.{◌+◌, ◌++◌};
-ghost use Rattle.record_heap.specs.Calls.{Linking, Filling, Refilling, Gets, GetsRecord, MayChange, MayFill, MayReadTo, ReadsStamped, ReadsUnstamped, ChangesSlot};
+ghost use Rattle.record_heap.specs.Calls.{Linking, Filling, Refilling, Gets, GetsRecord, MayChange, MayFill};
+ghost use Rattle.record_heap.specs.Calls.{MayReadTo, ReadsStamped, ReadsUnstamped, ChangesSlot};
 
 use crate::shape::{Place, Shape};
 use crate::slot::{behind, fetch, fetch_record};

@@ -18,7 +18,8 @@
 //! | 5 to 6 | slot of the next free slot |
 
 ghost use Rattle.std.specs.Prelude.{◌≡◌, ◌≤◌, ◌<◌, ◌+◌, ◌++◌, ℕ, Some, IfSome, length, option_map};
-ghost use Rattle.record_heap.specs.Slot.{head, size, record_length, is_used, used_in, record_in, behind_in, over, HoldsNow, FitsIn, FitsVarying, FitsFixed, MayFetch};
+ghost use Rattle.record_heap.specs.Slot.{head, size, record_length, is_used, used_in, record_in, behind_in};
+ghost use Rattle.record_heap.specs.Slot.{over, HoldsNow, FitsIn, FitsVarying, FitsFixed, MayFetch};
 
 use crate::shape::{Place, Shape};
 use byteorder::{BigEndian, ByteOrder};

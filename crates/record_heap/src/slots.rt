@@ -10,7 +10,8 @@
 
 ghost use Rattle.std.specs.Prelude.{◌≡◌, ◌<◌, ◌+◌, ◌++◌, ℕ, Some, take};
 ghost use Rattle.record_heap.specs.Slot.{room, size, used_in, behind_in, FitsSlot};
-ghost use Rattle.record_heap.specs.Slots.{slot_at, start_of, behind_new, AreLinked, Edits, IsSlotAt, IsNewPage};
+ghost use Rattle.record_heap.specs.Slots.{slot_at, start_of, behind_new, AreLinked, Edits, IsSlotAt};
+ghost use Rattle.record_heap.specs.Slots.{IsNewPage};
 
 use crate::shape::{Place, Shape};
 use crate::slot;

@@ -4,7 +4,8 @@ ghost use Rattle.std.specs.Prelude.{◌≡◌, false, ◌≤◌, IfOk, OnOk, len
 ghost use Rattle.record_heap.specs.Slot.{room, size};
 ghost use Rattle.record_heap.specs.Calls.{IsHeapAt};
 ghost use Rattle.page_marks.specs.PageList.{pages_in};
-ghost use Rattle.record_heap.specs.Walk.{WalksChain, WalksHeap, EmptiesChain, SlotsKept, AreMarked, PageMarked, SlotMarked, TakesMark};
+ghost use Rattle.record_heap.specs.Walk.{WalksChain, WalksHeap, EmptiesChain, SlotsKept, AreMarked};
+ghost use Rattle.record_heap.specs.Walk.{PageMarked, SlotMarked, TakesMark};
 ghost use Rattle.record_heap.specs.SlotMarks.{marked_slot};
 
 use crate::heap::Heap;

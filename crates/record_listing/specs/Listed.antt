@@ -1,5 +1,6 @@
 -- Which rows of a file are listed, and in which order. All of this is ours.
-use Rattle.std.specs.Prelude.{◌≡◌, ◌⊎◌, ◌≤◌, ℕ, Bool, false, not, ◌&&◌, List, [], ◌∷◌, length, take, Option, Some, None, IsTrue}
+use Rattle.std.specs.Prelude.{◌≡◌, ◌⊎◌, ◌≤◌, ℕ, Bool, false, not, ◌&&◌, List, [], ◌∷◌, length, take, Option}
+use Rattle.std.specs.Prelude.{Some, None, IsTrue}
 use Rattle.std.specs.Ordering.{is_lt, is_gt}
 use Rattle.arrayvec.specs.ArrayVec.{ArrayVec}
 use Rattle.page_bytes.specs.Each.{Each}

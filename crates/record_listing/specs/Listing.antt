@@ -1,11 +1,13 @@
 -- What a list promises.
-use Rattle.std.specs.Prelude.{◌≡◌, ◌<◌, ◌≤◌, ◌⊎◌, ℕ, List, ◌++◌, length, Option, Result, Ok, Err, IsTrue, IsFalse}
+use Rattle.std.specs.Prelude.{◌≡◌, ◌<◌, ◌≤◌, ◌⊎◌, ℕ, List, ◌++◌, length, Option, Result, Ok, Err, IsTrue}
+use Rattle.std.specs.Prelude.{IsFalse}
 use Rattle.std.specs.Io.KnownBytes.{Appends}
 use Rattle.io_state.specs.declared.fault.Fault.{Fault}
 use Rattle.io_state.specs.declared.fault.Fault.TheVariants.{Device, Memory as NoMemory, Full, Damage, Broken}
 use Rattle.record_layout.specs.Schema.{Schema}
 use Rattle.indexed_file.specs.File.{Row, File}
-use Rattle.indexed_file.specs.World.{World, Named, Absent as NoFile, Closed, Unsound as Refused, OnlyAt, name_at, named_at, named_in, holding_at, schema_at, file_at, is_open}
+use Rattle.indexed_file.specs.World.{World, Named, Absent as NoFile, Closed, Unsound as Refused, OnlyAt}
+use Rattle.indexed_file.specs.World.{name_at, named_at, named_in, holding_at, schema_at, file_at, is_open}
 use Rattle.indexed_file.specs.Calls.{Keeps, HasRisen}
 use Rattle.indexed_file.specs.Shown.{Shown}
 use Rattle.indexed_file.specs.Believed.{Believed}

@@ -2,7 +2,8 @@
 ghost use Rattle.std.specs.Prelude.{◌≡◌, ◌<◌, length, IsTrue, IsFalse, OnOk};
 ghost use Rattle.indexed_file.specs.World.{holding_at, schema_at, is_open, is_looked};
 ghost use Rattle.indexed_file.specs.Calls.{Keeps, NamesFile};
-ghost use Rattle.record_listing.specs.Listing.{end_of, EndsOpen, EndsSound, EndsAttached, EndsNamed, HasFileOf, HasShutUnit, Leaves, NamesStay, TellsWhy, TrueFor};
+ghost use Rattle.record_listing.specs.Listing.{end_of, EndsOpen, EndsSound, EndsAttached, EndsNamed};
+ghost use Rattle.record_listing.specs.Listing.{HasFileOf, HasShutUnit, Leaves, NamesStay, TellsWhy, TrueFor};
 ghost use Rattle.record_listing.specs.Reading.{CanListFile};
 
 use crate::asked::Asked;

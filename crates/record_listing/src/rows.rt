@@ -1,7 +1,8 @@
 //! The records of an open file, one after another.
 ghost use Rattle.std.specs.Prelude.{◌≡◌, ◌⊎◌, [], length, IfOk, IfErr, true, false};
 ghost use Rattle.record_forms.specs.Lines.{header_in};
-ghost use Rattle.record_listing.specs.Reading.{CanListFile, BringsOut, WritesOut, IsWritten, HandsOver, HoldsRecord};
+ghost use Rattle.record_listing.specs.Reading.{CanListFile, BringsOut, WritesOut, IsWritten, HandsOver};
+ghost use Rattle.record_listing.specs.Reading.{HoldsRecord};
 
 use crate::asked::Asked;
 use crate::next::next_record;

@@ -1,5 +1,6 @@
 -- The records of a text, written into a file one after another. All of this is ours.
-use Rattle.std.specs.Prelude.{◌≡◌, ◌⊎◌, ◌<◌, ℕ, ◌+◌, false, List, [], ◌∷◌, ◌++◌, length, drop, replicate, flat_map, None, IsTrue, bytes_eq}
+use Rattle.std.specs.Prelude.{◌≡◌, ◌⊎◌, ◌<◌, ℕ, ◌+◌, false, List, [], ◌∷◌, ◌++◌, length, drop, replicate}
+use Rattle.std.specs.Prelude.{flat_map, None, IsTrue, bytes_eq}
 use Rattle.io_state.specs.Status.{is_successful}
 use Rattle.io_state.specs.declared.modes.Access.TheVariants.{Dynamic}
 use Rattle.io_state.specs.declared.modes.OpenMode.{OpenMode}

@@ -6,7 +6,8 @@ use Rattle.io_state.specs.declared.status.Status.{Status}
 use Rattle.request_frames.specs.declared.answer.Answer.{Answer}
 use Rattle.request_frames.specs.declared.answer.Answer.TheVariants.{Refused, Done, Performed}
 use Rattle.request_frames.specs.declared.refusal.Refusal.{Refusal}
-use Rattle.request_frames.specs.declared.refusal.Refusal.TheVariants.{NoRequest, TooLong, Number, Description, Name, Open, Memory, Key}
+use Rattle.request_frames.specs.declared.refusal.Refusal.TheVariants.{NoRequest, TooLong, Number, Description}
+use Rattle.request_frames.specs.declared.refusal.Refusal.TheVariants.{Name, Open, Memory, Key}
 
 -- the number of a refusal
 abbrev pub code_of : Refusal → ℕ

@@ -1,6 +1,8 @@
 -- The request that the body of a frame is, row for row of its table. Numbers are big-endian. All of
 -- this is ours.
-use Rattle.std.specs.Prelude.{ℕ, zero, suc, ◌+◌, ◌*◌, ◌==◌, Bool, true, false, not, ◌&&◌, ◌||◌, List, [], ◌∷◌, length, drop, nat_lt, slice_index, slice_range, Option, Some, None, option_map, option_and_then, if◌then◌else◌}
+use Rattle.std.specs.Prelude.{ℕ, zero, suc, ◌+◌, ◌*◌, ◌==◌, Bool, true, false, not, ◌&&◌, ◌||◌, List, [], ◌∷◌}
+use Rattle.std.specs.Prelude.{length, drop, nat_lt, slice_index, slice_range, Option, Some, None, option_map}
+use Rattle.std.specs.Prelude.{option_and_then, if◌then◌else◌}
 use Rattle.byteorder.specs.Endian.{big_number}
 use Rattle.io_state.specs.declared.modes.Access.{Access}
 use Rattle.io_state.specs.declared.modes.Access.TheVariants.{Sequential, Random, Dynamic}
@@ -9,7 +11,8 @@ use Rattle.io_state.specs.declared.modes.OpenMode.TheVariants.{Input, Output, In
 use Rattle.io_state.specs.declared.modes.Relation.{Relation}
 use Rattle.io_state.specs.declared.modes.Relation.TheVariants.{Equal, Greater, NotLess}
 use Rattle.io_state.specs.declared.statement.FileStatement.{FileStatement}
-use Rattle.io_state.specs.declared.statement.FileStatement.TheVariants.{Open, Close, ReadNext, Read, Start, Write, Rewrite, Delete}
+use Rattle.io_state.specs.declared.statement.FileStatement.TheVariants.{Open, Close, ReadNext, Read, Start}
+use Rattle.io_state.specs.declared.statement.FileStatement.TheVariants.{Write, Rewrite, Delete}
 use Rattle.record_layout.specs.declared.schema.KeyPart.{KeyPart}
 use Rattle.request_frames.specs.Request.{Described, Performed, Asked, Describing, Performing, Releasing}
 

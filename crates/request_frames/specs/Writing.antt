@@ -1,5 +1,6 @@
 -- The body of a request's frame. All of this is ours.
-use Rattle.std.specs.Prelude.{◌≡◌, ℕ, ◌^◌, ◌<◌, ◌≤◌, Bool, true, false, List, [], ◌∷◌, ◌++◌, length, flat_map, All, IsTrue, Some, ◌⊎◌}
+use Rattle.std.specs.Prelude.{◌≡◌, ℕ, ◌^◌, ◌<◌, ◌≤◌, Bool, true, false, List, [], ◌∷◌, ◌++◌, length, flat_map}
+use Rattle.std.specs.Prelude.{All, IsTrue, Some, ◌⊎◌}
 use Rattle.byteorder.specs.Endian.{big_bytes}
 use Rattle.io_state.specs.declared.modes.Access.{Access}
 use Rattle.io_state.specs.declared.modes.Access.TheVariants.{Sequential, Random, Dynamic}
@@ -8,7 +9,8 @@ use Rattle.io_state.specs.declared.modes.OpenMode.TheVariants.{Input, Output, In
 use Rattle.io_state.specs.declared.modes.Relation.{Relation}
 use Rattle.io_state.specs.declared.modes.Relation.TheVariants.{Equal, Greater, NotLess}
 use Rattle.io_state.specs.declared.statement.FileStatement.{FileStatement}
-use Rattle.io_state.specs.declared.statement.FileStatement.TheVariants.{Open, Close, ReadNext, Read, Start, Write, Rewrite, Delete}
+use Rattle.io_state.specs.declared.statement.FileStatement.TheVariants.{Open, Close, ReadNext, Read, Start}
+use Rattle.io_state.specs.declared.statement.FileStatement.TheVariants.{Write, Rewrite, Delete}
 use Rattle.record_layout.specs.declared.schema.KeyPart.{KeyPart}
 use Rattle.request_frames.specs.Request.{Described, Performed, Asked, Describing, Performing, Releasing}
 use Rattle.request_frames.specs.Reading.{has_length, request_in}

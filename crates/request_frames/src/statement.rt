@@ -12,7 +12,8 @@
 //! | 9 to the end | bytes that take the place of the first ones of the record area |
 ghost use Rattle.std.specs.Prelude.{◌≡◌, option_map};
 ghost use Rattle.request_frames.specs.Request.{performed_of};
-ghost use Rattle.request_frames.specs.Reading.{flag_in, mode_in, relation_in, statement_in, has_length, performed_in};
+ghost use Rattle.request_frames.specs.Reading.{flag_in, mode_in, relation_in, statement_in, has_length};
+ghost use Rattle.request_frames.specs.Reading.{performed_in};
 
 use byteorder::{BigEndian, ByteOrder};
 use io_state::{FileStatement, OpenMode, Relation};

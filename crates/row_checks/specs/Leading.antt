@@ -1,5 +1,6 @@
 -- What single entries and slots of a file show.
-use Rattle.std.specs.Prelude.{◌≡◌, ℕ, ◌+◌, ◌≤◌, ◌<◌, Bool, true, List, drop, length, take, Some, IsSome, IsTrue, find, zip}
+use Rattle.std.specs.Prelude.{◌≡◌, ℕ, ◌+◌, ◌≤◌, ◌<◌, Bool, true, List, drop, length, take, Some, IsSome}
+use Rattle.std.specs.Prelude.{IsTrue, find, zip}
 use Rattle.std.specs.List.{list_all}
 use Rattle.page_bytes.specs.Each.{Each}
 use Rattle.record_layout.specs.Schema.{prime_of}

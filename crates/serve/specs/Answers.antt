@@ -4,11 +4,13 @@ use Rattle.indexed_file.specs.Shown.{Shown}
 use Rattle.verbs.specs.declared.answer.Answer.{Answer}
 use Rattle.request_frames.specs.Answer.{Told, Refuses, Does, Tells, answer_body, framed}
 use Rattle.request_frames.specs.Reading.{request_in}
-use Rattle.request_frames.specs.Request.{Described, Performed, Asked, Describing, Performing, Releasing, described_of}
+use Rattle.request_frames.specs.Request.{Described, Performed, Asked, Describing, Performing, Releasing}
+use Rattle.request_frames.specs.Request.{described_of}
 use Rattle.request_frames.specs.declared.description.Description.{Description}
 use Rattle.request_frames.specs.declared.refusal.Refusal.TheVariants as refusal
 use Rattle.file_session.specs.Files.{Files, file_at}
-use Rattle.file_session.specs.Steps.{Describes, RefusesDescription, Performs, refusal_of_verb, record_by, Releases, refusal_of_release}
+use Rattle.file_session.specs.Steps.{Describes, RefusesDescription, Performs, refusal_of_verb, record_by}
+use Rattle.file_session.specs.Steps.{Releases, refusal_of_release}
 
 -- a file is described over a library that is new; or that is refused, and nothing is changed. Want
 -- of memory may refuse any description

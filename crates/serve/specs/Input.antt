@@ -1,5 +1,6 @@
 -- The frames of the input. All of this is ours.
-use Rattle.std.specs.Prelude.{◌≡◌, ℕ, ◌<◌, ◌≤◌, Bool, true, false, List, [], ◌++◌, length, take, Result, Ok, Err, IfOk, OnErr}
+use Rattle.std.specs.Prelude.{◌≡◌, ℕ, ◌<◌, ◌≤◌, Bool, true, false, List, [], ◌++◌, length, take, Result, Ok}
+use Rattle.std.specs.Prelude.{Err, IfOk, OnErr}
 use Rattle.byteorder.specs.Endian.{big_bytes}
 use Rattle.request_frames.specs.Answer.{framed}
 use Rattle.standard_input.specs.Source.{Source, Gives, HasEnded, HasFailed}

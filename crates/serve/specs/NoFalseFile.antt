@@ -15,7 +15,8 @@ use Rattle.request_frames.specs.Reading.{request_in}
 use Rattle.file_session.specs.Files.{NumberedFile, file_at}
 use Rattle.file_session.specs.Steps.{AttachesName, file_described, with_bytes, ClosesFirst, close_of}
 use Rattle.serve.specs.Answers.{Answers}
-use Rattle.serve.specs.Books.{Book, first_book, book_during, book_behind, AllStand, with_book, Judged, none_judged, StandNow}
+use Rattle.serve.specs.Books.{Book, first_book, book_during, book_behind, AllStand, with_book, Judged}
+use Rattle.serve.specs.Books.{none_judged, StandNow}
 use Rattle.serve.specs.Serving.{Exchange, Streams, Served}
 use Rattle.serve.specs.declared.fault.ServeFault.{ServeFault}
 

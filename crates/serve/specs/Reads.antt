@@ -1,7 +1,8 @@
 -- Requests that only read. All of this is ours.
 use Rattle.std.specs.Prelude.{Bool, true, false, List, ℕ, Option, Some, None, IsTrue}
 use Rattle.io_state.specs.declared.statement.FileStatement.{FileStatement}
-use Rattle.io_state.specs.declared.statement.FileStatement.TheVariants.{Open, Close, ReadNext, Read, Start, Write, Rewrite, Delete}
+use Rattle.io_state.specs.declared.statement.FileStatement.TheVariants.{Open, Close, ReadNext, Read, Start}
+use Rattle.io_state.specs.declared.statement.FileStatement.TheVariants.{Write, Rewrite, Delete}
 use Rattle.request_frames.specs.Request.{Asked, Describing, Performing, Releasing}
 use Rattle.request_frames.specs.Reading.{request_in}
 

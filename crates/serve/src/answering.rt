@@ -2,7 +2,8 @@
 ghost use Rattle.std.specs.Prelude.{◌≡◌};
 ghost use Rattle.request_frames.specs.Request.{performed_of};
 ghost use Rattle.request_frames.specs.Answer.{Refuses};
-ghost use Rattle.serve.specs.Answers.{IsFrameOf, answer_frame, AnswersRelease, TellsOfFile, TellsVerb, TellsAnswer};
+ghost use Rattle.serve.specs.Answers.{IsFrameOf, answer_frame, AnswersRelease, TellsOfFile, TellsVerb};
+ghost use Rattle.serve.specs.Answers.{TellsAnswer};
 
 use crate::libraries::Libraries;
 use file_session::Session;

@@ -2,7 +2,8 @@
 ghost use Rattle.std.specs.Prelude.{◌≡◌, [], List, Err};
 ghost use Rattle.io_state.specs.declared.status.Status.{Status as ToldStatus};
 ghost use Rattle.serve.specs.Serving.{ServesInput, Closes, ServesAll};
-ghost use Rattle.serve.specs.Answering.{outgoing, AnswersRead, AnswersOther, AnswersOne, Finishes, RefusesLength};
+ghost use Rattle.serve.specs.Answering.{outgoing, AnswersRead, AnswersOther, AnswersOne, Finishes};
+ghost use Rattle.serve.specs.Answering.{RefusesLength};
 
 use crate::answering::answer_request;
 use crate::fault::ServeFault;

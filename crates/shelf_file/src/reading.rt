@@ -1,7 +1,8 @@
 //! The calls that read records.
 
 ghost use Rattle.shelf_file.specs.Standing.{IsReady};
-ghost use Rattle.shelf_file.specs.Calls.{IsReadyToRead, IsReadyToSeek, FindsByValueHeld, FindsNextHeld, SeeksHeld, SeeksHighestHeld, ReadsByKeyHeld, ReadsToSeekHeld};
+ghost use Rattle.shelf_file.specs.Calls.{IsReadyToRead, IsReadyToSeek, FindsByValueHeld, FindsNextHeld};
+ghost use Rattle.shelf_file.specs.Calls.{SeeksHeld, SeeksHighestHeld, ReadsByKeyHeld, ReadsToSeekHeld};
 
 use crate::shelf_file::ShelfFile;
 use indexed_file::Found;

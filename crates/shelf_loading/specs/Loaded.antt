@@ -1,5 +1,6 @@
 -- What a load over the files of a shelf leaves. All of this is ours.
-use Rattle.std.specs.Prelude.{◌≡◌, ℕ, List, Option, None, is_some, bytes_eq, false, replicate, IsTrue, IfOk, OnErr, Result, Ok, Err}
+use Rattle.std.specs.Prelude.{◌≡◌, ℕ, List, Option, None, is_some, bytes_eq, false, replicate, IsTrue, IfOk}
+use Rattle.std.specs.Prelude.{OnErr, Result, Ok, Err}
 use Rattle.io_state.specs.declared.fault.Fault.{Fault}
 use Rattle.io_state.specs.declared.fault.Fault.TheVariants.{Device, Memory as NoMemory, Full, Damage, Broken}
 use Rattle.io_state.specs.declared.modes.Access.TheVariants.{Dynamic}

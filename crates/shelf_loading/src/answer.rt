@@ -1,6 +1,7 @@
 //! What is told of a load.
 ghost use Rattle.std.specs.Prelude.{◌≡◌, ◌++◌, codes, decimal, OnOk};
-ghost use Rattle.shelf_loading.specs.Answer.{status_text, number_text, line_start, told_lines, told_close, answer_of, is_loaded};
+ghost use Rattle.shelf_loading.specs.Answer.{status_text, number_text, line_start, told_lines, told_close};
+ghost use Rattle.shelf_loading.specs.Answer.{answer_of, is_loaded};
 
 use io_state::Status;
 use itoa::Buffer;

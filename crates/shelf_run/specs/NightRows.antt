@@ -1,13 +1,15 @@
 -- Which rows the files may have where runs follow one another and end in any way, or are stopped by
 -- a crash. All of this is ours.
-use Rattle.std.specs.Prelude.{◌≡◌, ◌⊎◌, ℕ, true, List, [], ◌∷◌, ◌++◌, get_or, All, IsTrue, Option, bytes_eq, if◌then◌else◌}
+use Rattle.std.specs.Prelude.{◌≡◌, ◌⊎◌, ℕ, true, List, [], ◌∷◌, ◌++◌, get_or, All, IsTrue, Option, bytes_eq}
+use Rattle.std.specs.Prelude.{if◌then◌else◌}
 use Rattle.indexed_file.specs.Images.{Trace, untouched, is_one_of}
 use Rattle.indexed_file.specs.World.{World, Named, named_in}
 use Rattle.page_store.specs.Images.{Leaves}
 use Rattle.page_store.specs.ShelfState.{ShelfState}
 use Rattle.file_control.specs.Described.{file_names}
 use Rattle.procedure_division.specs.declared.statement.Statement.{Statement}
-use Rattle.procedure_division.specs.declared.statement.Statement.TheVariants.{Perform, Move, MoveLength, StopRun}
+use Rattle.procedure_division.specs.declared.statement.Statement.TheVariants.{Perform, Move, MoveLength}
+use Rattle.procedure_division.specs.declared.statement.Statement.TheVariants.{StopRun}
 use Rattle.deck_reader.specs.declared.deck.Deck.{Deck}
 use Rattle.deck_reader.specs.Deck.{IsDeck}
 use Rattle.deck_runner.specs.Beginning.{run_before}

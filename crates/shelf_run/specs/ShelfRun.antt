@@ -18,7 +18,8 @@ use Rattle.shelf_library.specs.Crashes.{AllPass}
 use Rattle.shelf_library.specs.Library.{shown_by}
 use Rattle.shelf_library.specs.State.{LibraryState, AreLimited}
 use Rattle.shelf_library.specs.declared.held.Held.{Held}
-use Rattle.shelf_run.specs.Files.{Represents, AreIn, files_of, reads_of, IsSoundImage, AreImagesSound, AreSoundThroughout}
+use Rattle.shelf_run.specs.Files.{Represents, AreIn, files_of, reads_of, IsSoundImage, AreImagesSound}
+use Rattle.shelf_run.specs.Files.{AreSoundThroughout}
 use Rattle.shelf_run.specs.WorldAfter.{world_after}
 
 -- the bytes are a deck, this is so of it, and no name but those of its files is touched

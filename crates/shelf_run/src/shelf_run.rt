@@ -1,7 +1,8 @@
 //! The run.
 ghost use Rattle.std.specs.Prelude.{IfOk, IfErr};
 ghost use Rattle.std.specs.NonZero.{non_zero_usize_get};
-ghost use Rattle.shelf_run.specs.ShelfRun.{CanRunOn, IsExactOn, HasRunOn, HasBrokenOffOn, IsRefusedOn, StaysSound};
+ghost use Rattle.shelf_run.specs.ShelfRun.{CanRunOn, IsExactOn, HasRunOn, HasBrokenOffOn, IsRefusedOn};
+ghost use Rattle.shelf_run.specs.ShelfRun.{StaysSound};
 
 use deck_runner::{RunEnd, RunFault, run_deck};
 use page_store::Shelf;

@@ -1,5 +1,6 @@
 -- What a reader was asked, and what it gave. All of this is ours.
-use Rattle.std.specs.Prelude.{◌≡◌, ◌<◌, ℕ, List, [], ◌∷◌, ◌++◌, length, take, slice_get, slice_index, Option, Some, None, option_map, Result, Ok, Err}
+use Rattle.std.specs.Prelude.{◌≡◌, ◌<◌, ℕ, List, [], ◌∷◌, ◌++◌, length, take, slice_get, slice_index, Option}
+use Rattle.std.specs.Prelude.{Some, None, option_map, Result, Ok, Err}
 
 -- a read: for how many bytes there was room, and those that it gave, if it did not fail
 pub record Asked : Type 0 where

@@ -1,5 +1,7 @@
 -- The entries whose keys lie in a range, both ends of which belong to it.
-use Rattle.std.specs.Prelude.{◌≡◌, ℕ, ◌<◌, ◌≤◌, Bool, true, false, not, ◌&&◌, List, [], ◌∷◌, ◌++◌, length, take, find, filter, slice_index_or, Option, Some, None, Result, Ok, Err, IsTrue, IfOk, is_some, ◌+◌, ⊤}
+use Rattle.std.specs.Prelude.{◌≡◌, ℕ, ◌<◌, ◌≤◌, Bool, true, false, not, ◌&&◌, List, [], ◌∷◌, ◌++◌, length}
+use Rattle.std.specs.Prelude.{take, find, filter, slice_index_or, Option, Some, None, Result, Ok, Err, IsTrue}
+use Rattle.std.specs.Prelude.{IfOk, is_some, ◌+◌, ⊤}
 use Rattle.std.specs.Option.{option_map_or}
 use Rattle.arrayvec.specs.ArrayVec.{ArrayVec}
 use Rattle.io_state.specs.declared.fault.Fault.{Fault}

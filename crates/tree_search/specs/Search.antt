@@ -1,5 +1,6 @@
 -- What searches answer below one page.
-use Rattle.std.specs.Prelude.{◌≡◌, ℕ, ◌≤◌, Bool, true, false, List, find, length, slice_index, Some, None, Option, option_map, Result}
+use Rattle.std.specs.Prelude.{◌≡◌, ℕ, ◌≤◌, Bool, true, false, List, find, length, slice_index, Some, None}
+use Rattle.std.specs.Prelude.{Option, option_map, Result}
 use Rattle.arrayvec.specs.ArrayVec.{ArrayVec}
 use Rattle.io_state.specs.declared.fault.Fault.{Fault}
 use Rattle.tree_node.specs.declared.shape.Shape.{Shape}

@@ -1,6 +1,7 @@
 -- A B+ tree as a value: its pages by their numbers, the entries of its leaves and the separators
 -- between children.
-use Rattle.std.specs.Prelude.{◌≡◌, ℕ, zero, suc, ◌≤◌, List, [], ◌∷◌, length, take, flat_map, Option, Some, None, true, false, ⊤}
+use Rattle.std.specs.Prelude.{◌≡◌, ℕ, zero, suc, ◌≤◌, List, [], ◌∷◌, length, take, flat_map, Option, Some}
+use Rattle.std.specs.Prelude.{None, true, false, ⊤}
 use Rattle.tree_node.specs.declared.shape.Shape.{Shape}
 use Rattle.page_bytes.specs.Each.{Each}
 use Rattle.node_balance.specs.Fill.{least}

@@ -6,7 +6,9 @@ ghost use Rattle.tree_node.specs.Leaf.{IsLeaf, leaf_entries};
 ghost use Rattle.tree_node.specs.Order.{less};
 ghost use Rattle.pages.specs.PageCalls.{ReadsPages};
 ghost use Rattle.tree_search.specs.LookUps.{WhenHonest, LooksUp};
-ghost use Rattle.tree_search.specs.Range.{FindsBelow, FillsBelow, SeesBelow, SeesInLeaf, IsSightFrom, FillsFrontBelow, FillsFrontOfLeaf, HasFront, IsFork, Forks, IsUnended, AsksFewAtEnd, seen, alone};
+ghost use Rattle.tree_search.specs.Range.{FindsBelow, FillsBelow, SeesBelow, SeesInLeaf, IsSightFrom};
+ghost use Rattle.tree_search.specs.Range.{FillsFrontBelow, FillsFrontOfLeaf, HasFront, IsFork, Forks};
+ghost use Rattle.tree_search.specs.Range.{IsUnended, AsksFewAtEnd, seen, alone};
 
 use crate::descent::{StepDown, step_in};
 use crate::search::first_child;

@@ -7,7 +7,9 @@ ghost use Rattle.pages.specs.PageCalls.{ReadsPages};
 ghost use Rattle.tree_search.specs.LookUps.{WhenHonest, LooksUp};
 ghost use Rattle.tree_search.specs.Calls.{last_of};
 ghost use Rattle.tree_search.specs.Spot.{IsInLeafIf, Spots, SpotsInLeaf, SpotsFirst, SpotsFirstInLeaf};
-ghost use Rattle.tree_search.specs.Search.{FindsKey, FindsNext, FindsNextInLeaf, FindsFirst, FirstOfLeaf, FirstChild, FindsLast, LastOfLeaf, LastChild, IsFound, IsPlace, LeadsToLeaf, FillsKey, FillsFromBytes, first_of};
+ghost use Rattle.tree_search.specs.Search.{FindsKey, FindsNext, FindsNextInLeaf, FindsFirst, FirstOfLeaf};
+ghost use Rattle.tree_search.specs.Search.{FirstChild, FindsLast, LastOfLeaf, LastChild, IsFound, IsPlace};
+ghost use Rattle.tree_search.specs.Search.{LeadsToLeaf, FillsKey, FillsFromBytes, first_of};
 
 use crate::descent::{descend, has_key};
 use crate::spot::{Spot, entry_at, entry_in_leaf, entry_with, fill};

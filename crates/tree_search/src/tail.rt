@@ -6,7 +6,8 @@ ghost use Rattle.tree_search.specs.LookUps.{WhenHonest, LooksUp};
 ghost use Rattle.tree_node.specs.Leaf.{IsLeaf};
 ghost use Rattle.tree_search.specs.Stored.{WhereRising};
 ghost use Rattle.tree_search.specs.Calls.{entry_of};
-ghost use Rattle.tree_search.specs.Tail.{TellsPresence, TellsInLeaf, HasKeyBelow, TellsTail, TellsTailInLeaf, TellsTailOfBytes, CanFillTail, CanFillFromLeaf};
+ghost use Rattle.tree_search.specs.Tail.{TellsPresence, TellsInLeaf, HasKeyBelow, TellsTail, TellsTailInLeaf};
+ghost use Rattle.tree_search.specs.Tail.{TellsTailOfBytes, CanFillTail, CanFillFromLeaf};
 
 use crate::descent::has_key;
 use crate::search::leaf_below;

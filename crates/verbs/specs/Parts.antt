@@ -15,7 +15,8 @@ use Rattle.indexed_file.specs.Images.{Trace, CallGoes}
 use Rattle.indexed_file.specs.Calls.{Keeps}
 use Rattle.verbs.specs.Connector.{Session, FileState, Outcome, file_of, answers}
 use Rattle.verbs.specs.Faults.{is_boundary_violation}
-use Rattle.verbs.specs.Fits.{Fits, HasSoundFile, MakesFile, IsStanding, LearnsHighest, PermanentErrorIsCaused, is_late_in, knows_late}
+use Rattle.verbs.specs.Fits.{Fits, HasSoundFile, MakesFile, IsStanding, LearnsHighest, PermanentErrorIsCaused}
+use Rattle.verbs.specs.Fits.{is_late_in, knows_late}
 use Rattle.verbs.specs.Full.{TellsRoom}
 use Rattle.verbs.specs.Held.{Held, Changes, state_of, unread, rewritten_as}
 use Rattle.verbs.specs.Marred.{creates}

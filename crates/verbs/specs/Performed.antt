@@ -2,9 +2,11 @@
 use Rattle.std.specs.Prelude.{◌≡◌, ◌⊎◌, ℕ, ◌+◌, Bool, true, false, ◌&&◌, List, take, Option, IsTrue}
 use Rattle.std.specs.Option.{option_flatten}
 use Rattle.io_state.specs.declared.status.Status.{Status}
-use Rattle.io_state.specs.declared.status.Status.TheVariants.{BoundaryViolation, PermanentError, ConnectorFailed, OutOfSequence}
+use Rattle.io_state.specs.declared.status.Status.TheVariants.{BoundaryViolation, PermanentError}
+use Rattle.io_state.specs.declared.status.Status.TheVariants.{ConnectorFailed, OutOfSequence}
 use Rattle.io_state.specs.declared.statement.FileStatement.{FileStatement}
-use Rattle.io_state.specs.declared.statement.FileStatement.TheVariants.{Open, Close, ReadNext, Read, Start, Write, Rewrite, Delete}
+use Rattle.io_state.specs.declared.statement.FileStatement.TheVariants.{Open, Close, ReadNext, Read, Start}
+use Rattle.io_state.specs.declared.statement.FileStatement.TheVariants.{Write, Rewrite, Delete}
 use Rattle.indexed_file.specs.World.{OnlyAt, name_at}
 use Rattle.indexed_file.specs.Shown.{Shown}
 use Rattle.indexed_file.specs.Believed.{Believed}

@@ -7,7 +7,8 @@ use Rattle.indexed_file.specs.File.{File}
 use Rattle.indexed_file.specs.World.{Named, Absent, Closed, Unsound}
 use Rattle.indexed_file.specs.Images.{Trace, untouched, finishing, finished, trace_if}
 use Rattle.io_state.specs.declared.statement.FileStatement.{FileStatement}
-use Rattle.io_state.specs.declared.statement.FileStatement.TheVariants.{Open, Close, ReadNext, Read, Start, Write, Rewrite, Delete}
+use Rattle.io_state.specs.declared.statement.FileStatement.TheVariants.{Open, Close, ReadNext, Read, Start}
+use Rattle.io_state.specs.declared.statement.FileStatement.TheVariants.{Write, Rewrite, Delete}
 use Rattle.verbs.specs.Connector.{Session, FileState, file_of}
 use Rattle.verbs.specs.Faults.{is_device_or_memory, is_fault}
 use Rattle.verbs.specs.Marred.{creates}

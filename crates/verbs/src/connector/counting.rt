@@ -1,6 +1,7 @@
 //! Verbs that begin the count of the pages that they ask for.
 ghost use Rattle.std.specs.Prelude.{ℕ};
-ghost use Rattle.io_state.specs.declared.statement.FileStatement.TheVariants.{ReadNext, Read, Start, Write, Rewrite, Delete};
+ghost use Rattle.io_state.specs.declared.statement.FileStatement.TheVariants.{ReadNext, Read, Start, Write};
+ghost use Rattle.io_state.specs.declared.statement.FileStatement.TheVariants.{Rewrite, Delete};
 ghost use Rattle.verbs.specs.Counted.{CountsAnew};
 ghost use Rattle.verbs.specs.Fits.{Fits, MayPerform};
 ghost use Rattle.verbs.specs.Performed.{PerformsInto, PerformsFrom};
