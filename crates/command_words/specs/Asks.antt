@@ -1,11 +1,13 @@
 -- What the words of a command line ask for. All of this is ours; which words give an argument which
 -- values, and which are a fault, is a definition of `clap`.
-use Rattle.std.specs.Prelude.{◌≡◌, ◌⊎◌, ◌≤◌, ◌<◌, ◌^◌, ℕ, Bool, true, false, List, [], map, Option, Some, option_map, codes}
+use Rattle.std.specs.Prelude.{◌≡◌, ◌≢◌, ◌⊎◌, ◌≤◌, ◌<◌, ◌^◌, ℕ, Bool, true, false, List, [], map, Option, Some, option_map, codes}
 use Rattle.std.specs.Str.Parse.{IsNumeral, digits_value, without_leading_plus}
 use Rattle.clap.specs.Words.{IsAmong, Row, Text, all_of, first_of, one_of, fault_of, kind_of, subcommand_of}
 use Rattle.clap.specs.declared.error.Error.{Error}
-use Rattle.clap.specs.declared.error.ErrorKind.TheVariants.{DisplayHelp, DisplayVersion}
+use Rattle.clap.specs.declared.error.ErrorKind.TheVariants.{DisplayHelp, DisplayVersion, OutOfMemory}
 use Rattle.command_words.specs.CommandLine.{program_app}
+use Rattle.command_words.specs.declared.fault.WordsFault.{WordsFault}
+use Rattle.command_words.specs.declared.fault.WordsFault.TheVariants.{Usage}
 use Rattle.command_words.specs.declared.form_words.FormWords.{FormWords}
 use Rattle.command_words.specs.declared.request.Request.{Request}
 use Rattle.command_words.specs.declared.request.Request.TheVariants.{Run, Check, Serve, Schema, Explain, Deck, List as ListRecords, Cobol, Load, Stat, Help}
@@ -174,29 +176,60 @@ IsMet met (Load deck folder file text form into limits quiet) =
 IsMet met (Stat file) = IsStat met file.now
 IsMet met (Help text) = ⊥
 
--- the subcommand that was met is no run, session, schema, explanation or list of a deck, or its
--- values are none that it can have
+-- the subcommand that was met is no run, or its values are none that a run can have; and so of each
+-- other subcommand
+abbrev pub IsNoRun : Option (Text × List Row) → Type 0
+IsNoRun met = (deck folder : Text) (pages frames : ℕ) → ¬ (IsRun met deck folder pages frames)
+
+abbrev pub IsNoCheck : Option (Text × List Row) → Type 0
+IsNoCheck met = (files : List Text) (quiet : Bool) → ¬ (IsCheck met files quiet)
+
+abbrev pub IsNoServe : Option (Text × List Row) → Type 0
+IsNoServe met = (folder : Text) (pages frames : ℕ) → ¬ (IsServe met folder pages frames)
+
+abbrev pub IsNoSchema : Option (Text × List Row) → Type 0
+IsNoSchema met = (file : Text) (deck name : Option Text) → ¬ (IsSchema met file deck name)
+
+abbrev pub IsNoExplain : Option (Text × List Row) → Type 0
+IsNoExplain met = (kind number : Text) → ¬ (IsExplain met kind number)
+
+abbrev pub IsNoDeckList : Option (Text × List Row) → Type 0
+IsNoDeckList met = (deck : Text) → ¬ (IsDeck met deck)
+
+abbrev pub IsNoList : Option (Text × List Row) → Type 0
+IsNoList met = (file : Text) (key : ℕ) (from to : Option Text) (first : ℕ) (form : FormText)
+    (quiet : Bool) → ¬ (IsList met file key from to first form quiet)
+
+abbrev pub IsNoCobol : Option (Text × List Row) → Type 0
+IsNoCobol met = (deck : Text) (fixed : Bool) → ¬ (IsCobol met deck fixed)
+
+abbrev pub IsNoLoad : Option (Text × List Row) → Type 0
+IsNoLoad met = (deck folder file text form : Text) (into : Bool) (pages frames : ℕ) (quiet : Bool)
+    → ¬ (IsLoad met deck folder file text form into pages frames quiet)
+
+abbrev pub IsNoStat : Option (Text × List Row) → Type 0
+IsNoStat met = (file : Text) → ¬ (IsStat met file)
+
+-- it is no run, session, schema, explanation or list of a deck
 pub record IsNoRunOrList (met : Option (Text × List Row)) : Type 0 where
-  pub no_run : (deck folder : Text) (pages frames : ℕ) → ¬ (IsRun met deck folder pages frames)
-  pub no_serve : (folder : Text) (pages frames : ℕ) → ¬ (IsServe met folder pages frames)
-  pub no_schema : (file : Text) (deck name : Option Text) → ¬ (IsSchema met file deck name)
-  pub no_explain : (kind number : Text) → ¬ (IsExplain met kind number)
-  pub no_deck : (deck : Text) → ¬ (IsDeck met deck)
+  pub no_run : IsNoRun met
+  pub no_serve : IsNoServe met
+  pub no_schema : IsNoSchema met
+  pub no_explain : IsNoExplain met
+  pub no_deck : IsNoDeckList met
 
 -- and no list of records, no program in COBOL, no load and no count
 pub record IsNoRecords (met : Option (Text × List Row)) : Type 0 where
-  pub no_list : (file : Text) (key : ℕ) (from to : Option Text) (first : ℕ) (form : FormText)
-      (quiet : Bool) → ¬ (IsList met file key from to first form quiet)
-  pub no_cobol : (deck : Text) (fixed : Bool) → ¬ (IsCobol met deck fixed)
-  pub no_load : (deck folder file text form : Text) (into : Bool) (pages frames : ℕ) (quiet : Bool)
-      → ¬ (IsLoad met deck folder file text form into pages frames quiet)
-  pub no_stat : (file : Text) → ¬ (IsStat met file)
+  pub no_list : IsNoList met
+  pub no_cobol : IsNoCobol met
+  pub no_load : IsNoLoad met
+  pub no_stat : IsNoStat met
 
 -- it is none of these, and no check
 pub record IsNone (met : Option (Text × List Row)) : Type 0 where
   pub no_run_or_list : IsNoRunOrList met
   pub no_records : IsNoRecords met
-  pub no_check : (files : List Text) (quiet : Bool) → ¬ (IsCheck met files quiet)
+  pub no_check : IsNoCheck met
 
 -- the words have no fault
 abbrev pub AreFaultless : List Text → Type 0
@@ -206,9 +239,17 @@ AreFaultless words = fault_of program_app words ≡ []
 abbrev pub HaveFault : List Text → Error → Type 0
 HaveFault words text = IsAmong (kind_of text) (fault_of program_app words)
 
+-- where the words are a fault that is told in a text, this is so of the text
+abbrev pub IfUsage : (IsSo : Error → Type 0) → WordsFault → Type 0
+IfUsage IsSo fault = (text : Error) → fault ≡ Usage text → IsSo text
+
 -- the text is help or the version
 abbrev pub IsShown : Error → Type 0
 IsShown text = (kind_of text ≡ DisplayHelp) ⊎ (kind_of text ≡ DisplayVersion)
+
+-- the text that is told is that of the error, which is a mistake and no want of memory
+abbrev pub IsMistake : (error text : Error) → Type 0
+IsMistake error text = (text ≡ error) × (IsShown error → ⊥) × (kind_of error ≢ OutOfMemory)
 
 -- the words, the program's name first, ask for the run of this deck over this folder, with these limits
 abbrev pub AskRun : List Text → (deck folder : Text) (pages frames : ℕ) → Type 0

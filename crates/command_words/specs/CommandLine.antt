@@ -47,12 +47,20 @@ number_rule name least most usual = record (new_rule name) {
   parser = Some (Unsigned least most);
 }
 
+-- `[--pages N]`
+abbrev pub pages_rule : Rule
+pages_rule = number_rule (codes "pages") 16 4294967295 (codes "1048576")
+
+-- `[--frames N]`
+abbrev pub frames_rule : Rule
+frames_rule = number_rule (codes "frames") 1 4096 (codes "64")
+
 -- `run DECK --folder DIR [--pages N] [--frames N]`
 abbrev pub run_shape : Shape
 run_shape = record (new_shape (codes "run")) {
   rules = word_rule (codes "deck") ∷ option_rule (codes "folder")
-      ∷ number_rule (codes "pages") 16 4294967295 (codes "1048576")
-      ∷ number_rule (codes "frames") 1 4096 (codes "64") ∷ [];
+      ∷ pages_rule
+      ∷ frames_rule ∷ [];
 }
 
 -- `check FILE.. [--quiet]`
@@ -66,8 +74,8 @@ check_shape = record (new_shape (codes "check")) {
 abbrev pub serve_shape : Shape
 serve_shape = record (new_shape (codes "serve")) {
   rules = option_rule (codes "folder")
-      ∷ number_rule (codes "pages") 16 4294967295 (codes "1048576")
-      ∷ number_rule (codes "frames") 1 4096 (codes "64") ∷ [];
+      ∷ pages_rule
+      ∷ frames_rule ∷ [];
 }
 
 -- `schema FILE [--deck DECK --file NAME]`
@@ -115,8 +123,8 @@ load_shape = record (new_shape (codes "load")) {
   rules = word_rule (codes "deck") ∷ option_rule (codes "folder") ∷ option_rule (codes "file") ∷ word_rule
       (codes "text") ∷ usual_rule (codes "as") (codes "text")
       ∷ flag_rule (codes "into")
-      ∷ number_rule (codes "pages") 16 4294967295 (codes "1048576")
-      ∷ number_rule (codes "frames") 1 4096 (codes "64") ∷ flag_rule (codes "quiet") ∷ [];
+      ∷ pages_rule
+      ∷ frames_rule ∷ flag_rule (codes "quiet") ∷ [];
 }
 
 -- `stat FILE`

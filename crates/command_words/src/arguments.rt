@@ -1,7 +1,7 @@
 //! The arguments of the subcommands.
-ghost use Rattle.std.specs.Prelude.{◌≡◌, false, codes};
-ghost use Rattle.clap.specs.Words.{rule_of};
+ghost use Rattle.std.specs.Prelude.{codes};
 ghost use Rattle.command_words.specs.CommandLine.{word_rule, words_rule, option_rule, text_rule, usual_rule, name_rule, flag_rule, number_rule, first_rule};
+ghost use Rattle.command_words.specs.Commands.{HasRule};
 
 use clap::builder::ValueParser;
 use clap::{Arg, ArgAction};
@@ -16,16 +16,14 @@ pub fn number<'a>(
     default: &'a str,
     help: &'a str,
 ) -> Arg<'a>
-    ensures rule { rule_of result ≡ number_rule name.entry.now least most default.entry.now }
-    ensures local { result.global ≡ false }
+    ensures { HasRule (number_rule name.entry.now least most default.entry.now) result }
 {
     usual(alloc, name, "N", default, help).value_parser(ValueParser::unsigned(least, most))
 }
 
 /// The option `--first`: the greatest number stands for no bound, so help does not show it.
 pub fn first<'a>(alloc: Global) -> Arg<'a>
-    ensures rule { rule_of result ≡ first_rule }
-    ensures local { result.global ≡ false }
+    ensures { HasRule first_rule result }
 {
     let first = number(
         alloc,
@@ -40,8 +38,7 @@ pub fn first<'a>(alloc: Global) -> Arg<'a>
 
 /// A word that has to be given.
 pub fn word<'a>(alloc: Global, name: &'a str, value: &'a str, help: &'a str) -> Arg<'a>
-    ensures rule { rule_of result ≡ word_rule name.entry.now }
-    ensures local { result.global ≡ false }
+    ensures { HasRule (word_rule name.entry.now) result }
 {
     Arg::new(alloc, name)
         .value_name(value)
@@ -51,24 +48,21 @@ pub fn word<'a>(alloc: Global, name: &'a str, value: &'a str, help: &'a str) -> 
 
 /// An option that has to be given.
 pub fn option<'a>(alloc: Global, name: &'a str, value: &'a str, help: &'a str) -> Arg<'a>
-    ensures rule { rule_of result ≡ option_rule name.entry.now }
-    ensures local { result.global ≡ false }
+    ensures { HasRule (option_rule name.entry.now) result }
 {
     word(alloc, name, value, help).long(name)
 }
 
 /// The option of a folder.
 pub fn folder<'a>(alloc: Global, help: &'a str) -> Arg<'a>
-    ensures rule { rule_of result ≡ option_rule (codes "folder") }
-    ensures local { result.global ≡ false }
+    ensures { HasRule (option_rule (codes "folder")) result }
 {
     option(alloc, "folder", "DIR", help)
 }
 
 /// The word of a deck.
 pub fn deck<'a>(alloc: Global) -> Arg<'a>
-    ensures rule { rule_of result ≡ word_rule (codes "deck") }
-    ensures local { result.global ≡ false }
+    ensures { HasRule (word_rule (codes "deck")) result }
 {
     word(
         alloc,
@@ -80,16 +74,14 @@ pub fn deck<'a>(alloc: Global) -> Arg<'a>
 
 /// Words of which at least one has to be given.
 pub fn words<'a>(alloc: Global, name: &'a str, value: &'a str, help: &'a str) -> Arg<'a>
-    ensures rule { rule_of result ≡ words_rule name.entry.now }
-    ensures local { result.global ≡ false }
+    ensures { HasRule (words_rule name.entry.now) result }
 {
     word(alloc, name, value, help).num_args(1..)
 }
 
 /// An option that is a text.
 pub fn text<'a>(alloc: Global, name: &'a str, value: &'a str, help: &'a str) -> Arg<'a>
-    ensures rule { rule_of result ≡ text_rule name.entry.now }
-    ensures local { result.global ≡ false }
+    ensures { HasRule (text_rule name.entry.now) result }
 {
     Arg::new(alloc, name)
         .long(name)
@@ -105,16 +97,14 @@ pub fn usual<'a>(
     usual: &'a str,
     help: &'a str,
 ) -> Arg<'a>
-    ensures rule { rule_of result ≡ usual_rule name.entry.now usual.entry.now }
-    ensures local { result.global ≡ false }
+    ensures { HasRule (usual_rule name.entry.now usual.entry.now) result }
 {
     text(alloc, name, value, help).default_value(usual)
 }
 
 /// The option `--file`, beside a word `file`.
 pub fn name<'a>(alloc: Global) -> Arg<'a>
-    ensures rule { rule_of result ≡ name_rule }
-    ensures local { result.global ≡ false }
+    ensures { HasRule name_rule result }
 {
     text(
         alloc,
@@ -127,8 +117,7 @@ pub fn name<'a>(alloc: Global) -> Arg<'a>
 
 /// An option without a value.
 pub fn flag<'a>(alloc: Global, name: &'a str, help: &'a str) -> Arg<'a>
-    ensures rule { rule_of result ≡ flag_rule name.entry.now }
-    ensures local { result.global ≡ false }
+    ensures { HasRule (flag_rule name.entry.now) result }
 {
     Arg::new(alloc, name)
         .long(name)

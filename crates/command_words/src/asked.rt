@@ -2,7 +2,7 @@
 ghost use Rattle.std.specs.Prelude.{◌≡◌, ℕ, Bool, List, Option, None, IfOk};
 ghost use Rattle.std.specs.Option.{IfSome};
 ghost use Rattle.clap.specs.Words.{found_of, rows_of, subcommand_rows_of};
-ghost use Rattle.command_words.specs.Asks.{AreLimits, IsRun, IsQuiet, IsCheck, IsServe, IsSchema, IsExplain, IsDeck, FormText, form_text, IsForm, IsList, IsCobol, IsLoad, IsStat, IsMet, IsNoRunOrList, IsNoRecords, IsNone};
+ghost use Rattle.command_words.specs.Asks.{AreLimits, IsQuiet, FormText, form_text, IsForm, IsMet, IsNoRun, IsNoCheck, IsNoServe, IsNoSchema, IsNoExplain, IsNoDeckList, IsNoList, IsNoCobol, IsNoLoad, IsNoStat, IsNoRunOrList, IsNoRecords, IsNone};
 
 use crate::form_words::FormWords;
 use crate::limits::Limits;
@@ -25,8 +25,7 @@ fn limits_of(files: &ArgMatches<'_>) -> Option<Limits>
 /// The run that the matches ask for, if they ask for one.
 fn run_of<'a>(matches: &ArgMatches<'a>) -> Option<Request<'a>>
     ensures some { IfSome result (IsMet (subcommand_rows_of matches.now)) }
-    ensures none { result ≡ None → (deck folder : List ℕ) (pages frames : ℕ)
-        → IsRun (subcommand_rows_of matches.now) deck folder pages frames → ⊥ }
+    ensures none { result ≡ None → IsNoRun (subcommand_rows_of matches.now) }
 {
     let run = matches.subcommand_matches("run")?;
     let deck = run.get_str("deck")?;
@@ -50,8 +49,7 @@ fn quiet_of(long: &ArgMatches<'_>) -> Option<bool>
 /// The checks that the matches ask for, if they ask for some.
 fn check_of<'a>(alloc: Global, matches: &ArgMatches<'a>) -> Result<Option<Request<'a>>, AllocError>
     ensures some { IfOk result (λ found. IfSome found (IsMet (subcommand_rows_of matches.now))) }
-    ensures none { IfOk result (λ found. found ≡ None → (files : List (List ℕ)) (quiet : Bool)
-        → IsCheck (subcommand_rows_of matches.now) files quiet → ⊥) }
+    ensures none { IfOk result (λ found. found ≡ None → IsNoCheck (subcommand_rows_of matches.now)) }
 {
     let check = match matches.subcommand_matches("check") {
         Some(check) => check,
@@ -73,8 +71,7 @@ fn check_of<'a>(alloc: Global, matches: &ArgMatches<'a>) -> Result<Option<Reques
 /// The session that the matches ask for, if they ask for one.
 fn serve_of<'a>(matches: &ArgMatches<'a>) -> Option<Request<'a>>
     ensures some { IfSome result (IsMet (subcommand_rows_of matches.now)) }
-    ensures none { result ≡ None → (folder : List ℕ) (pages frames : ℕ)
-        → IsServe (subcommand_rows_of matches.now) folder pages frames → ⊥ }
+    ensures none { result ≡ None → IsNoServe (subcommand_rows_of matches.now) }
 {
     let serve = matches.subcommand_matches("serve")?;
     let folder = serve.get_str("folder")?;
@@ -85,8 +82,7 @@ fn serve_of<'a>(matches: &ArgMatches<'a>) -> Option<Request<'a>>
 /// The schema that the matches ask for, if they ask for one.
 fn schema_of<'a>(matches: &ArgMatches<'a>) -> Option<Request<'a>>
     ensures some { IfSome result (IsMet (subcommand_rows_of matches.now)) }
-    ensures none { result ≡ None → (file : List ℕ) (deck name : Option (List ℕ))
-        → IsSchema (subcommand_rows_of matches.now) file deck name → ⊥ }
+    ensures none { result ≡ None → IsNoSchema (subcommand_rows_of matches.now) }
 {
     let schema = matches.subcommand_matches("schema")?;
     let file = schema.get_str("file")?;
@@ -100,8 +96,7 @@ fn schema_of<'a>(matches: &ArgMatches<'a>) -> Option<Request<'a>>
 /// The explanation that the matches ask for, if they ask for one.
 fn explain_of<'a>(matches: &ArgMatches<'a>) -> Option<Request<'a>>
     ensures some { IfSome result (IsMet (subcommand_rows_of matches.now)) }
-    ensures none { result ≡ None → (kind number : List ℕ)
-        → IsExplain (subcommand_rows_of matches.now) kind number → ⊥ }
+    ensures none { result ≡ None → IsNoExplain (subcommand_rows_of matches.now) }
 {
     let explain = matches.subcommand_matches("explain")?;
     let kind = explain.get_str("kind")?;
@@ -112,7 +107,7 @@ fn explain_of<'a>(matches: &ArgMatches<'a>) -> Option<Request<'a>>
 /// The deck whose list the matches ask for, if they ask for one.
 fn deck_of<'a>(matches: &ArgMatches<'a>) -> Option<Request<'a>>
     ensures some { IfSome result (IsMet (subcommand_rows_of matches.now)) }
-    ensures none { result ≡ None → (deck : List ℕ) → IsDeck (subcommand_rows_of matches.now) deck → ⊥ }
+    ensures none { result ≡ None → IsNoDeckList (subcommand_rows_of matches.now) }
 {
     let listed = matches.subcommand_matches("deck")?;
     let deck = listed.get_str("deck")?;
@@ -136,9 +131,7 @@ fn form_of<'a>(list: &ArgMatches<'a>) -> Option<FormWords<'a>>
 /// The list that the matches ask for, if they ask for one.
 fn list_of<'a>(matches: &ArgMatches<'a>) -> Option<Request<'a>>
     ensures some { IfSome result (IsMet (subcommand_rows_of matches.now)) }
-    ensures none { result ≡ None → (file : List ℕ) (key : ℕ) (from to : Option (List ℕ)) (first : ℕ)
-        (form : FormText) (quiet : Bool)
-        → IsList (subcommand_rows_of matches.now) file key from to first form quiet → ⊥ }
+    ensures none { result ≡ None → IsNoList (subcommand_rows_of matches.now) }
 {
     let list = matches.subcommand_matches("list")?;
     let file = list.get_str("file")?;
@@ -160,8 +153,7 @@ fn list_of<'a>(matches: &ArgMatches<'a>) -> Option<Request<'a>>
 /// The program in COBOL that the matches ask for, if they ask for one.
 fn cobol_of<'a>(matches: &ArgMatches<'a>) -> Option<Request<'a>>
     ensures some { IfSome result (IsMet (subcommand_rows_of matches.now)) }
-    ensures none { result ≡ None → (deck : List ℕ) (fixed : Bool)
-        → IsCobol (subcommand_rows_of matches.now) deck fixed → ⊥ }
+    ensures none { result ≡ None → IsNoCobol (subcommand_rows_of matches.now) }
 {
     let cobol = matches.subcommand_matches("cobol")?;
     let deck = cobol.get_str("deck")?;
@@ -172,9 +164,7 @@ fn cobol_of<'a>(matches: &ArgMatches<'a>) -> Option<Request<'a>>
 /// The load that the matches ask for, if they ask for one.
 fn load_of<'a>(matches: &ArgMatches<'a>) -> Option<Request<'a>>
     ensures some { IfSome result (IsMet (subcommand_rows_of matches.now)) }
-    ensures none { result ≡ None → (deck folder file text form : List ℕ) (into : Bool) (pages frames : ℕ)
-        (quiet : Bool)
-        → IsLoad (subcommand_rows_of matches.now) deck folder file text form into pages frames quiet → ⊥ }
+    ensures none { result ≡ None → IsNoLoad (subcommand_rows_of matches.now) }
 {
     let load = matches.subcommand_matches("load")?;
     let deck = load.get_str("deck")?;
@@ -200,7 +190,7 @@ fn load_of<'a>(matches: &ArgMatches<'a>) -> Option<Request<'a>>
 /// The count that the matches ask for, if they ask for one.
 fn stat_of<'a>(matches: &ArgMatches<'a>) -> Option<Request<'a>>
     ensures some { IfSome result (IsMet (subcommand_rows_of matches.now)) }
-    ensures none { result ≡ None → (file : List ℕ) → IsStat (subcommand_rows_of matches.now) file → ⊥ }
+    ensures none { result ≡ None → IsNoStat (subcommand_rows_of matches.now) }
 {
     let stat = matches.subcommand_matches("stat")?;
     let file = stat.get_str("file")?;

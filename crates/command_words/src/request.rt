@@ -1,7 +1,6 @@
 //! What a command line asks for.
-ghost use Rattle.std.specs.Prelude.{◌≡◌, ◌≢◌, map, string_bytes, IfOk, IfErr};
-ghost use Rattle.clap.specs.Values.{kind_of};
-ghost use Rattle.command_words.specs.Asks.{Ask, AskNothing, IsShown};
+ghost use Rattle.std.specs.Prelude.{◌≡◌, map, string_bytes, IfOk, IfErr};
+ghost use Rattle.command_words.specs.Asks.{Ask, AskNothing, IsShown, IfUsage, IsMistake};
 
 use crate::asked::request_of;
 use crate::fault::WordsFault;
@@ -99,8 +98,7 @@ impl Request<'_> {
 /// What an error of the parse means: it shows help, or tells a mistake.
 fn without_matches<'a>(error: Error) -> Result<Request<'a>, WordsFault>
     ensures help { IfOk result (λ request. (request ≡ Request.Help error) × IsShown error) }
-    ensures mistake { IfErr result (λ fault. (text : _) → fault ≡ WordsFault.Usage text → (text ≡ error)
-        × (IsShown error → ⊥) × (kind_of error ≢ ErrorKind.OutOfMemory)) }
+    ensures mistake { IfErr result (IfUsage (IsMistake error)) }
 {
     if error.kind() == ErrorKind::OutOfMemory {
         return Err(WordsFault::Memory);
@@ -116,8 +114,7 @@ fn without_matches<'a>(error: Error) -> Result<Request<'a>, WordsFault>
 /// understood. `Memory`.
 pub fn read_words<'a>(alloc: Global, words: &'a [String]) -> Result<Request<'a>, WordsFault>
     ensures asked { IfOk result (Ask (map string_bytes words.entry.now)) }
-    ensures nothing { IfErr result (λ fault. (text : _) → fault ≡ WordsFault.Usage text
-        → AskNothing (map string_bytes words.entry.now) text) }
+    ensures nothing { IfErr result (IfUsage (AskNothing (map string_bytes words.entry.now))) }
 {
     let mut command = command(alloc)?;
     match command.try_get_matches_from_mut(words) {

@@ -1,8 +1,8 @@
 //! The subcommands, with their words and options.
-ghost use Rattle.std.specs.Prelude.{◌≡◌, [], false, codes, IfOk};
-ghost use Rattle.clap.specs.Words.{app_of, with_rule};
-ghost use Rattle.clap.specs.declared.builder.command.Command.TheViews.{out-Command};
-ghost use Rattle.command_words.specs.CommandLine.{word_rule, option_rule, text_rule, usual_rule, name_rule, flag_rule, number_rule, first_rule, run_shape, check_shape, serve_shape, schema_shape, explain_shape, deck_shape, list_shape, cobol_shape, load_shape, stat_shape, versioned_shape, program_shape, runs_app, lists_app, records_app, program_app};
+ghost use Rattle.std.specs.Prelude.{◌≡◌, IfOk};
+ghost use Rattle.clap.specs.Words.{app_of};
+ghost use Rattle.command_words.specs.Commands.{IsLocal, IsApp, HasShape, with_files, with_limits, with_quiet, with_deck, with_values, with_bounds, with_form, with_names, with_text};
+ghost use Rattle.command_words.specs.CommandLine.{run_shape, check_shape, serve_shape, schema_shape, explain_shape, deck_shape, list_shape, cobol_shape, load_shape, stat_shape, versioned_shape, program_shape, runs_app, lists_app, records_app, program_app};
 
 use crate::arguments::{deck, first, flag, folder, name, number, option, text, usual, word, words};
 use crate::help::{
@@ -13,10 +13,8 @@ use std::alloc::{AllocError, Global};
 
 /// `run` or `load` with its deck and its folder.
 fn with_files<'a>(alloc: Global, run: Command<'a>) -> Result<Command<'a>, AllocError>
-    requires { (out-Command run).has_globals ≡ false }
-    ensures shape { IfOk result (λ command. app_of command ≡ with_rule
-        (with_rule (app_of run.entry) (word_rule (codes "deck"))) (option_rule (codes "folder"))) }
-    ensures local { IfOk result (λ command. (out-Command command).has_globals ≡ false) }
+    requires { IsLocal run }
+    ensures { IfOk result (IsApp (with_files (app_of run.entry))) }
 {
     run.arg(deck(alloc))?
         .arg(folder(alloc, "The folder in which the deck's files stay"))
@@ -24,11 +22,8 @@ fn with_files<'a>(alloc: Global, run: Command<'a>) -> Result<Command<'a>, AllocE
 
 /// `run`, `serve` or `load` with its limits.
 fn with_limits<'a>(alloc: Global, files: Command<'a>) -> Result<Command<'a>, AllocError>
-    requires { (out-Command files).has_globals ≡ false }
-    ensures shape { IfOk result (λ command. app_of command ≡ with_rule
-        (with_rule (app_of files.entry) (number_rule (codes "pages") 16 4294967295 (codes "1048576")))
-        (number_rule (codes "frames") 1 4096 (codes "64"))) }
-    ensures local { IfOk result (λ command. (out-Command command).has_globals ≡ false) }
+    requires { IsLocal files }
+    ensures { IfOk result (IsApp (with_limits (app_of files.entry))) }
 {
     let pages = number(
         alloc,
@@ -51,10 +46,8 @@ fn with_limits<'a>(alloc: Global, files: Command<'a>) -> Result<Command<'a>, All
 
 /// `check`, `list` or `load` with the option by which it shows no progress.
 fn with_quiet<'a>(alloc: Global, long: Command<'a>) -> Result<Command<'a>, AllocError>
-    requires { (out-Command long).has_globals ≡ false }
-    ensures shape { IfOk result (λ command. app_of command ≡ with_rule (app_of long.entry)
-        (flag_rule (codes "quiet"))) }
-    ensures local { IfOk result (λ command. (out-Command command).has_globals ≡ false) }
+    requires { IsLocal long }
+    ensures { IfOk result (IsApp (with_quiet (app_of long.entry))) }
 {
     long.arg(flag(
         alloc,
@@ -65,8 +58,7 @@ fn with_quiet<'a>(alloc: Global, long: Command<'a>) -> Result<Command<'a>, Alloc
 
 /// `run`, with its words and options.
 fn run_command<'a>(alloc: Global) -> Result<Command<'a>, AllocError>
-    ensures shape { IfOk result (λ command. app_of command ≡ record { top = run_shape; subs = [] }) }
-    ensures local { IfOk result (λ command. (out-Command command).has_globals ≡ false) }
+    ensures { IfOk result (HasShape run_shape) }
 {
     let run = Command::new(alloc, "run")
         .about("Runs a deck, and writes its transcript to standard output")
@@ -76,8 +68,7 @@ fn run_command<'a>(alloc: Global) -> Result<Command<'a>, AllocError>
 
 /// `check`.
 fn check_command<'a>(alloc: Global) -> Result<Command<'a>, AllocError>
-    ensures shape { IfOk result (λ command. app_of command ≡ record { top = check_shape; subs = [] }) }
-    ensures local { IfOk result (λ command. (out-Command command).has_globals ≡ false) }
+    ensures { IfOk result (HasShape check_shape) }
 {
     let files = words(
         alloc,
@@ -93,8 +84,7 @@ fn check_command<'a>(alloc: Global) -> Result<Command<'a>, AllocError>
 
 /// `serve`.
 fn serve_command<'a>(alloc: Global) -> Result<Command<'a>, AllocError>
-    ensures shape { IfOk result (λ command. app_of command ≡ record { top = serve_shape; subs = [] }) }
-    ensures local { IfOk result (λ command. (out-Command command).has_globals ≡ false) }
+    ensures { IfOk result (HasShape serve_shape) }
 {
     let serve = Command::new(alloc, "serve")
         .about("Performs the verbs that frames on standard input ask for")
@@ -109,10 +99,8 @@ fn with_deck<'a>(
     listed: Command<'a>,
     help: &'a str,
 ) -> Result<Command<'a>, AllocError>
-    requires { (out-Command listed).has_globals ≡ false }
-    ensures shape { IfOk result (λ command. app_of command ≡ with_rule
-        (with_rule (app_of listed.entry) (text_rule (codes "deck"))) name_rule) }
-    ensures local { IfOk result (λ command. (out-Command command).has_globals ≡ false) }
+    requires { IsLocal listed }
+    ensures { IfOk result (IsApp (with_deck (app_of listed.entry))) }
 {
     listed
         .arg(text(alloc, "deck", "DECK", help))?
@@ -121,8 +109,7 @@ fn with_deck<'a>(
 
 /// `schema`.
 fn schema_command<'a>(alloc: Global) -> Result<Command<'a>, AllocError>
-    ensures shape { IfOk result (λ command. app_of command ≡ record { top = schema_shape; subs = [] }) }
-    ensures local { IfOk result (λ command. (out-Command command).has_globals ≡ false) }
+    ensures { IfOk result (HasShape schema_shape) }
 {
     let file = word(
         alloc,
@@ -142,8 +129,7 @@ fn schema_command<'a>(alloc: Global) -> Result<Command<'a>, AllocError>
 
 /// `explain`.
 fn explain_command<'a>(alloc: Global) -> Result<Command<'a>, AllocError>
-    ensures shape { IfOk result (λ command. app_of command ≡ record { top = explain_shape; subs = [] }) }
-    ensures local { IfOk result (λ command. (out-Command command).has_globals ≡ false) }
+    ensures { IfOk result (HasShape explain_shape) }
 {
     let kind = word(alloc, "kind", "KIND", "'status', 'fault' or 'unsound'");
     let number = word(alloc, "number", "NUMBER", "Which one, as it is written");
@@ -155,8 +141,7 @@ fn explain_command<'a>(alloc: Global) -> Result<Command<'a>, AllocError>
 
 /// `deck`.
 fn deck_command<'a>(alloc: Global) -> Result<Command<'a>, AllocError>
-    ensures shape { IfOk result (λ command. app_of command ≡ record { top = deck_shape; subs = [] }) }
-    ensures local { IfOk result (λ command. (out-Command command).has_globals ≡ false) }
+    ensures { IfOk result (HasShape deck_shape) }
 {
     let listed = Command::new(alloc, "deck")
         .about("Lists the files, the verbs and the paragraphs of a deck")
@@ -166,10 +151,8 @@ fn deck_command<'a>(alloc: Global) -> Result<Command<'a>, AllocError>
 
 /// The first and the last value of a list.
 fn with_values<'a>(alloc: Global, list: Command<'a>) -> Result<Command<'a>, AllocError>
-    requires { (out-Command list).has_globals ≡ false }
-    ensures shape { IfOk result (λ command. app_of command ≡ with_rule
-        (with_rule (app_of list.entry) (text_rule (codes "from"))) (text_rule (codes "to"))) }
-    ensures local { IfOk result (λ command. (out-Command command).has_globals ≡ false) }
+    requires { IsLocal list }
+    ensures { IfOk result (IsApp (with_values (app_of list.entry))) }
 {
     let from = text(alloc, "from", "V", "The first value, or its first bytes");
     let to = text(alloc, "to", "V", "The last value, or its first bytes");
@@ -178,11 +161,8 @@ fn with_values<'a>(alloc: Global, list: Command<'a>) -> Result<Command<'a>, Allo
 
 /// The bounds of a list.
 fn with_bounds<'a>(alloc: Global, list: Command<'a>) -> Result<Command<'a>, AllocError>
-    requires { (out-Command list).has_globals ≡ false }
-    ensures shape { IfOk result (λ command. app_of command ≡ with_rule
-        (with_rule (with_rule (app_of list.entry) (number_rule (codes "key") 0 8 (codes "0")))
-        (text_rule (codes "from"))) (text_rule (codes "to"))) }
-    ensures local { IfOk result (λ command. (out-Command command).has_globals ≡ false) }
+    requires { IsLocal list }
+    ensures { IfOk result (IsApp (with_bounds (app_of list.entry))) }
 {
     let key = number(
         alloc,
@@ -197,11 +177,8 @@ fn with_bounds<'a>(alloc: Global, list: Command<'a>) -> Result<Command<'a>, Allo
 
 /// The form of a list.
 fn with_form<'a>(alloc: Global, list: Command<'a>) -> Result<Command<'a>, AllocError>
-    requires { (out-Command list).has_globals ≡ false }
-    ensures shape { IfOk result (λ command. app_of command ≡ with_rule
-        (with_rule (with_rule (with_rule (app_of list.entry) (usual_rule (codes "as") (codes "text")))
-        (text_rule (codes "cut"))) (text_rule (codes "deck"))) name_rule) }
-    ensures local { IfOk result (λ command. (out-Command command).has_globals ≡ false) }
+    requires { IsLocal list }
+    ensures { IfOk result (IsApp (with_form (app_of list.entry))) }
 {
     let form = usual(
         alloc,
@@ -225,8 +202,7 @@ fn with_form<'a>(alloc: Global, list: Command<'a>) -> Result<Command<'a>, AllocE
 
 /// `list`.
 fn list_command<'a>(alloc: Global) -> Result<Command<'a>, AllocError>
-    ensures shape { IfOk result (λ command. app_of command ≡ record { top = list_shape; subs = [] }) }
-    ensures local { IfOk result (λ command. (out-Command command).has_globals ≡ false) }
+    ensures { IfOk result (HasShape list_shape) }
 {
     let file = word(
         alloc,
@@ -244,8 +220,7 @@ fn list_command<'a>(alloc: Global) -> Result<Command<'a>, AllocError>
 
 /// `cobol`.
 fn cobol_command<'a>(alloc: Global) -> Result<Command<'a>, AllocError>
-    ensures shape { IfOk result (λ command. app_of command ≡ record { top = cobol_shape; subs = [] }) }
-    ensures local { IfOk result (λ command. (out-Command command).has_globals ≡ false) }
+    ensures { IfOk result (HasShape cobol_shape) }
 {
     let fixed = flag(
         alloc,
@@ -260,10 +235,8 @@ fn cobol_command<'a>(alloc: Global) -> Result<Command<'a>, AllocError>
 
 /// A load with the name of its file, and its text.
 fn with_names<'a>(alloc: Global, load: Command<'a>) -> Result<Command<'a>, AllocError>
-    requires { (out-Command load).has_globals ≡ false }
-    ensures shape { IfOk result (λ command. app_of command ≡ with_rule
-        (with_rule (app_of load.entry) (option_rule (codes "file"))) (word_rule (codes "text"))) }
-    ensures local { IfOk result (λ command. (out-Command command).has_globals ≡ false) }
+    requires { IsLocal load }
+    ensures { IfOk result (IsApp (with_names (app_of load.entry))) }
 {
     let file = option(
         alloc,
@@ -282,11 +255,8 @@ fn with_names<'a>(alloc: Global, load: Command<'a>) -> Result<Command<'a>, Alloc
 
 /// The options of a load, and its text.
 fn with_text<'a>(alloc: Global, load: Command<'a>) -> Result<Command<'a>, AllocError>
-    requires { (out-Command load).has_globals ≡ false }
-    ensures shape { IfOk result (λ command. app_of command ≡ with_rule
-        (with_rule (with_rule (with_rule (app_of load.entry) (option_rule (codes "file")))
-        (word_rule (codes "text"))) (usual_rule (codes "as") (codes "text"))) (flag_rule (codes "into"))) }
-    ensures local { IfOk result (λ command. (out-Command command).has_globals ≡ false) }
+    requires { IsLocal load }
+    ensures { IfOk result (IsApp (with_text (app_of load.entry))) }
 {
     let form = usual(
         alloc,
@@ -305,8 +275,7 @@ fn with_text<'a>(alloc: Global, load: Command<'a>) -> Result<Command<'a>, AllocE
 
 /// `load`.
 fn load_command<'a>(alloc: Global) -> Result<Command<'a>, AllocError>
-    ensures shape { IfOk result (λ command. app_of command ≡ record { top = load_shape; subs = [] }) }
-    ensures local { IfOk result (λ command. (out-Command command).has_globals ≡ false) }
+    ensures { IfOk result (HasShape load_shape) }
 {
     let load = Command::new(alloc, "load")
         .about("Writes the lines of a text as records into a file")
@@ -317,8 +286,7 @@ fn load_command<'a>(alloc: Global) -> Result<Command<'a>, AllocError>
 
 /// `stat`.
 fn stat_command<'a>(alloc: Global) -> Result<Command<'a>, AllocError>
-    ensures shape { IfOk result (λ command. app_of command ≡ record { top = stat_shape; subs = [] }) }
-    ensures local { IfOk result (λ command. (out-Command command).has_globals ≡ false) }
+    ensures { IfOk result (HasShape stat_shape) }
 {
     let file = word(
         alloc,
@@ -334,8 +302,7 @@ fn stat_command<'a>(alloc: Global) -> Result<Command<'a>, AllocError>
 
 /// The program, with its version.
 fn versioned<'a>(alloc: Global) -> Command<'a>
-    ensures shape { app_of result ≡ record { top = versioned_shape; subs = [] } }
-    ensures local { (out-Command result).has_globals ≡ false }
+    ensures { HasShape versioned_shape result }
 {
     Command::new(alloc, "cobix")
         .about("Indexed files of COBOL")
@@ -344,16 +311,14 @@ fn versioned<'a>(alloc: Global) -> Command<'a>
 
 /// The program, before its subcommands.
 fn program<'a>(alloc: Global) -> Command<'a>
-    ensures shape { app_of result ≡ record { top = program_shape; subs = [] } }
-    ensures local { (out-Command result).has_globals ≡ false }
+    ensures { HasShape program_shape result }
 {
     versioned(alloc).subcommand_required(true)
 }
 
 /// The program with the subcommands that run, check and serve.
 fn with_runs<'a>(alloc: Global) -> Result<Command<'a>, AllocError>
-    ensures shape { IfOk result (λ command. app_of command ≡ runs_app) }
-    ensures local { IfOk result (λ command. (out-Command command).has_globals ≡ false) }
+    ensures { IfOk result (IsApp runs_app) }
 {
     program(alloc)
         .subcommand(run_command(alloc)?)?
@@ -363,8 +328,7 @@ fn with_runs<'a>(alloc: Global) -> Result<Command<'a>, AllocError>
 
 /// The program with these, and those that tell of a file, of a number or of a deck.
 fn with_lists<'a>(alloc: Global) -> Result<Command<'a>, AllocError>
-    ensures shape { IfOk result (λ command. app_of command ≡ lists_app) }
-    ensures local { IfOk result (λ command. (out-Command command).has_globals ≡ false) }
+    ensures { IfOk result (IsApp lists_app) }
 {
     with_runs(alloc)?
         .subcommand(schema_command(alloc)?)?
@@ -374,8 +338,7 @@ fn with_lists<'a>(alloc: Global) -> Result<Command<'a>, AllocError>
 
 /// The program with these, and those that list or load records or write a deck in COBOL.
 fn with_records<'a>(alloc: Global) -> Result<Command<'a>, AllocError>
-    ensures shape { IfOk result (λ command. app_of command ≡ records_app) }
-    ensures local { IfOk result (λ command. (out-Command command).has_globals ≡ false) }
+    ensures { IfOk result (IsApp records_app) }
 {
     with_lists(alloc)?
         .subcommand(list_command(alloc)?)?

@@ -1,13 +1,9 @@
 use Rattle.std.proofs.lemmas.Result.{IfOk-weaker}
-use Rattle.command_words.proofs.ShapeLemmas.{is, with_command}
+use Rattle.command_words.proofs.ShapeLemmas.{with_command}
 use Rattle.command_words.proofs.subcommands.with_runs.Goals as goal
 
-pub returns-clause-shape : goal.returns-clause-shape
-returns-clause-shape c =
-    IfOk-weaker c.subcommand-3.result _ _ (λ command added. (with_command added (with_command c.in_ok-subcommand-2.ensures (with_command c.in_ok-subcommand.ensures (is c.program.ensures.shape c.program.ensures.local) (is c.in_ok-run_command.ensures.shape c.in_ok-run_command.ensures.local)) (is c.in_ok-check_command.ensures.shape c.in_ok-check_command.ensures.local)) (is c.in_ok-serve_command.ensures.shape c.in_ok-serve_command.ensures.local)).shape)
-    c.subcommand-3.ensures
-
-pub returns-clause-local : goal.returns-clause-local
-returns-clause-local c =
-    IfOk-weaker c.subcommand-3.result _ _ (λ command added. (with_command added (with_command c.in_ok-subcommand-2.ensures (with_command c.in_ok-subcommand.ensures (is c.program.ensures.shape c.program.ensures.local) (is c.in_ok-run_command.ensures.shape c.in_ok-run_command.ensures.local)) (is c.in_ok-check_command.ensures.shape c.in_ok-check_command.ensures.local)) (is c.in_ok-serve_command.ensures.shape c.in_ok-serve_command.ensures.local)).local)
-    c.subcommand-3.ensures
+pub returns : goal.returns
+returns c =
+    let one = with_command c.in_ok-subcommand.ensures c.program.ensures c.in_ok-run_command.ensures in
+    let two = with_command c.in_ok-subcommand-2.ensures one c.in_ok-check_command.ensures in
+    IfOk-weaker c.subcommand-3.result _ _ (λ command added. with_command added two c.in_ok-serve_command.ensures) c.subcommand-3.ensures
