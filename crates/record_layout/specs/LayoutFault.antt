@@ -1,14 +1,14 @@
 -- Which fault a list of data description entries has: they are looked at in order, each by the
 -- tests below in their order. `before` is always the entries before, the nearest first.
 -- ANSI X3.23-1985, Nucleus module, data description entry, level-number. The order of the tests is ours.
-use Rattle.std.specs.Prelude.{◌≡◌, ℕ, ◌+◌, ◌<◌, ◌≤◌, ◌==◌, Bool, true, false, not, ◌||◌, ◌&&◌, ◌⊎◌, List, [], ◌∷◌, nat_le, Option, Some, None, is_none, IsTrue, MatchBool}
+use Rattle.std.specs.Prelude.{◌≡◌, ◌≢◌, ℕ, ◌+◌, ◌<◌, ◌≤◌, ◌==◌, Bool, true, false, not, ◌||◌, ◌&&◌, ◌⊎◌, List, [], ◌∷◌, nat_le, Option, Some, None, is_none, IsTrue, MatchBool}
 use Rattle.std.specs.List.{find}
 use Rattle.std.specs.Option.{option_map_or}
 use Rattle.record_layout.specs.declared.fault.LayoutFault.{LayoutFault}
 use Rattle.record_layout.specs.declared.fault.LayoutFault.TheVariants.{BadPicture, BadLevel, TooLong, DuplicateName, Empty, Memory}
 use Rattle.record_layout.specs.declared.picture.Picture.{Picture}
 use Rattle.record_layout.specs.Picture.{IsPicture, IsTooLong, IsBad}
-use Rattle.record_layout.specs.Layout.{Entry, is_name_of}
+use Rattle.record_layout.specs.Layout.{Entry, Placed, is_name_of, IsLayout}
 
 -- the entry before is a group, and this level is not deeper
 abbrev pub is_behind_empty : List Entry → ℕ → Bool
@@ -51,6 +51,10 @@ IsFaultOf before total entry fault =
     (MatchBool (is_name_of before entry.name) (fault ≡ DuplicateName)
     (HasPictureFault total entry.picture fault)))
 
+-- the entry has this fault, and not for its picture: whatever the items before have together
+abbrev pub IsFaultOfPlace : List Entry → Entry → LayoutFault → Type 0
+IsFaultOfPlace before entry fault = (total : ℕ) → IsFaultOf before total entry fault
+
 -- the entry passes each test before that of its picture
 abbrev pub is_in_place : List Entry → Entry → Bool
 is_in_place before entry = not (is_behind_empty before entry.level) && is_level_fit before entry.level
@@ -68,3 +72,12 @@ IsFirstFault before total (entry ∷ after) fault =
     IsFaultOf before total entry fault
     ⊎ (IsTrue (is_in_place before entry) × ((next : ℕ) × Lengthens total entry.picture next
     × IsFirstFault (entry ∷ before) next after fault))
+
+-- the first fault of all entries, where it is not for want of memory
+abbrev pub HaveFirstFault : List Entry → LayoutFault → Type 0
+HaveFirstFault entries fault = fault ≢ Memory → IsFirstFault [] 0 entries fault
+
+-- entries that have a layout have no fault
+abbrev pub HaveOneOutcome : Type 0
+HaveOneOutcome = (entries : List Entry) (layout : List Placed) (fault : LayoutFault)
+    → IsLayout entries layout → IsFirstFault [] 0 entries fault → ⊥

@@ -1,11 +1,14 @@
 -- How the items of a record are placed: first each by itself, where the pictures before it end, and
 -- then each group gets the length of its members.
-use Rattle.std.specs.Prelude.{◌≡◌, ℕ, ◌+◌, ◌≤◌, false, List, [], ◌∷◌, map, nat_lt, Option, Some, None, is_none, IsTrue, IsFalse, if◌then◌else◌}
+use Rattle.std.specs.Prelude.{◌≡◌, ℕ, ◌+◌, ◌≤◌, false, List, [], ◌∷◌, map, nat_lt, Option, Some, None, is_none, Result, Ok, Err, IsTrue, IsFalse, if◌then◌else◌}
+use Rattle.std.specs.Global.{Vec}
+use Rattle.record_layout.specs.declared.fault.LayoutFault.{LayoutFault}
 use Rattle.record_layout.specs.declared.item.Field.{Field}
+use Rattle.record_layout.specs.declared.item.Placed.{Placed as Declared}
 use Rattle.record_layout.specs.declared.picture.Picture.{Picture}
 use Rattle.record_layout.specs.Picture.{IsPicture}
-use Rattle.record_layout.specs.Layout.{Entry, Placed}
-use Rattle.record_layout.specs.LayoutFault.{is_in_place, is_unfinished}
+use Rattle.record_layout.specs.Layout.{Entry, Placed, item_of}
+use Rattle.record_layout.specs.LayoutFault.{is_in_place, is_unfinished, HaveFirstFault}
 
 -- an entry with a place
 pub record PlacedEntry : Type 0 where
@@ -37,6 +40,11 @@ abbrev pub HavePlaces : List Entry → List Placed → Type 0
 HavePlaces entries places =
     (items : List PlacedEntry) × (map (λ item. item.entry) items ≡ entries) × (map place_of items ≡ places)
     × ArePlaced [] 0 items
+
+-- an answer that has the places of the entries, or their first fault
+abbrev pub AnswersPlaces : List Entry → Result (Vec Declared) LayoutFault → Type 0
+AnswersPlaces entries (Ok places) = HavePlaces entries (map item_of places.items)
+AnswersPlaces entries (Err fault) = HaveFirstFault entries fault
 
 -- how many characters the items behind a group have, up to the first that is not deeper
 abbrev pub members_length : ℕ → List Entry → List Placed → ℕ

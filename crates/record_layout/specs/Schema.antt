@@ -1,6 +1,6 @@
 -- The keys of a file's records, and the values of a record's keys.
 -- ANSI X3.23-1985, Indexed I-O module, FILE-CONTROL entry: RECORD KEY and ALTERNATE RECORD KEY clauses.
-use Rattle.std.specs.Prelude.{◌≡◌, ℕ, ◌+◌, ◌<◌, ◌≤◌, ◌==◌, Bool, false, not, ◌&&◌, if◌then◌else◌, List, [], ◌∷◌, length, take, drop, nat_le, slice_index_or, Option, position, All, AllPairs, refl}
+use Rattle.std.specs.Prelude.{◌≡◌, ℕ, ◌+◌, ◌<◌, ◌≤◌, ◌==◌, Bool, false, not, ◌&&◌, if◌then◌else◌, List, [], ◌∷◌, length, take, drop, nat_le, slice_index_or, Option, position, IfSome, All, AllPairs, refl}
 use Rattle.std.specs.Coded.{Coded, code_by, coded×, coded_ℕ, coded_bool, coded_list}
 use Rattle.std.specs.Cmp.Lexicographic.{pointwise}
 use Rattle.record_layout.specs.declared.item.Field.{Field}
@@ -85,3 +85,7 @@ key_of_field schema field = position (λ part. (part.offset == field.offset)
 abbrev pub key_led_by : Schema → Field → Option ℕ
 key_led_by schema field = position (λ part. (part.offset == field.offset)
     && nat_le field.length part.length) schema.keys
+
+-- the number of the first part that passes a test, which is one of the parts
+abbrev pub IsFirstPart : (KeyPart → Bool) → List KeyPart → Option ℕ → Type 0
+IsFirstPart passes parts k = (k ≡ position passes parts) × IfSome k (λ k. k < length parts)

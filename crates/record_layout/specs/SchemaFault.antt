@@ -7,6 +7,7 @@
 use Rattle.std.specs.Prelude.{◌≡◌, ℕ, ◌+◌, ◌==◌, Bool, false, List, [], ◌∷◌, ◌++◌, length, nat_lt, Option, Some, None, Result, Ok, Err, IsPermutation, if◌then◌else◌}
 use Rattle.std.specs.List.{list_any}
 use Rattle.arrayvec.specs.ArrayString.{ArrayString as Text}
+use Rattle.arrayvec.specs.ArrayVec.{ArrayVec}
 use Rattle.record_layout.specs.declared.fault.SchemaFault.{SchemaFault}
 use Rattle.record_layout.specs.declared.fault.SchemaFault.TheVariants.{NoSuchField, KeyTooLong, SameLeftmost, TooManyKeys, KeyPastLeast}
 use Rattle.record_layout.specs.declared.item.Field.{Field}
@@ -71,3 +72,14 @@ abbrev pub GivesSchema : List Placed → ℕ → List ℕ → List KeyClause →
 GivesSchema layout least prime alternates schema =
     (keys : List KeyPart) × (keys_given layout least prime alternates ≡ Ok keys) × HasKeys schema keys
     × (schema.least ≡ least) × (schema.greatest ≡ length_of layout)
+
+-- what a layout and key clauses give that have a fault
+abbrev pub GivesFault : List Placed → ℕ → List ℕ → List KeyClause → SchemaFault → Type 0
+GivesFault layout least prime alternates fault = keys_given layout least prime alternates ≡ Err fault
+
+-- an answer that has the keys in the order given, or their first fault
+abbrev pub AnswersKeys : List Placed → ℕ → List ℕ → List KeyClause
+    → Result (ArrayVec KeyPart) SchemaFault → Type 0
+AnswersKeys layout least prime alternates (Ok keys) =
+    keys_given layout least prime alternates ≡ Ok keys.items
+AnswersKeys layout least prime alternates (Err fault) = GivesFault layout least prime alternates fault

@@ -1,8 +1,8 @@
 //! The keys that RECORD KEY and ALTERNATE RECORD KEY clauses name.
-ghost use Rattle.std.specs.Prelude.{◌≡◌, ◌<◌, length, map, take, drop, IfOk, IfErr, IsPermutation};
+ghost use Rattle.std.specs.Prelude.{◌≡◌, ◌<◌, length, map, take, drop, IsPermutation};
 ghost use Rattle.std.specs.List.Sorted.{IsNonDecreasingBy};
 ghost use Rattle.record_layout.specs.Layout.{field_of};
-ghost use Rattle.record_layout.specs.SchemaFault.{clause_of, begins_one, key_of_item, keys_given};
+ghost use Rattle.record_layout.specs.SchemaFault.{clause_of, begins_one, key_of_item, AnswersKeys};
 
 use crate::fault::SchemaFault;
 use crate::item::Field;
@@ -18,10 +18,7 @@ pub fn keys_in_order(
     prime: &str,
     alternates: &[(Name, bool)],
 ) -> Result<ArrayVec<KeyPart, 9>, SchemaFault>
-    ensures keys { IfOk result (λ keys. keys_given layout.now least prime.now
-        (map clause_of alternates.now) ≡ Ok keys.items) }
-    ensures fault { IfErr result (λ fault. keys_given layout.now least prime.now
-        (map clause_of alternates.now) ≡ Err fault) }
+    ensures { AnswersKeys layout.now least prime.now (map clause_of alternates.now) result }
 {
     if alternates.len() > 8 {
         return Err(SchemaFault::TooManyKeys);

@@ -1,8 +1,5 @@
 //! The layout of a record.
-ghost use Rattle.std.specs.Prelude.{[], List};
-ghost use Rattle.record_layout.specs.declared.fault.LayoutFault.{LayoutFault};
-ghost use Rattle.record_layout.specs.Layout.{Entry, Placed as PlacedItem, IsLayout};
-ghost use Rattle.record_layout.specs.LayoutFault.{IsFirstFault};
+ghost use Rattle.record_layout.specs.LayoutFault.{HaveOneOutcome};
 
 use crate::area::{Figure, Source, put};
 use crate::fault::LayoutFault;
@@ -29,9 +26,9 @@ impl Model for Layout {
 }
 
 impl Layout {
-    ghost use Rattle.std.specs.Prelude.{◌≡◌, ◌≢◌, ◌+◌, ◌≤◌, [], length, map, IfSome, IfOk, IfErr};
+    ghost use Rattle.std.specs.Prelude.{◌≡◌, ◌+◌, ◌≤◌, length, map, IfSome, IfOk, IfErr};
     ghost use Rattle.record_layout.specs.Layout.{entry_of, item_of, IsLayout, IsRecord, length_of, field_of};
-    ghost use Rattle.record_layout.specs.LayoutFault.{IsFirstFault};
+    ghost use Rattle.record_layout.specs.LayoutFault.{HaveFirstFault};
     ghost use Rattle.record_layout.specs.Area.{blank_area};
 
     /// The layout of the record that data description entries describe. The fault is the first one
@@ -41,8 +38,7 @@ impl Layout {
     /// places.
     pub fn build(alloc: Global, items: &[Item]) -> Result<Layout, LayoutFault>
         ensures laid { IfOk result (IsLayout (map entry_of items.now)) }
-        ensures fault { IfErr result (λ fault. fault ≢ LayoutFault.Memory
-            → IsFirstFault [] 0 (map entry_of items.now) fault) }
+        ensures fault { IfErr result (HaveFirstFault (map entry_of items.now)) }
     {
         let mut items_placed = own_places(alloc, items)?;
         set_group_lengths(items, &mut items_placed);
@@ -100,6 +96,5 @@ impl Layout {
 
 /// Data description entries that have a layout have no fault.
 pub fn one_outcome()
-    ensures { (entries : List Entry) (layout : List PlacedItem) (fault : LayoutFault)
-        → IsLayout entries layout → IsFirstFault [] 0 entries fault → ⊥ }
+    ensures { HaveOneOutcome }
 {}

@@ -1,7 +1,7 @@
 //! Where a data description entry may stand behind others.
-ghost use Rattle.std.specs.Prelude.{◌≡◌, ℕ, map, reverse, IsTrue, OnOk, IfErr};
+ghost use Rattle.std.specs.Prelude.{◌≡◌, map, reverse, IsTrue, OnOk, IfErr};
 ghost use Rattle.record_layout.specs.Layout.{entry_of};
-ghost use Rattle.record_layout.specs.LayoutFault.{is_behind_empty, is_open_level, is_level_fit, is_in_place, is_unfinished, IsFaultOf};
+ghost use Rattle.record_layout.specs.LayoutFault.{is_behind_empty, is_open_level, is_level_fit, is_in_place, is_unfinished, IsFaultOfPlace};
 ghost use Rattle.record_layout.specs.NamesInOrder.{HasNamesOf};
 
 use crate::fault::LayoutFault;
@@ -17,8 +17,7 @@ pub fn check_place(
     requires { HasNamesOf names.now (reverse (map entry_of before.now)) }
     ensures in_place { OnOk result (IsTrue (is_in_place (reverse (map entry_of before.now))
         (entry_of item.now))) }
-    ensures fault { IfErr result (λ fault. (total : ℕ)
-        → IsFaultOf (reverse (map entry_of before.now)) total (entry_of item.now) fault) }
+    ensures fault { IfErr result (IsFaultOfPlace (reverse (map entry_of before.now)) (entry_of item.now)) }
 {
     if follows_empty_group(before, item.level) {
         return Err(LayoutFault::Empty);

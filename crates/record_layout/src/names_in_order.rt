@@ -1,8 +1,8 @@
 //! The names of items, in their order, so that one is found by a search.
-ghost use Rattle.std.specs.Prelude.{◌≡◌, ◌∷◌, [], List, OnOk, IfErr, option_map};
+ghost use Rattle.std.specs.Prelude.{◌≡◌, [], OnOk, IfErr, option_map};
 ghost use Rattle.record_layout.specs.declared.fault.LayoutFault.{LayoutFault};
-ghost use Rattle.record_layout.specs.Layout.{Entry, entry_of, is_name_of};
-ghost use Rattle.record_layout.specs.NamesInOrder.{HasNamesOf};
+ghost use Rattle.record_layout.specs.Layout.{entry_of};
+ghost use Rattle.record_layout.specs.NamesInOrder.{HasNamesOf, AddsNameOf, TellsTaken};
 
 use crate::fault::LayoutFault;
 use crate::item::Item;
@@ -22,8 +22,7 @@ pub fn no_names<'a>(alloc: Global) -> NamesInOrder<'a>
 
 /// Adds the name of an item, if it has one.
 pub fn add_name<'a>(names: &mut NamesInOrder<'a>, item: &'a Item) -> Result<(), LayoutFault>
-    ensures added { OnOk result ((entries : List Entry) → HasNamesOf names.old entries
-        → HasNamesOf names.new (entry_of item.now ∷ entries)) }
+    ensures added { OnOk result (AddsNameOf (entry_of item.now) names.old names.new) }
     ensures fault { IfErr result (λ fault. fault ≡ LayoutFault.Memory) }
 {
     match &item.name {
@@ -37,8 +36,7 @@ pub fn add_name<'a>(names: &mut NamesInOrder<'a>, item: &'a Item) -> Result<(), 
 
 /// Whether one of the items has this name, if there is a name.
 pub fn is_taken(names: &NamesInOrder<'_>, name: &Option<Name>) -> bool
-    ensures { (entries : List Entry) → HasNamesOf names.now entries →
-        result ≡ is_name_of entries (option_map (λ name. name.bytes) name.now) }
+    ensures { TellsTaken names.now (option_map (λ name. name.bytes) name.now) result }
 {
     match name {
         Some(name) => names.contains(name.as_str()),

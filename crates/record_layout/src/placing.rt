@@ -1,8 +1,8 @@
 //! The places of the items of a record.
-ghost use Rattle.std.specs.Prelude.{◌≡◌, ◌≢◌, ℕ, ◌+◌, ◌≤◌, [], length, map, sum_by, IfOk, IfErr};
+ghost use Rattle.std.specs.Prelude.{◌≡◌, ℕ, ◌+◌, ◌≤◌, length, map, sum_by, IfOk, IfErr};
 ghost use Rattle.record_layout.specs.Layout.{entry_of, item_of};
-ghost use Rattle.record_layout.specs.LayoutFault.{HasPictureFault, IsFirstFault};
-ghost use Rattle.record_layout.specs.Placing.{IsOwnPlace, HavePlaces, members_length, with_group_lengths};
+ghost use Rattle.record_layout.specs.LayoutFault.{HasPictureFault};
+ghost use Rattle.record_layout.specs.Placing.{IsOwnPlace, AnswersPlaces, members_length, with_group_lengths};
 
 use crate::fault::LayoutFault;
 use crate::item::{Field, Item, Placed};
@@ -13,9 +13,7 @@ use std::alloc::Global;
 
 /// The place of each item by itself: a group has no characters yet.
 pub fn own_places(alloc: Global, items: &[Item]) -> Result<Vec<Placed>, LayoutFault>
-    ensures places { IfOk result (λ places. HavePlaces (map entry_of items.now) (map item_of places.items)) }
-    ensures fault { IfErr result (λ fault. fault ≢ LayoutFault.Memory
-        → IsFirstFault [] 0 (map entry_of items.now) fault) }
+    ensures { AnswersPlaces (map entry_of items.now) result }
 {
     let mut places = Vec::new(alloc);
     let mut names = no_names(alloc);

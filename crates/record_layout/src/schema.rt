@@ -1,7 +1,7 @@
 //! The keys of a file.
-ghost use Rattle.std.specs.Prelude.{◌≡◌, ◌<◌, ◌==◌, ◌&&◌, length, position, nat_le, IfSome};
+ghost use Rattle.std.specs.Prelude.{◌≡◌, ◌==◌, ◌&&◌, nat_le};
 ghost use Rattle.std.specs.Cmp.Lexicographic.{pointwise};
-ghost use Rattle.record_layout.specs.Schema.{same_part};
+ghost use Rattle.record_layout.specs.Schema.{IsFirstPart, same_part};
 
 use crate::fault::SchemaFault;
 use crate::item::Field;
@@ -59,7 +59,7 @@ impl KeyPart {
 impl Schema {
     ghost use Rattle.std.specs.Prelude.{◌≡◌, ◌<◌, ◌≤◌, ◌↔◌, length, IsTrue, IsSome, IfSome, IfOk, IfErr, map, option_map, ℕ};
     ghost use Rattle.record_layout.specs.Layout.{length_of};
-    ghost use Rattle.record_layout.specs.SchemaFault.{clause_of, keys_given, GivesSchema};
+    ghost use Rattle.record_layout.specs.SchemaFault.{clause_of, GivesFault, GivesSchema};
     ghost use Rattle.record_layout.specs.Schema.{IsSchema, IsKey, schema_of_fields, key_at, value_of, same_schema, key_of_field, key_led_by};
 
     /// The schema of records that are all as long as the layout, with these items for their keys.
@@ -71,8 +71,8 @@ impl Schema {
     ) -> Result<Schema, SchemaFault>
         ensures given { IfOk result (GivesSchema layout.now (length_of layout.now) prime.now
             (map clause_of alternates.now)) }
-        ensures fault { IfErr result (λ fault. keys_given layout.now (length_of layout.now) prime.now
-            (map clause_of alternates.now) ≡ Err fault) }
+        ensures fault { IfErr result (GivesFault layout.now (length_of layout.now) prime.now
+            (map clause_of alternates.now)) }
     {
         Schema::varying(layout, layout.length(), prime, alternates)
     }
@@ -90,8 +90,7 @@ impl Schema {
         requires some { 1 ≤ least }
         requires within { least ≤ length_of layout.now }
         ensures given { IfOk result (GivesSchema layout.now least prime.now (map clause_of alternates.now)) }
-        ensures fault { IfErr result (λ fault. keys_given layout.now least prime.now
-            (map clause_of alternates.now) ≡ Err fault) }
+        ensures fault { IfErr result (GivesFault layout.now least prime.now (map clause_of alternates.now)) }
     {
         let greatest = layout.length();
         let mut keys = keys_in_order(layout, least, prime, alternates)?;
@@ -230,18 +229,16 @@ fn same_keys(keys: &[KeyPart], others: &[KeyPart]) -> bool
 
 /// Which key is the item's very bytes.
 fn equal_key(keys: &[KeyPart], field: Field) -> Option<usize>
-    ensures key { result ≡ position (λ part. (part.offset == field.offset)
-        && (part.length == field.length)) keys.now }
-    ensures within { IfSome result (λ k. k < length keys.now) }
+    ensures { IsFirstPart (λ part. (part.offset == field.offset) && (part.length == field.length)) keys.now
+        result }
 {
     keys.iter().position(|part| part.offset == field.offset && part.length == field.length)
 }
 
 /// Which key begins with the item's bytes.
 fn leading_key(keys: &[KeyPart], field: Field) -> Option<usize>
-    ensures key { result ≡ position (λ part. (part.offset == field.offset)
-        && nat_le field.length part.length) keys.now }
-    ensures within { IfSome result (λ k. k < length keys.now) }
+    ensures { IsFirstPart (λ part. (part.offset == field.offset) && nat_le field.length part.length) keys.now
+        result }
 {
     keys.iter().position(|part| part.offset == field.offset && field.length <= part.length)
 }
