@@ -3,3 +3,4 @@ pub mod Scans
 pub mod Stored
 pub mod Units
 pub mod ListWorld
+pub mod HeldCalls

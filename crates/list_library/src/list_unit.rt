@@ -41,15 +41,15 @@ impl Model for ListUnit {
 }
 
 impl ListUnit {
-    ghost use Rattle.std.specs.Prelude.{◌≡◌, ◌<◌, ◌≤◌, length, bytes_eq, option_map, OnOk, OnErr, IfOk, IfErr, IsTrue, IsFalse, not};
+    ghost use Rattle.std.specs.Prelude.{◌≡◌, bytes_eq, option_map, OnOk, OnErr, IfOk, IsTrue, IsFalse};
     ghost use Rattle.indexed_file.specs.File.{empty_file};
-    ghost use Rattle.indexed_file.specs.World.{Absent, Unsound as Refused, Shut, Opened, is_open, is_looked, is_broken, opened_from, schema_in};
+    ghost use Rattle.indexed_file.specs.World.{Absent, Unsound as Refused, Shut, Opened, is_open, is_looked};
+    ghost use Rattle.indexed_file.specs.World.{opened_from, schema_in};
     ghost use Rattle.indexed_file.specs.FileChange.{addition, replacement, removal};
-    ghost use Rattle.list_library.specs.Units.{rows_in, AnswersBroken, ChangesHeld, unit_after_shut, highest_in};
+    ghost use Rattle.list_library.specs.Units.{AnswersBroken, ChangesHeld, unit_after_shut, highest_in};
+    ghost use Rattle.list_library.specs.HeldCalls.{MaySeekIn, MayFindIn, MayPutInto, FindsWanted, SeeksWanted};
     ghost use Rattle.indexed_file.specs.SoundWorld.{is_sound_unit};
-    ghost use Rattle.indexed_file.specs.Answers.{seen_of, looked_at, area_after};
-    ghost use Rattle.indexed_file.specs.Rank.{least};
-    ghost use Rattle.list_library.specs.Wanted.{first_wanted, found_wanted, key_wanted};
+    ghost use Rattle.indexed_file.specs.Answers.{seen_of, looked_at};
 
     /// A name that stands for nothing.
     pub fn absent(name: FileName) -> Self
@@ -128,15 +128,8 @@ impl ListUnit {
     /// The row of least rank by key k among those wanted: what is told of it, and its record in the
     /// front of the area.
     pub fn find(&self, k: u8, wanted: &Wanted, area: &mut [u8]) -> Result<Option<Found>, Fault>
-        requires open { IsTrue (is_open self.now.holding) }
-        requires key { k < length (schema_in self.now.holding).keys }
-        requires length { length area.old ≡ (schema_in self.now.holding).greatest }
-        ensures found { IfOk result (λ found.
-            found ≡ found_wanted (schema_in self.now.holding) k wanted.now (rows_in self.now.holding)) }
-        ensures area { OnOk result (area.new ≡ area_after area.old
-            (first_wanted (schema_in self.now.holding) k wanted.now (rows_in self.now.holding))) }
-        ensures err { OnErr result (area.new ≡ area.old) }
-        ensures fault { AnswersBroken self.now.holding result }
+        requires { MayFindIn self.now.holding k area.old }
+        ensures { FindsWanted self.now.holding k wanted.now area.old area.new result }
     {
         if self.state == UnitState::IsBroken {
             return Err(Fault::Broken);
@@ -149,11 +142,8 @@ impl ListUnit {
 
     /// The full value of key k of the row of least rank by that key among those wanted.
     pub fn seek(&self, k: u8, wanted: &Wanted) -> Result<Option<Key>, Fault>
-        requires open { IsTrue (is_open self.now.holding) }
-        requires key { k < length (schema_in self.now.holding).keys }
-        ensures found { IfOk result (λ found.
-            found ≡ key_wanted (schema_in self.now.holding) k wanted.now (rows_in self.now.holding)) }
-        ensures fault { AnswersBroken self.now.holding result }
+        requires { MaySeekIn self.now.holding k }
+        ensures { SeeksWanted self.now.holding k wanted.now result }
     {
         if self.state == UnitState::IsBroken {
             return Err(Fault::Broken);
@@ -183,9 +173,7 @@ impl ListUnit {
     /// Adds a record, unless its value of a key that has to be unique is there. At `Full` nothing
     /// is changed, and after `Memory` the unit is broken.
     pub fn add(&mut self, alloc: Global, bytes: &[u8]) -> Result<Added, Fault>
-        requires open { IsTrue (is_open self.old.holding) }
-        requires least { (schema_in self.old.holding).least ≤ length bytes.now }
-        requires greatest { length bytes.now ≤ (schema_in self.old.holding).greatest }
+        requires { MayPutInto self.old.holding bytes.now }
         ensures { ChangesHeld (addition (schema_in self.old.holding) bytes.now) self.old self.new result }
     {
         if self.state == UnitState::IsBroken {
@@ -211,9 +199,7 @@ impl ListUnit {
     /// Puts a record in the place of that of its prime value. At `Full` nothing is changed, and
     /// after `Memory` the unit is broken.
     pub fn replace(&mut self, alloc: Global, bytes: &[u8]) -> Result<Replaced, Fault>
-        requires open { IsTrue (is_open self.old.holding) }
-        requires least { (schema_in self.old.holding).least ≤ length bytes.now }
-        requires greatest { length bytes.now ≤ (schema_in self.old.holding).greatest }
+        requires { MayPutInto self.old.holding bytes.now }
         ensures { ChangesHeld (replacement (schema_in self.old.holding) bytes.now) self.old self.new result }
     {
         if self.state == UnitState::IsBroken {
