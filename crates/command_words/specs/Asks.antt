@@ -1,6 +1,7 @@
 -- What the words of a command line ask for. All of this is ours; which words give an argument which
 -- values, and which are a fault, is a definition of `clap`.
-use Rattle.std.specs.Prelude.{◌≡◌, ◌≢◌, ◌⊎◌, ◌≤◌, ◌<◌, ◌^◌, ℕ, Bool, true, false, List, [], map, Option, Some, option_map, codes}
+use Rattle.std.specs.Prelude.{◌≡◌, ◌≢◌, ◌⊎◌, ◌≤◌, ◌<◌, ◌^◌, ℕ, Bool, true, false, List, [], map, Option, Some}
+use Rattle.std.specs.Prelude.{option_map, codes}
 use Rattle.std.specs.Str.Parse.{IsNumeral, digits_value, without_leading_plus}
 use Rattle.clap.specs.Words.{IsAmong, Row, Text, all_of, first_of, one_of, fault_of, kind_of, subcommand_of}
 use Rattle.clap.specs.declared.error.Error.{Error}
@@ -10,7 +11,9 @@ use Rattle.command_words.specs.declared.fault.WordsFault.{WordsFault}
 use Rattle.command_words.specs.declared.fault.WordsFault.TheVariants.{Usage}
 use Rattle.command_words.specs.declared.form_words.FormWords.{FormWords}
 use Rattle.command_words.specs.declared.request.Request.{Request}
-use Rattle.command_words.specs.declared.request.Request.TheVariants.{Run, Check, Serve, Schema, Explain, Deck, List as ListRecords, Cobol, Load, Stat, Help}
+use Rattle.command_words.specs.declared.request.Request.TheVariants.{Run, Check, Serve, Schema, Explain, Deck}
+use Rattle.command_words.specs.declared.request.Request.TheVariants.{List as ListRecords, Cobol, Load, Stat}
+use Rattle.command_words.specs.declared.request.Request.TheVariants.{Help}
 
 -- the text is this number
 abbrev pub IsNumber : ℕ → Text → ℕ → Type 0

@@ -1,6 +1,7 @@
 //! The arguments of the subcommands.
 ghost use Rattle.std.specs.Prelude.{codes};
-ghost use Rattle.command_words.specs.CommandLine.{word_rule, words_rule, option_rule, text_rule, usual_rule, name_rule, flag_rule, number_rule, first_rule};
+ghost use Rattle.command_words.specs.CommandLine.{word_rule, words_rule, option_rule, text_rule, usual_rule};
+ghost use Rattle.command_words.specs.CommandLine.{name_rule, flag_rule, number_rule, first_rule};
 ghost use Rattle.command_words.specs.Commands.{HasRule};
 
 use clap::builder::ValueParser;

@@ -2,7 +2,10 @@
 ghost use Rattle.std.specs.Prelude.{◌≡◌, ℕ, Bool, List, Option, None, IfOk};
 ghost use Rattle.std.specs.Option.{IfSome};
 ghost use Rattle.clap.specs.Words.{found_of, rows_of, subcommand_rows_of};
-ghost use Rattle.command_words.specs.Asks.{AreLimits, IsQuiet, FormText, form_text, IsForm, IsMet, IsNoRun, IsNoCheck, IsNoServe, IsNoSchema, IsNoExplain, IsNoDeckList, IsNoList, IsNoCobol, IsNoLoad, IsNoStat, IsNoRunOrList, IsNoRecords, IsNone};
+ghost use Rattle.command_words.specs.Asks.{AreLimits, IsQuiet, FormText, form_text, IsForm, IsMet, IsNoRun};
+ghost use Rattle.command_words.specs.Asks.{IsNoCheck, IsNoServe, IsNoSchema, IsNoExplain, IsNoDeckList};
+ghost use Rattle.command_words.specs.Asks.{IsNoList, IsNoCobol, IsNoLoad, IsNoStat, IsNoRunOrList};
+ghost use Rattle.command_words.specs.Asks.{IsNoRecords, IsNone};
 
 use crate::form_words::FormWords;
 use crate::limits::Limits;

@@ -1,8 +1,13 @@
 //! The subcommands, with their words and options.
 ghost use Rattle.std.specs.Prelude.{◌≡◌, IfOk};
 ghost use Rattle.clap.specs.Words.{app_of};
-ghost use Rattle.command_words.specs.Commands.{IsLocal, IsApp, HasShape, with_files, with_limits, with_quiet, with_deck, with_values, with_bounds, with_form, with_names, with_text};
-ghost use Rattle.command_words.specs.CommandLine.{run_shape, check_shape, serve_shape, schema_shape, explain_shape, deck_shape, list_shape, cobol_shape, load_shape, stat_shape, versioned_shape, program_shape, runs_app, lists_app, records_app, program_app};
+ghost use Rattle.command_words.specs.Commands.{IsLocal, IsApp, HasShape, with_files, with_limits, with_quiet};
+ghost use Rattle.command_words.specs.Commands.{with_deck, with_values, with_bounds, with_form, with_names};
+ghost use Rattle.command_words.specs.Commands.{with_text};
+ghost use Rattle.command_words.specs.CommandLine.{run_shape, check_shape, serve_shape, schema_shape};
+ghost use Rattle.command_words.specs.CommandLine.{explain_shape, deck_shape, list_shape, cobol_shape};
+ghost use Rattle.command_words.specs.CommandLine.{load_shape, stat_shape, versioned_shape, program_shape};
+ghost use Rattle.command_words.specs.CommandLine.{runs_app, lists_app, records_app, program_app};
 
 use crate::arguments::{deck, first, flag, folder, name, number, option, text, usual, word, words};
 use crate::help::{

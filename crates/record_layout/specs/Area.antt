@@ -1,7 +1,8 @@
 -- The record area: how it begins, and what MOVE does to it.
 -- ANSI X3.23-1985, Nucleus module, MOVE statement, general rules: alphanumeric and numeric moves;
 -- figurative constants.
-use Rattle.std.specs.Prelude.{ℕ, ◌+◌, Bool, true, not, List, ◌++◌, length, take, drop, replicate, fold, if◌then◌else◌}
+use Rattle.std.specs.Prelude.{ℕ, ◌+◌, Bool, true, not, List, ◌++◌, length, take, drop, replicate, fold}
+use Rattle.std.specs.Prelude.{if◌then◌else◌}
 use Rattle.std.specs.Borrow.{Bor}
 use Rattle.record_layout.specs.declared.item.Field.{Field}
 use Rattle.record_layout.specs.Layout.{Placed}

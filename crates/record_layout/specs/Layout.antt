@@ -1,7 +1,8 @@
 -- The places of the items of a record.
 -- ANSI X3.23-1985, Nucleus module, data description entry, level-number: an item without a picture
 -- is a group, of the items of one greater level number that follow it.
-use Rattle.std.specs.Prelude.{◌≡◌, ℕ, ◌+◌, ◌<◌, ◌≤◌, Bool, true, false, List, [], ◌∷◌, ◌++◌, bytes_eq, Option, Some, None, option_map, IsTrue, IsFalse, All, if◌then◌else◌}
+use Rattle.std.specs.Prelude.{◌≡◌, ℕ, ◌+◌, ◌<◌, ◌≤◌, Bool, true, false, List, [], ◌∷◌, ◌++◌, bytes_eq, Option}
+use Rattle.std.specs.Prelude.{Some, None, option_map, IsTrue, IsFalse, All, if◌then◌else◌}
 use Rattle.std.specs.List.{list_any}
 use Rattle.record_layout.specs.declared.item.Item.{Item}
 use Rattle.record_layout.specs.declared.item.Field.{Field}

@@ -1,11 +1,13 @@
 -- Which fault a list of data description entries has: they are looked at in order, each by the
 -- tests below in their order. `before` is always the entries before, the nearest first.
 -- ANSI X3.23-1985, Nucleus module, data description entry, level-number. The order of the tests is ours.
-use Rattle.std.specs.Prelude.{◌≡◌, ◌≢◌, ℕ, ◌+◌, ◌<◌, ◌≤◌, ◌==◌, Bool, true, false, not, ◌||◌, ◌&&◌, ◌⊎◌, List, [], ◌∷◌, nat_le, Option, Some, None, is_none, IsTrue, MatchBool}
+use Rattle.std.specs.Prelude.{◌≡◌, ◌≢◌, ℕ, ◌+◌, ◌<◌, ◌≤◌, ◌==◌, Bool, true, false, not, ◌||◌, ◌&&◌, ◌⊎◌, List}
+use Rattle.std.specs.Prelude.{[], ◌∷◌, nat_le, Option, Some, None, is_none, IsTrue, MatchBool}
 use Rattle.std.specs.List.{find}
 use Rattle.std.specs.Option.{option_map_or}
 use Rattle.record_layout.specs.declared.fault.LayoutFault.{LayoutFault}
-use Rattle.record_layout.specs.declared.fault.LayoutFault.TheVariants.{BadPicture, BadLevel, TooLong, DuplicateName, Empty, Memory}
+use Rattle.record_layout.specs.declared.fault.LayoutFault.TheVariants.{BadPicture, BadLevel, TooLong}
+use Rattle.record_layout.specs.declared.fault.LayoutFault.TheVariants.{DuplicateName, Empty, Memory}
 use Rattle.record_layout.specs.declared.picture.Picture.{Picture}
 use Rattle.record_layout.specs.Picture.{IsPicture, IsTooLong, IsBad}
 use Rattle.record_layout.specs.Layout.{Entry, Placed, is_name_of, IsLayout}

@@ -1,6 +1,7 @@
 -- How the items of a record are placed: first each by itself, where the pictures before it end, and
 -- then each group gets the length of its members.
-use Rattle.std.specs.Prelude.{◌≡◌, ℕ, ◌+◌, ◌≤◌, false, List, [], ◌∷◌, map, nat_lt, Option, Some, None, is_none, Result, Ok, Err, IsTrue, IsFalse, if◌then◌else◌}
+use Rattle.std.specs.Prelude.{◌≡◌, ℕ, ◌+◌, ◌≤◌, false, List, [], ◌∷◌, map, nat_lt, Option, Some, None}
+use Rattle.std.specs.Prelude.{is_none, Result, Ok, Err, IsTrue, IsFalse, if◌then◌else◌}
 use Rattle.std.specs.Global.{Vec}
 use Rattle.record_layout.specs.declared.fault.LayoutFault.{LayoutFault}
 use Rattle.record_layout.specs.declared.item.Field.{Field}

@@ -1,6 +1,8 @@
 -- The keys of a file's records, and the values of a record's keys.
 -- ANSI X3.23-1985, Indexed I-O module, FILE-CONTROL entry: RECORD KEY and ALTERNATE RECORD KEY clauses.
-use Rattle.std.specs.Prelude.{◌≡◌, ℕ, ◌+◌, ◌<◌, ◌≤◌, ◌==◌, Bool, false, not, ◌&&◌, if◌then◌else◌, List, [], ◌∷◌, length, take, drop, nat_le, slice_index_or, Option, position, IfSome, All, AllPairs, refl}
+use Rattle.std.specs.Prelude.{◌≡◌, ℕ, ◌+◌, ◌<◌, ◌≤◌, ◌==◌, Bool, false, not, ◌&&◌, if◌then◌else◌, List, []}
+use Rattle.std.specs.Prelude.{◌∷◌, length, take, drop, nat_le, slice_index_or, Option, position, IfSome, All}
+use Rattle.std.specs.Prelude.{AllPairs, refl}
 use Rattle.std.specs.Coded.{Coded, code_by, coded×, coded_ℕ, coded_bool, coded_list}
 use Rattle.std.specs.Cmp.Lexicographic.{pointwise}
 use Rattle.record_layout.specs.declared.item.Field.{Field}

@@ -4,12 +4,14 @@
 -- ANSI X3.23-1985, Indexed I-O module, FILE-CONTROL entry: the leftmost character of no key is that
 -- of another; RECORD clause: each key is within the least record length. The limits of 250
 -- characters and 8 alternate keys are ours.
-use Rattle.std.specs.Prelude.{◌≡◌, ℕ, ◌+◌, ◌==◌, Bool, false, List, [], ◌∷◌, ◌++◌, length, nat_lt, Option, Some, None, Result, Ok, Err, IsPermutation, if◌then◌else◌}
+use Rattle.std.specs.Prelude.{◌≡◌, ℕ, ◌+◌, ◌==◌, Bool, false, List, [], ◌∷◌, ◌++◌, length, nat_lt, Option}
+use Rattle.std.specs.Prelude.{Some, None, Result, Ok, Err, IsPermutation, if◌then◌else◌}
 use Rattle.std.specs.List.{list_any}
 use Rattle.arrayvec.specs.ArrayString.{ArrayString as Text}
 use Rattle.arrayvec.specs.ArrayVec.{ArrayVec}
 use Rattle.record_layout.specs.declared.fault.SchemaFault.{SchemaFault}
-use Rattle.record_layout.specs.declared.fault.SchemaFault.TheVariants.{NoSuchField, KeyTooLong, SameLeftmost, TooManyKeys, KeyPastLeast}
+use Rattle.record_layout.specs.declared.fault.SchemaFault.TheVariants.{NoSuchField, KeyTooLong, SameLeftmost}
+use Rattle.record_layout.specs.declared.fault.SchemaFault.TheVariants.{TooManyKeys, KeyPastLeast}
 use Rattle.record_layout.specs.declared.item.Field.{Field}
 use Rattle.record_layout.specs.declared.schema.KeyPart.{KeyPart}
 use Rattle.record_layout.specs.Layout.{Placed, field_of, length_of}

@@ -1,7 +1,8 @@
 //! Where a data description entry may stand behind others.
 ghost use Rattle.std.specs.Prelude.{◌≡◌, map, reverse, IsTrue, OnOk, IfErr};
 ghost use Rattle.record_layout.specs.Layout.{entry_of};
-ghost use Rattle.record_layout.specs.LayoutFault.{is_behind_empty, is_open_level, is_level_fit, is_in_place, is_unfinished, IsFaultOfPlace};
+ghost use Rattle.record_layout.specs.LayoutFault.{is_behind_empty, is_open_level, is_level_fit, is_in_place};
+ghost use Rattle.record_layout.specs.LayoutFault.{is_unfinished, IsFaultOfPlace};
 ghost use Rattle.record_layout.specs.NamesInOrder.{HasNamesOf};
 
 use crate::fault::LayoutFault;

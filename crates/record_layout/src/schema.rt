@@ -57,10 +57,12 @@ impl KeyPart {
 }
 
 impl Schema {
-    ghost use Rattle.std.specs.Prelude.{◌≡◌, ◌<◌, ◌≤◌, ◌↔◌, length, IsTrue, IsSome, IfSome, IfOk, IfErr, map, option_map, ℕ};
+    ghost use Rattle.std.specs.Prelude.{◌≡◌, ◌<◌, ◌≤◌, ◌↔◌, length, IsTrue, IsSome, IfSome, IfOk, IfErr, map};
+    ghost use Rattle.std.specs.Prelude.{option_map, ℕ};
     ghost use Rattle.record_layout.specs.Layout.{length_of};
     ghost use Rattle.record_layout.specs.SchemaFault.{clause_of, GivesFault, GivesSchema};
-    ghost use Rattle.record_layout.specs.Schema.{IsSchema, IsKey, schema_of_fields, key_at, value_of, same_schema, key_of_field, key_led_by};
+    ghost use Rattle.record_layout.specs.Schema.{IsSchema, IsKey, schema_of_fields, key_at, value_of};
+    ghost use Rattle.record_layout.specs.Schema.{same_schema, key_of_field, key_led_by};
 
     /// The schema of records that are all as long as the layout, with these items for their keys.
     /// An alternate key is an item's name, and whether its clause says WITH DUPLICATES.
