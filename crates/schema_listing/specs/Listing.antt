@@ -1,11 +1,14 @@
 -- What is told of a file by its first page, and written. All of this is ours.
-use Rattle.std.specs.Prelude.{◌≡◌, ℕ, List, take, length, nat_lt, codes, bytes_eq, Option, Some, None, Result, Ok, Err, if◌then◌else◌}
+use Rattle.std.specs.Prelude.{◌≡◌, ◌≢◌, ℕ, List, take, length, nat_lt, codes, bytes_eq, Option, Some, None}
+use Rattle.std.specs.Prelude.{Result, Ok, Err, IfSome, IfOk, if◌then◌else◌}
 use Rattle.std.specs.Io.KnownBytes.{Appends}
 use Rattle.file_header.specs.declared.header.Header.{Header}
 use Rattle.file_header.specs.Reading.{header_in}
 use Rattle.schema_listing.specs.Lines.{lines_of}
 use Rattle.schema_listing.specs.declared.first_page.Refusal.{Refusal}
 use Rattle.schema_listing.specs.declared.first_page.Refusal.TheVariants.{Short, Gate, Header as NoHeader}
+use Rattle.schema_listing.specs.declared.listing.ListingFault.{ListingFault}
+use Rattle.schema_listing.specs.declared.listing.ListingFault.TheVariants.{Output, Memory}
 
 -- the numbers by which reasons are told are those of a check
 abbrev pub number_of : Refusal → ℕ
@@ -38,3 +41,16 @@ abbrev pub Tells : Option (List ℕ) → Option (List ℕ) → Result Header Ref
 Tells before after (Ok header) (Ok _) = Appends before after (lines_of header)
 Tells before after (Err why) (Err told) = (told ≡ why) × (after ≡ before)
 Tells before after read told = ⊥
+
+-- an answer of a call that writes lines: where it lacks memory, it leaves the writer as it was
+abbrev pub WritesLines : {W : Type 0} → (old new : W) → (before after : Option (List ℕ)) → List ℕ
+    → Result Unit ListingFault → Type 0
+WritesLines old new before after lines (Ok _) = Appends before after lines
+WritesLines old new before after lines (Err fault) =
+    fault ≢ Output → (fault ≡ Memory) × (new ≡ old)
+
+-- what was written by what a reader has, where that is known
+abbrev pub TellsOfReader : (known before after : Option (List ℕ)) → Result (Result Unit Refusal) ListingFault
+    → Type 0
+TellsOfReader known before after result =
+    IfSome known (λ bytes. IfOk result (Tells before after (read_in bytes)))

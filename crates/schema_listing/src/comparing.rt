@@ -1,10 +1,8 @@
 //! The schema of a file, held against that of a deck.
-ghost use Rattle.std.specs.Prelude.{◌≡◌, ◌≢◌, IfOk, IfErr, OnOk, OnErr};
-ghost use Rattle.std.specs.Option.{IfSome};
-ghost use Rattle.std.specs.Io.KnownBytes.{Appends};
+ghost use Rattle.std.specs.Prelude.{◌≡◌, ◌≢◌, IfOk, IfErr, OnErr};
 ghost use Rattle.schema_listing.specs.Differences.{differences};
-ghost use Rattle.schema_listing.specs.Comparing.{comparison_of, TellsDifferences};
-ghost use Rattle.schema_listing.specs.Listing.{read_in};
+ghost use Rattle.schema_listing.specs.Comparing.{comparison_of, ComparesReader};
+ghost use Rattle.schema_listing.specs.Listing.{WritesLines};
 
 use crate::differences::difference_lines;
 use crate::first_page::Refusal;
@@ -40,10 +38,8 @@ fn write_differences<W: Write>(
     deck: &Schema,
     out: &mut W,
 ) -> Result<(), ListingFault>
-    ensures written { OnOk result (Appends (W.contents out.old) (W.contents out.new)
-        (differences file.now deck.now)) }
-    ensures memory { IfErr result (λ fault. fault ≢ ListingFault.Output → (fault ≡ ListingFault.Memory)
-        × (out.new ≡ out.old)) }
+    ensures { WritesLines out.old out.new (W.contents out.old) (W.contents out.new)
+        (differences file.now deck.now) result }
 {
     let Ok(lines) = difference_lines(alloc, file, deck) else {
         return Err(ListingFault::Memory);
@@ -65,8 +61,8 @@ pub fn compare_schema<R: Read + Drop, W: Write>(
     deck: &Schema,
     out: &mut W,
 ) -> Result<Result<Comparison, Refusal>, ListingFault>
-    ensures told { IfSome (R.remaining reader) (λ bytes.
-        IfOk result (TellsDifferences deck.now (W.contents out.old) (W.contents out.new) (read_in bytes))) }
+    ensures told { ComparesReader deck.now (R.remaining reader) (W.contents out.old) (W.contents out.new)
+        result }
     ensures refused { IfOk result (λ told. OnErr told (out.new ≡ out.old)) }
     ensures fault { IfErr result (λ fault. fault ≢ ListingFault.Output → out.new ≡ out.old) }
 {

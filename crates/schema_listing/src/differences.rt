@@ -1,7 +1,9 @@
 //! The differences of two schemas.
 ghost use Rattle.std.specs.Prelude.{◌≡◌, ◌++◌, ◌+◌, ◌≤◌, [], length, decimal, codes, OnOk, IfOk};
 ghost use Rattle.record_layout.specs.Schema.{same_schema};
-ghost use Rattle.schema_listing.specs.Differences.{record_difference, number_difference, kind_of, kind_difference, key_difference, key_text, key_of_file, key_of_deck, key_differences, differences, is_none};
+ghost use Rattle.schema_listing.specs.Differences.{record_difference, number_difference, kind_of};
+ghost use Rattle.schema_listing.specs.Differences.{kind_difference, key_difference, key_text, key_of_file};
+ghost use Rattle.schema_listing.specs.Differences.{key_of_deck, key_differences, differences, is_none};
 
 use crate::lines::{add, add_lengths, add_number};
 use record_layout::{KeyPart, Schema};

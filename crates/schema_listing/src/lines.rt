@@ -1,7 +1,9 @@
 //! The lines.
 ghost use Rattle.std.specs.Prelude.{◌≡◌, ◌++◌, ◌+◌, ◌*◌, ◌≤◌, length, decimal, OnOk, IfOk};
 ghost use Rattle.file_header.specs.Bounds.{IsHeader};
-ghost use Rattle.schema_listing.specs.Lines.{lengths_text, record_line, kind_text, place_text, tree_text, key_line, key_lines, number_text, number_line, count_lines, lines_of};
+ghost use Rattle.schema_listing.specs.Lines.{lengths_text, record_line, kind_text, place_text, tree_text};
+ghost use Rattle.schema_listing.specs.Lines.{key_line, key_lines, number_text, number_line, count_lines};
+ghost use Rattle.schema_listing.specs.Lines.{lines_of};
 
 use file_header::{Header, TreeNumbers};
 use itoa::Buffer;

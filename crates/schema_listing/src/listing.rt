@@ -1,10 +1,9 @@
 //! What is told of a file by its first page.
-ghost use Rattle.std.specs.Prelude.{◌≡◌, ◌≢◌, take, IfOk, IfErr, OnOk, OnErr};
+ghost use Rattle.std.specs.Prelude.{◌≡◌, ◌≢◌, take, IfOk, IfErr, OnErr};
 ghost use Rattle.std.specs.Option.{IfSome};
-ghost use Rattle.std.specs.Io.KnownBytes.{Appends};
 ghost use Rattle.file_header.specs.Bounds.{IsHeader};
 ghost use Rattle.schema_listing.specs.Lines.{lines_of};
-ghost use Rattle.schema_listing.specs.Listing.{read_front, read_in, Tells};
+ghost use Rattle.schema_listing.specs.Listing.{read_front, WritesLines, TellsOfReader};
 
 use crate::first_page::{Refusal, header_of};
 use crate::lines::schema_lines;
@@ -67,9 +66,8 @@ pub fn header_in(bytes: &[u8]) -> Result<Header, Refusal>
 /// Writes the lines that tell of a file by its header.
 fn write_lines<W: Write>(alloc: Global, header: &Header, out: &mut W) -> Result<(), ListingFault>
     requires { IsHeader header.now }
-    ensures written { OnOk result (Appends (W.contents out.old) (W.contents out.new) (lines_of header.now)) }
-    ensures memory { IfErr result (λ fault. fault ≢ ListingFault.Output → (fault ≡ ListingFault.Memory)
-        × (out.new ≡ out.old)) }
+    ensures { WritesLines out.old out.new (W.contents out.old) (W.contents out.new)
+        (lines_of header.now) result }
 {
     let Ok(lines) = schema_lines(alloc, header) else {
         return Err(ListingFault::Memory);
@@ -90,8 +88,7 @@ pub fn list_schema<R: Read + Drop, W: Write>(
     reader: R,
     out: &mut W,
 ) -> Result<Result<(), Refusal>, ListingFault>
-    ensures told { IfSome (R.remaining reader) (λ bytes.
-        IfOk result (Tells (W.contents out.old) (W.contents out.new) (read_in bytes))) }
+    ensures told { TellsOfReader (R.remaining reader) (W.contents out.old) (W.contents out.new) result }
     ensures refused { IfOk result (λ told. OnErr told (out.new ≡ out.old)) }
     ensures fault { IfErr result (λ fault. fault ≢ ListingFault.Output → out.new ≡ out.old) }
 {
