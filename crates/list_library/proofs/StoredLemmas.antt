@@ -5,7 +5,7 @@ use Rattle.std.proofs.lemmas.Option.{slice_get-get_or}
 use Rattle.record_layout.specs.Schema.{Schema, prime_of}
 use Rattle.indexed_file.specs.File.{Row, File}
 use Rattle.indexed_file.specs.Sound.{is_length}
-use Rattle.list_library.specs.Stored.{IsStored, IsFit}
+use Rattle.list_library.specs.Stored.{IsStored, IsFit, FitsSchema}
 use Rattle.indexed_file.specs.Change.{clashes, clashes_with_others, added, replaced, removed, row_of}
 use Rattle.indexed_file.proofs.SoundLemmas.{row_length, added_is_file, replaced_is_file, removed_is_file}
 
@@ -32,11 +32,11 @@ fit_length schema n h k = grind (arith, nat_tests)
 
 -- a record that was added leaves a stored file
 pub added_stored :
-    (schema : Schema) (bytes : List ℕ) (file : File) → IsStored schema file → schema.least ≤ length bytes → length bytes ≤ schema.greatest
+    (schema : Schema) (bytes : List ℕ) (file : File) → IsStored schema file → FitsSchema schema bytes
     → clashes schema bytes file.rows ≡ false → file.next_stamp < 2 ^ 63 → IsStored schema (added schema bytes file)
-added_stored schema bytes file stored least greatest clash room = record {
+added_stored schema bytes file stored fits clash room = record {
   keys = stored.keys;
-  sound = added_is_file schema bytes file stored.keys stored.sound (fit_length schema (length bytes) least greatest) clash;
+  sound = added_is_file schema bytes file stored.keys stored.sound (fit_length schema (length bytes) fits.least fits.greatest) clash;
   stamp = omega arith;
 }
 
@@ -46,11 +46,11 @@ removed_stored schema prime file stored = record { keys = stored.keys; sound = r
 
 -- and one that was replaced
 pub replaced_stored :
-    (schema : Schema) (bytes : List ℕ) (row : Row) (file : File) → IsStored schema file → schema.least ≤ length bytes → length bytes ≤ schema.greatest
+    (schema : Schema) (bytes : List ℕ) (row : Row) (file : File) → IsStored schema file → FitsSchema schema bytes
     → row_of schema (prime_of schema bytes) file ≡ Some row → clashes_with_others schema bytes file ≡ false
     → (replaced schema bytes row file).next_stamp ≤ 2 ^ 63 → IsStored schema (replaced schema bytes row file)
-replaced_stored schema bytes row file stored least greatest there clash room = record {
+replaced_stored schema bytes row file stored fits there clash room = record {
   keys = stored.keys;
-  sound = replaced_is_file schema bytes row file stored.keys stored.sound (fit_length schema (length bytes) least greatest) there clash;
+  sound = replaced_is_file schema bytes row file stored.keys stored.sound (fit_length schema (length bytes) fits.least fits.greatest) there clash;
   stamp = room;
 }

@@ -1,5 +1,6 @@
 //! A file in memory.
-ghost use Rattle.std.specs.Prelude.{◌≡◌, ◌≤◌, ◌<◌, length, filter, is_some, ◌+◌, ◌^◌, ◌&&◌, nat_le, IsFalse, if◌then◌else◌, OnOk, OnErr, IsOkUnless};
+ghost use Rattle.std.specs.Prelude.{◌≡◌, ◌≤◌, ◌<◌, length, filter, is_some, ◌+◌, ◌^◌, ◌&&◌, nat_le};
+ghost use Rattle.std.specs.Prelude.{IsFalse, if◌then◌else◌, OnOk, OnErr, IsOkUnless};
 ghost use Rattle.std.specs.List.{prefix_len};
 ghost use Rattle.indexed_file.specs.Rank.{lowest, has_value};
 ghost use Rattle.indexed_file.specs.Change.{inserted, others_in};
@@ -42,11 +43,11 @@ const STAMPS_END: u64 = 1 << 63;
 
 #[tactic(auto, using(crate::proofs::StoredLemmas::row_fits, crate::proofs::StoredLemmas::row_at_place))]
 impl ListFile {
-    ghost use Rattle.std.specs.Prelude.{◌≡◌, ◌≤◌, ◌<◌, length, slice_get, Some, option_map, IsTrue};
+    ghost use Rattle.std.specs.Prelude.{◌≡◌, ◌<◌, length, slice_get, Some, option_map, IsTrue};
     ghost use Rattle.indexed_file.specs.File.{empty_file};
     ghost use Rattle.indexed_file.specs.Rank.{highest_of};
     ghost use Rattle.list_library.specs.Wanted.{first_wanted, found_wanted, key_wanted};
-    ghost use Rattle.list_library.specs.Stored.{IsFit};
+    ghost use Rattle.list_library.specs.Stored.{IsFit, FitsSchema};
     ghost use Rattle.indexed_file.specs.Sound.{is_file};
     ghost use Rattle.indexed_file.specs.FileChange.{addition, replacement, removal};
     ghost use Rattle.list_library.specs.Stored.{ChangesStored, stored_changed};
@@ -125,8 +126,7 @@ impl ListFile {
     /// Adds a record, unless its value of a key that has to be unique is there. `Full` where the
     /// stamps have run out; at `Full` and at `Memory` nothing is changed.
     pub fn add(&mut self, alloc: Global, bytes: &[u8]) -> Result<Added, Fault>
-        requires least { self.old.schema.least ≤ length bytes.now }
-        requires greatest { length bytes.now ≤ self.old.schema.greatest }
+        requires { FitsSchema self.old.schema bytes.now }
         ensures { ChangesStored (addition self.old.schema bytes.now) self.old self.new result }
     {
         if clashes(&self.schema, bytes, self.rows.as_slice()) {
@@ -145,8 +145,7 @@ impl ListFile {
     /// Puts a record in the place of that of its prime value. `Full` where a stamp is needed and
     /// they have run out; at `Full` and at `Memory` nothing is changed.
     pub fn replace(&mut self, alloc: Global, bytes: &[u8]) -> Result<Replaced, Fault>
-        requires least { self.old.schema.least ≤ length bytes.now }
-        requires greatest { length bytes.now ≤ self.old.schema.greatest }
+        requires { FitsSchema self.old.schema bytes.now }
         ensures { ChangesStored (replacement self.old.schema bytes.now) self.old self.new result }
     {
         let prime = value(&self.schema, 0, bytes);

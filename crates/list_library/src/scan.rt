@@ -1,8 +1,7 @@
 //! Scans of all rows.
 ghost use Rattle.std.specs.Prelude.{◌≡◌, ◌<◌, true, false, Some, Option, length, IfSome};
-ghost use Rattle.indexed_file.specs.Rank.{lowest, lower_of, highest_of};
-ghost use Rattle.list_library.specs.Wanted.{lowest_wanted};
-ghost use Rattle.list_library.specs.Scans.{row_at, prime_at, IsGreater, IsNotGreater};
+ghost use Rattle.indexed_file.specs.Rank.{lower_of};
+ghost use Rattle.list_library.specs.Scans.{row_at, IsGreater, IsNotGreater, IsLowestPlace, IsHighestPlace};
 
 use crate::list_row::ListRow;
 use crate::wanted::{Wanted, comes_before, value};
@@ -24,8 +23,7 @@ fn is_lower(schema: &Schema, k: u8, row: &ListRow, rows: &[ListRow], best: Optio
 /// The place of the row of least rank by key k among those wanted.
 #[tactic(auto, using(crate::proofs::ScanLemmas::scan_passed, crate::proofs::ScanLemmas::scan_failed, crate::proofs::ScanLemmas::row_here))]
 pub fn lowest(schema: &Schema, k: u8, wanted: &Wanted, rows: &[ListRow]) -> Option<usize>
-    ensures bound { IfSome result (λ i. i < length rows.now) }
-    ensures lowest { row_at rows.now result ≡ lowest_wanted schema.now k wanted.now rows.now }
+    ensures { IsLowestPlace schema.now k wanted.now rows.now result }
 {
     let mut best = None;
     let mut i = rows.len();
@@ -58,8 +56,7 @@ fn is_higher(schema: &Schema, row: &ListRow, rows: &[ListRow], best: Option<usiz
 /// The place of the row of the greatest prime value.
 #[tactic(auto, using(crate::proofs::ScanLemmas::highest_from, crate::proofs::ScanLemmas::row_here))]
 pub fn highest(schema: &Schema, rows: &[ListRow]) -> Option<usize>
-    ensures bound { IfSome result (λ i. i < length rows.now) }
-    ensures highest { prime_at schema.now rows.now result ≡ highest_of schema.now rows.now }
+    ensures { IsHighestPlace schema.now rows.now result }
 {
     let mut best = None;
     let mut i = rows.len();

@@ -1,11 +1,11 @@
-use Rattle.std.proofs.Common.{◌≡◌, ◌≤◌, ◌^◌, sym, subst, length, slice_set, Ok, None, rules, arith}
+use Rattle.std.proofs.Common.{◌≡◌, ◌≤◌, ◌^◌, sym, subst, slice_set, Ok, None, rules, arith}
 use Rattle.std.proofs.lemmas.Grind.{common_steps}
 use Rattle.record_layout.specs.Schema.{prime_of}
 use Rattle.indexed_file.specs.declared.answer.Replaced.TheVariants.{Done, Clash}
 use Rattle.indexed_file.specs.Change.{row_of}
 use Rattle.indexed_file.specs.FileChange.{replacement}
 use Rattle.indexed_file.specs.File.{File}
-use Rattle.list_library.specs.Stored.{Stored, ChangesStored}
+use Rattle.list_library.specs.Stored.{Stored, FitsSchema, ChangesStored}
 use Rattle.list_library.proofs.StoredLemmas.{replaced_stored}
 use Rattle.list_library.proofs.ReplacingLemmas.{found_there, gone_changes, clash_changes, done_changes, replaced_file, row_read}
 use Rattle.list_library.proofs.list_file.ListFile.replace.Goals as goal
@@ -34,9 +34,8 @@ invariant_of-self c =
     let row = rw (row_read s.file.rows c.in-Some.place f.0 c.index-3.result.now within f.1 c.index-3.ensures) at c.in_ok-row.ensures.row in
     let file = replaced_file s.schema c.args.bytes.now s.file.rows s.file.next_stamp c.in-Some.place f.0 c.in_ok-row.row c.takes_stamp-takes.result c.stamp_after-self-inside.result
     c.self.invariant f.1 f.2 row takes c.stamp_after-self-inside.ensures.after in
-    let least = subst (λ (s : Stored). s.schema.least ≤ length c.args.bytes.now) (sym c.self.view_is) c.requires.least in
-    let greatest = subst (λ (s : Stored). length c.args.bytes.now ≤ s.schema.greatest) (sym c.self.view_is) c.requires.greatest in
-    rw file (replaced_stored s.schema c.args.bytes.now f.0 s.file c.self.invariant least greatest f.2 (sym clash) (subst (λ (g : File). g.next_stamp ≤ 2 ^ 63) file c.stamp_after-self-inside.ensures.limit))
+    let fits = subst (λ (s : Stored). FitsSchema s.schema c.args.bytes.now) (sym c.self.view_is) c.requires in
+    rw file (replaced_stored s.schema c.args.bytes.now f.0 s.file c.self.invariant fits f.2 (sym clash) (subst (λ (g : File). g.next_stamp ≤ 2 ^ 63) file c.stamp_after-self-inside.ensures.limit))
 
 pub returns : goal.returns
 returns c =
