@@ -1,6 +1,8 @@
 -- What a unit of a list library shows.
 use Rattle.indexed_file.specs.Rank.{highest_of}
-use Rattle.std.specs.Prelude.{◌≡◌, ℕ, Bool, true, false, List, [], ◌∷◌, bytes_eq, Option, Some, None, unwrap_or, Result, Err, OnOk, IfOk, IfErr, IsTrue, IsFalse, if◌then◌else◌}
+use Rattle.std.specs.Prelude.{◌≡◌, ℕ, Bool, true, false, List, [], ◌∷◌, bytes_eq, Option, Some, None}
+use Rattle.std.specs.Prelude.{unwrap_or, Result, Err, OnOk, IfOk, IfErr, IsTrue, IsFalse, if◌then◌else◌}
+use Rattle.std.specs.List.{list_all}
 use Rattle.list_library.specs.declared.list_unit.UnitState.{UnitState}
 use Rattle.list_library.specs.declared.list_unit.UnitState.TheVariants.{IsShut, IsLooked, IsOpened, IsBroken}
 use Rattle.io_state.specs.declared.fault.Fault.{Fault}
@@ -9,7 +11,9 @@ use Rattle.indexed_file.specs.File.{File, empty_file}
 use Rattle.indexed_file.specs.FileChange.{FileChange, has_room_for, LacksRoomFor}
 use Rattle.indexed_file.specs.Room.{Endless}
 use Rattle.list_library.specs.Stored.{Stored}
-use Rattle.indexed_file.specs.World.{Named, Absent, Closed, Unsound, Holding, Shut, Looked, Opened, Broken, FileUnit, file_in, schema_in, is_broken}
+use Rattle.indexed_file.specs.SoundWorld.{is_sound_unit}
+use Rattle.indexed_file.specs.World.{Named, Absent, Closed, Unsound, Holding, Shut, Looked, Opened, Broken}
+use Rattle.indexed_file.specs.World.{FileUnit, file_in, schema_in, is_broken}
 
 -- a name stands for its file, unless that was changed since
 abbrev pub named_by : Bool → Option Stored → Named
@@ -58,6 +62,13 @@ absent_unit name = record { name = name; named = Absent; holding = Shut }
 -- a unit that is shut, and stands for what its name stands for among these units
 abbrev pub in_place_among : List FileUnit → List ℕ → FileUnit
 in_place_among units name = record { name = name; named = named_among units name; holding = Shut }
+
+-- a unit is now what stood for this name among the others; they keep every other name, and are
+-- sound where they were
+pub record TakesPlace (own : List ℕ) (now : FileUnit) (old new : List FileUnit) : Type 0 where
+  pub unit : now ≡ in_place_among old own
+  pub others : KeepsNamesBut own old new
+  pub sound : IsTrue (list_all is_sound_unit old) → IsTrue (list_all is_sound_unit new)
 
 -- the file that a unit holds, with no rows where there is none
 abbrev pub rows_in : Holding → File

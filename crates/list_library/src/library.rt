@@ -3,7 +3,7 @@ ghost use Rattle.std.specs.Prelude.{◌≡◌, ℕ, List, map, bytes_eq, IfOk, I
 ghost use Rattle.std.specs.List.{IsDistinct, position, list_all};
 ghost use Rattle.indexed_file.specs.World.{name_in};
 ghost use Rattle.indexed_file.specs.SoundWorld.{is_sound_unit};
-ghost use Rattle.list_library.specs.Units.{absent_unit, in_place_among, named_among, KeepsNamesBut};
+ghost use Rattle.list_library.specs.Units.{absent_unit, in_place_among, named_among, TakesPlace};
 
 use crate::list_unit::ListUnit;
 use crate::wanted::Wanted;
@@ -70,9 +70,7 @@ fn place_of(units: &[ListUnit], unit: &ListUnit) -> Option<usize>
 /// Lets a unit that stands for nothing change places with the first of the others that has its name.
 fn take_place(unit: &mut ListUnit, others: &mut [ListUnit])
     requires { unit.old ≡ absent_unit unit.old.name }
-    ensures unit { unit.new ≡ in_place_among others.old unit.old.name }
-    ensures others { KeepsNamesBut unit.old.name others.old others.new }
-    ensures sound { IsTrue (list_all is_sound_unit others.old) → IsTrue (list_all is_sound_unit others.new) }
+    ensures { TakesPlace unit.old.name unit.new others.old others.new }
 {
     if let Some(place) = place_of(others, unit) {
         mem::swap(unit, &mut others[place]);
