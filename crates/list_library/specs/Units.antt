@@ -6,7 +6,8 @@ use Rattle.std.specs.List.{list_all}
 use Rattle.list_library.specs.declared.list_unit.UnitState.{UnitState}
 use Rattle.list_library.specs.declared.list_unit.UnitState.TheVariants.{IsShut, IsLooked, IsOpened, IsBroken}
 use Rattle.io_state.specs.declared.fault.Fault.{Fault}
-use Rattle.io_state.specs.declared.fault.Fault.TheVariants.{Device, Memory, Full, Damage, Broken as BrokenUnit}
+use Rattle.io_state.specs.declared.fault.Fault.TheVariants.{Device, Memory, Full, Damage}
+use Rattle.io_state.specs.declared.fault.Fault.TheVariants.{Broken as BrokenUnit}
 use Rattle.indexed_file.specs.File.{File, empty_file}
 use Rattle.indexed_file.specs.FileChange.{FileChange, has_room_for, LacksRoomFor}
 use Rattle.indexed_file.specs.Room.{Endless}

@@ -47,7 +47,8 @@ impl ListUnit {
     ghost use Rattle.indexed_file.specs.World.{opened_from, schema_in};
     ghost use Rattle.indexed_file.specs.FileChange.{addition, replacement, removal};
     ghost use Rattle.list_library.specs.Units.{AnswersBroken, ChangesHeld, unit_after_shut, highest_in};
-    ghost use Rattle.list_library.specs.HeldCalls.{MaySeekIn, MayFindIn, MayPutInto, FindsWanted, SeeksWanted};
+    ghost use Rattle.list_library.specs.HeldCalls.{MaySeekIn, MayFindIn, MayPutInto, FindsWanted};
+    ghost use Rattle.list_library.specs.HeldCalls.{SeeksWanted};
     ghost use Rattle.indexed_file.specs.SoundWorld.{is_sound_unit};
     ghost use Rattle.indexed_file.specs.Answers.{seen_of, looked_at};
 
