@@ -5,6 +5,7 @@ use Rattle.clap.specs.Words.{Text as Word}
 use Rattle.file_control.specs.Description.{FileDesc}
 use Rattle.deck_reader.specs.declared.deck.Deck.{Deck}
 use Rattle.deck_reader.specs.Deck.{IsDeck}
+use Rattle.file_commands.specs.Front.{OfDeck}
 use Rattle.command_outcomes.specs.declared.fault.Fault.{Fault}
 use Rattle.command_outcomes.specs.declared.fault.Fault.TheVariants.{Deck as DeckRefused, NoSuchFile, Input, Output, Memory}
 
@@ -51,3 +52,8 @@ IsDeckFault Input = ⊤
 IsDeckFault Output = ⊤
 IsDeckFault Memory = ⊤
 IsDeckFault fault = ⊥
+
+-- the deck is that of a path, or of the input where the path is a hyphen
+abbrev pub IsDeckAt : {F I : Type 0} → (F → Option (List ℕ)) → (I → Option (List ℕ)) → I → (path : List ℕ)
+    → Deck → Type 0
+IsDeckAt remaining left input path deck = OfDeck remaining (left input) path (λ bytes. IsDeck bytes deck)

@@ -71,3 +71,11 @@ IsFormRefused asked fault = ⊥
 -- why records are not listed: a value is too long, or the form is refused
 abbrev pub IsListRefused : FormText → Fault → Type 0
 IsListRefused asked fault = (fault ≡ LongValue) ⊎ IsFormRefused asked fault
+
+-- the columns are those that the words of a form ask for
+abbrev pub AreColumnsAsked : (IsRead : Word → List ℕ → Type 0) → FormText → List Column → Type 0
+AreColumnsAsked IsRead asked columns = AreColumns IsRead asked.cut asked.deck asked.name columns
+
+-- no cuts, or want of memory
+abbrev pub IsCutFault : Fault → Type 0
+IsCutFault fault = (fault ≡ NoForm Cuts) ⊎ (fault ≡ Memory)

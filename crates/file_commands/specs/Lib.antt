@@ -6,3 +6,4 @@ pub mod Records
 pub mod Listed
 pub mod Verdicts
 pub mod Schema
+pub mod Counted

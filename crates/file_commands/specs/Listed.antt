@@ -1,5 +1,5 @@
 -- What is told of a deck that is listed, or written in COBOL. All of this is ours.
-use Rattle.std.specs.Prelude.{◌≢◌, ℕ, Bool, true, false, List, Option, ⊤}
+use Rattle.std.specs.Prelude.{◌≡◌, ◌≢◌, ℕ, Bool, true, false, List, Option, Result, IfOk, IfErr, ⊤}
 use Rattle.std.specs.Io.KnownBytes.{Appends}
 use Rattle.deck_reader.specs.declared.deck.Deck.{Deck}
 use Rattle.deck_reader.specs.Deck.{IsDeck}
@@ -8,6 +8,7 @@ use Rattle.deck_diagnosis.specs.Told.{TellsOf}
 use Rattle.cobol_program.specs.Layout.{IsLaidOut}
 use Rattle.cobol_program.specs.declared.form.Form.{Form}
 use Rattle.cobol_program.specs.declared.form.Form.TheVariants.{Free, Fixed}
+use Rattle.file_commands.specs.Front.{OfDeck}
 use Rattle.command_outcomes.specs.declared.fault.Fault.{Fault}
 use Rattle.command_outcomes.specs.declared.fault.RefusedDeck.{RefusedDeck}
 use Rattle.command_outcomes.specs.declared.fault.Fault.TheVariants.{NotListed, Input, Output, Memory}
@@ -43,3 +44,25 @@ IsListFault Input = ⊤
 IsListFault Output = ⊤
 IsListFault Memory = ⊤
 IsListFault fault = ⊥
+
+-- a fault by which a deck is refused is one of these bytes
+abbrev pub IsRefusalOf : List ℕ → Fault → Type 0
+IsRefusalOf bytes fault = (told : RefusedDeck) → fault ≡ NotListed told → AreRefused bytes told
+
+-- where the deck of a path is refused, or of the input where the path is a hyphen, it is so for its bytes
+abbrev pub RefusesDeck : {F I X : Type 0} → (F → Option (List ℕ)) → (I → Option (List ℕ)) → I
+    → (path : List ℕ) → Result X Fault → Type 0
+RefusesDeck remaining left input path result = IfErr result (λ fault. (told : RefusedDeck)
+    → fault ≡ NotListed told → OfDeck remaining (left input) path (λ bytes. AreRefused bytes told))
+
+-- else its list was written
+abbrev pub WritesListAt : {F I W X : Type 0} → (F → Option (List ℕ)) → (I → Option (List ℕ)) → I
+    → (path : List ℕ) → (W → Option (List ℕ)) → (old new : W) → Result X Fault → Type 0
+WritesListAt remaining left input path contents old new result = IfOk result (λ _.
+    OfDeck remaining (left input) path (λ bytes. WritesList bytes (contents old) (contents new)))
+
+-- or a program of it, in fixed form or in free form
+abbrev pub WritesCobolAt : {F I W X : Type 0} → (F → Option (List ℕ)) → (I → Option (List ℕ)) → I
+    → (path : List ℕ) → (fixed : Bool) → (W → Option (List ℕ)) → (old new : W) → Result X Fault → Type 0
+WritesCobolAt remaining left input path fixed contents old new result = IfOk result (λ _.
+    OfDeck remaining (left input) path (λ bytes. WritesCobol bytes fixed (contents old) (contents new)))

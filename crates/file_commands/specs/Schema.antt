@@ -1,14 +1,17 @@
 -- What is told of a file by its first page, as what was done. All of this is ours.
-use Rattle.std.specs.Prelude.{◌≡◌, ℕ, List, Option, None, Result, Ok, Err, ⊤}
+use Rattle.std.specs.Prelude.{◌≡◌, ℕ, List, Option, None, Result, Ok, Err, IfOk, IfSome, ⊤}
 use Rattle.clap.specs.Words.{Text}
 use Rattle.record_layout.specs.Schema.{Schema}
 use Rattle.file_header.specs.declared.header.Header.{Header}
 use Rattle.schema_listing.specs.declared.first_page.Refusal.{Refusal}
 use Rattle.schema_listing.specs.declared.listing.ListingFault.{ListingFault}
 use Rattle.schema_listing.specs.declared.listing.ListingFault.TheVariants.{Input as Unread, Output as Unwritten, Memory as NoMemory}
-use Rattle.schema_listing.specs.Listing.{Tells}
+use Rattle.schema_listing.specs.Listing.{Tells, read_in}
+use Rattle.schema_listing.specs.declared.comparing.Comparison.{Comparison}
+use Rattle.file_control.specs.Description.{FileDesc}
 use Rattle.schema_listing.specs.Comparing.{TellsDifferences}
-use Rattle.file_commands.specs.DeckFile.{IsDeckAsked, IsHalf}
+use Rattle.file_commands.specs.DeckFile.{IsOfDeck, IsDeckAsked, IsDeckFile, IsHalf}
+use Rattle.file_commands.specs.Front.{IsDeckNamed, OfFile}
 use Rattle.command_outcomes.specs.declared.form_fault.FormFault.TheVariants.{HalfDeck}
 use Rattle.command_outcomes.specs.declared.fault.Fault.{Fault}
 use Rattle.command_outcomes.specs.declared.fault.Fault.TheVariants.{Deck as DeckRefused, NoSuchFile, Form as NoForm, Input, Output, Memory}
@@ -64,3 +67,40 @@ IsSchemaFault deck name Input = ⊤
 IsSchemaFault deck name Output = ⊤
 IsSchemaFault deck name Memory = ⊤
 IsSchemaFault deck name fault = ⊥
+
+-- of the file that a reader has
+abbrev pub TellsReader : {R W : Type 0} → (R → Option (List ℕ)) → R → (W → Option (List ℕ))
+    → (old new : W) → Result Outcome Fault → Type 0
+TellsReader remaining reader contents old new result = IfSome (remaining reader) (λ bytes.
+    IfOk result (TellsAs (contents old) (contents new) (read_in bytes)))
+
+abbrev pub ComparesReader : {R W : Type 0} → (R → Option (List ℕ)) → R → Schema → (W → Option (List ℕ))
+    → (old new : W) → Result Outcome Fault → Type 0
+ComparesReader remaining reader deck contents old new result = IfSome (remaining reader) (λ bytes.
+    IfOk result (ComparesAs deck (contents old) (contents new) (read_in bytes)))
+
+-- of some file that was opened
+abbrev pub TellsFile : {F W : Type 0} → (F → Option (List ℕ)) → (W → Option (List ℕ)) → (old new : W)
+    → Outcome → Type 0
+TellsFile remaining contents old new outcome = OfFile remaining (λ bytes.
+    TellsAs (contents old) (contents new) (read_in bytes) outcome)
+
+abbrev pub ComparesFile : {F W : Type 0} → (F → Option (List ℕ)) → Schema → (W → Option (List ℕ))
+    → (old new : W) → Outcome → Type 0
+ComparesFile remaining deck contents old new outcome = OfFile remaining (λ bytes.
+    ComparesAs deck (contents old) (contents new) (read_in bytes) outcome)
+
+-- of some file, with the file of a name in the deck of a path
+abbrev pub ComparesWithDeck : {F I W : Type 0} → (F → Option (List ℕ)) → (I → Option (List ℕ)) → I
+    → (deck name : Text) → (W → Option (List ℕ)) → (old new : W) → Outcome → Type 0
+ComparesWithDeck remaining left input deck name contents old new outcome = (described : FileDesc)
+    × IsOfDeck (IsDeckNamed remaining (left input) deck) name described
+    × ComparesFile remaining described.schema contents old new outcome
+
+-- where a deck and a name are given, and the outcome tells of a comparison
+abbrev pub ComparesAsked : {F I W : Type 0} → (F → Option (List ℕ)) → (I → Option (List ℕ)) → I
+    → (deck name : Option Text) → (W → Option (List ℕ)) → (old new : W) → Outcome → Type 0
+ComparesAsked remaining left input deck name contents old new outcome =
+    (told : Comparison) → outcome ≡ SchemaCompared told → (described : FileDesc)
+    × IsDeckFile (IsDeckNamed remaining (left input)) deck name described
+    × ComparesFile remaining described.schema contents old new outcome

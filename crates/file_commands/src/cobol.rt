@@ -1,7 +1,6 @@
 //! The deck in a file as a COBOL program.
 ghost use Rattle.std.specs.Prelude.{◌≡◌, ◌≢◌, string_bytes, IfOk, IfErr};
-ghost use Rattle.file_commands.specs.Front.{OfDeck};
-ghost use Rattle.file_commands.specs.Listed.{form_of, IsInCobol, WritesCobol, AreRefused, IsListFault};
+ghost use Rattle.file_commands.specs.Listed.{form_of, IsInCobol, IsRefusalOf, RefusesDeck, WritesCobolAt, IsListFault};
 ghost use Rattle.command_outcomes.specs.Status.{status_of};
 
 use crate::deck_list::refused;
@@ -16,8 +15,7 @@ use std::rt::Files;
 /// The program of the deck that the bytes are.
 fn program_of(alloc: Global, bytes: &[u8], form: Form) -> Result<String, Fault>
     ensures text { IfOk result (λ text. IsInCobol bytes.now form (string_bytes text)) }
-    ensures refused { IfErr result (λ fault. (told : _) → fault ≡ Fault.NotListed told
-        → AreRefused bytes.now told) }
+    ensures refused { IfErr result (IsRefusalOf bytes.now) }
     ensures fault { IfErr result IsListFault }
 {
     match write_program(alloc, bytes, form) {
@@ -45,10 +43,9 @@ pub fn write_cobol<R: Files, I: Read, W: Write>(
     out: &mut W,
 ) -> Result<Outcome, Fault>
     ensures done { IfOk result (λ outcome. outcome ≡ Outcome.InCobol) }
-    ensures written { IfOk result (λ _. OfDeck R.File.remaining (I.remaining input.old) path.now
-        (λ bytes. WritesCobol bytes fixed (W.contents out.old) (W.contents out.new))) }
-    ensures refused { IfErr result (λ fault. (told : _) → fault ≡ Fault.NotListed told
-        → OfDeck R.File.remaining (I.remaining input.old) path.now (λ bytes. AreRefused bytes told)) }
+    ensures written { WritesCobolAt R.File.remaining I.remaining input.old path.now fixed W.contents out.old out.new
+        result }
+    ensures refused { RefusesDeck R.File.remaining I.remaining input.old path.now result }
     ensures untouched { IfErr result (λ fault. status_of fault ≢ 4 → out.new ≡ out.old) }
     ensures fault { IfErr result IsListFault }
 {

@@ -1,11 +1,8 @@
 //! The schema of a file, held against that of a file of a deck.
 ghost use Rattle.std.specs.Prelude.{◌≡◌, ◌≢◌, IfOk, IfErr};
-ghost use Rattle.std.specs.Option.{IfSome};
-ghost use Rattle.file_control.specs.Description.{FileDesc as ToldFile};
-ghost use Rattle.schema_listing.specs.Listing.{read_in};
-ghost use Rattle.file_commands.specs.DeckFile.{IsOfDeck, IsDeckFault};
-ghost use Rattle.file_commands.specs.Front.{IsDeckNamed, OfFile};
-ghost use Rattle.file_commands.specs.Schema.{ComparesAs, IsOfComparison};
+ghost use Rattle.file_commands.specs.DeckFile.{IsDeckFault};
+ghost use Rattle.file_commands.specs.Front.{GivesSuch};
+ghost use Rattle.file_commands.specs.Schema.{ComparesReader, ComparesFile, ComparesWithDeck, IsOfComparison};
 ghost use Rattle.command_outcomes.specs.Status.{status_of};
 
 use crate::deck::{deck_at, file_in};
@@ -27,10 +24,8 @@ fn write_differences<R: Read + Drop, W: Write>(
     deck: &Schema,
     out: &mut W,
 ) -> Result<Outcome, Fault>
-    ensures told { IfSome (R.remaining reader) (λ bytes.
-        IfOk result (ComparesAs deck.now (W.contents out.old) (W.contents out.new) (read_in bytes))) }
-    ensures kind { IfOk result IsOfComparison }
-    ensures fault { IfErr result (λ fault. status_of fault ≡ 4) }
+    ensures told { ComparesReader R.remaining reader deck.now W.contents out.old out.new result }
+    ensures kind { GivesSuch IsOfComparison result }
 {
     match compare_schema(alloc, reader, deck, out) {
         Ok(Ok(told)) => Ok(Outcome::SchemaCompared(told)),
@@ -49,10 +44,8 @@ fn compare_file<R: Files, W: Write>(
 ) -> Result<Outcome, Fault>
 where
     R::File: LockFile,
-    ensures told { IfOk result (λ outcome. OfFile R.File.remaining
-        (λ bytes. ComparesAs deck.now (W.contents out.old) (W.contents out.new) (read_in bytes) outcome)) }
-    ensures kind { IfOk result IsOfComparison }
-    ensures fault { IfErr result (λ fault. status_of fault ≡ 4) }
+    ensures told { IfOk result (ComparesFile R.File.remaining deck.now W.contents out.old out.new) }
+    ensures kind { GivesSuch IsOfComparison result }
 {
     let file = open_shared(rt, path)?;
     write_differences(alloc, file, deck, out)
@@ -72,10 +65,8 @@ pub fn compare_path<R: Files, I: Read, W: Write>(
 ) -> Result<Outcome, Fault>
 where
     R::File: LockFile,
-    ensures told { IfOk result (λ outcome. (described : ToldFile)
-        × IsOfDeck (IsDeckNamed R.File.remaining (I.remaining input.old) deck.now) name.now described
-        × OfFile R.File.remaining (λ bytes. ComparesAs described.schema (W.contents out.old)
-        (W.contents out.new) (read_in bytes) outcome)) }
+    ensures told { IfOk result (ComparesWithDeck R.File.remaining I.remaining input.old deck.now name.now
+        W.contents out.old out.new) }
     ensures kind { IfOk result IsOfComparison }
     ensures untouched { IfErr result (λ fault. status_of fault ≢ 4 → out.new ≡ out.old) }
     ensures fault { IfErr result IsDeckFault }

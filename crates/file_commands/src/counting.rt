@@ -1,7 +1,6 @@
 //! The count of what the file of a path has.
 ghost use Rattle.std.specs.Prelude.{◌≡◌, IfOk, IfErr};
-ghost use Rattle.file_statistics.specs.Listing.{EndsWith};
-ghost use Rattle.file_commands.specs.Front.{OfWholeFile};
+ghost use Rattle.file_commands.specs.Counted.{CountsFile};
 ghost use Rattle.command_outcomes.specs.Status.{status_of};
 
 use crate::file_bytes::read_file;
@@ -33,9 +32,7 @@ pub fn count_path<R: Files, W: Write>(
 ) -> Result<Outcome, Fault>
 where
     R::File: LockFile,
-    ensures counted { IfOk result (λ outcome. (end : _) × (outcome ≡ Outcome.Counted end)
-        × OfWholeFile R.File.remaining (λ bytes. EndsWith bytes (W.contents out.old)
-        (W.contents out.new) end)) }
+    ensures counted { IfOk result (CountsFile R.File.remaining W.contents out.old out.new) }
     ensures fault { IfErr result (λ fault. status_of fault ≡ 4) }
 {
     let bytes = match read_file(rt, alloc, path, &mut Silent) {

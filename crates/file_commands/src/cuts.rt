@@ -1,8 +1,9 @@
 //! The cuts of a text: numbers with commas between.
-ghost use Rattle.std.specs.Prelude.{◌≡◌, ◌⊎◌, ◌++◌, ◌∷◌, [], ℕ, List, None, IfOk, OnOk, IfErr};
+ghost use Rattle.std.specs.Prelude.{◌≡◌, ◌++◌, ◌∷◌, [], ℕ, List, None, IfOk, OnOk, IfErr};
 ghost use Rattle.std.specs.Option.{IfSome};
 ghost use Rattle.command_words.specs.Asks.{IsNumber};
 ghost use Rattle.file_commands.specs.Cuts.{AreCuts};
+ghost use Rattle.file_commands.specs.Forms.{IsCutFault};
 
 use command_outcomes::{Fault, FormFault};
 use std::alloc::Global;
@@ -20,7 +21,7 @@ fn push_cut(cuts: &mut Vec<u16>, text: &str) -> Result<(), Fault>
     ensures cut { OnOk result ((n : ℕ) × IsNumber 16 text.now n
         × (cuts.new.items ≡ cuts.old.items ++ n ∷ [])) }
     ensures none { result ≡ Err (Fault.Form FormFault.Cuts) → (n : ℕ) → IsNumber 16 text.now n → ⊥ }
-    ensures fault { IfErr result (λ fault. (fault ≡ Fault.Form FormFault.Cuts) ⊎ (fault ≡ Fault.Memory)) }
+    ensures fault { IfErr result IsCutFault }
 {
     let Some(cut) = cut_of(text) else {
         return Err(Fault::Form(FormFault::Cuts));
@@ -36,7 +37,7 @@ fn push_cut(cuts: &mut Vec<u16>, text: &str) -> Result<(), Fault>
 pub fn read_cuts(alloc: Global, text: &str) -> Result<Vec<u16>, Fault>
     ensures cuts { IfOk result (λ cuts. AreCuts text.now cuts.items) }
     ensures none { result ≡ Err (Fault.Form FormFault.Cuts) → (cuts : List ℕ) → AreCuts text.now cuts → ⊥ }
-    ensures fault { IfErr result (λ fault. (fault ≡ Fault.Form FormFault.Cuts) ⊎ (fault ≡ Fault.Memory)) }
+    ensures fault { IfErr result IsCutFault }
 {
     let mut cuts = Vec::new(alloc);
     let mut rest = text;

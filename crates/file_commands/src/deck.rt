@@ -3,8 +3,7 @@ ghost use Rattle.std.specs.Prelude.{◌≡◌, None, find, option_map, IfOk, IfE
 ghost use Rattle.deck_reader.specs.Deck.{IsDeck};
 ghost use Rattle.deck_runner.specs.DeckRun.{IsNoDeck};
 ghost use Rattle.deck_words.specs.declared.fault.DeckFault.{DeckFault as ToldFault};
-ghost use Rattle.file_commands.specs.DeckFile.{is_named, IsFileOf, IsDeckFault};
-ghost use Rattle.file_commands.specs.Front.{OfDeck};
+ghost use Rattle.file_commands.specs.DeckFile.{is_named, IsFileOf, IsDeckAt, IsDeckFault};
 
 use crate::file_bytes::read_deck_bytes;
 use command_outcomes::Fault;
@@ -50,8 +49,7 @@ pub fn deck_at<R: Files, I: Read>(
     path: &str,
     input: &mut I,
 ) -> Result<Deck, Fault>
-    ensures deck { IfOk result (λ deck. OfDeck R.File.remaining (I.remaining input.old) path.now
-        (λ bytes. IsDeck bytes deck)) }
+    ensures deck { IfOk result (IsDeckAt R.File.remaining I.remaining input.old path.now) }
     ensures fault { IfErr result IsDeckFault }
 {
     let bytes = match read_deck_bytes(rt, alloc, path, input) {

@@ -3,8 +3,7 @@ ghost use Rattle.std.specs.Prelude.{◌≡◌, ◌≢◌, string_bytes, IfOk, If
 ghost use Rattle.deck_reader.specs.declared.deck.Deck.{Deck as ToldDeck};
 ghost use Rattle.deck_reader.specs.Deck.{IsDeck};
 ghost use Rattle.deck_listing.specs.Listing.{Lists};
-ghost use Rattle.file_commands.specs.Front.{OfDeck};
-ghost use Rattle.file_commands.specs.Listed.{WritesList, AreRefused, IsListFault};
+ghost use Rattle.file_commands.specs.Listed.{IsRefusalOf, RefusesDeck, WritesListAt, IsListFault};
 ghost use Rattle.command_outcomes.specs.Status.{status_of};
 
 use crate::file_bytes::read_deck_bytes;
@@ -23,7 +22,7 @@ const MEMORY_CODE: u8 = 8;
 /// The fault of bytes that are no deck, with the words for it; or want of memory.
 pub fn refused(alloc: Global, bytes: &[u8], fault: DeckFault) -> Fault
     requires none { fault.code ≢ 8 → (deck : ToldDeck) → IsDeck bytes.now deck → ⊥ }
-    ensures refused { (told : _) → result ≡ Fault.NotListed told → AreRefused bytes.now told }
+    ensures refused { IsRefusalOf bytes.now result }
     ensures fault { IsListFault result }
 {
     if fault.code == MEMORY_CODE {
@@ -38,8 +37,7 @@ pub fn refused(alloc: Global, bytes: &[u8], fault: DeckFault) -> Fault
 /// The list of the deck that the bytes are.
 fn list(alloc: Global, bytes: &[u8]) -> Result<String, Fault>
     ensures list { IfOk result (λ text. Lists bytes.now (string_bytes text)) }
-    ensures refused { IfErr result (λ fault. (told : _) → fault ≡ Fault.NotListed told
-        → AreRefused bytes.now told) }
+    ensures refused { IfErr result (IsRefusalOf bytes.now) }
     ensures fault { IfErr result IsListFault }
 {
     match list_deck(alloc, bytes) {
@@ -59,10 +57,8 @@ pub fn list_path<R: Files, I: Read, W: Write>(
     out: &mut W,
 ) -> Result<Outcome, Fault>
     ensures done { IfOk result (λ outcome. outcome ≡ Outcome.Listed) }
-    ensures listed { IfOk result (λ _. OfDeck R.File.remaining (I.remaining input.old) path.now
-        (λ bytes. WritesList bytes (W.contents out.old) (W.contents out.new))) }
-    ensures refused { IfErr result (λ fault. (told : _) → fault ≡ Fault.NotListed told
-        → OfDeck R.File.remaining (I.remaining input.old) path.now (λ bytes. AreRefused bytes told)) }
+    ensures listed { WritesListAt R.File.remaining I.remaining input.old path.now W.contents out.old out.new result }
+    ensures refused { RefusesDeck R.File.remaining I.remaining input.old path.now result }
     ensures untouched { IfErr result (λ fault. status_of fault ≢ 4 → out.new ≡ out.old) }
     ensures fault { IfErr result IsListFault }
 {

@@ -1,7 +1,7 @@
 //! The bytes of a file: of a deck, of records, or of a text.
 ghost use Rattle.std.specs.Prelude.{◌≡◌, ◌≤◌, ◌<◌, IfOk, IfErr, length, take, codes};
 ghost use Rattle.std.specs.Io.KnownBytes.{Consumes, IsAtEnd};
-ghost use Rattle.file_commands.specs.Front.{IsFrontOfNamed, IsFrontOfInput, IsDeckNamed, IsTextNamed};
+ghost use Rattle.file_commands.specs.Front.{IsFrontOfNamed, IsFrontOfInput, IsDeckNamed, IsTextNamed, IsWholeFile, GivesSuch};
 ghost use Rattle.command_outcomes.specs.Status.{status_of};
 
 use command_outcomes::Fault;
@@ -46,8 +46,7 @@ fn read_part<R: Read>(reader: &mut R, part: &mut [u8]) -> Result<usize, Fault>
 
 /// The bytes of a reader to its end, or so many of the first ones.
 pub fn read_front<R: Read>(alloc: Global, reader: &mut R, most: usize) -> Result<Vec<u8>, Fault>
-    ensures bytes { IfOk result (λ bytes. IsFrontOfInput most (R.remaining reader.old) bytes.items) }
-    ensures fault { IfErr result (λ fault. status_of fault ≡ 4) }
+    ensures bytes { GivesSuch (λ bytes. IsFrontOfInput most (R.remaining reader.old) bytes.items) result }
 {
     let mut bytes = Vec::new(alloc);
     let mut part = [0; AT_ONCE];
@@ -71,10 +70,9 @@ fn read_named<R: Files, I: Read>(
     input: &mut I,
     most: usize,
 ) -> Result<Vec<u8>, Fault>
-    ensures bytes { IfOk result (λ bytes.
-        IsFrontOfNamed most R.File.remaining (I.remaining input.old) path.now bytes.items) }
+    ensures bytes { GivesSuch (λ bytes.
+        IsFrontOfNamed most R.File.remaining (I.remaining input.old) path.now bytes.items) result }
     ensures unread { (path.now ≡ codes "-" → ⊥) → input.new ≡ input.old }
-    ensures fault { IfErr result (λ fault. status_of fault ≡ 4) }
 {
     if path == "-" {
         return read_front(alloc, input, most);
@@ -91,10 +89,9 @@ pub fn read_deck_bytes<R: Files, I: Read>(
     path: &str,
     input: &mut I,
 ) -> Result<Vec<u8>, Fault>
-    ensures bytes { IfOk result (λ bytes.
-        IsDeckNamed R.File.remaining (I.remaining input.old) path.now bytes.items) }
+    ensures bytes { GivesSuch (λ bytes.
+        IsDeckNamed R.File.remaining (I.remaining input.old) path.now bytes.items) result }
     ensures unread { (path.now ≡ codes "-" → ⊥) → input.new ≡ input.old }
-    ensures fault { IfErr result (λ fault. status_of fault ≡ 4) }
 {
     read_named(rt, alloc, path, input, MOST_BYTES)
 }
@@ -107,9 +104,8 @@ pub fn read_text<R: Files, I: Read>(
     path: &str,
     input: &mut I,
 ) -> Result<Vec<u8>, Fault>
-    ensures bytes { IfOk result (λ bytes.
-        IsTextNamed R.File.remaining (I.remaining input.old) path.now bytes.items) }
-    ensures fault { IfErr result (λ fault. status_of fault ≡ 4) }
+    ensures bytes { GivesSuch (λ bytes.
+        IsTextNamed R.File.remaining (I.remaining input.old) path.now bytes.items) result }
 {
     read_named(rt, alloc, path, input, usize::MAX)
 }
@@ -144,9 +140,8 @@ fn read_all<F: OpenFile + Read + Drop, P: Progress>(
     file: F,
     progress: &mut P,
 ) -> Result<Vec<u8>, Fault>
-    ensures bytes { IfOk result (λ bytes. IsFrontOfInput 18446744073709551615
-        (F.remaining file) bytes.items) }
-    ensures fault { IfErr result (λ fault. status_of fault ≡ 4) }
+    ensures bytes { GivesSuch (λ bytes. IsFrontOfInput 18446744073709551615 (F.remaining file) bytes.items)
+        result }
 {
     let mut reader = with_progress(file, progress);
     read_front(alloc, &mut reader, usize::MAX)
@@ -162,9 +157,7 @@ pub fn read_file<R: Files, P: Progress>(
 ) -> Result<Vec<u8>, Fault>
 where
     R::File: LockFile,
-    ensures bytes { IfOk result (λ bytes. (file : R.File)
-        × IsFrontOfInput 18446744073709551615 (R.File.remaining file) bytes.items) }
-    ensures fault { IfErr result (λ fault. status_of fault ≡ 4) }
+    ensures bytes { GivesSuch (λ bytes. IsWholeFile R.File.remaining bytes.items) result }
 {
     let file = open_shared(rt, path)?;
     let bytes = read_all(alloc, file, progress);

@@ -1,11 +1,7 @@
 //! The schema of a file, by its first page, told or held against that of a file of a deck.
-ghost use Rattle.std.specs.Prelude.{◌≡◌, ◌≢◌, option_map, IfOk, IfErr};
-ghost use Rattle.std.specs.Option.{IfSome};
-ghost use Rattle.file_control.specs.Description.{FileDesc as ToldFile};
-ghost use Rattle.schema_listing.specs.Listing.{read_in};
-ghost use Rattle.file_commands.specs.DeckFile.{IsDeckFile};
-ghost use Rattle.file_commands.specs.Front.{IsDeckNamed, OfFile};
-ghost use Rattle.file_commands.specs.Schema.{TellsAs, ComparesAs, IsOfSchema, IsSchemaDone, IsSchemaFault, listing_told_as};
+ghost use Rattle.std.specs.Prelude.{◌≡◌, ◌≢◌, IfOk, IfErr};
+ghost use Rattle.file_commands.specs.Front.{word_in, GivesSuch};
+ghost use Rattle.file_commands.specs.Schema.{TellsReader, TellsFile, ComparesAsked, IsOfSchema, IsSchemaDone, IsSchemaFault, listing_told_as};
 ghost use Rattle.command_outcomes.specs.Status.{status_of};
 
 use crate::comparing::compare_path;
@@ -36,10 +32,8 @@ fn write_schema<R: Read + Drop, W: Write>(
     reader: R,
     out: &mut W,
 ) -> Result<Outcome, Fault>
-    ensures told { IfSome (R.remaining reader) (λ bytes.
-        IfOk result (TellsAs (W.contents out.old) (W.contents out.new) (read_in bytes))) }
-    ensures kind { IfOk result IsOfSchema }
-    ensures fault { IfErr result (λ fault. status_of fault ≡ 4) }
+    ensures told { TellsReader R.remaining reader W.contents out.old out.new result }
+    ensures kind { GivesSuch IsOfSchema result }
 {
     match list_schema(alloc, reader, out) {
         Ok(Ok(())) => Ok(Outcome::SchemaTold),
@@ -57,10 +51,8 @@ fn schema_path<R: Files, W: Write>(
 ) -> Result<Outcome, Fault>
 where
     R::File: LockFile,
-    ensures told { IfOk result (λ outcome. OfFile R.File.remaining
-        (λ bytes. TellsAs (W.contents out.old) (W.contents out.new) (read_in bytes) outcome)) }
-    ensures kind { IfOk result IsOfSchema }
-    ensures fault { IfErr result (λ fault. status_of fault ≡ 4) }
+    ensures told { IfOk result (TellsFile R.File.remaining W.contents out.old out.new) }
+    ensures kind { GivesSuch IsOfSchema result }
 {
     let file = open_shared(rt, path)?;
     write_schema(alloc, file, out)
@@ -79,18 +71,12 @@ pub fn schema<R: Files, I: Read, W: Write>(
 where
     R::File: LockFile,
     ensures told { IfOk result (λ outcome. IsOfSchema outcome
-        → OfFile R.File.remaining (λ bytes. TellsAs (W.contents out.old) (W.contents out.new)
-        (read_in bytes) outcome)) }
-    ensures compared { IfOk result (λ outcome. (told : _) → outcome ≡ Outcome.SchemaCompared told
-        → (described : ToldFile) × IsDeckFile (IsDeckNamed R.File.remaining (I.remaining input.old))
-        (option_map (λ text. text.now) deck.entry) (option_map (λ text. text.now) name.entry) described
-        × OfFile R.File.remaining (λ bytes. ComparesAs described.schema (W.contents out.old)
-        (W.contents out.new) (read_in bytes) outcome)) }
-    ensures done { IfOk result (IsSchemaDone (option_map (λ text. text.now) deck.entry)
-        (option_map (λ text. text.now) name.entry)) }
+        → TellsFile R.File.remaining W.contents out.old out.new outcome) }
+    ensures compared { IfOk result (ComparesAsked R.File.remaining I.remaining input.old (word_in deck.entry)
+        (word_in name.entry) W.contents out.old out.new) }
+    ensures done { IfOk result (IsSchemaDone (word_in deck.entry) (word_in name.entry)) }
     ensures untouched { IfErr result (λ fault. status_of fault ≢ 4 → out.new ≡ out.old) }
-    ensures fault { IfErr result (IsSchemaFault (option_map (λ text. text.now) deck.entry)
-        (option_map (λ text. text.now) name.entry)) }
+    ensures fault { IfErr result (IsSchemaFault (word_in deck.entry) (word_in name.entry)) }
 {
     match (deck, name) {
         (None, None) => schema_path(rt, alloc, path, out),

@@ -1,10 +1,10 @@
 //! The form in which records are listed, as the words ask for it.
-ghost use Rattle.std.specs.Prelude.{◌≡◌, ◌⊎◌, ◌∷◌, [], ℕ, true, List, map, codes, IfOk, IfErr};
-ghost use Rattle.record_forms.specs.Parts.{part_of, do_rise, whole_part};
+ghost use Rattle.std.specs.Prelude.{◌≡◌, ◌∷◌, [], ℕ, List, map, codes, IfOk, IfErr};
+ghost use Rattle.record_forms.specs.Parts.{part_of, whole_part};
 ghost use Rattle.command_words.specs.Asks.{form_text};
-ghost use Rattle.file_commands.specs.Cuts.{AreCuts};
+ghost use Rattle.file_commands.specs.Cuts.{AreNoCuts};
 ghost use Rattle.file_commands.specs.DeckFile.{IsDeckFault};
-ghost use Rattle.file_commands.specs.Forms.{IsCutInto, AreItemsOf, AreColumns, IsFormAsked, IsFormRefused};
+ghost use Rattle.file_commands.specs.Forms.{IsCutInto, AreItemsOf, AreColumnsAsked, IsCutFault, IsFormAsked, IsFormRefused};
 ghost use Rattle.file_commands.specs.Front.{IsDeckNamed};
 
 use crate::cuts::read_cuts;
@@ -19,9 +19,8 @@ use std::rt::Files;
 /// The columns between the cuts of a text.
 fn columns_between(alloc: Global, text: &str) -> Result<Vec<Column>, Fault>
     ensures columns { IfOk result (λ columns. IsCutInto text.now columns.items) }
-    ensures none { result ≡ Err (Fault.Form FormFault.Cuts) → (cuts : List ℕ) → AreCuts text.now cuts
-        → do_rise 0 cuts ≡ true → ⊥ }
-    ensures fault { IfErr result (λ fault. (fault ≡ Fault.Form FormFault.Cuts) ⊎ (fault ≡ Fault.Memory)) }
+    ensures none { result ≡ Err (Fault.Form FormFault.Cuts) → AreNoCuts text.now }
+    ensures fault { IfErr result IsCutFault }
 {
     let cuts = match read_cuts(alloc, text) {
         Ok(cuts) => cuts,
@@ -79,8 +78,7 @@ fn columns_of<R: Files, I: Read>(
     input: &mut I,
 ) -> Result<Vec<Column>, Fault>
     ensures columns { IfOk result (λ columns.
-        AreColumns (IsDeckNamed R.File.remaining (I.remaining input.old))
-        (form_text asked.entry).cut (form_text asked.entry).deck (form_text asked.entry).name columns.items) }
+        AreColumnsAsked (IsDeckNamed R.File.remaining (I.remaining input.old)) (form_text asked.entry) columns.items) }
     ensures refused { IfErr result (IsFormRefused (form_text asked.entry)) }
 {
     match (asked.cut, asked.deck, asked.name) {

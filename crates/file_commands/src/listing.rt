@@ -1,9 +1,9 @@
 //! The list of the records of the file of a path.
 ghost use Rattle.std.specs.Prelude.{◌≡◌, ◌≢◌, option_map, IfOk, IfErr};
 ghost use Rattle.command_words.specs.Asks.{form_text};
-ghost use Rattle.file_commands.specs.Forms.{IsFormAsked, IsListRefused};
-ghost use Rattle.file_commands.specs.Front.{IsDeckNamed, OfWholeFile};
-ghost use Rattle.file_commands.specs.Records.{IsAskedFor, ListsRecords};
+ghost use Rattle.file_commands.specs.Forms.{IsListRefused};
+ghost use Rattle.file_commands.specs.Front.{word_in};
+ghost use Rattle.file_commands.specs.Records.{IsAskedBy, ListsAsked};
 ghost use Rattle.command_outcomes.specs.Status.{status_of};
 
 use crate::file_bytes::read_file;
@@ -43,8 +43,7 @@ fn value_of(text: &str) -> Result<Key, Fault>
 
 /// A last value, if there is one.
 fn last_of(text: Option<&str>) -> Result<Option<Key>, Fault>
-    ensures value { IfOk result (λ key. option_map (λ key. key.items) key ≡ option_map
-        (λ text. text.now) text.entry) }
+    ensures value { IfOk result (λ key. option_map (λ key. key.items) key ≡ word_in text.entry) }
     ensures fault { IfErr result (λ fault. fault ≡ Fault.LongValue) }
 {
     match text {
@@ -55,9 +54,7 @@ fn last_of(text: Option<&str>) -> Result<Option<Key>, Fault>
 
 /// What the words of a command line ask of a list.
 fn asked_by(bounds: Bounds<'_>) -> Result<Asked, Fault>
-    ensures asked { IfOk result (IsAskedFor bounds.entry.key
-        (option_map (λ text. text.now) bounds.entry.from)
-        (option_map (λ text. text.now) bounds.entry.to) bounds.entry.first) }
+    ensures asked { IfOk result (IsAskedBy bounds.entry) }
     ensures fault { IfErr result (λ fault. fault ≡ Fault.LongValue) }
 {
     let from = value_of(bounds.from.unwrap_or(""))?;
@@ -99,13 +96,8 @@ pub fn list_records<R: Files, I: Read, P: Progress, W: Write>(
 ) -> Result<Outcome, Fault>
 where
     R::File: LockFile,
-    ensures records { IfOk result (λ outcome. (list : _) × (outcome ≡ Outcome.Records list)
-        × ((written : _) × IsFormAsked (IsDeckNamed R.File.remaining (I.remaining input.old))
-        (form_text form.entry) written × OfWholeFile R.File.remaining
-        (λ bytes. ListsRecords written bytes bounds.entry.key
-        (option_map (λ text. text.now) bounds.entry.from)
-        (option_map (λ text. text.now) bounds.entry.to) bounds.entry.first (W.contents out.old)
-        (W.contents out.new) list))) }
+    ensures records { IfOk result (ListsAsked R.File.remaining I.remaining input.old bounds.entry
+        (form_text form.entry) W.contents out.old out.new) }
     ensures untouched { IfErr result (λ fault. status_of fault ≢ 4 → out.new ≡ out.old) }
     ensures fault { IfErr result (IsListRefused (form_text form.entry)) }
 {

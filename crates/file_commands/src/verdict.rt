@@ -3,8 +3,8 @@ ghost use Rattle.std.specs.Prelude.{◌≡◌, ◌&&◌, length, IfOk, IfErr};
 ghost use Rattle.std.specs.Option.{IfSome};
 ghost use Rattle.file_checker.specs.Sound.{IsRight};
 ghost use Rattle.command_outcomes.specs.Status.{status_of};
-ghost use Rattle.file_commands.specs.Verdicts.{is_sound, AreVerdicts};
-ghost use Rattle.file_commands.specs.Front.{OfFile};
+ghost use Rattle.file_commands.specs.Front.{GivesSuch};
+ghost use Rattle.file_commands.specs.Verdicts.{is_sound, AreVerdicts, IsOnFile, ChecksFile, ChecksFiles};
 
 use crate::file_bytes::{open_shared, with_progress};
 use command_outcomes::{Fault, Outcome};
@@ -50,8 +50,7 @@ fn check_all<F: OpenFile + Read + Drop, P: Progress>(
     file: F,
     progress: &mut P,
 ) -> Result<Verdict, Fault>
-    ensures right { IfOk result (λ verdict. IfSome (F.remaining file) (λ bytes. IsRight bytes verdict)) }
-    ensures fault { IfErr result (λ fault. status_of fault ≡ 4) }
+    ensures right { GivesSuch (λ verdict. IfSome (F.remaining file) (λ bytes. IsRight bytes verdict)) result }
 {
     let mut reader = with_progress(file, progress);
     check(alloc, &mut reader)
@@ -66,8 +65,7 @@ fn verdict_of<R: Files, P: Progress>(
 ) -> Result<Verdict, Fault>
 where
     R::File: LockFile,
-    ensures right { IfOk result (λ verdict. OfFile R.File.remaining (λ bytes. IsRight bytes verdict)) }
-    ensures fault { IfErr result (λ fault. status_of fault ≡ 4) }
+    ensures right { GivesSuch (IsOnFile R.File.remaining) result }
 {
     let file = open_shared(rt, path)?;
     let verdict = check_all(alloc, file, progress);
@@ -85,8 +83,7 @@ pub fn check_path<R: Files, P: Progress, W: Write>(
 ) -> Result<Outcome, Fault>
 where
     R::File: LockFile,
-    ensures right { IfOk result (λ outcome. (verdict : _) × (outcome ≡ Outcome.Checked verdict)
-        × OfFile R.File.remaining (λ bytes. IsRight bytes verdict)) }
+    ensures right { IfOk result (ChecksFile R.File.remaining) }
     ensures fault { IfErr result (λ fault. status_of fault ≡ 4) }
 {
     let verdict = verdict_of(rt, alloc, path, progress)?;
@@ -114,9 +111,7 @@ fn check_files<R: Files, P: Progress, W: Write>(
 ) -> Result<bool, Fault>
 where
     R::File: LockFile,
-    ensures right { IfOk result (AreVerdicts (λ verdict.
-        OfFile R.File.remaining (λ bytes. IsRight bytes verdict)) (length paths.now)) }
-    ensures fault { IfErr result (λ fault. status_of fault ≡ 4) }
+    ensures right { GivesSuch (AreVerdicts (IsOnFile R.File.remaining) (length paths.now)) result }
 {
     match paths {
         [] => Ok(true),
@@ -141,9 +136,7 @@ pub fn check_paths<R: Files, P: Progress, W: Write>(
 ) -> Result<Outcome, Fault>
 where
     R::File: LockFile,
-    ensures right { IfOk result (λ outcome. (sound : _) × (outcome ≡ Outcome.CheckedAll sound)
-        × AreVerdicts (λ verdict. OfFile R.File.remaining (λ bytes. IsRight bytes verdict))
-        (length paths.now) sound) }
+    ensures right { IfOk result (ChecksFiles R.File.remaining (length paths.now)) }
     ensures fault { IfErr result (λ fault. status_of fault ≡ 4) }
 {
     match check_files(rt, alloc, paths, progress, out) {

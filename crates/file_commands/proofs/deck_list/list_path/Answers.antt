@@ -6,7 +6,7 @@ use Rattle.file_commands.proofs.ListLemmas.{if_ok, not_refused}
 use Rattle.file_commands.proofs.deck_list.list_path.Goals as goal
 
 pub returns-in-Err-clause-refused : goal.returns-in-Err-clause-refused
-returns-in-Err-clause-refused g c told = not_refused c.in-Err.fault told c.in-Err.ensures.fault
+returns-in-Err-clause-refused g c told = not_refused c.in-Err.fault told c.in-Err.ensures.bytes
 
 pub returns-in-Err-list-clause-refused : goal.returns-in-Err-list-clause-refused
 returns-in-Err-list-clause-refused g c told is =

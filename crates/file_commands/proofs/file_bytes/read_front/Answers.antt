@@ -2,11 +2,11 @@ use Rattle.std.proofs.Common.{rules, ◌≡◌, length}
 use Rattle.file_commands.proofs.FrontLemmas.{all_read, front_read}
 use Rattle.file_commands.proofs.file_bytes.read_front.Goals as goal
 
-pub returns-then-n-eq0-clause-bytes : goal.returns-then-n-eq0-clause-bytes
-returns-then-n-eq0-clause-bytes g c =
-    all_read _ _ _ _ _ _ _ c.more.invariant.0 c.in_ok-n.ensures.bytes (search rules) (c.in_ok-n.ensures.end (search rules) (search rules)) c.more.invariant.1
+pub returns-then-n-eq0 : goal.returns-then-n-eq0
+returns-then-n-eq0 g c =
+    record { bytes = all_read _ _ _ _ _ _ _ c.more.invariant.0 c.in_ok-n.ensures.bytes (search rules) (c.in_ok-n.ensures.end (search rules) (search rules)) c.more.invariant.1 }
 
-pub returns-clause-bytes : goal.returns-clause-bytes
-returns-clause-bytes g c =
+pub returns : goal.returns
+returns g c =
     let whole : length c.more.bytes.items ≡ c.args.most = search rules in
-    front_read _ _ _ _ c.more.invariant.0 whole
+    record { bytes = front_read _ _ _ _ c.more.invariant.0 whole }
