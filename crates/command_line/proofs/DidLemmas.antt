@@ -1,8 +1,11 @@
 -- What was done for words that ask for a list, a schema, a load or a run.
-use Rattle.std.proofs.Common.{◌≡◌, ℕ, List, Option, Some, None, Result, Ok, Err, IfOk, IfErr, inl, inr, refl, sym, subst}
+use Rattle.std.proofs.Common.{◌≡◌, ℕ, Bool, List, Option, Some, None, Result, Ok, Err, IfOk, IfErr, option_map, Bor, inl, inr, refl, sym, subst}
 use Rattle.clap.specs.Words.{Text}
 use Rattle.file_listing.specs.declared.listing.FileList.{FileList}
-use Rattle.command_words.specs.Asks.{AskSchema, AskRun}
+use Rattle.command_words.specs.Asks.{Ask, AskSchema, AskRun, form_text}
+use Rattle.command_words.specs.declared.form_words.FormWords.{FormWords}
+use Rattle.command_words.specs.declared.limits.Limits.{Limits}
+use Rattle.command_words.specs.declared.request.Request.TheVariants.{Schema, List as ListRecords, Load}
 use Rattle.file_commands.specs.Forms.{IsFormRefused, IsListRefused}
 use Rattle.file_commands.specs.Schema.{IsSchemaDone, IsSchemaFault}
 use Rattle.file_commands.specs.DeckFile.{IsDeckFault}
@@ -13,6 +16,39 @@ use Rattle.command_outcomes.specs.declared.fault.Fault.{Fault}
 use Rattle.command_outcomes.specs.declared.fault.Fault.TheVariants.{Deck, NoSuchFile, Form as NoForm, Input, Output, Memory}
 use Rattle.command_outcomes.specs.declared.outcome.Outcome.{Outcome}
 use Rattle.command_outcomes.specs.declared.outcome.Outcome.TheVariants.{Ended, SchemaTold, SchemaCompared, SchemaRefused, Records, Loaded}
+
+-- what a request asks for, by its values
+abbrev pub for_schema : (words : List Text) (file : Bor Text) (deck name : Option (Bor Text)) → Ask words (Schema file deck name) → AskForSchema words
+for_schema words file deck name asked =
+    record { file = file.now; deck = option_map (λ text. text.now) deck; name = option_map (λ text. text.now) name; asked = asked }
+
+abbrev pub for_records : (words : List Text) (file : Bor Text) (key : ℕ) (from to : Option (Bor Text)) (first : ℕ) (form : FormWords) (quiet : Bool)
+    → Ask words (ListRecords file key from to first form quiet) → AskForRecords words
+for_records words file key from to first form quiet asked = record {
+  file = file.now;
+  key = key;
+  from = option_map (λ text. text.now) from;
+  to = option_map (λ text. text.now) to;
+  first = first;
+  form = form_text form;
+  quiet = quiet;
+  asked = asked;
+}
+
+abbrev pub for_load : (words : List Text) (deck folder file text form : Bor Text) (into : Bool) (limits : Limits) (quiet : Bool)
+    → Ask words (Load deck folder file text form into limits quiet) → AskForLoad words
+for_load words deck folder file text form into limits quiet asked = record {
+  deck = deck.now;
+  folder = folder.now;
+  file = file.now;
+  text = text.now;
+  form = form.now;
+  into = into;
+  pages = limits.pages;
+  frames = limits.frames.value;
+  quiet = quiet;
+  asked = asked;
+}
 
 -- the words ask for a list
 module _ (words : List Text) (out : Written) (list : AskForRecords words) where

@@ -20,6 +20,11 @@ use Rattle.shelf_loading.specs.declared.end.ShelfEnd.TheVariants.{IsThere, Loade
 use Rattle.command_line.specs.Folder.{OverFolder}
 use Rattle.command_line.specs.LoadForm.{IsFormOf}
 use Rattle.file_commands.specs.DeckFile.{IsFileOf}
+use Rattle.file_commands.specs.Front.{IsTextNamed, OfDeck}
+use Rattle.standard_input.specs.declared.standard_input.StandardInput.{StandardInput}
+use Rattle.command_line.specs.declared.loading.Loading.{Loading}
+use Rattle.command_outcomes.specs.declared.outcome.Outcome.{Outcome}
+use Rattle.command_outcomes.specs.declared.outcome.Outcome.TheVariants.{Loaded as LoadEnded}
 use Rattle.command_outcomes.specs.declared.fault.Fault.{Fault}
 
 -- into what a flag says that records are loaded
@@ -60,3 +65,21 @@ pub record LoadsDeck
   pub is_text : IsTheText text
   pub loads : LoadsFolder disk folder file.file file.schema (load_of into) (listing form text) (Ok end)
   pub told : WritesAnswer end before behind
+
+-- into a file of the deck that the bytes are, a text was loaded that is read of a path or of the input
+abbrev pub LoadsBytes : {F I W : Type 0} → (F → Option (List ℕ)) → (I → Option (List ℕ)) → StandardInput I
+    → (List ℕ → Unseen) → (bytes folder word : List ℕ) → Loading → (W → Option (List ℕ)) → (old new : W)
+    → Outcome → Type 0
+LoadsBytes remaining left input disk bytes folder word asked contents old new outcome = (end : ShelfEnd)
+    × (outcome ≡ LoadEnded end)
+    × LoadsDeck disk (IsTextNamed remaining (left input.reader) asked.text.now) bytes folder asked.file.now
+    word asked.into (contents old) (contents new) end
+
+-- into a file of the deck of a path, or of the input where the path is a hyphen
+abbrev pub LoadsAsked : {F I W : Type 0} → (F → Option (List ℕ)) → (I → Option (List ℕ)) → StandardInput I
+    → (List ℕ → Unseen) → (deck folder : List ℕ) → Loading → (W → Option (List ℕ)) → (old new : W)
+    → Outcome → Type 0
+LoadsAsked remaining left input disk deck folder asked contents old new outcome = (end : ShelfEnd)
+    × (outcome ≡ LoadEnded end) × OfDeck remaining (left input.reader) deck (λ bytes.
+    LoadsDeck disk (IsTextNamed remaining (left input.reader) asked.text.now) bytes folder asked.file.now
+    asked.form.now asked.into (contents old) (contents new) end)

@@ -15,6 +15,8 @@ use Rattle.command_line.specs.Folder.{OverFolder}
 use Rattle.command_line.specs.LoadForm.{IsNoFormWord}
 use Rattle.file_commands.specs.DeckFile.{IsDeckAsked, IsHalf}
 use Rattle.file_commands.specs.Forms.{HasFormFault}
+use Rattle.file_commands.specs.Front.{IsDeckNamed}
+use Rattle.standard_input.specs.declared.standard_input.StandardInput.{StandardInput}
 use Rattle.command_outcomes.specs.Status.{status_of}
 use Rattle.command_outcomes.specs.declared.form_fault.FormFault.{FormFault}
 use Rattle.command_outcomes.specs.declared.form_fault.FormFault.TheVariants.{Kind, HalfDeck}
@@ -56,6 +58,14 @@ pub record Written : Type 0 where
   pub before : Option (List ℕ)
   pub behind : Option (List ℕ)
 
+-- the same, by its parts
+abbrev pub written : (before behind : Option (List ℕ)) → Written
+written before behind = record { before = before; behind = behind }
+
+-- by what a writer has
+abbrev pub wrote : {W : Type 0} → (W → Option (List ℕ)) → (old new : W) → Written
+wrote contents old new = written (contents old) (contents new)
+
 -- the run of these bytes over the folder of this path, with this limit of pages and this number of
 -- frames, came to this
 pub record CameTo (folder : List ℕ) (limit frames : ℕ) (run : Begun) (out : Written)
@@ -92,6 +102,12 @@ pub record RanAsAsked (words : List Text) (run : Begun) (out : Written)
   pub frames : ℕ
   pub asked : AskRun words deck folder pages frames
   pub came : CameTo folder pages frames run out outcome
+
+-- the words ask for a run, and the bytes are those of the deck that they name
+abbrev pub AreOfAskedRun : {F I : Type 0} → List Text → (F → Option (List ℕ)) → (I → Option (List ℕ))
+    → StandardInput I → List ℕ → Type 0
+AreOfAskedRun words remaining left input bytes = (deck : Text) × (folder : Text) × (pages : ℕ) × (frames : ℕ)
+    × AskRun words deck folder pages frames × IsDeckNamed remaining (left input.reader) deck bytes
 
 -- the words ask for the list of a deck, or for a deck as a COBOL program
 abbrev pub AskOfDeck : List Text → Type 0

@@ -1,5 +1,5 @@
 -- What an outcome means: of what it is right, and what was written. All of this is ours.
-use Rattle.std.specs.Prelude.{ℕ, Bool, List, length, Option, Ok, Err, ⊤}
+use Rattle.std.specs.Prelude.{ℕ, Bool, List, length, Option, Result, Ok, Err, IfOk, ⊤}
 use Rattle.clap.specs.Words.{Text}
 use Rattle.folder_shelf.specs.Replay.{Unseen}
 use Rattle.file_checker.specs.Sound.{IsRight}
@@ -18,7 +18,9 @@ use Rattle.file_commands.specs.Records.{ListsRecords}
 use Rattle.file_commands.specs.Verdicts.{AreVerdicts}
 use Rattle.command_line.specs.Explained.{explanation, WritesText}
 use Rattle.command_line.specs.Loaded.{LoadsDeck}
-use Rattle.command_line.specs.Performed.{Written, AskForLoad, AskForRecords, AskForSchema}
+use Rattle.command_line.specs.Performed.{Written, wrote, AskForLoad, AskForRecords, AskForSchema}
+use Rattle.standard_input.specs.declared.standard_input.StandardInput.{StandardInput}
+use Rattle.command_outcomes.specs.declared.fault.Fault.{Fault}
 use Rattle.command_outcomes.specs.declared.outcome.Outcome.{Outcome}
 use Rattle.command_outcomes.specs.declared.outcome.Outcome.TheVariants.{Helped, Checked, Ended, Served, SchemaTold, SchemaCompared, SchemaRefused, Explained, Listed, CheckedAll, Records, InCobol, Loaded, Counted}
 
@@ -93,3 +95,9 @@ IsRightOf given words out (Loaded end) =
 IsRightOf given words out (Counted end) =
     (path : Text) × AskStat words path
     × OfWholeFile given.of_file (λ bytes. EndsWith bytes out.before out.behind end)
+
+-- where something was done, it is right of what was read of the files, of the input and of the folder
+abbrev pub RightIfOk : {F I W : Type 0} → (F → Option (List ℕ)) → (I → Option (List ℕ)) → StandardInput I
+    → (List ℕ → Unseen) → List Text → (W → Option (List ℕ)) → (old new : W) → Result Outcome Fault → Type 0
+RightIfOk remaining left input unseen words contents old new result =
+    IfOk result (IsRightOf (given_by remaining (left input.reader) unseen) words (wrote contents old new))

@@ -1,11 +1,10 @@
 //! The loading of a text into a file of a deck over a folder.
 ghost use Rattle.std.specs.Prelude.{◌≡◌, ◌≢◌, [], true, false, string_bytes, codes, IfOk, IfErr};
-ghost use Rattle.file_commands.specs.Front.{IsTextNamed};
 ghost use Rattle.file_commands.specs.DeckFile.{IsDeckFault};
 ghost use Rattle.record_reading.specs.Whole.{IsWhole};
 ghost use Rattle.record_loading.specs.Loading.{listing};
 ghost use Rattle.command_line.specs.LoadForm.{word_of};
-ghost use Rattle.command_line.specs.Loaded.{load_of, LoadsFolder, WritesAnswer, LoadsDeck};
+ghost use Rattle.command_line.specs.Loaded.{load_of, LoadsFolder, WritesAnswer, LoadsBytes};
 ghost use Rattle.command_outcomes.specs.Status.{status_of};
 
 use crate::load_form::{FormKind, form_of};
@@ -138,11 +137,8 @@ pub fn load_deck<R: Files, D: Disk, I: Read, P: Progress, W: Write>(
 ) -> Result<Outcome, Fault>
 where
     R::File: FileExt + LockFile,
-    ensures loaded { IfOk result (λ outcome. (end : _) × (outcome ≡ Outcome.Loaded end)
-        × LoadsDeck D.Disk.unseen (IsTextNamed R.File.remaining
-        (I.remaining input.old.reader) asked.entry.text.now)
-        bytes.now (string_bytes folder) asked.entry.file.now (word_of kind) asked.entry.into
-        (W.contents out.old) (W.contents out.new) end) }
+    ensures loaded { IfOk result (LoadsBytes R.File.remaining I.remaining input.old D.Disk.unseen bytes.now
+        (string_bytes folder) (word_of kind) asked.entry W.contents out.old out.new) }
     ensures untouched { IfErr result (λ fault. status_of fault ≢ 4 → out.new ≡ out.old) }
     ensures fault { IfErr result IsDeckFault }
 {

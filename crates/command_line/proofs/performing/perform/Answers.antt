@@ -1,9 +1,11 @@
-use Rattle.std.proofs.Common.{map, option_map, string_bytes, subst}
-use Rattle.command_words.specs.Asks.{Ask, form_text}
+use Rattle.std.proofs.Common.{map, string_bytes, subst}
+use Rattle.command_words.specs.Asks.{Ask}
+use Rattle.command_line.specs.Performed.{written, wrote}
+use Rattle.command_line.specs.Right.{given_by}
 use Rattle.command_line.proofs.AskedSessionLemmas.{as_asked}
-use Rattle.command_line.proofs.DidLemmas.{did_list, did_schema, did_load, did_run}
-use Rattle.command_line.proofs.PerformLemmas.{no_verdict, of_no_deck, load_as}
-use Rattle.command_outcomes.specs.declared.outcome.Outcome.TheVariants.{Records, Counted}
+use Rattle.command_line.proofs.DidLemmas.{for_schema, for_records, for_load, did_list, did_schema, did_load, did_run}
+use Rattle.command_line.proofs.RightLemmas.{right_done, right_as, right_by, right_schema, right_run}
+use Rattle.command_outcomes.specs.declared.outcome.Outcome.TheVariants.{Helped, Checked, Served, Explained, Listed, Records, InCobol, Loaded, Counted}
 use Rattle.command_line.proofs.performing.perform.Goals as goal
 
 -- the session that was held is the one that the words ask for
@@ -13,72 +15,111 @@ returns-in-Serve-clause-session g c =
     let asked = subst (Ask words) c.in-Serve.is c.in-Ok.ensures.asked in
     as_asked _ _ words _ _ c.in-Serve.folder.now c.in-Serve.limits.pages c.in-Serve.limits.frames.value asked c.serve_path.ensures.came
 
--- the records of a file are not the list of a deck
-pub returns-in-List-clause-listed : goal.returns-in-List-clause-listed
-returns-in-List-clause-listed g c = of_no_deck Records _ _ c.list_records.result (λ end is. absurd (cc)) c.list_records.ensures.records
+-- help, a run and a session are right of whatever was read
+pub returns-in-Help-clause-right : goal.returns-in-Help-clause-right
+returns-in-Help-clause-right g c =
+    let given = given_by g.R.File.Read.remaining (g.I.Read.remaining c.args.input.now.reader) g.D.Disk.unseen in
+    right_done given (map string_bytes c.args.words.now) (wrote g.W.Write.contents c.args.out.now c.write_help.new.out) Helped
+    c.write_help.result c.write_help.ensures.ok tt
 
--- a count is not the list of a deck, and a run has no verdict
-pub returns-in-Stat-clause-listed : goal.returns-in-Stat-clause-listed
-returns-in-Stat-clause-listed g c = of_no_deck Counted _ _ c.count_path.result (λ end is. absurd (cc)) c.count_path.ensures.counted
+pub returns-in-Serve-clause-right : goal.returns-in-Serve-clause-right
+returns-in-Serve-clause-right g c =
+    let given = given_by g.R.File.Read.remaining (g.I.Read.remaining c.args.input.now.reader) g.D.Disk.unseen in
+    right_done given (map string_bytes c.args.words.now) (wrote g.W.Write.contents c.args.out.now c.serve_path.new.out) Served
+    c.serve_path.result c.serve_path.ensures.ok tt
 
-pub returns-in-Run-clause-verdict : goal.returns-in-Run-clause-verdict
-returns-in-Run-clause-verdict g c = no_verdict _ _ _ _ _ _ c.run.result.1 c.run.ensures.came
+pub returns-in-Run-clause-right : goal.returns-in-Run-clause-right
+returns-in-Run-clause-right g c =
+    let given = given_by g.R.File.Read.remaining (g.I.Read.remaining c.args.input.now.reader) g.D.Disk.unseen in
+    right_run given (map string_bytes c.args.words.now) (wrote g.W.Write.contents c.args.out.now c.run.new.out) _ _ _ _ _
+    c.run.result.1 c.run.ensures.came
 
--- what was done for words that ask for a run, a schema, a list or a load
+-- what was done for words that ask for a run, and for each of the others, which is right
 pub returns-in-Run-clause-did : goal.returns-in-Run-clause-did
 returns-in-Run-clause-did g c =
     let words = map string_bytes c.args.words.now in
     let asked = subst (Ask words) c.in-Run.is c.in-Ok.ensures.asked in
     did_run words c.in-Run.deck.now c.in-Run.folder.now c.in-Run.limits.pages c.in-Run.limits.frames.value asked _ _ c.run.result.1 c.run.ensures.came
 
+pub returns-in-len1-clause-right : goal.returns-in-len1-clause-right
+returns-in-len1-clause-right g c =
+    let given = given_by g.R.File.Read.remaining (g.I.Read.remaining c.args.input.now.reader) g.D.Disk.unseen in
+    right_by given (map string_bytes c.args.words.now) (wrote g.W.Write.contents c.args.out.now c.check_path.new.out) Checked _
+    c.check_path.result c.check_path.ensures.right (λ verdict is. is)
+
 pub returns-in-Schema-clause-did : goal.returns-in-Schema-clause-did
 returns-in-Schema-clause-did g c =
     let words = map string_bytes c.args.words.now in
     let asked = subst (Ask words) c.in-Schema.is c.in-Ok.ensures.asked in
-    did_schema words (record { before = g.W.Write.contents c.args.out.now; behind = g.W.Write.contents c.schema.new.out })
-    (record { file = c.in-Schema.file.now; deck = option_map (λ text. text.now) c.in-Schema.deck; name = option_map (λ text. text.now) c.in-Schema.name; asked = asked })
-    c.schema.result c.schema.ensures.done c.schema.ensures.fault
+    did_schema words (written (g.W.Write.contents c.args.out.now) (g.W.Write.contents c.schema.new.out))
+    (for_schema words c.in-Schema.file c.in-Schema.deck c.in-Schema.name asked) c.schema.result c.schema.ensures.done c.schema.ensures.fault
+
+pub returns-in-Schema-clause-right : goal.returns-in-Schema-clause-right
+returns-in-Schema-clause-right g c =
+    let given = given_by g.R.File.Read.remaining (g.I.Read.remaining c.args.input.now.reader) g.D.Disk.unseen in
+    let words = map string_bytes c.args.words.now in
+    let asked = subst (Ask words) c.in-Schema.is c.in-Ok.ensures.asked in
+    right_schema given words (wrote g.W.Write.contents c.args.out.now c.schema.new.out)
+    (for_schema words c.in-Schema.file c.in-Schema.deck c.in-Schema.name asked) c.schema.result c.schema.ensures.told c.schema.ensures.compared c.schema.ensures.done
+
+pub returns-in-Explain-clause-right : goal.returns-in-Explain-clause-right
+returns-in-Explain-clause-right g c =
+    let given = given_by g.R.File.Read.remaining (g.I.Read.remaining c.args.input.now.reader) g.D.Disk.unseen in
+    let asked = subst (Ask (map string_bytes c.args.words.now)) c.in-Explain.is c.in-Ok.ensures.asked in
+    right_as given (map string_bytes c.args.words.now) (wrote g.W.Write.contents c.args.out.now c.explain.new.out) Explained
+    c.explain.result c.explain.ensures.done c.explain.ensures.text (λ text. (c.in-Explain.kind.now, c.in-Explain.number.now, asked, text))
+
+pub returns-in-Deck-clause-right : goal.returns-in-Deck-clause-right
+returns-in-Deck-clause-right g c =
+    let given = given_by g.R.File.Read.remaining (g.I.Read.remaining c.args.input.now.reader) g.D.Disk.unseen in
+    let asked = subst (Ask (map string_bytes c.args.words.now)) c.in-Deck.is c.in-Ok.ensures.asked in
+    right_as given (map string_bytes c.args.words.now) (wrote g.W.Write.contents c.args.out.now c.list_path.new.out) Listed
+    c.list_path.result c.list_path.ensures.done c.list_path.ensures.listed (λ listed. (c.in-Deck.deck.now, asked, listed))
 
 pub returns-in-List-clause-did : goal.returns-in-List-clause-did
 returns-in-List-clause-did g c =
     let words = map string_bytes c.args.words.now in
     let asked = subst (Ask words) c.in-List.is c.in-Ok.ensures.asked in
-    did_list words (record { before = g.W.Write.contents c.args.out.now; behind = g.W.Write.contents c.list_records.new.out })
-    (record {
-      file = c.in-List.file.now;
-      key = c.in-List.key;
-      from = option_map (λ text. text.now) c.in-List.from;
-      to = option_map (λ text. text.now) c.in-List.to;
-      first = c.in-List.first;
-      form = form_text c.in-List.form;
-      quiet = c.in-List.quiet;
-      asked = asked;
-    })
+    did_list words (written (g.W.Write.contents c.args.out.now) (g.W.Write.contents c.list_records.new.out))
+    (for_records words c.in-List.file c.in-List.key c.in-List.from c.in-List.to c.in-List.first c.in-List.form c.in-List.quiet asked)
     _ c.list_records.result c.list_records.ensures.records c.list_records.ensures.fault
+
+pub returns-in-List-clause-right : goal.returns-in-List-clause-right
+returns-in-List-clause-right g c =
+    let given = given_by g.R.File.Read.remaining (g.I.Read.remaining c.args.input.now.reader) g.D.Disk.unseen in
+    let words = map string_bytes c.args.words.now in
+    let asked = subst (Ask words) c.in-List.is c.in-Ok.ensures.asked in
+    let list = for_records words c.in-List.file c.in-List.key c.in-List.from c.in-List.to c.in-List.first c.in-List.form c.in-List.quiet asked in
+    right_by given words (wrote g.W.Write.contents c.args.out.now c.list_records.new.out) Records _
+    c.list_records.result c.list_records.ensures.records (λ end is. (list, is.0, is.1, is.2))
+
+pub returns-in-Stat-clause-right : goal.returns-in-Stat-clause-right
+returns-in-Stat-clause-right g c =
+    let given = given_by g.R.File.Read.remaining (g.I.Read.remaining c.args.input.now.reader) g.D.Disk.unseen in
+    let asked = subst (Ask (map string_bytes c.args.words.now)) c.in-Stat.is c.in-Ok.ensures.asked in
+    right_by given (map string_bytes c.args.words.now) (wrote g.W.Write.contents c.args.out.now c.count_path.new.out) Counted _
+    c.count_path.result c.count_path.ensures.counted (λ end is. (c.in-Stat.file.now, asked, is))
+
+pub returns-in-Cobol-clause-right : goal.returns-in-Cobol-clause-right
+returns-in-Cobol-clause-right g c =
+    let given = given_by g.R.File.Read.remaining (g.I.Read.remaining c.args.input.now.reader) g.D.Disk.unseen in
+    let asked = subst (Ask (map string_bytes c.args.words.now)) c.in-Cobol.is c.in-Ok.ensures.asked in
+    right_as given (map string_bytes c.args.words.now) (wrote g.W.Write.contents c.args.out.now c.write_cobol.new.out) InCobol
+    c.write_cobol.result c.write_cobol.ensures.done c.write_cobol.ensures.written (λ is. (c.in-Cobol.deck.now, c.in-Cobol.fixed, asked, is))
 
 pub returns-clause-did : goal.returns-clause-did
 returns-clause-did g c =
     let words = map string_bytes c.args.words.now in
     let asked = subst (Ask words) c.in-Load.is c.in-Ok.ensures.asked in
-    did_load words (record { before = g.W.Write.contents c.args.out.now; behind = g.W.Write.contents c.load-loaded.new.out })
-    (record {
-      deck = c.in-Load.deck.now;
-      folder = c.in-Load.folder.now;
-      file = c.in-Load.file.now;
-      text = c.in-Load.text.now;
-      form = c.in-Load.form.now;
-      into = c.in-Load.into;
-      pages = c.in-Load.limits.pages;
-      frames = c.in-Load.limits.frames.value;
-      quiet = c.in-Load.quiet;
-      asked = asked;
-    })
+    let load = for_load words c.in-Load.deck c.in-Load.folder c.in-Load.file c.in-Load.text c.in-Load.form c.in-Load.into c.in-Load.limits c.in-Load.quiet asked in
+    did_load words (written (g.W.Write.contents c.args.out.now) (g.W.Write.contents c.load-loaded.new.out)) load
     _ c.load-loaded.result c.load-loaded.ensures.loaded c.load-loaded.ensures.fault
 
-pub returns-clause-loaded : goal.returns-clause-loaded
-returns-clause-loaded g c =
+pub returns-clause-right : goal.returns-clause-right
+returns-clause-right g c =
+    let given = given_by g.R.File.Read.remaining (g.I.Read.remaining c.args.input.now.reader) g.D.Disk.unseen in
     let words = map string_bytes c.args.words.now in
     let asked = subst (Ask words) c.in-Load.is c.in-Ok.ensures.asked in
-    load_as _ _ c.load-loaded.result
-    (λ end loads. (c.in-Load.deck.now, c.in-Load.folder.now, c.in-Load.file.now, c.in-Load.text.now, c.in-Load.form.now, c.in-Load.into, c.in-Load.limits.pages, c.in-Load.limits.frames.value, c.in-Load.quiet, asked, loads))
-    c.load-loaded.ensures.loaded
+    let load = for_load words c.in-Load.deck c.in-Load.folder c.in-Load.file c.in-Load.text c.in-Load.form c.in-Load.into c.in-Load.limits c.in-Load.quiet asked in
+    right_by given words (wrote g.W.Write.contents c.args.out.now c.load-loaded.new.out) Loaded _
+    c.load-loaded.result c.load-loaded.ensures.loaded (λ end is. (load, is))
