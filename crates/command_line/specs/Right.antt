@@ -22,7 +22,11 @@ use Rattle.command_line.specs.Performed.{Written, wrote, AskForLoad, AskForRecor
 use Rattle.standard_input.specs.declared.standard_input.StandardInput.{StandardInput}
 use Rattle.command_outcomes.specs.declared.fault.Fault.{Fault}
 use Rattle.command_outcomes.specs.declared.outcome.Outcome.{Outcome}
-use Rattle.command_outcomes.specs.declared.outcome.Outcome.TheVariants.{Helped, Checked, Ended, Served, SchemaTold, SchemaCompared, SchemaRefused, Explained, Listed, CheckedAll, Records, InCobol, Loaded, Counted}
+use Rattle.command_outcomes.specs.declared.outcome.Outcome.TheVariants.{Helped, Checked, Ended, Served}
+use Rattle.command_outcomes.specs.declared.outcome.Outcome.TheVariants.{SchemaTold, SchemaCompared}
+use Rattle.command_outcomes.specs.declared.outcome.Outcome.TheVariants.{SchemaRefused, Explained, Listed}
+use Rattle.command_outcomes.specs.declared.outcome.Outcome.TheVariants.{CheckedAll, Records, InCobol, Loaded}
+use Rattle.command_outcomes.specs.declared.outcome.Outcome.TheVariants.{Counted}
 
 -- what there is to read: what a file that is opened and the input have left, and what the folder of a path
 -- holds

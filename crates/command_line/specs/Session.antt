@@ -7,7 +7,8 @@ use Rattle.shelf_library.specs.State.{LibraryState}
 use Rattle.shelf_library.specs.declared.held.Held.{Held}
 use Rattle.shelf_run.specs.ShelfRun.{over}
 use Rattle.serve.specs.declared.fault.ServeFault.{ServeFault}
-use Rattle.serve.specs.declared.fault.ServeFault.TheVariants.{Input as NotRead, Output as NotWritten, Memory as NoMemory}
+use Rattle.serve.specs.declared.fault.ServeFault.TheVariants.{Input as NotRead, Output as NotWritten}
+use Rattle.serve.specs.declared.fault.ServeFault.TheVariants.{Memory as NoMemory}
 use Rattle.command_line.specs.Folder.{folder_at_first, folder_after}
 use Rattle.command_outcomes.specs.declared.fault.Fault.{Fault}
 use Rattle.command_outcomes.specs.declared.fault.Fault.TheVariants.{Input, Output, Memory}

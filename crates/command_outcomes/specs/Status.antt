@@ -3,18 +3,26 @@ use Rattle.std.specs.Prelude.{◌≡◌, ◌⊎◌, ℕ, Bool, true, false, Resu
 use Rattle.file_checker.specs.declared.verdict.Verdict.{Verdict}
 use Rattle.file_checker.specs.declared.verdict.Verdict.TheVariants.{Sound, Unsound}
 use Rattle.file_listing.specs.declared.listing.FileList.{FileList}
-use Rattle.file_listing.specs.declared.listing.FileList.TheVariants.{Listed as RecordsListed, NoKey, Unsound as NoFile}
+use Rattle.file_listing.specs.declared.listing.FileList.TheVariants.{Listed as RecordsListed, NoKey}
+use Rattle.file_listing.specs.declared.listing.FileList.TheVariants.{Unsound as NoFile}
 use Rattle.schema_listing.specs.declared.comparing.Comparison.{Comparison}
 use Rattle.schema_listing.specs.declared.comparing.Comparison.TheVariants.{Same, Different}
 use Rattle.shelf_loading.specs.Answer.{is_loaded}
 use Rattle.shelf_loading.specs.declared.end.ShelfEnd.{ShelfEnd}
 use Rattle.shelf_loading.specs.declared.end.ShelfEnd.TheVariants.{IsThere, Loaded as LoadEnds}
 use Rattle.file_statistics.specs.declared.listing.FileStatisticsEnd.{FileStatisticsEnd}
-use Rattle.file_statistics.specs.declared.listing.FileStatisticsEnd.TheVariants.{Listed as CountListed, Unsound as NotCounted}
+use Rattle.file_statistics.specs.declared.listing.FileStatisticsEnd.TheVariants.{Listed as CountListed}
+use Rattle.file_statistics.specs.declared.listing.FileStatisticsEnd.TheVariants.{Unsound as NotCounted}
 use Rattle.command_outcomes.specs.declared.fault.Fault.{Fault}
-use Rattle.command_outcomes.specs.declared.fault.Fault.TheVariants.{Deck, NotListed, NoSuchFile, Form as NoForm, Unexplained, LongValue, Usage, Input, Output, Memory}
+use Rattle.command_outcomes.specs.declared.fault.Fault.TheVariants.{Deck, NotListed, NoSuchFile}
+use Rattle.command_outcomes.specs.declared.fault.Fault.TheVariants.{Form as NoForm, Unexplained, LongValue}
+use Rattle.command_outcomes.specs.declared.fault.Fault.TheVariants.{Usage, Input, Output, Memory}
 use Rattle.command_outcomes.specs.declared.outcome.Outcome.{Outcome}
-use Rattle.command_outcomes.specs.declared.outcome.Outcome.TheVariants.{Helped, Checked, Ended, Served, SchemaTold, SchemaCompared, SchemaRefused, Explained, Listed, CheckedAll, Records, InCobol, Loaded, Counted}
+use Rattle.command_outcomes.specs.declared.outcome.Outcome.TheVariants.{Helped, Checked, Ended, Served}
+use Rattle.command_outcomes.specs.declared.outcome.Outcome.TheVariants.{SchemaTold, SchemaCompared}
+use Rattle.command_outcomes.specs.declared.outcome.Outcome.TheVariants.{SchemaRefused, Explained, Listed}
+use Rattle.command_outcomes.specs.declared.outcome.Outcome.TheVariants.{CheckedAll, Records, InCobol, Loaded}
+use Rattle.command_outcomes.specs.declared.outcome.Outcome.TheVariants.{Counted}
 
 -- the exit status that tells a fault
 abbrev pub status_of : Fault → ℕ

@@ -1,9 +1,11 @@
 -- How the program tells why a run did not end, and why the words of its command line ask for
 -- nothing. All of this is ours.
 use Rattle.deck_runner.specs.declared.fault.RunFault.{RunFault}
-use Rattle.deck_runner.specs.declared.fault.RunFault.TheVariants.{Deck as DeckRefused, Output as LineRefused, Memory as NoMemory}
+use Rattle.deck_runner.specs.declared.fault.RunFault.TheVariants.{Deck as DeckRefused, Output as LineRefused}
+use Rattle.deck_runner.specs.declared.fault.RunFault.TheVariants.{Memory as NoMemory}
 use Rattle.command_words.specs.declared.fault.WordsFault.{WordsFault}
-use Rattle.command_words.specs.declared.fault.WordsFault.TheVariants.{Usage as NotUnderstood, Memory as NoMemoryForWords}
+use Rattle.command_words.specs.declared.fault.WordsFault.TheVariants.{Usage as NotUnderstood}
+use Rattle.command_words.specs.declared.fault.WordsFault.TheVariants.{Memory as NoMemoryForWords}
 use Rattle.command_outcomes.specs.declared.fault.Fault.{Fault}
 use Rattle.command_outcomes.specs.declared.fault.Fault.TheVariants.{Deck, Usage, Output, Memory}
 

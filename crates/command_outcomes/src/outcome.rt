@@ -1,6 +1,7 @@
 //! What became of the words of a command line.
 ghost use Rattle.std.specs.Prelude.{◌≡◌};
-ghost use Rattle.command_outcomes.specs.Status.{status_by, status_of_list, status_of_load, status_of_count, status_of_comparison, status_where, status_for, exit_status};
+ghost use Rattle.command_outcomes.specs.Status.{status_by, status_of_list, status_of_load, status_of_count};
+ghost use Rattle.command_outcomes.specs.Status.{status_of_comparison, status_where, status_for, exit_status};
 
 use crate::fault::Fault;
 use deck_runner::RunEnd;

@@ -7,7 +7,8 @@ use Rattle.deck_reader.specs.declared.deck.Deck.{Deck}
 use Rattle.deck_reader.specs.Deck.{IsDeck}
 use Rattle.file_commands.specs.Front.{OfDeck}
 use Rattle.command_outcomes.specs.declared.fault.Fault.{Fault}
-use Rattle.command_outcomes.specs.declared.fault.Fault.TheVariants.{Deck as DeckRefused, NoSuchFile, Input, Output, Memory}
+use Rattle.command_outcomes.specs.declared.fault.Fault.TheVariants.{Deck as DeckRefused, NoSuchFile, Input}
+use Rattle.command_outcomes.specs.declared.fault.Fault.TheVariants.{Output, Memory}
 
 -- the name is that of the file in its deck, in capitals or small letters
 abbrev pub is_named : (name : List ℕ) → FileDesc → Bool

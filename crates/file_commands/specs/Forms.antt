@@ -1,5 +1,6 @@
 -- The form that a list is asked for in, and its columns. All of this is ours.
-use Rattle.std.specs.Prelude.{◌≡◌, ◌≢◌, ◌⊎◌, ℕ, true, List, [], ◌∷◌, map, Option, Some, None, IsSome, codes, ⊤}
+use Rattle.std.specs.Prelude.{◌≡◌, ◌≢◌, ◌⊎◌, ℕ, true, List, [], ◌∷◌, map, Option, Some, None, IsSome, codes}
+use Rattle.std.specs.Prelude.{⊤}
 use Rattle.clap.specs.Words.{Text as Word}
 use Rattle.file_control.specs.Description.{FileDesc}
 use Rattle.record_forms.specs.declared.column.Column.{Column}
@@ -10,9 +11,12 @@ use Rattle.command_words.specs.Asks.{FormText}
 use Rattle.file_commands.specs.Cuts.{AreCuts}
 use Rattle.file_commands.specs.DeckFile.{IsOfDeck, IsHalf, IsDeckAsked}
 use Rattle.command_outcomes.specs.declared.form_fault.FormFault.{FormFault}
-use Rattle.command_outcomes.specs.declared.form_fault.FormFault.TheVariants.{Kind, TextColumns, CutAndDeck, HalfDeck, Cuts}
+use Rattle.command_outcomes.specs.declared.form_fault.FormFault.TheVariants.{Kind, TextColumns, CutAndDeck}
+use Rattle.command_outcomes.specs.declared.form_fault.FormFault.TheVariants.{HalfDeck, Cuts}
 use Rattle.command_outcomes.specs.declared.fault.Fault.{Fault}
-use Rattle.command_outcomes.specs.declared.fault.Fault.TheVariants.{Deck as DeckRefused, NoSuchFile, Form as NoForm, LongValue, Input, Output, Memory}
+use Rattle.command_outcomes.specs.declared.fault.Fault.TheVariants.{Deck as DeckRefused, NoSuchFile}
+use Rattle.command_outcomes.specs.declared.fault.Fault.TheVariants.{Form as NoForm, LongValue, Input, Output}
+use Rattle.command_outcomes.specs.declared.fault.Fault.TheVariants.{Memory}
 
 -- the columns are those between the cuts of a text, which rise from 1 on
 abbrev pub IsCutInto : Word → List Column → Type 0

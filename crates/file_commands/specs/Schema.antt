@@ -5,7 +5,9 @@ use Rattle.record_layout.specs.Schema.{Schema}
 use Rattle.file_header.specs.declared.header.Header.{Header}
 use Rattle.schema_listing.specs.declared.first_page.Refusal.{Refusal}
 use Rattle.schema_listing.specs.declared.listing.ListingFault.{ListingFault}
-use Rattle.schema_listing.specs.declared.listing.ListingFault.TheVariants.{Input as Unread, Output as Unwritten, Memory as NoMemory}
+use Rattle.schema_listing.specs.declared.listing.ListingFault.TheVariants.{Input as Unread}
+use Rattle.schema_listing.specs.declared.listing.ListingFault.TheVariants.{Output as Unwritten}
+use Rattle.schema_listing.specs.declared.listing.ListingFault.TheVariants.{Memory as NoMemory}
 use Rattle.schema_listing.specs.Listing.{Tells, read_in}
 use Rattle.schema_listing.specs.declared.comparing.Comparison.{Comparison}
 use Rattle.file_control.specs.Description.{FileDesc}
@@ -14,9 +16,11 @@ use Rattle.file_commands.specs.DeckFile.{IsOfDeck, IsDeckAsked, IsDeckFile, IsHa
 use Rattle.file_commands.specs.Front.{IsDeckNamed, OfFile}
 use Rattle.command_outcomes.specs.declared.form_fault.FormFault.TheVariants.{HalfDeck}
 use Rattle.command_outcomes.specs.declared.fault.Fault.{Fault}
-use Rattle.command_outcomes.specs.declared.fault.Fault.TheVariants.{Deck as DeckRefused, NoSuchFile, Form as NoForm, Input, Output, Memory}
+use Rattle.command_outcomes.specs.declared.fault.Fault.TheVariants.{Deck as DeckRefused, NoSuchFile}
+use Rattle.command_outcomes.specs.declared.fault.Fault.TheVariants.{Form as NoForm, Input, Output, Memory}
 use Rattle.command_outcomes.specs.declared.outcome.Outcome.{Outcome}
-use Rattle.command_outcomes.specs.declared.outcome.Outcome.TheVariants.{SchemaTold, SchemaCompared, SchemaRefused}
+use Rattle.command_outcomes.specs.declared.outcome.Outcome.TheVariants.{SchemaTold, SchemaCompared}
+use Rattle.command_outcomes.specs.declared.outcome.Outcome.TheVariants.{SchemaRefused}
 
 -- why nothing is told, or not all
 abbrev pub listing_told_as : ListingFault → Fault

@@ -1,6 +1,7 @@
 //! The deck in a file as a COBOL program.
 ghost use Rattle.std.specs.Prelude.{◌≡◌, ◌≢◌, string_bytes, IfOk, IfErr};
-ghost use Rattle.file_commands.specs.Listed.{form_of, IsInCobol, IsRefusalOf, RefusesDeck, WritesCobolAt, IsListFault};
+ghost use Rattle.file_commands.specs.Listed.{form_of, IsInCobol, IsRefusalOf, RefusesDeck, WritesCobolAt};
+ghost use Rattle.file_commands.specs.Listed.{IsListFault};
 ghost use Rattle.command_outcomes.specs.Status.{status_of};
 
 use crate::deck_list::refused;

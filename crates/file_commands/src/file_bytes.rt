@@ -1,7 +1,8 @@
 //! The bytes of a file: of a deck, of records, or of a text.
 ghost use Rattle.std.specs.Prelude.{◌≡◌, ◌≤◌, ◌<◌, IfOk, IfErr, length, take, codes};
 ghost use Rattle.std.specs.Io.KnownBytes.{Consumes, IsAtEnd};
-ghost use Rattle.file_commands.specs.Front.{IsFrontOfNamed, IsFrontOfInput, IsDeckNamed, IsTextNamed, IsWholeFile, GivesSuch};
+ghost use Rattle.file_commands.specs.Front.{IsFrontOfNamed, IsFrontOfInput, IsDeckNamed, IsTextNamed};
+ghost use Rattle.file_commands.specs.Front.{IsWholeFile, GivesSuch};
 ghost use Rattle.command_outcomes.specs.Status.{status_of};
 
 use command_outcomes::Fault;

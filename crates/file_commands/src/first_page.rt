@@ -1,7 +1,8 @@
 //! The schema of a file, by its first page, told or held against that of a file of a deck.
 ghost use Rattle.std.specs.Prelude.{◌≡◌, ◌≢◌, IfOk, IfErr};
 ghost use Rattle.file_commands.specs.Front.{word_in, GivesSuch};
-ghost use Rattle.file_commands.specs.Schema.{TellsReader, TellsFile, ComparesAsked, IsOfSchema, IsSchemaDone, IsSchemaFault, listing_told_as};
+ghost use Rattle.file_commands.specs.Schema.{TellsReader, TellsFile, ComparesAsked, IsOfSchema, IsSchemaDone};
+ghost use Rattle.file_commands.specs.Schema.{IsSchemaFault, listing_told_as};
 ghost use Rattle.command_outcomes.specs.Status.{status_of};
 
 use crate::comparing::compare_path;

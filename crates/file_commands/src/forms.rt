@@ -4,7 +4,8 @@ ghost use Rattle.record_forms.specs.Parts.{part_of, whole_part};
 ghost use Rattle.command_words.specs.Asks.{form_text};
 ghost use Rattle.file_commands.specs.Cuts.{AreNoCuts};
 ghost use Rattle.file_commands.specs.DeckFile.{IsDeckFault};
-ghost use Rattle.file_commands.specs.Forms.{IsCutInto, AreItemsOf, AreColumnsAsked, IsCutFault, IsFormAsked, IsFormRefused};
+ghost use Rattle.file_commands.specs.Forms.{IsCutInto, AreItemsOf, AreColumnsAsked, IsCutFault, IsFormAsked};
+ghost use Rattle.file_commands.specs.Forms.{IsFormRefused};
 ghost use Rattle.file_commands.specs.Front.{IsDeckNamed};
 
 use crate::cuts::read_cuts;
