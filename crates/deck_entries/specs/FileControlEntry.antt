@@ -1,14 +1,13 @@
 -- The file control entry.
 -- ANSI X3.23-1985, Indexed I-O module, FILE-CONTROL entry. Which clauses there are, that INDEXED
 -- and RECORD KEY have to stand, and what a file name is, is ours.
-use Rattle.std.specs.Prelude.{ℕ, ◌==◌, Bool, true, false, ◌&&◌, ◌||◌, List, [], ◌∷◌, ◌++◌, length, nat_le}
+use Rattle.std.specs.Prelude.{ℕ, Bool, true, false, List, [], ◌∷◌, ◌++◌, length}
 use Rattle.std.specs.Prelude.{nat_lt, unwrap_or, if◌then◌else◌, codes, Option, Some, None, option_map}
-use Rattle.std.specs.Char.{is_ascii_digit}
-use Rattle.std.specs.List.{list_all, list_any}
+use Rattle.std.specs.List.{list_any}
 use Rattle.std.specs.Str.{bytes_eq}
 use Rattle.io_state.specs.declared.modes.Access.{Access}
 use Rattle.io_state.specs.declared.modes.Access.TheVariants.{Sequential, Random, Dynamic}
-use Rattle.deck_words.specs.ByteClass.{is_capital, is_small}
+use Rattle.io_state.specs.FileName.{is_file_name}
 use Rattle.deck_words.specs.Rule.{Rule, optional, some_onto, where_it_gives}
 use Rattle.deck_words.specs.Notation.{the, name, literal, period, ◌▸◌, ◌◂◌, ◌⊗◌, ◌∣◌, ◌<$>◌, is_there, may}
 use Rattle.record_layout.specs.SchemaFault.{KeyClause}
@@ -105,20 +104,6 @@ abbrev pub added_to : Clauses → Rule Clause → Rule Clauses
 added_to clauses rule = where_it_gives (with_clause clauses) rule
 
 -- ---- entries
-
-abbrev pub is_letter_or_digit : ℕ → Bool
-is_letter_or_digit byte = is_capital byte || is_small byte || is_ascii_digit byte
-
-abbrev pub is_of_file_name : ℕ → Bool
-is_of_file_name byte = is_letter_or_digit byte || byte == 46 || byte == 45 || byte == 95
-
-abbrev pub begins_file_name : List ℕ → Bool
-begins_file_name [] = false
-begins_file_name (byte ∷ text) = is_letter_or_digit byte
-
--- 1 to 64 letters, digits, points, hyphens and underscores, the first a letter or digit
-abbrev pub is_file_name : List ℕ → Bool
-is_file_name text = nat_le (length text) 64 && begins_file_name text && list_all is_of_file_name text
 
 unfoldable pub file_name : Rule (List ℕ)
 file_name = where_it_gives (λ text. if is_file_name text then Some text else None) literal

@@ -12,7 +12,6 @@ mod clauses;
 mod description_entry;
 mod divisions;
 mod entry;
-mod file_name;
 mod item;
 mod record_length;
 mod select;

@@ -11,9 +11,8 @@ ghost use Rattle.deck_entries.specs.FileControlEntry.{select_word, new_name, fil
 ghost use Rattle.deck_entries.specs.FileControlEntry.{is_selected, is_assigned};
 
 use crate::entry::{Clauses, Selected};
-use crate::file_name::{file_name_of, is_file_name_text};
 use deck_words::{Cause, Parser, Refusal};
-use io_state::{Access, FileName, Name};
+use io_state::{Access, FileName, Name, file_name_of};
 use std::alloc::Global;
 
 /// The most alternate keys of a file.
@@ -181,11 +180,7 @@ fn file_name(parser: &mut Parser<'_>, alloc: Global) -> Result<FileName, Refusal
 {
     let not_allowed = parser.fault(Cause::NotAllowed);
     let text = parser.literal(alloc)?;
-    if is_file_name_text(text.as_slice()) {
-        Ok(file_name_of(text.as_slice()))
-    } else {
-        Err(not_allowed)
-    }
+    file_name_of(text.as_slice()).ok_or(not_allowed)
 }
 
 #[tactic(auto, unfolding(crate::specs::FileControlEntry::select_word, deck_words::specs::Notation::the))]

@@ -7,7 +7,8 @@ use Rattle.std.proofs.lemmas.List.Folds.{list_any-append}
 use Rattle.std.proofs.lemmas.Option.{same_Some}
 use Rattle.std.proofs.lemmas.Bool.{false≢true}
 use Rattle.std.proofs.lemmas.Bool.Decides.{nat_tests}
-use Rattle.deck_words.specs.ByteClass.{is_capital, is_of_name}
+use Rattle.io_state.specs.FileName.{is_capital}
+use Rattle.deck_words.specs.ByteClass.{is_of_name}
 use Rattle.deck_words.specs.Name.{is_number}
 use Rattle.deck_words.specs.Class.{Texts, Only, Names, Numbers, Levels, Pictures, Any, has, only_text, has_capitals, lacks, differ, are_texts_apart, Class, is_in, begins, are_apart, all_apart}
 use Rattle.deck_words.specs.Word.{Word, WordKind, is_same_kind}

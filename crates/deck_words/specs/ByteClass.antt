@@ -1,6 +1,7 @@
 -- The classes of a deck's bytes.
-use Rattle.std.specs.Prelude.{ℕ, ◌-◌, ◌==◌, Bool, not, ◌&&◌, ◌||◌, if◌then◌else◌, nat_le}
+use Rattle.std.specs.Prelude.{ℕ, ◌-◌, ◌==◌, Bool, not, ◌&&◌, ◌||◌, if◌then◌else◌}
 use Rattle.std.specs.Char.{is_ascii_digit}
+use Rattle.io_state.specs.FileName.{is_capital, is_small}
 
 -- white space: space, tab, line feed and carriage return
 abbrev pub is_space : ℕ → Bool
@@ -17,12 +18,6 @@ is_of_run byte = not (is_space byte) && not (is_mark byte)
 -- a byte of a literal: neither line feed nor carriage return
 abbrev pub is_of_literal : ℕ → Bool
 is_of_literal byte = not (byte == 10) && not (byte == 13)
-
-abbrev pub is_capital : ℕ → Bool
-is_capital byte = nat_le 65 byte && nat_le byte 90
-
-abbrev pub is_small : ℕ → Bool
-is_small byte = nat_le 97 byte && nat_le byte 122
 
 -- a byte of a plain word: a letter, a digit, a hyphen or a parenthesis
 abbrev pub is_of_word : ℕ → Bool

@@ -7,7 +7,8 @@ use Rattle.std.specs.Prelude.{codes}
 use Rattle.std.specs.Char.{is_ascii_digit}
 use Rattle.std.specs.List.{list_all, list_any}
 use Rattle.std.specs.Str.{bytes_eq}
-use Rattle.deck_words.specs.ByteClass.{is_capital, is_of_name}
+use Rattle.io_state.specs.FileName.{is_capital}
+use Rattle.deck_words.specs.ByteClass.{is_of_name}
 
 -- the words of the divisions before the procedure, and of its heading
 abbrev pub description_words : List (List ℕ)

@@ -3,7 +3,8 @@ ghost use Rattle.std.specs.Prelude.{◌≡◌};
 ghost use Rattle.std.specs.Char.{is_ascii_digit};
 ghost use Rattle.std.specs.List.{list_all, list_any};
 ghost use Rattle.std.specs.Str.{bytes_eq};
-ghost use Rattle.deck_words.specs.ByteClass.{is_capital, is_of_name};
+ghost use Rattle.io_state.specs.FileName.{is_capital};
+ghost use Rattle.deck_words.specs.ByteClass.{is_of_name};
 ghost use Rattle.deck_words.specs.Name.{is_reserved, is_name, is_number};
 
 /// The reserved words of the divisions before the procedure, and its heading.

@@ -6,7 +6,8 @@ use Rattle.std.specs.declared.cmp.Ordering.{Ordering}
 use Rattle.std.specs.declared.cmp.Ordering.TheVariants.{Less, Equal, Greater}
 use Rattle.record_layout.specs.Schema.{Schema, prime_of}
 use Rattle.indexed_file.specs.File.{Row}
-use Rattle.indexed_file.specs.Rank.{row_cmp, value_cmp}
+use Rattle.io_state.specs.Rank.{value_cmp}
+use Rattle.indexed_file.specs.Rank.{row_cmp}
 use Rattle.indexed_file.specs.Change.{inserted}
 use Rattle.page_bytes.specs.Each.{Each}
 use Rattle.key_index.specs.Entries.{with_alt}

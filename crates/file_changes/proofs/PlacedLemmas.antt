@@ -5,7 +5,7 @@ use Rattle.std.specs.Ordering.{is_lt}
 use Rattle.std.proofs.lemmas.Bool.{and_parts, and_from, eq-eqb}
 use Rattle.record_layout.specs.Schema.{Schema, prime_of}
 use Rattle.indexed_file.specs.File.{Row}
-use Rattle.indexed_file.specs.Rank.{value_cmp}
+use Rattle.io_state.specs.Rank.{value_cmp}
 use Rattle.indexed_file.specs.Change.{inserted}
 use Rattle.key_index.specs.declared.entry.PrimeEntry.{PrimeEntry}
 use Rattle.record_heap.specs.declared.shape.Place.{Place}

@@ -13,7 +13,8 @@ use Rattle.std.proofs.lemmas.Map.Text.{is_eq-slice_cmp}
 use Rattle.record_layout.specs.declared.schema.KeyPart.{KeyPart}
 use Rattle.record_layout.specs.Schema.{Schema, IsSchema, key_at, part_of, value_of}
 use Rattle.indexed_file.specs.File.{Row, File, stamp_of}
-use Rattle.indexed_file.specs.Rank.{row_cmp, value_cmp}
+use Rattle.io_state.specs.Rank.{value_cmp}
+use Rattle.indexed_file.specs.Rank.{row_cmp}
 use Rattle.indexed_file.specs.Change.{clashes, new_row}
 use Rattle.indexed_file.specs.Sound.{is_row, are_apart, is_file}
 use Rattle.indexed_file.proofs.TestLemmas.{all_from_both}

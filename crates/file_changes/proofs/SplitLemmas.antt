@@ -9,7 +9,8 @@ use Rattle.std.proofs.lemmas.Bool.{and_parts}
 use Rattle.std.proofs.lemmas.Cmp.{nat_list_cmp_total}
 use Rattle.record_layout.specs.Schema.{Schema, prime_of, value_of}
 use Rattle.indexed_file.specs.File.{Row, stamp_of}
-use Rattle.indexed_file.specs.Rank.{row_cmp, value_cmp, has_value}
+use Rattle.io_state.specs.Rank.{value_cmp}
+use Rattle.indexed_file.specs.Rank.{row_cmp, has_value}
 use Rattle.indexed_file.specs.Change.{inserted, others_in}
 use Rattle.indexed_file.specs.Sound.{are_rows}
 use Rattle.indexed_file.proofs.RowLemmas.{is_before, rows_parts}

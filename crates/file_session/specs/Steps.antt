@@ -14,7 +14,7 @@ use Rattle.indexed_file.specs.Calls.{Keeps}
 use Rattle.verbs.specs.declared.answer.Answer.{Answer}
 use Rattle.verbs.specs.Held.{held_at_start, record_in, silent}
 use Rattle.verbs.specs.Performed.{FileInMemory, IsPerformed}
-use Rattle.request_frames.specs.FileName.{is_file_name}
+use Rattle.io_state.specs.FileName.{is_file_name}
 use Rattle.request_frames.specs.Request.{Described, Performed}
 use Rattle.request_frames.specs.declared.Refusal.{Refusal}
 use Rattle.request_frames.specs.declared.Refusal.TheVariants.{NoRequest, TooLong, Number, Description, Name}

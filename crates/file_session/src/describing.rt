@@ -9,9 +9,9 @@ use crate::described_file::DescribedFile;
 use crate::place;
 use crate::session::Session;
 use indexed_file::Library;
-use io_state::FileName;
+use io_state::{FileName, file_name_of};
 use record_layout::Schema;
-use request_frames::{Description, Refusal, file_name_of};
+use request_frames::{Description, Refusal};
 use std::alloc::{AllocError, Global};
 use verbs::Connector;
 

@@ -15,7 +15,7 @@ use Rattle.tree_node.specs.Order.{less}
 use Rattle.bplus_tree.specs.declared.tree.Tree.{Tree}
 use Rattle.bplus_tree.specs.Edits.{with_entry, without_key}
 use Rattle.bplus_tree.specs.Standing.{TreeStands, HasInserted, HasRemoved}
-use Rattle.key_index.specs.Rank.{value_cmp, rank_cmp}
+use Rattle.io_state.specs.Rank.{value_cmp, rank_cmp}
 use Rattle.key_index.specs.Stored.{prime_bytes, alt_bytes, IsPrimeEntry, IsAltEntry}
 use Rattle.key_index.specs.Entries.{has_prime, has_rank, with_prime, with_alt, without_prime, without_rank}
 use Rattle.key_index.specs.Calls.{PrimeHasAdded, PrimeHasRemoved, AltHasAdded, AltHasRemoved}

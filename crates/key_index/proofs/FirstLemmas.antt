@@ -17,7 +17,7 @@ use Rattle.tree_node.proofs.OrderLemmas.{either}
 use Rattle.tree_search.specs.declared.range.First.{First}
 use Rattle.tree_search.specs.Calls.{first_after}
 use Rattle.tree_search.specs.Range.{is_within, IsFirst}
-use Rattle.key_index.specs.Rank.{value_cmp}
+use Rattle.io_state.specs.Rank.{value_cmp}
 use Rattle.key_index.specs.Stored.{alt_bytes, IsAltEntry}
 use Rattle.key_index.specs.Entries.{entry_has_value, after_rank}
 use Rattle.key_index.specs.Calls.{IsAltFirst}

@@ -14,7 +14,7 @@ use Rattle.std.proofs.lemmas.Map.Text.{is_eq-slice_cmp}
 use Rattle.byteorder.specs.Numbers.{length-bytes_high_first}
 use Rattle.page_bytes.specs.Each.{Each}
 use Rattle.tree_node.specs.Order.{less}
-use Rattle.key_index.specs.Rank.{value_cmp}
+use Rattle.io_state.specs.Rank.{value_cmp}
 use Rattle.key_index.specs.Keys.{greatest_key}
 use Rattle.key_index.specs.Stored.{prime_bytes, alt_bytes, IsPrimeEntry, IsAltEntry}
 use Rattle.key_index.specs.Entries.{has_prime, from_prime, after_prime, past_prime, has_rank, from_value, after_rank, past_value}

@@ -9,7 +9,7 @@ use Rattle.std.specs.Cmp.Lexicographic.{slice_cmp}
 use Rattle.std.specs.Int.{byte_at, bytes_high_first}
 use Rattle.std.proofs.lemmas.Cmp.{nat_cmp_total, tied_itself, ranked}
 use Rattle.page_bytes.specs.Each.{Each}
-use Rattle.key_index.specs.Rank.{value_cmp, rank_cmp}
+use Rattle.io_state.specs.Rank.{value_cmp, rank_cmp}
 
 -- one of three holds of two numbers
 pub by_order : (x y : ℕ) (P : Type 0) → (x < y → P) → (x ≡ y → P) → (y < x → P) → P

@@ -2,7 +2,7 @@
 use Rattle.std.specs.Prelude.{ℕ, Bool, not, List, [], ◌∷◌, length, take, filter, bytes_eq, ◌&&◌, ◌==◌}
 use Rattle.std.specs.Prelude.{if◌then◌else◌}
 use Rattle.std.specs.Ordering.{is_ge, is_gt, is_lt}
-use Rattle.key_index.specs.Rank.{value_cmp, rank_cmp}
+use Rattle.io_state.specs.Rank.{value_cmp, rank_cmp}
 use Rattle.key_index.specs.declared.entry.PrimeEntry.{PrimeEntry}
 use Rattle.key_index.specs.declared.entry.AltEntry.{AltEntry}
 

@@ -1,4 +1,3 @@
-pub mod Rank
 pub mod Entries
 pub mod Stored
 pub mod Standing

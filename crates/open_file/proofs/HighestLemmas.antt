@@ -6,7 +6,8 @@ use Rattle.std.specs.Ordering.{is_lt}
 use Rattle.std.proofs.lemmas.Bool.{and_parts}
 use Rattle.record_layout.specs.Schema.{Schema, prime_of}
 use Rattle.indexed_file.specs.File.{Row}
-use Rattle.indexed_file.specs.Rank.{value_cmp, greater_of, highest_of}
+use Rattle.io_state.specs.Rank.{value_cmp}
+use Rattle.indexed_file.specs.Rank.{greater_of, highest_of}
 use Rattle.indexed_file.specs.Sound.{are_rows, are_apart}
 use Rattle.indexed_file.proofs.RowLemmas.{rows_parts, is_before}
 use Rattle.key_index.specs.declared.entry.PrimeEntry.{PrimeEntry}

@@ -14,7 +14,8 @@ use Rattle.io_state.specs.declared.position.Position.{Position}
 use Rattle.io_state.specs.declared.position.Position.TheVariants.{Invalid, Missing, From, After}
 use Rattle.record_layout.specs.Schema.{Schema, prime_of}
 use Rattle.indexed_file.specs.File.{Row, File}
-use Rattle.indexed_file.specs.Rank.{least, admits, value_cmp}
+use Rattle.io_state.specs.Rank.{value_cmp}
+use Rattle.indexed_file.specs.Rank.{least, admits}
 use Rattle.indexed_file.specs.Sound.{is_row}
 use Rattle.indexed_file.specs.Answers.{found_of}
 use Rattle.indexed_file.specs.declared.answer.Found.{Found}

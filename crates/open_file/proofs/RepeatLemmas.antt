@@ -13,7 +13,8 @@ use Rattle.page_bytes.specs.Each.{Each}
 use Rattle.std.proofs.lemmas.Grind.{common_steps}
 use Rattle.record_layout.specs.Schema.{Schema, value_of}
 use Rattle.indexed_file.specs.File.{Row, File, stamp_of}
-use Rattle.indexed_file.specs.Rank.{row_cmp, rank_cmp, value_cmp, has_value, is_repeated}
+use Rattle.io_state.specs.Rank.{rank_cmp, value_cmp}
+use Rattle.indexed_file.specs.Rank.{row_cmp, has_value, is_repeated}
 use Rattle.key_index.specs.declared.entry.AltEntry.{AltEntry}
 use Rattle.key_index.specs.Entries.{after_rank}
 use Rattle.open_file.specs.InOrder.{put, in_order, alt_entry, alt_entries}

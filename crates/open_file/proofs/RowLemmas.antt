@@ -11,7 +11,8 @@ use Rattle.std.proofs.lemmas.Bool.{and_parts}
 use Rattle.record_layout.specs.declared.schema.KeyPart.{KeyPart}
 use Rattle.record_layout.specs.Schema.{Schema, key_at, value_of, prime_of}
 use Rattle.indexed_file.specs.File.{Row, File, stamp_of}
-use Rattle.indexed_file.specs.Rank.{row_cmp, value_cmp, lower_of, lowest, least, has_value}
+use Rattle.io_state.specs.Rank.{value_cmp}
+use Rattle.indexed_file.specs.Rank.{row_cmp, lower_of, lowest, least, has_value}
 use Rattle.indexed_file.specs.Sound.{is_row, is_stamp, are_rows, are_apart, is_file}
 use Rattle.indexed_file.proofs.RowLemmas.{are_stamps, row_parts}
 use Rattle.page_bytes.specs.Each.{Each}

@@ -11,7 +11,8 @@ use Rattle.io_state.specs.declared.modes.Relation.{Relation}
 use Rattle.io_state.specs.declared.modes.Relation.TheVariants.{Equal as ForEqual, Greater as ForGreater, NotLess as ForNotLess}
 use Rattle.record_layout.specs.Schema.{Schema, value_of}
 use Rattle.indexed_file.specs.File.{Row, stamp_of}
-use Rattle.indexed_file.specs.Rank.{value_cmp, row_cmp, satisfies}
+use Rattle.io_state.specs.Rank.{value_cmp}
+use Rattle.indexed_file.specs.Rank.{row_cmp, satisfies}
 use Rattle.page_bytes.specs.Each.{Each}
 use Rattle.open_file.specs.InOrder.{alt_entry}
 use Rattle.open_file.specs.Steps.{leads_alt, is_wanted}

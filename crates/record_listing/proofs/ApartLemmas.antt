@@ -12,7 +12,8 @@ use Rattle.std.proofs.lemmas.Map.Text.{is_eq-slice_cmp}
 use Rattle.record_layout.specs.declared.schema.KeyPart.{KeyPart}
 use Rattle.record_layout.specs.Schema.{Schema, key_at, part_of, value_of}
 use Rattle.indexed_file.specs.File.{Row, File, stamp_of}
-use Rattle.indexed_file.specs.Rank.{row_cmp, value_cmp}
+use Rattle.io_state.specs.Rank.{value_cmp}
+use Rattle.indexed_file.specs.Rank.{row_cmp}
 use Rattle.indexed_file.specs.Sound.{is_file, is_row, are_apart, are_rows}
 use Rattle.indexed_file.proofs.ApartLemmas.{apart_back}
 use Rattle.indexed_file.proofs.RowLemmas.{is_before, row_parts, rows_parts, each_row}

@@ -10,7 +10,8 @@ use Rattle.io_state.specs.declared.position.Position.{Position}
 use Rattle.io_state.specs.declared.position.Position.TheVariants.{Invalid, Missing, From, After}
 use Rattle.record_layout.specs.Schema.{Schema, value_of}
 use Rattle.indexed_file.specs.File.{Row, stamp_of}
-use Rattle.indexed_file.specs.Rank.{row_cmp, value_cmp, rank_cmp, admits}
+use Rattle.io_state.specs.Rank.{value_cmp, rank_cmp}
+use Rattle.indexed_file.specs.Rank.{row_cmp, admits}
 use Rattle.indexed_file.proofs.TestLemmas.{either}
 use Rattle.record_listing.specs.Listed.{is_past}
 

@@ -7,7 +7,8 @@ use Rattle.page_bytes.specs.Each.{Each}
 use Rattle.io_state.specs.declared.modes.Relation.TheVariants.{NotLess}
 use Rattle.record_layout.specs.Schema.{Schema, value_of}
 use Rattle.indexed_file.specs.File.{Row, File}
-use Rattle.indexed_file.specs.Rank.{value_cmp, row_cmp, satisfies}
+use Rattle.io_state.specs.Rank.{value_cmp}
+use Rattle.indexed_file.specs.Rank.{row_cmp, satisfies}
 use Rattle.record_listing.specs.declared.asked.Asked.{Asked}
 
 -- the first bytes of a value, as many as the bound has, are greater than the bound

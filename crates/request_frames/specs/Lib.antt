@@ -1,4 +1,3 @@
-pub mod FileName
 pub mod Request
 pub mod Reading
 pub mod Writing

@@ -9,7 +9,6 @@
 
 mod answer;
 mod description;
-mod file_name;
 mod laws;
 mod refusal;
 mod request;
@@ -17,7 +16,6 @@ mod statement;
 
 pub use answer::{Answer, AnswerFrame, put_answer};
 pub use description::{Description, read_description};
-pub use file_name::file_name_of;
 pub use laws::what_is_written_is_read;
 pub use refusal::Refusal;
 pub use request::{LENGTH_LIMIT, Request, read_request};

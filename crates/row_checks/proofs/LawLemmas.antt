@@ -9,7 +9,8 @@ use Rattle.page_bytes.specs.Each.{Each}
 use Rattle.record_layout.specs.declared.schema.KeyPart.{KeyPart}
 use Rattle.record_layout.specs.Schema.{Schema, key_at, part_of, value_of, prime_of}
 use Rattle.indexed_file.specs.File.{Row, stamp_of}
-use Rattle.indexed_file.specs.Rank.{value_cmp, rank_cmp, row_cmp}
+use Rattle.io_state.specs.Rank.{value_cmp, rank_cmp}
+use Rattle.indexed_file.specs.Rank.{row_cmp}
 use Rattle.indexed_file.specs.Sound.{is_stamp, is_row, are_apart, are_rows}
 use Rattle.indexed_file.proofs.OrderLemmas.{below_differs}
 use Rattle.indexed_file.proofs.RowLemmas.{are_stamps, is_before, row_parts, rows_from}

@@ -6,7 +6,7 @@ use Rattle.std.proofs.lemmas.Bool.{and_from, eq-eqb, le-leb, lt-ltb}
 use Rattle.page_bytes.specs.Each.{Each}
 use Rattle.record_layout.specs.Schema.{Schema, prime_of}
 use Rattle.indexed_file.specs.File.{Row}
-use Rattle.indexed_file.specs.Rank.{value_cmp}
+use Rattle.io_state.specs.Rank.{value_cmp}
 use Rattle.indexed_file.specs.Sound.{is_row}
 use Rattle.indexed_file.proofs.RowLemmas.{row_from}
 use Rattle.tree_node.specs.Order.{less, Ascends}

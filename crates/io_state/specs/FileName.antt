@@ -1,4 +1,4 @@
--- The name of a file in its folder, as a deck has it. All of this is ours.
+-- The name of a file in its folder. All of this is ours.
 use Rattle.std.specs.Prelude.{ℕ, ◌==◌, Bool, false, ◌&&◌, ◌||◌, List, [], ◌∷◌, length, nat_le}
 use Rattle.std.specs.Char.{is_ascii_digit}
 use Rattle.std.specs.List.{list_all}

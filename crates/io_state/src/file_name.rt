@@ -1,9 +1,9 @@
-//! The names of files in their folder.
-ghost use Rattle.std.specs.Prelude.{◌≡◌, true};
+//! The name of a file in its folder.
+ghost use Rattle.std.specs.Prelude.{◌≡◌, true, Some, None, option_map, if◌then◌else◌};
 ghost use Rattle.std.specs.List.{list_all};
-ghost use Rattle.deck_entries.specs.FileControlEntry.{is_letter_or_digit, is_of_file_name, is_file_name};
+ghost use Rattle.io_state.specs.FileName.{is_letter_or_digit, is_of_file_name, is_file_name};
 
-use io_state::FileName;
+use crate::FileName;
 
 /// The most bytes of a file's name in its folder.
 const FILE_NAME_LIMIT: usize = 64;
@@ -21,7 +21,7 @@ fn has_file_name_bytes(text: &[u8]) -> bool
 }
 
 /// Whether a text is the name of a file.
-pub fn is_file_name_text(text: &[u8]) -> bool
+fn is_file_name_text(text: &[u8]) -> bool
     ensures { result ≡ is_file_name text.now }
 {
     match text.first() {
@@ -35,7 +35,7 @@ pub fn is_file_name_text(text: &[u8]) -> bool
 }
 
 /// The name of a file, as a text has it.
-pub fn file_name_of(text: &[u8]) -> FileName
+fn text_name(text: &[u8]) -> FileName
     requires { is_file_name text.now ≡ true }
     ensures { result.bytes ≡ text.now }
 {
@@ -44,4 +44,17 @@ pub fn file_name_of(text: &[u8]) -> FileName
         name.push(char::from(*byte));
     }
     name
+}
+
+/// The name of a file, as a text has it. None where it is the name of none: 1 to 64 letters,
+/// digits, full stops, hyphens and underscores, the first of them a letter or a digit.
+pub fn file_name_of(text: &[u8]) -> Option<FileName>
+    ensures { option_map (λ name. name.bytes) result
+        ≡ (if is_file_name text.now then Some text.now else None) }
+{
+    if is_file_name_text(text) {
+        Some(text_name(text))
+    } else {
+        None
+    }
 }

@@ -1,5 +1,5 @@
 use Rattle.std.proofs.Common.{◌≡◌, take}
-use Rattle.deck_entries.proofs.file_name.file_name_of.Given as goal
+use Rattle.io_state.proofs.file_name.text_name.Given as goal
 
 -- the name so far is the text so far
 abbrev pub invariant-loop-byte : goal.invariant-loop-byte
