@@ -1,6 +1,6 @@
 -- Rows of a file of one rank are one row.
-use Rattle.std.proofs.Common.{◌≡◌, inl, inr, ℕ, zero, suc, ◌+◌, ◌==◌, ◌<◌, Bool, true, false, not, List, [], ◌∷◌, length, refl, sym, ap, subst, ◌∙◌, arith}
-use Rattle.std.specs.Prelude.{slice_index, slice_index_or, zip, ◌&&◌, ◌||◌, bytes_eq}
+use Rattle.std.proofs.Common.{◌≡◌, inl, inr, ℕ, ◌+◌, ◌==◌, ◌<◌, Bool, true, false, not, List, [], ◌∷◌, length, refl, sym, ap, subst, ◌∙◌, arith}
+use Rattle.std.specs.Prelude.{◌&&◌, ◌||◌, bytes_eq}
 use Rattle.std.specs.List.{list_all}
 use Rattle.std.specs.Ordering.{is_lt, is_gt, is_eq, nat_cmp, ordering_then}
 use Rattle.std.specs.declared.cmp.Ordering.{Ordering}
@@ -16,21 +16,13 @@ use Rattle.io_state.specs.Rank.{value_cmp}
 use Rattle.indexed_file.specs.Rank.{row_cmp}
 use Rattle.indexed_file.specs.Sound.{is_file, is_row, are_apart, are_rows}
 use Rattle.indexed_file.proofs.ApartLemmas.{apart_back}
+use Rattle.indexed_file.proofs.DifferLemmas.{zipped}
 use Rattle.indexed_file.proofs.RowLemmas.{is_before, row_parts, rows_parts, each_row}
-use Rattle.record_listing.specs.Listed.{IsOf}
-use Rattle.record_listing.proofs.RankLemmas.{row_total, gt_back, differ}
+use Rattle.indexed_file.specs.Laws.{IsOf}
+use Rattle.indexed_file.proofs.RankLemmas.{row_total, gt_back, differ}
 
 from_eq : (a b : ℕ) → (a == b) ≡ true → a ≡ b
 from_eq a b h = grind (arith, common_steps)
-
--- what is so of the k-th of three lists
-zipped : (test : KeyPart × (ℕ × ℕ) → Bool) (keys : List KeyPart) (ss ts : List ℕ) (k : ℕ) (d : KeyPart) → list_all test (zip keys (zip ss ts)) ≡ true → k < length keys → k < length ss → k < length ts
-    → test (slice_index_or keys k d, (slice_index ss k, slice_index ts k)) ≡ true
-zipped test [] ss ts k d all lt la lb = absurd (omega (arith, lt))
-zipped test (x ∷ keys) [] bs k d all lt la lb = absurd (omega (arith, la))
-zipped test (x ∷ keys) (a ∷ ss) [] k d all lt la lb = absurd (omega (arith, lb))
-zipped test (x ∷ keys) (a ∷ ss) (b ∷ ts) zero d all lt la lb = (and_parts _ _ all).0
-zipped test (x ∷ keys) (a ∷ ss) (b ∷ ts) (suc k) d all lt la lb = zipped test keys ss ts k d (and_parts _ _ all).1 (omega (arith, lt)) (omega (arith, la)) (omega (arith, lb))
 
 one_differs : (x d y : Bool) → (not x || (d && not y)) ≡ true → (x && y) ≡ false
 one_differs true true true h = sym h

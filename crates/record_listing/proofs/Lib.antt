@@ -1,5 +1,5 @@
 pub mod RankLemmas
-pub mod LeastLemmas
+pub mod EachLemmas
 pub mod ApartLemmas
 pub mod ListedLemmas
 pub mod ReadingLemmas

@@ -17,10 +17,13 @@ use Rattle.indexed_file.specs.Rank.{row_cmp, least, admits, satisfies}
 use Rattle.indexed_file.specs.Sound.{is_file}
 use Rattle.indexed_file.proofs.TestLemmas.{either}
 use Rattle.record_listing.specs.declared.asked.Asked.{Asked}
-use Rattle.record_listing.specs.Listed.{is_past, is_within, IsOf, ComesBefore, Rise, AreListed}
+use Rattle.indexed_file.specs.Laws.{IsOf}
+use Rattle.record_listing.specs.Listed.{is_past, is_within, ComesBefore, Rise, AreListed}
 use Rattle.record_listing.specs.Reading.{behind, rows_from, rows_asked, ComesNext}
-use Rattle.record_listing.proofs.RankLemmas.{row_total, gt_back, admits_up, past_up, front_from, differ}
-use Rattle.record_listing.proofs.LeastLemmas.{each_weaker, least_is, none_passes}
+use Rattle.indexed_file.proofs.RankLemmas.{row_total, gt_back, differ}
+use Rattle.record_listing.proofs.RankLemmas.{admits_up, past_up, front_from}
+use Rattle.indexed_file.proofs.LeastLemmas.{least_is, none_passes}
+use Rattle.record_listing.proofs.EachLemmas.{each_weaker}
 use Rattle.record_listing.proofs.ApartLemmas.{one_row}
 
 -- ---- one step

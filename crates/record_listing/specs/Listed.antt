@@ -6,6 +6,7 @@ use Rattle.arrayvec.specs.ArrayVec.{ArrayVec}
 use Rattle.page_bytes.specs.Each.{Each}
 use Rattle.io_state.specs.declared.modes.Relation.TheVariants.{NotLess}
 use Rattle.record_layout.specs.Schema.{Schema, value_of}
+use Rattle.indexed_file.specs.Laws.{IsOf}
 use Rattle.indexed_file.specs.File.{Row, File}
 use Rattle.io_state.specs.Rank.{value_cmp}
 use Rattle.indexed_file.specs.Rank.{row_cmp, satisfies}
@@ -20,11 +21,6 @@ is_past (Some to) value = is_gt (value_cmp (take (length to.items) value) to.ite
 abbrev pub is_within : Schema → Asked → Row → Bool
 is_within schema asked row = satisfies schema asked.key NotLess asked.from.items row
     && not (is_past asked.to (value_of schema asked.key row.bytes))
-
--- a row is one of these
-abbrev pub IsOf : List Row → Row → Type 0
-IsOf [] row = ⊥
-IsOf (other ∷ rows) row = (row ≡ other) ⊎ IsOf rows row
 
 -- a row comes before another by key k: by value, and then by stamp
 abbrev pub ComesBefore : Schema → ℕ → Row → Row → Type 0

@@ -1,27 +1,15 @@
 -- The row of least rank among those that pass a test.
 use Rattle.std.proofs.Common.{◌≡◌, inl, inr, ℕ, Bool, true, false, List, [], ◌∷◌, filter, Option, Some, None, refl, sym, subst}
 use Rattle.std.specs.Ordering.{is_lt}
-use Rattle.page_bytes.specs.Each.{Each}
 use Rattle.record_layout.specs.Schema.{Schema}
 use Rattle.indexed_file.specs.File.{Row, File}
 use Rattle.indexed_file.specs.Rank.{row_cmp, lower_of, lowest, least}
 use Rattle.indexed_file.proofs.TestLemmas.{either}
-use Rattle.record_listing.specs.Listed.{IsOf}
-use Rattle.record_listing.proofs.RankLemmas.{row_total, not_below, not_back, not_self, differ}
+use Rattle.indexed_file.specs.Laws.{IsOf, IsLeast, IsLeastOrNone}
+use Rattle.indexed_file.proofs.RankLemmas.{row_total, not_below, not_back, not_self, differ}
 
 from_some : {X : Type 0} (x y : X) → Some x ≡ Some y → x ≡ y
 from_some x y e = cc
-
--- ---- rows of a list
-
-pub each_of : (P : Row → Type 0) (rows : List Row) (row : Row) → Each P rows → IsOf rows row → P row
-each_of P [] row all is = absurd is
-each_of P (other ∷ rows) row all (inl same) = subst P (sym same) all.0
-each_of P (other ∷ rows) row all (inr is) = each_of P rows row all.1 is
-
-pub each_weaker : (P Q : Row → Type 0) → ((row : Row) → P row → Q row) → (rows : List Row) → Each P rows → Each Q rows
-each_weaker P Q weaker [] all = tt
-each_weaker P Q weaker (row ∷ rows) all = (weaker row all.0, each_weaker P Q weaker rows all.1)
 
 -- a row that passes is among those that pass
 in_filter : (test : Row → Bool) (rows : List Row) (row : Row) → IsOf rows row → test row ≡ true → IsOf (filter test rows) row
@@ -44,52 +32,59 @@ of_filter test (other ∷ rows) row is =
 -- ---- the lowest
 
 module _ (schema : Schema) (k : ℕ) where
-  abbrev pub NotBelow : Row → Row → Type 0
+  abbrev NotBelow : Row → Row → Type 0
   NotBelow row other = is_lt (row_cmp schema k other row) ≡ false
+
+  -- none of these rows is below the row
+  abbrev IsBottom : List Row → Row → Type 0
+  IsBottom rows row = (other : Row) → IsOf rows other → NotBelow row other
 
   none_lowest : (rows : List Row) (row : Row) → IsOf rows row → lowest schema k rows ≡ None → ⊥
   none_lowest [] row is none = is
   none_lowest (other ∷ rows) row is none = cc
 
-  no_lowest : (rows : List Row) → lowest schema k rows ≡ None → Each (λ row. ⊥) rows
-  no_lowest [] none = tt
-  no_lowest (row ∷ rows) none = absurd (cc)
+  -- with one more row that is not below
+  one_more : (first row : Row) (rows : List Row) → NotBelow row first → IsBottom rows row → IsBottom (first ∷ rows) row
+  one_more first row rows here rest other (inl same) = subst (λ (r : Row). NotBelow row r) (sym same) here
+  one_more first row rows here rest other (inr is) = rest other is
 
   -- the lowest is one of the rows, and none is below it
-  lowest_is : (rows : List Row) (row : Row) → lowest schema k rows ≡ Some row → IsOf rows row × Each (NotBelow row) rows
+  lowest_is : (rows : List Row) (row : Row) → lowest schema k rows ≡ Some row → IsOf rows row × IsBottom rows row
   lowest_is [] row is = absurd (cc)
   lowest_is (first ∷ rows) row is = by (lowest_is rows) (lowest schema k rows) refl
     where
-      by : ((other : Row) → lowest schema k rows ≡ Some other → IsOf rows other × Each (NotBelow other) rows) → (o : Option Row) → lowest schema k rows ≡ o → IsOf (first ∷ rows) row × Each (NotBelow row) (first ∷ rows)
+      self : NotBelow first first
+      self = not_self (row_cmp schema k) (row_total schema k) first
+
+      by : ((other : Row) → lowest schema k rows ≡ Some other → IsOf rows other × IsBottom rows other) → (o : Option Row) → lowest schema k rows ≡ o
+          → IsOf (first ∷ rows) row × IsBottom (first ∷ rows) row
       by more None e =
           let same : first ≡ row = from_some _ _ (rw e at is) in
-          (inl (sym same), (subst (λ (r : Row). NotBelow r first) same (not_self (row_cmp schema k) (row_total schema k) first), each_weaker (λ r. ⊥) (NotBelow row) (λ r no. absurd no) rows (no_lowest rows e)))
+          subst (λ (r : Row). IsOf (first ∷ rows) r × IsBottom (first ∷ rows) r) same
+          (inl refl, one_more first first rows self (λ other there. absurd (none_lowest rows other there e)))
       by more (Some other) e =
           let rest = more other e in
           let lower : Some (lower_of schema k first (Some other)) ≡ Some row = rw e at is in
-          either (is_lt (row_cmp schema k other first)) (IsOf (first ∷ rows) row × Each (NotBelow row) (first ∷ rows))
+          either (is_lt (row_cmp schema k other first)) (IsOf (first ∷ rows) row × IsBottom (first ∷ rows) row)
           (λ yes. let same : other ≡ row = from_some _ _ (rw yes at lower) in
-          (inr (subst (IsOf rows) same rest.0), (subst (λ (r : Row). NotBelow r first) same (not_back (row_cmp schema k) (row_total schema k) other first yes), subst (λ (r : Row). Each (NotBelow r) rows) same rest.1)))
-          (λ no. let same : first ≡ row = from_some _ _ (rw no at lower) in (
-            inl (sym same),
-            (
-              subst (λ (r : Row). NotBelow r first) same (not_self (row_cmp schema k) (row_total schema k) first),
-              subst (λ (r : Row). Each (NotBelow r) rows) same (each_weaker (NotBelow other) (NotBelow first) (λ r up. not_below (row_cmp schema k) (row_total schema k) r other first up no) rows rest.1),
-            ),
-          ))
+          subst (λ (r : Row). IsOf (first ∷ rows) r × IsBottom (first ∷ rows) r) same
+          (inr rest.0, one_more first other rows (not_back (row_cmp schema k) (row_total schema k) other first yes) rest.1))
+          (λ no. let same : first ≡ row = from_some _ _ (rw no at lower) in
+          subst (λ (r : Row). IsOf (first ∷ rows) r × IsBottom (first ∷ rows) r) same
+          (inl refl, one_more first first rows self (λ r there. not_below (row_cmp schema k) (row_total schema k) r other first (rest.1 r there) no)))
 
   -- the least row that passes is one of the file, passes, and no row that passes is below it
-  pub record IsLeast (test : Row → Bool) (file : File) (row : Row) : Type 0 where
-    pub there : IsOf file.rows row
-    pub passes : test row ≡ true
-    pub least : (other : Row) → IsOf file.rows other → test other ≡ true → NotBelow row other
-
-  pub least_is : (test : Row → Bool) (file : File) (row : Row) → least schema k test file ≡ Some row → IsLeast test file row
+  pub least_is : (test : Row → Bool) (file : File) (row : Row) → least schema k test file ≡ Some row → IsLeast schema k test file row
   least_is test file row is =
       let all = lowest_is (filter test file.rows) row is in
       let one = of_filter test file.rows row all.0 in
-      record { there = one.0; passes = one.1; least = λ other there pass. each_of (NotBelow row) (filter test file.rows) other all.1 (in_filter test file.rows other there pass) }
+      record { there = one.0; passes = one.1; least = λ other there pass. all.1 other (in_filter test file.rows other there pass) }
 
   -- where there is none, no row passes
   pub none_passes : (test : Row → Bool) (file : File) (row : Row) → least schema k test file ≡ None → IsOf file.rows row → test row ≡ true → ⊥
   none_passes test file row none there pass = none_lowest (filter test file.rows) row (in_filter test file.rows row there pass) none
+
+  pub least_or_none : (test : Row → Bool) (file : File) (found : Option Row) → least schema k test file ≡ found → IsLeastOrNone schema k test file found
+  least_or_none test file None e =
+      λ row there. either (test row) (test row ≡ false) (λ yes. absurd (none_passes test file row e there yes)) (λ no. no)
+  least_or_none test file (Some row) e = least_is test file row e
