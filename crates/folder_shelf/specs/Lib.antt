@@ -2,3 +2,4 @@ pub mod Events
 pub mod Noting
 pub mod Replay
 pub mod ReplayLaws
+pub mod FolderLaws

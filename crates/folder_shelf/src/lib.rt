@@ -14,7 +14,9 @@
 mod disk;
 mod folder;
 mod folder_shelf;
+mod laws;
 mod record;
 
 pub use disk::{Disk, EmptyDisk};
 pub use folder_shelf::FolderShelf;
+pub use laws::folder_laws;
