@@ -5,10 +5,24 @@ use Rattle.std.proofs.lemmas.Option.{some_pair_parts}
 use Rattle.std.proofs.lemmas.Bool.{false≢true}
 use Rattle.deck_words.specs.Word.{Word}
 use Rattle.deck_words.specs.Class.{Class, begins, all_apart}
-use Rattle.deck_words.specs.Rule.{Rule, SpellsTurns, SpellsFurther, SpellsInTurn, reads_further_from, reads_further, reads_in_turn, each_behind}
+use Rattle.deck_words.specs.Rule.{Rule, SpellsTurns, reads_further_from, each_behind}
 use Rattle.deck_words.proofs.TestLemmas.{bind_some, bind_is}
 use Rattle.deck_words.proofs.ClassLemmas.{begins_apart, neither_begins}
 use Rattle.deck_words.proofs.RuleLemmas.{Lawful}
+
+-- the words spell values up to a last one, in any number of turns
+abbrev pub SpellsFurther : {S : Type 0} → (S → Rule S) → S → S → List Word → List Word → Type 0
+SpellsFurther next s t words rest = (us : _) × SpellsTurns next s us t words rest
+
+abbrev pub reads_further : {S : Type 0} → (S → Rule S) → S → List Word → Option (S × List Word)
+reads_further next s words = reads_further_from next (length words) s words
+
+-- the same of a turn and any number of others
+abbrev pub SpellsInTurn : {S : Type 0} → (S → Rule S) → S → S → List Word → List Word → Type 0
+SpellsInTurn next s = (each_behind next s).Spells
+
+abbrev pub reads_in_turn : {S : Type 0} → (S → Rule S) → S → List Word → Option (S × List Word)
+reads_in_turn next s = (each_behind next s).reads
 
 -- what is asked of the rules: each is lawful, fit and not empty, and all begin and go on with the same words
 pub record AreAlike {S : Type 0} (next : S → Rule S) (starts goes_on : List Class) : Type 0 where

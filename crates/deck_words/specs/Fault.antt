@@ -1,5 +1,5 @@
 -- The faults of a deck, and what is told of them.
-use Rattle.std.specs.Prelude.{◌≡◌, ◌≢◌, ℕ, Result, IfErr}
+use Rattle.std.specs.Prelude.{◌≡◌, ◌≢◌, ℕ, Result, IfOk, IfErr}
 use Rattle.deck_words.specs.declared.fault.Cause.{Cause}
 use Rattle.deck_words.specs.declared.fault.Cause.TheVariants.{BadWord, Expected, Unknown, Twice, NotAllowed}
 use Rattle.deck_words.specs.declared.fault.Cause.TheVariants.{Limit, Layout}
@@ -36,3 +36,19 @@ HasNoneIfRefused {U = U} Is result = IfErr result (λ refusal. IsFault refusal �
 -- the same of a fault that is told
 abbrev pub HasNoneIfTold : {T U : Type 0} → (U → Type 0) → Result T DeckFault → Type 0
 HasNoneIfTold {U = U} Is result = IfErr result (λ fault. fault.code ≢ 8 → (x : U) → Is x → ⊥)
+
+-- a fault is told of a refusal and, but for want of memory, only where there is nothing of which this is so
+pub record TellsFault {T U : Type 0} (Is : U → Type 0) (result : Result T DeckFault) : Type 0 where
+  pub none : HasNoneIfTold Is result
+  pub told : IfErr result IsTold
+
+-- a call gives something of which this is so, or is refused where there is nothing
+pub record GivesOrRefuses {T : Type 0} (Is : T → Type 0) (result : Result T Refusal) : Type 0 where
+  pub given : IfOk result Is
+  pub none : HasNoneIfRefused Is result
+
+-- the same of a fault that is told
+pub record GivesOrTells {T : Type 0} (Is : T → Type 0) (result : Result T DeckFault) : Type 0 where
+  pub given : IfOk result Is
+  pub none : HasNoneIfTold Is result
+  pub told : IfErr result IsTold

@@ -7,6 +7,7 @@ pub mod Words
 pub mod Spelling
 pub mod Front
 pub mod Remaining
+pub mod OneReading
 pub mod Scanning
 pub mod Class
 pub mod Rule

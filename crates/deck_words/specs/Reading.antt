@@ -1,7 +1,11 @@
 -- What the steps of the parser answer, beside what a rule reads.
-use Rattle.std.specs.Prelude.{◌≡◌, List, Option, Some, None, Result, Ok, Err}
+use Rattle.std.specs.Prelude.{◌≡◌, Bool, List, [], ◌∷◌, Option, Some, None, Result, Ok, Err}
+use Rattle.std.specs.Bool.{OnTrue, OnFalse}
+use Rattle.deck_words.specs.Class.{Class, begins}
 use Rattle.deck_words.specs.declared.fault.Refusal.{Refusal}
 use Rattle.deck_words.specs.declared.fault.Refusal.TheVariants.{Memory, Fault}
+use Rattle.deck_words.specs.Rule.{Rule}
+use Rattle.deck_words.specs.Scanning.{map_result}
 use Rattle.deck_words.specs.Word.{Word}
 
 -- memory ran out, or there is nothing
@@ -13,6 +17,16 @@ Refuses found (Fault line cause) = found ≡ None
 abbrev pub Reads : {A : Type 0} → Option (A × List Word) → Result A Refusal → List Word → Type 0
 Reads read (Ok value) rest = read ≡ Some (value, rest)
 Reads read (Err refusal) rest = Refuses read refusal
+
+-- the rule's value is what a function makes of the answer
+abbrev pub ReadsAs : {A B : Type 0} → (A → B) → Rule B → List Word → Result A Refusal → List Word → Type 0
+ReadsAs seen rule words result rest = Reads (rule.reads words) (map_result seen result) rest
+
+-- a word is taken if it is next: whether one of the class is there, and what the rule reads
+pub record Eats (class : Class) (rule : Rule (Unit {0})) (old new : List Word) (result : Bool) : Type 0 where
+  pub seen : result ≡ begins (class ∷ []) old
+  pub taken : OnTrue result (rule.reads old ≡ Some (tt, new))
+  pub kept : OnFalse result (new ≡ old)
 
 -- the value is the one that there is
 abbrev pub Makes : {A : Type 0} → Option A → Result A Refusal → Type 0

@@ -21,10 +21,6 @@ pub record Rule (A : Type 0) : Type 1 where
 
 -- ---- one word
 
-abbrev pub SpellsOne : Class → List ℕ → List Word → List Word → Type 0
-SpellsOne class text words rest = (word : Word) × (words ≡ word ∷ rest) × IsTrue (is_in class word)
-    × (text ≡ word.text)
-
 abbrev pub reads_one : Class → List Word → Option (List ℕ × List Word)
 reads_one class [] = None
 reads_one class (word ∷ rest) = if is_in class word then Some (word.text, rest) else None
@@ -32,7 +28,8 @@ reads_one class (word ∷ rest) = if is_in class word then Some (word.text, rest
 -- a word of a class, which says its text
 abbrev pub one : Class → Rule (List ℕ)
 one class = record {
-  Spells = SpellsOne class;
+  Spells = λ text words rest. (word : Word) × (words ≡ word ∷ rest) × IsTrue (is_in class word)
+      × (text ≡ word.text);
   reads = reads_one class;
   starts = class ∷ [];
   goes_on = [];
@@ -42,18 +39,11 @@ one class = record {
 
 -- ---- one rule after another
 
-abbrev pub SpellsBoth : {A B C : Type 0} → (A → B → C) → Rule A → Rule B → C → List Word → List Word → Type 0
-SpellsBoth f p q z words rest = (x : _) × (y : _) × (middle : List Word) × (z ≡ f x y)
-    × p.Spells x words middle × q.Spells y middle rest
-
-abbrev pub reads_both : {A B C : Type 0} → (A → B → C) → Rule A → Rule B → List Word → Option (C × List Word)
-reads_both f p q words = option_and_then (λ a. option_map (λ b. (f a.0 b.0, b.1)) (q.reads a.1))
-    (p.reads words)
-
 abbrev pub in_turn : {A B C : Type 0} → (A → B → C) → Rule A → Rule B → Rule C
 in_turn f p q = record {
-  Spells = SpellsBoth f p q;
-  reads = reads_both f p q;
+  Spells = λ z words rest. (x : _) × (y : _) × (middle : List Word) × (z ≡ f x y)
+      × p.Spells x words middle × q.Spells y middle rest;
+  reads = λ words. option_and_then (λ a. option_map (λ b. (f a.0 b.0, b.1)) (q.reads a.1)) (p.reads words);
   starts = if p.may_be_empty then p.starts ++ q.starts else p.starts;
   goes_on = if q.may_be_empty then q.goes_on ++ p.goes_on else q.goes_on;
   may_be_empty = p.may_be_empty && q.may_be_empty;
@@ -66,14 +56,11 @@ abbrev pub SpellsOptional : {A : Type 0} → Rule A → Option A → List Word �
 SpellsOptional p None words rest = words ≡ rest
 SpellsOptional p (Some x) words rest = p.Spells x words rest
 
-abbrev pub reads_optional : {A : Type 0} → Rule A → List Word → Option (Option A × List Word)
-reads_optional p words = if begins p.starts words then option_map (λ a. (Some a.0, a.1))
-    (p.reads words) else Some (None, words)
-
 abbrev pub optional : {A : Type 0} → Rule A → Rule (Option A)
 optional p = record {
   Spells = SpellsOptional p;
-  reads = reads_optional p;
+  reads = λ words. if begins p.starts words
+      then option_map (λ a. (Some a.0, a.1)) (p.reads words) else Some (None, words);
   starts = p.starts;
   goes_on = p.starts ++ p.goes_on;
   may_be_empty = true;
@@ -82,16 +69,10 @@ optional p = record {
 
 -- ---- one of two rules
 
-abbrev pub SpellsEither : {A : Type 0} → Rule A → Rule A → A → List Word → List Word → Type 0
-SpellsEither p q x words rest = p.Spells x words rest ⊎ q.Spells x words rest
-
-abbrev pub reads_either : {A : Type 0} → Rule A → Rule A → List Word → Option (A × List Word)
-reads_either p q words = if begins p.starts words then p.reads words else q.reads words
-
 abbrev pub either : {A : Type 0} → Rule A → Rule A → Rule A
 either p q = record {
-  Spells = SpellsEither p q;
-  reads = reads_either p q;
+  Spells = λ x words rest. p.Spells x words rest ⊎ q.Spells x words rest;
+  reads = λ words. if begins p.starts words then p.reads words else q.reads words;
   starts = p.starts ++ q.starts;
   goes_on = p.goes_on ++ q.goes_on;
   may_be_empty = q.may_be_empty;
@@ -131,9 +112,6 @@ abbrev pub added : {A S : Type 0} → (S → A → Option S) → S → List A �
 added add s [] = Some s
 added add s (x ∷ xs) = option_and_then (λ t. added add t xs) (add s x)
 
-abbrev pub SpellsOnto : {A S : Type 0} → (S → A → Option S) → S → Rule A → S → List Word → List Word → Type 0
-SpellsOnto add s p t words rest = (xs : _) × (added add s xs ≡ Some t) × SpellsMany p xs words rest
-
 abbrev pub reads_onto_from : {A S : Type 0} → (S → A → Option S) → Rule A → ℕ → S → List Word
     → Option (S × List Word)
 reads_onto_from add p zero s words = Some (s, words)
@@ -143,7 +121,7 @@ reads_onto_from add p (suc turns) s words = if begins p.starts words then option
 
 abbrev pub onto : {A S : Type 0} → (S → A → Option S) → S → Rule A → Rule S
 onto add s p = record {
-  Spells = SpellsOnto add s p;
+  Spells = λ t words rest. (xs : _) × (added add s xs ≡ Some t) × SpellsMany p xs words rest;
   reads = λ words. reads_onto_from add p (length words) s words;
   starts = p.starts;
   goes_on = p.starts ++ p.goes_on;
@@ -153,18 +131,12 @@ onto add s p = record {
 
 -- ---- once or more, each value added to what there is
 
-abbrev pub SpellsSome : {A S : Type 0} → (S → A → Option S) → S → Rule A → S → List Word → List Word → Type 0
-SpellsSome add s p t words rest = (x : _) × (xs : _) × (added add s (x ∷ xs) ≡ Some t)
-    × SpellsMany p (x ∷ xs) words rest
-
-abbrev pub reads_some : {A S : Type 0} → (S → A → Option S) → S → Rule A → List Word → Option (S × List Word)
-reads_some add s p words = option_and_then (λ a.
-    option_and_then (λ t. reads_onto_from add p (length a.1) t a.1) (add s a.0)) (p.reads words)
-
 abbrev pub some_onto : {A S : Type 0} → (S → A → Option S) → S → Rule A → Rule S
 some_onto add s p = record {
-  Spells = SpellsSome add s p;
-  reads = reads_some add s p;
+  Spells = λ t words rest. (x : _) × (xs : _) × (added add s (x ∷ xs) ≡ Some t)
+      × SpellsMany p (x ∷ xs) words rest;
+  reads = λ words. option_and_then (λ a.
+      option_and_then (λ t. reads_onto_from add p (length a.1) t a.1) (add s a.0)) (p.reads words);
   starts = p.starts;
   goes_on = p.starts ++ p.goes_on;
   may_be_empty = false;
@@ -179,28 +151,17 @@ SpellsTurns next s [] t words rest = (s ≡ t) × (words ≡ rest)
 SpellsTurns next s (u ∷ us) t words rest = (middle : List Word) × (next s).Spells u words middle
     × SpellsTurns next u us t middle rest
 
-abbrev pub SpellsFurther : {S : Type 0} → (S → Rule S) → S → S → List Word → List Word → Type 0
-SpellsFurther next s t words rest = (us : _) × SpellsTurns next s us t words rest
-
 abbrev pub reads_further_from : {S : Type 0} → (S → Rule S) → ℕ → S → List Word → Option (S × List Word)
 reads_further_from next zero s words = Some (s, words)
 reads_further_from next (suc turns) s words = if begins (next s).starts words then option_and_then
     (λ a. reads_further_from next turns a.0 a.1) ((next s).reads words) else Some (s, words)
 
-abbrev pub reads_further : {S : Type 0} → (S → Rule S) → S → List Word → Option (S × List Word)
-reads_further next s words = reads_further_from next (length words) s words
-
 -- once or more: the value of the last rule
-abbrev pub SpellsInTurn : {S : Type 0} → (S → Rule S) → S → S → List Word → List Word → Type 0
-SpellsInTurn next s t words rest = (u : _) × (us : _) × SpellsTurns next s (u ∷ us) t words rest
-
-abbrev pub reads_in_turn : {S : Type 0} → (S → Rule S) → S → List Word → Option (S × List Word)
-reads_in_turn next s words = option_and_then (λ a. reads_further next a.0 a.1) ((next s).reads words)
-
 abbrev pub each_behind : {S : Type 0} → (S → Rule S) → S → Rule S
 each_behind next s = record {
-  Spells = SpellsInTurn next s;
-  reads = reads_in_turn next s;
+  Spells = λ t words rest. (u : _) × (us : _) × SpellsTurns next s (u ∷ us) t words rest;
+  reads = λ words. option_and_then (λ a. reads_further_from next (length a.1) a.0 a.1)
+      ((next s).reads words);
   starts = (next s).starts;
   goes_on = (next s).starts ++ (next s).goes_on;
   may_be_empty = false;
@@ -209,17 +170,11 @@ each_behind next s = record {
 
 -- ---- a rule whose value passes a test, and another value for it
 
-abbrev pub SpellsAs : {A B : Type 0} → (A → Option B) → Rule A → B → List Word → List Word → Type 0
-SpellsAs f p y words rest = (x : _) × (f x ≡ Some y) × p.Spells x words rest
-
-abbrev pub reads_as : {A B : Type 0} → (A → Option B) → Rule A → List Word → Option (B × List Word)
-reads_as f p words = option_and_then (λ a. option_map (λ y. (y, a.1)) (f a.0)) (p.reads words)
-
 -- the value that a function gives for that of a rule, where it gives one
 abbrev pub where_it_gives : {A B : Type 0} → (A → Option B) → Rule A → Rule B
 where_it_gives f p = record {
-  Spells = SpellsAs f p;
-  reads = reads_as f p;
+  Spells = λ y words rest. (x : _) × (f x ≡ Some y) × p.Spells x words rest;
+  reads = λ words. option_and_then (λ a. option_map (λ y. (y, a.1)) (f a.0)) (p.reads words);
   starts = p.starts;
   goes_on = p.goes_on;
   may_be_empty = p.may_be_empty;

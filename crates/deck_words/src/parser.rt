@@ -1,14 +1,12 @@
 //! The words that are still to be read, and the steps that read one.
 ghost use Rattle.std.specs.Prelude.{◌≡◌, ◌≢◌, [], ◌∷◌, map, drop, Some, length, MatchResult};
-ghost use Rattle.std.specs.Bool.{OnTrue, OnFalse};
 ghost use Rattle.std.specs.List.{list_any};
 ghost use Rattle.deck_words.specs.Class.{begins, is_in, this, names, numbers, levels, pictures, signs};
 ghost use Rattle.deck_words.specs.Class.{periods};
 ghost use Rattle.deck_words.specs.Rule.{one};
-ghost use Rattle.deck_words.specs.Scanning.{map_result};
 ghost use Rattle.deck_words.specs.Notation.{the, may, eaten, name, literal, period};
 ghost use Rattle.deck_words.specs.Operand.{sign, digits};
-ghost use Rattle.deck_words.specs.Reading.{Reads};
+ghost use Rattle.deck_words.specs.Reading.{Reads, ReadsAs, Eats};
 ghost use Rattle.deck_words.specs.Fault.{IsFault};
 
 use crate::fault::{Cause, Refusal};
@@ -219,9 +217,7 @@ impl<'a> Parser<'a> {
     #[tactic(auto, unfolding(crate::specs::Notation::the))]
     pub fn eat(&mut self, text: &[u8]) -> bool
         ensures may { (may text.now).reads self.old ≡ Some (eaten result, self.new) }
-        ensures seen { result ≡ begins (this text.now ∷ []) self.old }
-        ensures taken { OnTrue result ((the text.now).reads self.old ≡ Some (tt, self.new)) }
-        ensures kept { OnFalse result (self.new ≡ self.old) }
+        ensures eats { Eats (this text.now) (the text.now) self.old self.new result }
     {
         match &self.next {
             Some(word) if is_this(word, text) => {
@@ -235,7 +231,7 @@ impl<'a> Parser<'a> {
     /// A name.
     #[tactic(auto, unfolding(crate::specs::Notation::name))]
     pub fn name(&mut self) -> Result<Name, Refusal>
-        ensures { Reads (name.reads self.old) (map_result (λ name. name.bytes) result) self.new }
+        ensures { ReadsAs (λ name. name.bytes) name self.old result self.new }
     {
         let fault = self.fault(Cause::Expected);
         let Some(word) = &self.next else {
@@ -253,7 +249,7 @@ impl<'a> Parser<'a> {
 
     /// The one or two digits of a level number.
     pub fn level(&mut self) -> Result<Name, Refusal>
-        ensures { Reads ((one levels).reads self.old) (map_result (λ level. level.bytes) result) self.new }
+        ensures { ReadsAs (λ level. level.bytes) (one levels) self.old result self.new }
     {
         let fault = self.fault(Cause::Expected);
         let Some(word) = &self.next else {
@@ -271,7 +267,7 @@ impl<'a> Parser<'a> {
 
     /// Any plain word but IS.
     pub fn picture(&mut self) -> Result<Name, Refusal>
-        ensures { Reads ((one pictures).reads self.old) (map_result (λ text. text.bytes) result) self.new }
+        ensures { ReadsAs (λ text. text.bytes) (one pictures) self.old result self.new }
     {
         let fault = self.fault(Cause::Expected);
         let Some(word) = &self.next else {
@@ -290,7 +286,7 @@ impl<'a> Parser<'a> {
     /// The digits of a number. A number of more than 18 of them is past the limit.
     #[tactic(auto, unfolding(crate::specs::Operand::digits))]
     pub fn digits(&mut self) -> Result<Name, Refusal>
-        ensures { Reads (digits.reads self.old) (map_result (λ text. text.bytes) result) self.new }
+        ensures { ReadsAs (λ text. text.bytes) digits self.old result self.new }
     {
         let fault = self.fault(Cause::Expected);
         let limit = self.fault(Cause::Limit);
@@ -380,9 +376,7 @@ impl<'a> Parser<'a> {
     /// Takes this sign if it is next.
     #[tactic(auto, unfolding(crate::specs::Operand::sign))]
     pub fn eat_sign(&mut self, text: &[u8]) -> bool
-        ensures seen { result ≡ begins (signs text.now ∷ []) self.old }
-        ensures taken { OnTrue result ((sign text.now).reads self.old ≡ Some (tt, self.new)) }
-        ensures kept { OnFalse result (self.new ≡ self.old) }
+        ensures { Eats (signs text.now) (sign text.now) self.old self.new result }
     {
         match &self.next {
             Some(word) if is_sign(word, text) => {

@@ -1,8 +1,7 @@
 //! The words of a deck, a piece at a time.
-ghost use Rattle.std.specs.Prelude.{◌≡◌, ◌≢◌, List, ℕ, IfOk, IfErr};
+ghost use Rattle.std.specs.Prelude.{IfOk, IfErr, MatchResult};
 ghost use Rattle.deck_words.specs.Words.{HasWords, RefusesWords, HasFault};
-ghost use Rattle.deck_words.specs.Word.{Word};
-ghost use Rattle.deck_words.specs.declared.fault.DeckFault.{DeckFault};
+ghost use Rattle.deck_words.specs.OneReading.{HaveOneReading};
 
 use crate::fault::{Cause, DeckFault, Refusal};
 use crate::piece::front_piece;
@@ -12,8 +11,7 @@ use crate::remaining::Words;
 pub const DECK_LIMIT: usize = 1_048_576;
 
 fn scan(bytes: &[u8]) -> Result<Words<'_>, Refusal>
-    ensures words { IfOk result (HasWords bytes.now) }
-    ensures fault { IfErr result (RefusesWords bytes.now) }
+    ensures { MatchResult result (HasWords bytes.now) (RefusesWords bytes.now) }
 {
     if bytes.len() > DECK_LIMIT {
         return Err(Refusal::Fault(1, Cause::Limit));
@@ -50,9 +48,5 @@ pub fn words(bytes: &[u8]) -> Result<Words<'_>, DeckFault>
 /// A deck has one reading: no two lists of words, no fault beside words, and no two faults but want
 /// of memory.
 pub fn one_reading()
-    ensures words { (bytes : List ℕ) (a b : List Word) → HasWords bytes a → HasWords bytes b → a ≡ b }
-    ensures apart { (bytes : List ℕ) (words : List Word) (fault : DeckFault) →
-        HasWords bytes words → HasFault bytes fault → fault.code ≡ 8 }
-    ensures faults { (bytes : List ℕ) (a b : DeckFault) → HasFault bytes a → HasFault bytes b →
-        a.code ≢ 8 → b.code ≢ 8 → a ≡ b }
+    ensures { HaveOneReading }
 {}

@@ -8,7 +8,7 @@ use Rattle.std.proofs.lemmas.Option.{same_Some}
 use Rattle.deck_words.specs.Class.{numbers}
 use Rattle.deck_words.specs.Name.{is_number as is_number_text}
 use Rattle.deck_words.specs.Notation.{literal, ◌∣◌, ◌<$>◌}
-use Rattle.deck_words.specs.Operand.{digits, within_18}
+use Rattle.deck_words.specs.Operand.{digits}
 use Rattle.deck_words.specs.Rule.{one}
 use Rattle.deck_words.specs.Word.{Word, is_same_kind}
 use Rattle.deck_words.specs.Word as kind
@@ -38,7 +38,7 @@ digits_of_number text words rest s =
 gives_digits : Gives IsNumeral digits
 unfolding digits
 gives_digits =
-    gives_as IsNumeral IsNumeral within_18 (one numbers) digits_of_number
+    gives_as IsNumeral IsNumeral (λ text. cond (nat_le (length text) 18) (Some text) None) (one numbers) digits_of_number
     (λ text number h e. subst IsNumeral (same_Some text number (then_some (nat_le (length text) 18) (Some text) number e).1) h)
 
 literal_digits : (text : List ℕ) (b : Bool) → list_all is_ascii_digit text ≡ b → HasDigits (cond b (Digits text) (Text text))

@@ -4,15 +4,12 @@ use Rattle.deck_words.specs.declared.fault.DeckFault.{DeckFault}
 use Rattle.deck_words.proofs.CutLemmas.{words_are_one, words_have_no_fault, faults_are_one}
 use Rattle.deck_words.proofs.scanner.one_reading.Goals as goal
 
-pub returns-clause-words : goal.returns-clause-words
-returns-clause-words c = λ bytes a b h k. words_are_one bytes a b h k
-
-pub returns-clause-apart : goal.returns-clause-apart
-returns-clause-apart c = λ bytes words fault h f.
-    ap (λ (d : DeckFault). d.code) (f.1 ∙ ap told (words_have_no_fault bytes words f.0 h f.2))
-
-pub returns-clause-faults : goal.returns-clause-faults
-returns-clause-faults c = λ bytes a b f g p q.
-    let same = faults_are_one bytes f.0 g.0 f.2 g.2
-    (λ e. p (ap (λ (d : DeckFault). d.code) (f.1 ∙ ap told e))) (λ e. q (ap (λ (d : DeckFault). d.code) (g.1 ∙ ap told e))) in
-    f.1 ∙ (ap told same ∙ sym g.1)
+pub returns : goal.returns
+returns c = record {
+  words = λ bytes a b h k. words_are_one bytes a b h k;
+  apart = λ bytes words fault h f. ap (λ (d : DeckFault). d.code) (f.1 ∙ ap told (words_have_no_fault bytes words f.0 h f.2));
+  faults = λ bytes a b f g p q.
+      let same = faults_are_one bytes f.0 g.0 f.2 g.2
+      (λ e. p (ap (λ (d : DeckFault). d.code) (f.1 ∙ ap told e))) (λ e. q (ap (λ (d : DeckFault). d.code) (g.1 ∙ ap told e))) in
+      f.1 ∙ (ap told same ∙ sym g.1);
+}

@@ -6,8 +6,8 @@ use Rattle.deck_words.proofs.CutLemmas.{refused}
 use Rattle.deck_words.proofs.RemainingLemmas.{takes, Counted, counted_step, counted_done}
 use Rattle.deck_words.proofs.scanner.scan.Goals as goal
 
-pub returns-in_default-clause-fault : goal.returns-in_default-clause-fault
-returns-in_default-clause-fault c =
+pub returns-in_default : goal.returns-in_default
+returns-in_default c =
     refused c.args.bytes.now c.more.invariant.words (rest_of c.more.line c.more.rest.now) c.more.invariant.so (grind (arith, nat_tests)) (sym c.front_piece.ensures ∙ c.in_default.is)
 
 pub more-smaller : goal.more-smaller
@@ -26,5 +26,5 @@ more-preserved c =
 pub new-requires-clause-counted : goal.new-requires-clause-counted
 new-requires-clause-counted c = (counted_done c.args.bytes.now c.more.line c.more.count c.more.rest.now c.more.invariant (grind (arith, nat_tests))).1
 
-pub returns-clause-words : goal.returns-clause-words
-returns-clause-words c = subst (λ ws. HasWords c.args.bytes.now ws) (sym c.new.ensures) (counted_done c.args.bytes.now c.more.line c.more.count c.more.rest.now c.more.invariant (grind (arith, nat_tests))).0
+pub returns : goal.returns
+returns c = subst (λ ws. HasWords c.args.bytes.now ws) (sym c.new.ensures) (counted_done c.args.bytes.now c.more.line c.more.count c.more.rest.now c.more.invariant (grind (arith, nat_tests))).0
