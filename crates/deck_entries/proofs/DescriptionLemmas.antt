@@ -8,7 +8,7 @@ use Rattle.deck_words.specs.Operand.{digits}
 use Rattle.deck_words.proofs.RuleLemmas.{Lawful, lawful_one, lawful_as}
 use Rattle.deck_words.proofs.NotationLemmas.{steps}
 use Rattle.deck_words.proofs.OperandLemmas.{lawful_digits}
-use Rattle.deck_entries.specs.FileDescription.{count, level, label, up_to, block, fixed, varying, length_clause, record_clause, description_clause, item_name, may_item_name, picture_clause, may_picture_clause, item, FileDescription, described_name, description_behind, storage_item}
+use Rattle.deck_entries.specs.FileDescription.{count, level, label, up_to, block, fixed, varying, length_clause, record_clause, description_clause, item_name, may_item_name, picture_clause, item, FileDescription, described_name, description_behind, storage_item}
 use Rattle.deck_entries.specs.FileControlEntry.{FileControlEntry}
 
 pub lawful_count : Lawful count
@@ -63,20 +63,16 @@ pub lawful_picture_clause : Lawful picture_clause
 unfolding picture_clause
 lawful_picture_clause = search steps depth 12
 
-pub lawful_may_picture_clause : Lawful may_picture_clause
-unfolding may_picture_clause
-lawful_may_picture_clause = search (steps, lawful_picture_clause) depth 12
-
 pub lawful_item : Lawful item
 unfolding item
-lawful_item = search (steps, lawful_level, lawful_may_item_name, lawful_may_picture_clause) depth 14
+lawful_item = search (steps, lawful_level, lawful_may_item_name, lawful_picture_clause) depth 16
 
 pub clauses_are_fit : (many description_clause).is_fit ≡ true
 unfolding description_clause label block record_clause length_clause fixed varying up_to count digits the name period is_reserved
 clauses_are_fit = refl
 
 pub items_are_fit : (many item).is_fit ≡ true
-unfolding item item_name may_item_name picture_clause may_picture_clause level the name period is_reserved
+unfolding item item_name may_item_name picture_clause level the name period is_reserved
 items_are_fit = refl
 
 -- ---- whole descriptions

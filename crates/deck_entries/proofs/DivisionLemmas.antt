@@ -8,8 +8,8 @@ use Rattle.deck_entries.specs.FileControlEntry.{FileControlEntry}
 use Rattle.deck_words.proofs.RuleLemmas.{Lawful, lawful_as}
 use Rattle.deck_entries.proofs.EntryLemmas.{lawful_select_behind}
 use Rattle.deck_words.proofs.TurnLemmas.{AreAlike, lawful_each}
-use Rattle.deck_entries.specs.FileDescription.{count, level, label, up_to, block, fixed, varying, length_clause, record_clause, description_clause, item_name, may_item_name, picture_clause, may_picture_clause, item, FileDescription, described_name, description_behind, storage_item}
-use Rattle.deck_entries.specs.Divisions.{identification, may_identification, more_entry, entries, file_control_paragraph, more_description, descriptions, file_section, storage_items, storage_section, data_division}
+use Rattle.deck_entries.specs.FileDescription.{count, level, label, up_to, block, fixed, varying, length_clause, record_clause, description_clause, item_name, may_item_name, picture_clause, item, FileDescription, described_name, description_behind, storage_item}
+use Rattle.deck_entries.specs.Divisions.{identification, may_identification, more_entry, entries, file_control_paragraph, more_description, descriptions, file_section, storage_section, data_division}
 use Rattle.std.specs.Prelude.{codes, ◌∷◌}
 use Rattle.deck_words.specs.Operand.{digits}
 use Rattle.deck_words.proofs.NotationLemmas.{steps}
@@ -52,7 +52,7 @@ unfolding more_description
 lawful_more_description selected earlier = lawful_as _ _ (lawful_description_behind selected earlier)
 
 pub alike_descriptions : (selected : List FileControlEntry) → AreAlike (more_description selected) (this (codes "FD") ∷ []) (levels ∷ [])
-unfolding more_description description_behind described_name description_clause label block record_clause length_clause fixed varying up_to count digits item item_name may_item_name picture_clause may_picture_clause level the name period is_reserved
+unfolding more_description description_behind described_name description_clause label block record_clause length_clause fixed varying up_to count digits item item_name may_item_name picture_clause level the name period is_reserved
 alike_descriptions selected = record { lawful = lawful_more_description selected; fit = λ _. refl; some = λ _. refl; starts_are = λ _. refl; goes_on_is = λ _. refl; apart = refl }
 
 pub lawful_descriptions : (selected : List FileControlEntry) → Lawful (descriptions selected)
@@ -63,18 +63,14 @@ pub lawful_file_section : (selected : List FileControlEntry) → Lawful (file_se
 unfolding file_section
 lawful_file_section selected = search (steps, lawful_descriptions) depth 16
 
-pub lawful_storage_items : Lawful storage_items
-unfolding storage_items
-lawful_storage_items = search (steps, lawful_storage_item) depth 12
-
 pub lawful_storage_section : Lawful storage_section
 unfolding storage_section
-lawful_storage_section = search (steps, lawful_storage_items) depth 12
+lawful_storage_section = search (steps, lawful_storage_item) depth 16
 
 pub lawful_data_division : (selected : List FileControlEntry) → Lawful (data_division selected)
 unfolding data_division
 lawful_data_division selected = search (steps, lawful_file_section, lawful_storage_section) depth 12
 
 pub data_division_is_fit : (selected : List FileControlEntry) → (data_division selected).is_fit ≡ true
-unfolding data_division file_section storage_section storage_items storage_item descriptions more_description description_behind described_name description_clause label block record_clause length_clause fixed varying up_to count digits item item_name may_item_name picture_clause may_picture_clause level the name period is_reserved
+unfolding data_division file_section storage_section storage_item descriptions more_description description_behind described_name description_clause label block record_clause length_clause fixed varying up_to count digits item item_name may_item_name picture_clause level the name period is_reserved
 data_division_is_fit selected = refl

@@ -8,8 +8,8 @@ use Rattle.deck_words.proofs.RestLemmas.{LeavesRest, EndsWith, end_of_end, rest_
 use Rattle.deck_entries.proofs.EntryRestLemmas.{rest_select_behind}
 use Rattle.deck_words.specs.Operand.{digits}
 use Rattle.deck_entries.specs.declared.divisions.Divisions.{Divisions}
-use Rattle.deck_entries.specs.FileDescription.{count, level, label, up_to, block, fixed, varying, length_clause, record_clause, description_clause, item_name, may_item_name, picture_clause, may_picture_clause, item, FileDescription, described_name, description_behind, storage_item}
-use Rattle.deck_entries.specs.Divisions.{identification, may_identification, more_entry, entries, file_control_paragraph, more_description, descriptions, file_section, storage_items, storage_section, data_division, SpellsDivisions}
+use Rattle.deck_entries.specs.FileDescription.{count, level, label, up_to, block, fixed, varying, length_clause, record_clause, description_clause, item_name, may_item_name, picture_clause, item, FileDescription, described_name, description_behind, storage_item}
+use Rattle.deck_entries.specs.Divisions.{identification, may_identification, more_entry, entries, file_control_paragraph, more_description, descriptions, file_section, storage_section, data_division, SpellsDivisions}
 
 -- ---- file control
 
@@ -36,7 +36,7 @@ unfolding picture_clause
 rest_picture_clause = search steps depth 24
 
 rest_item : LeavesRest item
-unfolding item level item_name may_item_name may_picture_clause
+unfolding item level item_name may_item_name
 rest_item = search (steps, rest_picture_clause) depth 24
 
 rest_more_description : (selected : List FileControlEntry) (earlier : List FileDescription) → LeavesRest (more_description selected earlier)
@@ -54,7 +54,7 @@ unfolding file_section
 rest_file_section selected = search (steps, rest_descriptions) depth 24
 
 rest_storage_section : LeavesRest storage_section
-unfolding storage_section storage_items storage_item
+unfolding storage_section storage_item
 rest_storage_section = search (steps, rest_picture_clause) depth 24
 
 rest_data_division : (selected : List FileControlEntry) → LeavesRest (data_division selected)

@@ -1,7 +1,7 @@
 -- The divisions before the procedure: file control entries, file descriptions, and the working
 -- storage. ANSI X3.23-1985, Nucleus and Indexed I-O modules: identification, environment and data
 -- divisions. Which paragraphs and sections there are is ours.
-use Rattle.std.specs.Prelude.{ℕ, List, [], codes, Option, Some, None, option_map, option_and_then}
+use Rattle.std.specs.Prelude.{ℕ, List, [], codes, Option, unwrap_or, option_map, option_and_then}
 use Rattle.deck_words.specs.Rule.{Rule, optional, onto, where_it_gives, each_behind}
 use Rattle.deck_words.specs.Notation.{the, name, period, ◌▸◌, ◌⊗◌, ◌<$>◌}
 use Rattle.deck_entries.specs.FileControlEntry.{select_behind}
@@ -54,16 +54,10 @@ file_section selected =
     heading (codes "DATA") (codes "DIVISION") ▸ heading (codes "FILE")
     (codes "SECTION") ▸ descriptions selected
 
-abbrev pub listed : {A : Type 0} → Option (List A) → List A
-listed None = []
-listed (Some xs) = xs
-
-unfoldable pub storage_items : Rule (List StorageEntry)
-storage_items = onto with_one [] storage_item
-
 -- [WORKING-STORAGE SECTION . {77 item}..?]
 unfoldable pub storage_section : Rule (List StorageEntry)
-storage_section = listed <$> optional (heading (codes "WORKING-STORAGE") (codes "SECTION") ▸ storage_items)
+storage_section = (λ said. unwrap_or said []) <$> optional
+    (heading (codes "WORKING-STORAGE") (codes "SECTION") ▸ onto with_one [] storage_item)
 
 unfoldable pub data_division : List FileControlEntry → Rule (List FileDescription × List StorageEntry)
 data_division selected = file_section selected ⊗ storage_section

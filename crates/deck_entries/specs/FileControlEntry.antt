@@ -54,13 +54,11 @@ record_key = RecordKey <$> the (codes "RECORD") ▸ may (codes "KEY") ▸ may (c
 unfoldable pub duplicates : Rule Bool
 duplicates = is_there <$> optional (may (codes "WITH") ▸ the (codes "DUPLICATES"))
 
-abbrev pub alternate_of : List ℕ × Bool → Clause
-alternate_of key = Alternate (record { name = key.0; duplicates = key.1 })
-
 -- ALTERNATE RECORD [KEY] [IS] name [[WITH] DUPLICATES]
 unfoldable pub alternate : Rule Clause
 alternate =
-    alternate_of <$> the (codes "ALTERNATE") ▸ the (codes "RECORD") ▸ may (codes "KEY") ▸ may (codes "IS")
+    (λ (key : List ℕ × Bool). Alternate (record { name = key.0; duplicates = key.1 }))
+    <$> the (codes "ALTERNATE") ▸ the (codes "RECORD") ▸ may (codes "KEY") ▸ may (codes "IS")
     ▸ name ⊗ duplicates
 
 -- [FILE] STATUS [IS] name

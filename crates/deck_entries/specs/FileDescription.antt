@@ -2,7 +2,7 @@
 -- Indexed I-O module, file description entry, and Nucleus module, data description entry. Which
 -- clauses there are is ours.
 use Rattle.std.specs.Prelude.{ℕ, Bool, true, false, not, ◌&&◌, List, [], ◌∷◌, ◌++◌, nat_le, if◌then◌else◌}
-use Rattle.std.specs.Prelude.{codes, Option, Some, None}
+use Rattle.std.specs.Prelude.{unwrap_or, codes, Option, Some, None}
 use Rattle.std.specs.List.{list_any}
 use Rattle.std.specs.Str.{bytes_eq}
 use Rattle.record_layout.specs.Layout.{Entry}
@@ -58,13 +58,11 @@ block =
 unfoldable pub fixed : Rule RecordLength
 fixed = Fixed <$> may (codes "CONTAINS") ▸ count ◂ may (codes "CHARACTERS")
 
-abbrev pub varying_of : ℕ × (ℕ × List ℕ) → RecordLength
-varying_of lengths = Varying (record { least = lengths.0; greatest = lengths.1.0; item = lengths.1.1 })
-
 -- [IS] VARYING [IN] [SIZE] [FROM] number TO number [CHARACTERS] DEPENDING [ON] name
 unfoldable pub varying : Rule RecordLength
 varying =
-    varying_of <$> may (codes "IS") ▸ the (codes "VARYING") ▸ may (codes "IN") ▸ may (codes "SIZE") ▸ may
+    (λ (said : ℕ × (ℕ × List ℕ)). Varying (record { least = said.0; greatest = said.1.0; item = said.1.1 }))
+    <$> may (codes "IS") ▸ the (codes "VARYING") ▸ may (codes "IN") ▸ may (codes "SIZE") ▸ may
     (codes "FROM")
     ▸ count ⊗ (the (codes "TO") ▸ count)
     ⊗ (may (codes "CHARACTERS") ▸ the (codes "DEPENDING") ▸ may (codes "ON") ▸ name)
@@ -104,26 +102,19 @@ unfoldable pub item_name : Rule (Option (List ℕ))
 item_name = ((λ n. Some n) <$> name) ∣ ((λ _. None) <$> the (codes "FILLER"))
 
 -- the name that is said, if any
-abbrev pub joined : Option (Option (List ℕ)) → Option (List ℕ)
-joined None = None
-joined (Some name) = name
-
 unfoldable pub may_item_name : Rule (Option (List ℕ))
-may_item_name = joined <$> optional item_name
+may_item_name = (λ said. unwrap_or said None) <$> optional item_name
 
 -- (PIC | PICTURE) [IS] picture
 unfoldable pub picture_clause : Rule (List ℕ)
 picture_clause = (the (codes "PIC") ∣ the (codes "PICTURE")) ▸ may (codes "IS") ▸ one pictures
 
-unfoldable pub may_picture_clause : Rule (Option (List ℕ))
-may_picture_clause = optional picture_clause
-
-abbrev pub item_of : ℕ × (Option (List ℕ) × Option (List ℕ)) → Entry
-item_of item = record { level = item.0; name = item.1.0; picture = item.1.1 }
-
 -- number [name | FILLER] [(PIC | PICTURE) [IS] picture] .
 unfoldable pub item : Rule Entry
-item = item_of <$> level ⊗ may_item_name ⊗ may_picture_clause ◂ period
+item =
+    (λ (said : ℕ × (Option (List ℕ) × Option (List ℕ))).
+    record { level = said.0; name = said.1.0; picture = said.1.1 })
+    <$> level ⊗ may_item_name ⊗ optional picture_clause ◂ period
 
 -- with one more at the end
 abbrev pub with_one : {A : Type 0} → List A → A → Option (List A)
@@ -145,13 +136,12 @@ described_name entries earlier =
     where_it_gives (λ text. if is_selected entries text
     && not (is_described earlier text) then Some text else None) name
 
-abbrev pub description_of : List ℕ × (Clauses × List Entry) → FileDescription
-description_of parts = record { name = parts.0; lengths = parts.1.0.lengths; items = parts.1.1 }
-
 -- FD name {clause}..? . {item}..
 unfoldable pub description_behind : List FileControlEntry → List FileDescription → Rule FileDescription
 description_behind entries earlier =
-    description_of <$> the (codes "FD") ▸ described_name entries earlier
+    (λ (said : List ℕ × (Clauses × List Entry)).
+    record { name = said.0; lengths = said.1.0.lengths; items = said.1.1 })
+    <$> the (codes "FD") ▸ described_name entries earlier
     ⊗ onto with_clause no_clauses description_clause ⊗ (period ▸ some_onto with_one [] item)
 
 -- ---- working storage

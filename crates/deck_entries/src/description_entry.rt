@@ -1,8 +1,7 @@
 //! A file description: FD, its clauses, and the items of the records.
 ghost use Rattle.std.specs.Prelude.{◌≡◌};
 ghost use Rattle.deck_words.specs.Class.{begins};
-ghost use Rattle.deck_words.specs.Reading.{Reads};
-ghost use Rattle.deck_words.specs.Scanning.{map_result};
+ghost use Rattle.deck_words.specs.Reading.{Reads, ReadsAs};
 ghost use Rattle.deck_entries.specs.FileDescription.{is_described, described_name, description_behind};
 ghost use Rattle.deck_entries.specs.Divisions.{more_description, descriptions};
 
@@ -107,8 +106,8 @@ fn described_name(
     entries: &[Selected],
     earlier: &[Described],
 ) -> Result<Name, Refusal>
-    ensures { Reads ((described_name entries.now earlier.now).reads parser.old)
-        (map_result (λ name. name.bytes) result) parser.new }
+    ensures { ReadsAs (λ name. name.bytes) (described_name entries.now earlier.now) parser.old result
+        parser.new }
 {
     let unknown = parser.fault(Cause::Unknown);
     let twice = parser.fault(Cause::Twice);

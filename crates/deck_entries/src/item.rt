@@ -2,11 +2,10 @@
 ghost use Rattle.std.specs.Prelude.{◌≡◌, [], option_map};
 ghost use Rattle.record_layout.specs.Layout.{entry_of};
 ghost use Rattle.deck_words.specs.Class.{begins};
-ghost use Rattle.deck_words.specs.Rule.{some_onto, where_it_gives};
-ghost use Rattle.deck_words.specs.Reading.{Reads};
-ghost use Rattle.deck_words.specs.Scanning.{map_result};
+ghost use Rattle.deck_words.specs.Rule.{optional, some_onto, where_it_gives};
+ghost use Rattle.deck_words.specs.Reading.{Reads, ReadsAs};
 ghost use Rattle.deck_entries.specs.FileDescription.{level, item_name, may_item_name, picture_clause};
-ghost use Rattle.deck_entries.specs.FileDescription.{may_picture_clause, item, with_one};
+ghost use Rattle.deck_entries.specs.FileDescription.{item, with_one};
 
 use crate::record_length::number_of;
 use crate::words::expect_one;
@@ -83,8 +82,7 @@ fn level(parser: &mut Parser<'_>) -> Result<u8, Refusal>
 
 #[tactic(auto, unfolding(crate::specs::FileDescription::item_name, deck_words::specs::Notation::the, deck_words::specs::Notation::name))]
 fn item_name(parser: &mut Parser<'_>) -> Result<Option<Name>, Refusal>
-    ensures { Reads (item_name.reads parser.old) (map_result
-        (λ n. option_map (λ name. name.bytes) n) result) parser.new }
+    ensures { ReadsAs (option_map (λ name. name.bytes)) item_name parser.old result parser.new }
 {
     if parser.sees_name() {
         let name = parser.name()?;
@@ -96,8 +94,7 @@ fn item_name(parser: &mut Parser<'_>) -> Result<Option<Name>, Refusal>
 
 #[tactic(auto, unfolding(crate::specs::FileDescription::may_item_name, crate::specs::FileDescription::item_name, deck_words::specs::Notation::the, deck_words::specs::Notation::name))]
 fn may_item_name(parser: &mut Parser<'_>) -> Result<Option<Name>, Refusal>
-    ensures { Reads (may_item_name.reads parser.old)
-        (map_result (λ n. option_map (λ name. name.bytes) n) result) parser.new }
+    ensures { ReadsAs (option_map (λ name. name.bytes)) may_item_name parser.old result parser.new }
 {
     if parser.sees_name_or(b"FILLER") {
         return item_name(parser);
@@ -107,17 +104,17 @@ fn may_item_name(parser: &mut Parser<'_>) -> Result<Option<Name>, Refusal>
 
 #[tactic(auto, unfolding(crate::specs::FileDescription::picture_clause))]
 pub fn picture_clause(parser: &mut Parser<'_>) -> Result<Name, Refusal>
-    ensures { Reads (picture_clause.reads parser.old) (map_result (λ n. n.bytes) result) parser.new }
+    ensures { ReadsAs (λ name. name.bytes) picture_clause parser.old result parser.new }
 {
     expect_one(parser, b"PIC", b"PICTURE")?;
     parser.eat(b"IS");
     parser.picture()
 }
 
-#[tactic(auto, unfolding(crate::specs::FileDescription::may_picture_clause, crate::specs::FileDescription::picture_clause, deck_words::specs::Notation::the))]
+#[tactic(auto, unfolding(crate::specs::FileDescription::picture_clause, deck_words::specs::Notation::the))]
 fn may_picture_clause(parser: &mut Parser<'_>) -> Result<Option<Name>, Refusal>
-    ensures { Reads (may_picture_clause.reads parser.old)
-        (map_result (λ n. option_map (λ name. name.bytes) n) result) parser.new }
+    ensures { ReadsAs (option_map (λ name. name.bytes)) (optional picture_clause) parser.old result
+        parser.new }
 {
     if parser.sees_one_of(&[b"PIC", b"PICTURE"]) {
         let picture = picture_clause(parser)?;
@@ -128,7 +125,7 @@ fn may_picture_clause(parser: &mut Parser<'_>) -> Result<Option<Name>, Refusal>
 
 #[tactic(auto, unfolding(crate::specs::FileDescription::item))]
 fn item(parser: &mut Parser<'_>) -> Result<Item, Refusal>
-    ensures { Reads (item.reads parser.old) (map_result entry_of result) parser.new }
+    ensures { ReadsAs entry_of item parser.old result parser.new }
 {
     let level = level(parser)?;
     let name = may_item_name(parser)?;

@@ -2,8 +2,7 @@
 ghost use Rattle.std.specs.Prelude.{◌≡◌};
 ghost use Rattle.deck_words.specs.Class.{begins};
 ghost use Rattle.deck_words.specs.Rule.{some_onto};
-ghost use Rattle.deck_words.specs.Reading.{Reads};
-ghost use Rattle.deck_words.specs.Scanning.{map_result};
+ghost use Rattle.deck_words.specs.Reading.{Reads, ReadsAs};
 ghost use Rattle.deck_entries.specs.FileControlEntry.{indexed, mode, access, record_key};
 ghost use Rattle.deck_entries.specs.FileControlEntry.{duplicates, alternate, status, clause};
 ghost use Rattle.deck_entries.specs.FileControlEntry.{no_clauses, with_clause, added_to, select_behind};
@@ -176,7 +175,7 @@ fn all_clauses(parser: &mut Parser<'_>, alloc: Global) -> Result<Clauses, Refusa
 /// The literal of ASSIGN.
 #[tactic(auto, unfolding(crate::specs::FileControlEntry::file_name))]
 fn file_name(parser: &mut Parser<'_>, alloc: Global) -> Result<FileName, Refusal>
-    ensures { Reads (file_name.reads parser.old) (map_result (λ name. name.bytes) result) parser.new }
+    ensures { ReadsAs (λ name. name.bytes) file_name parser.old result parser.new }
 {
     let not_allowed = parser.fault(Cause::NotAllowed);
     let text = parser.literal(alloc)?;
@@ -198,8 +197,7 @@ fn select_word(parser: &mut Parser<'_>, earlier: &[Selected]) -> Result<(), Refu
 
 #[tactic(auto, unfolding(crate::specs::FileControlEntry::new_name))]
 fn new_name(parser: &mut Parser<'_>, earlier: &[Selected]) -> Result<Name, Refusal>
-    ensures { Reads ((new_name earlier.now).reads parser.old)
-        (map_result (λ name. name.bytes) result) parser.new }
+    ensures { ReadsAs (λ name. name.bytes) (new_name earlier.now) parser.old result parser.new }
 {
     let twice = parser.fault(Cause::Twice);
     let name = parser.name()?;
@@ -216,8 +214,7 @@ fn new_file_name(
     alloc: Global,
     earlier: &[Selected],
 ) -> Result<FileName, Refusal>
-    ensures { Reads ((new_file_name earlier.now).reads parser.old)
-        (map_result (λ name. name.bytes) result) parser.new }
+    ensures { ReadsAs (λ name. name.bytes) (new_file_name earlier.now) parser.old result parser.new }
 {
     let twice = parser.fault(Cause::Twice);
     let name = file_name(parser, alloc)?;

@@ -1,10 +1,10 @@
 //! The items of the working storage.
-ghost use Rattle.std.specs.Prelude.{◌≡◌};
+ghost use Rattle.std.specs.Prelude.{◌≡◌, []};
 ghost use Rattle.deck_words.specs.Class.{begins};
-ghost use Rattle.deck_words.specs.Rule.{where_it_gives};
+ghost use Rattle.deck_words.specs.Rule.{onto, where_it_gives};
 ghost use Rattle.deck_words.specs.Reading.{Reads};
 ghost use Rattle.deck_entries.specs.FileDescription.{storage_item, with_one};
-ghost use Rattle.deck_entries.specs.Divisions.{storage_items, storage_section};
+ghost use Rattle.deck_entries.specs.Divisions.{storage_section};
 
 use crate::item::picture_clause;
 use crate::words::heading;
@@ -115,9 +115,8 @@ fn sees_item(parser: &Parser<'_>) -> bool
 }
 
 /// The items that come next, if any.
-#[tactic(auto, unfolding(crate::specs::Divisions::storage_items))]
 fn items(parser: &mut Parser<'_>, alloc: Global) -> Result<StorageItems, Refusal>
-    ensures { Reads (storage_items.reads parser.old) result parser.new }
+    ensures { Reads ((onto with_one [] storage_item).reads parser.old) result parser.new }
 {
     let mut items = StorageItems::new(alloc);
     'more: while sees_item(parser) {
