@@ -2,8 +2,8 @@
 use Rattle.std.specs.Prelude.{◌≡◌, ℕ, zero, suc, ◌+◌, ◌*◌, ◌≤◌, Bool, true, false, List, ◌∷◌, [], ◌++◌, take}
 use Rattle.std.specs.Prelude.{length, remove, slice_set, slice_index_or, Some, None, Option}
 use Rattle.tree_node.specs.declared.shape.Shape.{Shape}
-use Rattle.tree_node.specs.Leaf.{IsLeaf, leaf_entries, leaf_room}
-use Rattle.tree_node.specs.Inner.{IsInner, separators, children}
+use Rattle.tree_node.specs.Leaf.{IsLeaf, leaf_entries, leaf_room, LeavesInOrder}
+use Rattle.tree_node.specs.Inner.{IsInner, separators, children, InnersInOrder}
 use Rattle.node_balance.specs.Fill.{least}
 
 -- the separator at this place left, and the child to its right
@@ -18,6 +18,28 @@ pub record ChangesSeparator (shape : Shape) (at : ℕ) (key old new : List ℕ) 
   pub separator : separators shape new ≡ slice_set (separators shape old) at key
   pub below : children shape new ≡ children shape old
 
+-- the first key of a leaf
+abbrev pub first_key : Shape → List ℕ → List ℕ
+first_key shape page = take shape.width (slice_index_or (leaf_entries shape page) 0 [])
+
+-- so many entries went over to the leaf to the left, or to the one to the right
+pub record FillsLeftLeaf (shape : Shape) (n : ℕ) (left right left_now right_now : List ℕ) : Type 0 where
+  pub in_order : LeavesInOrder shape left right left_now right_now
+  pub more : length (leaf_entries shape left_now) ≡ length (leaf_entries shape left) + n
+
+pub record FillsRightLeaf (shape : Shape) (n : ℕ) (left right left_now right_now : List ℕ) : Type 0 where
+  pub in_order : LeavesInOrder shape left right left_now right_now
+  pub more : length (leaf_entries shape right_now) ≡ length (leaf_entries shape right) + n
+
+-- a child went over to the inner node to the left, or to the one to the right
+pub record FillsLeftInner (shape : Shape) (between key left right left_now right_now : List ℕ) : Type 0 where
+  pub in_order : InnersInOrder shape between key left right left_now right_now
+  pub more : length (separators shape left_now) ≡ length (separators shape left) + 1
+
+pub record FillsRightInner (shape : Shape) (between key left right left_now right_now : List ℕ) : Type 0 where
+  pub in_order : InnersInOrder shape between key left right left_now right_now
+  pub more : length (separators shape right_now) ≡ length (separators shape right) + 1
+
 -- the first leaf has the entries of both
 pub record LeavesJoined (shape : Shape) (left right left_now : List ℕ) : Type 0 where
   pub leaf : IsLeaf shape left_now
@@ -31,7 +53,7 @@ pub record LeavesShared (shape : Shape) (left right left_now right_now key : Lis
   pub upper : IsLeaf shape right_now
   pub has : leaf_entries shape left_now ++ leaf_entries shape right_now ≡ leaf_entries shape left
       ++ leaf_entries shape right
-  pub between : key ≡ take shape.width (slice_index_or (leaf_entries shape right_now) 0 [])
+  pub between : key ≡ first_key shape right_now
   pub some : (1 ≤ length (leaf_entries shape left_now)) × (1 ≤ length (leaf_entries shape right_now))
   pub even : (length (leaf_entries shape left_now) ≤ length (leaf_entries shape right_now) + 1)
       × (length (leaf_entries shape right_now) ≤ length (leaf_entries shape left_now) + 1)

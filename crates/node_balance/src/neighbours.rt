@@ -1,11 +1,13 @@
 //! Two nodes side by side, of which one has too little.
 
-ghost use Rattle.std.specs.Prelude.{◌≡◌, ◌+◌, length, [], take, slice_index_or};
-ghost use Rattle.tree_node.specs.Leaf.{leaf_entries, HasEntryAt, CanMergeLeaf, LeavesInOrder};
-ghost use Rattle.tree_node.specs.Inner.{separators, HasSeparatorAt, CanMergeInner, CanBorrowChild};
-ghost use Rattle.tree_node.specs.Inner.{InnersInOrder};
-ghost use Rattle.node_balance.specs.Balance.{CanTake, LosesSeparator, ChangesSeparator, LeavesJoined};
-ghost use Rattle.node_balance.specs.Balance.{InnersJoined, Balances};
+ghost use Rattle.std.specs.Prelude.{[], slice_index_or};
+ghost use Rattle.tree_node.specs.Leaf.{HasEntryAt, CanMergeLeaf};
+ghost use Rattle.tree_node.specs.Inner.{separators, HasSeparatorAt, CanChangeKey, CanMergeInner};
+ghost use Rattle.tree_node.specs.Inner.{CanBorrowChild};
+ghost use Rattle.tree_node.specs.Table.{IsOfSize};
+ghost use Rattle.node_balance.specs.Balance.{CanTake, LosesSeparator, ChangesSeparator, first_key};
+ghost use Rattle.node_balance.specs.Balance.{LeavesJoined, FillsLeftLeaf, FillsRightLeaf, InnersJoined};
+ghost use Rattle.node_balance.specs.Balance.{FillsLeftInner, FillsRightInner, Balances};
 
 use page_bytes::PAGE_SIZE;
 use tree_node::{
@@ -24,9 +26,7 @@ fn lose(node: &mut [u8; PAGE_SIZE], shape: Shape, at: usize)
 fn lead(node: &mut [u8; PAGE_SIZE], shape: Shape, at: usize, right: &[u8; PAGE_SIZE])
     requires place { HasSeparatorAt shape at node.old }
     requires first { HasEntryAt shape 0 right.now }
-    ensures { ChangesSeparator shape at (take shape.width
-        (slice_index_or (leaf_entries shape right.now) 0 []))
-        node.old node.new }
+    ensures { ChangesSeparator shape at (first_key shape right.now) node.old node.new }
 {
     let right = LeafView { page: right, shape };
     InnerViewMut { page: node, shape }.set_separator(at, right.key(0));
@@ -43,8 +43,7 @@ fn join_leaves(left: &mut [u8; PAGE_SIZE], right: &[u8; PAGE_SIZE], shape: Shape
 #[tactic(auto, using(crate::proofs::BalanceLemmas::lengths))]
 fn fill_left_leaf(left: &mut [u8; PAGE_SIZE], right: &mut [u8; PAGE_SIZE], shape: Shape, n: usize)
     requires { CanTake shape n left.old right.old }
-    ensures in_order { LeavesInOrder shape left.old right.old left.new right.new }
-    ensures more { length (leaf_entries shape left.new) ≡ length (leaf_entries shape left.old) + n }
+    ensures { FillsLeftLeaf shape n left.old right.old left.new right.new }
 {
     for _ in 0..n {
         LeafViewMut { page: left, shape }.borrow_from_right(right);
@@ -54,8 +53,7 @@ fn fill_left_leaf(left: &mut [u8; PAGE_SIZE], right: &mut [u8; PAGE_SIZE], shape
 /// The last `n` entries of the leaf to the left go over to the right one.
 fn fill_right_leaf(left: &mut [u8; PAGE_SIZE], right: &mut [u8; PAGE_SIZE], shape: Shape, n: usize)
     requires { CanTake shape n right.old left.old }
-    ensures in_order { LeavesInOrder shape left.old right.old left.new right.new }
-    ensures more { length (leaf_entries shape right.new) ≡ length (leaf_entries shape right.old) + n }
+    ensures { FillsRightLeaf shape n left.old right.old left.new right.new }
 {
     for _ in 0..n {
         LeafViewMut { page: right, shape }.borrow_from_left(left);
@@ -99,8 +97,7 @@ fn balance_leaves(
 /// A separator that outlives its page.
 fn separator_at(node: &[u8; PAGE_SIZE], shape: Shape, at: usize) -> TreeKey
     requires { HasSeparatorAt shape at node.now }
-    ensures value { result.items ≡ slice_index_or (separators shape node.now) at [] }
-    ensures width { length result.items ≡ shape.width }
+    ensures { IsOfSize shape.width (slice_index_or (separators shape node.now) at []) result.items }
 {
     let mut key = TreeKey::new();
     let _ = key.try_extend_from_slice(InnerView { page: node, shape }.separator(at));
@@ -123,8 +120,7 @@ fn fill_left_inner(
     shape: Shape,
 ) -> TreeKey
     requires { CanBorrowChild shape between.now left.old right.old }
-    ensures in_order { InnersInOrder shape between.now result.items left.old right.old left.new right.new }
-    ensures more { length (separators shape left.new) ≡ length (separators shape left.old) + 1 }
+    ensures { FillsLeftInner shape between.now result.items left.old right.old left.new right.new }
 {
     InnerViewMut { page: left, shape }.borrow_from_right(between, right)
 }
@@ -138,16 +134,14 @@ fn fill_right_inner(
     shape: Shape,
 ) -> TreeKey
     requires { CanBorrowChild shape between.now right.old left.old }
-    ensures in_order { InnersInOrder shape between.now result.items left.old right.old left.new right.new }
-    ensures more { length (separators shape right.new) ≡ length (separators shape right.old) + 1 }
+    ensures { FillsRightInner shape between.now result.items left.old right.old left.new right.new }
 {
     InnerViewMut { page: right, shape }.borrow_from_left(between, left)
 }
 
 /// Puts a separator in the place of another one.
 fn set(node: &mut [u8; PAGE_SIZE], shape: Shape, at: usize, key: &[u8])
-    requires place { HasSeparatorAt shape at node.old }
-    requires width { length key.now ≡ shape.width }
+    requires { CanChangeKey shape at key.now node.old }
     ensures { ChangesSeparator shape at key.now node.old node.new }
 {
     InnerViewMut { page: node, shape }.set_separator(at, key);

@@ -1,8 +1,10 @@
 //! One entry or separator more in the bytes of a node.
 
-ghost use Rattle.std.specs.Prelude.{◌≡◌, length, insert, take, slice_index_or, []};
+ghost use Rattle.std.specs.Prelude.{insert};
 ghost use Rattle.tree_node.specs.Leaf.{leaf_entries, HasEntryAt, EntryCanStandAt};
 ghost use Rattle.tree_node.specs.Inner.{CanStandAt};
+ghost use Rattle.tree_node.specs.Table.{IsOfSize};
+ghost use Rattle.node_balance.specs.Balance.{first_key};
 ghost use Rattle.node_balance.specs.Put.{PutInLeaf, PutsSeparator};
 
 use crate::separator::Separator;
@@ -34,8 +36,7 @@ pub fn put_in_leaf(
 /// The first key of a leaf.
 fn first_key(page: &[u8; PAGE_SIZE], shape: Shape) -> TreeKey
     requires { HasEntryAt shape 0 page.now }
-    ensures value { result.items ≡ take shape.width (slice_index_or (leaf_entries shape page.now) 0 []) }
-    ensures width { length result.items ≡ shape.width }
+    ensures { IsOfSize shape.width (first_key shape page.now) result.items }
 {
     let mut key = TreeKey::new();
     let _ = key.try_extend_from_slice(LeafView { page, shape }.key(0));
