@@ -35,6 +35,16 @@ pub record IsJoined (cache : Cache) (pager : Pager) (shelf : ShelfState) : Type 
   pub counted : pager.count ≤ cache.store.pages
   pub header : 0 < pager.count
 
+-- so, and there is a free page
+pub record CanTakeFree (cache : Cache) (pager : Pager) (shelf : ShelfState) : Type 0 where
+  pub ready : IsJoined cache pager shelf
+  pub free : 0 < pager.free
+
+-- so, and there is none
+pub record CanTakeNew (cache : Cache) (pager : Pager) (shelf : ShelfState) : Type 0 where
+  pub ready : IsJoined cache pager shelf
+  pub free : pager.free ≡ 0
+
 -- what a call leaves of cache and shelf, at a fault too: the unit, as many frames, no fewer pages,
 -- a count of pages asked for that does not fall, other files; the unit's file went quietly
 pub record PartsGo (old new : Cache) (before after : ShelfState) (failed fails : ℕ) : Type 0 where

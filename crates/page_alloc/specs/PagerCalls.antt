@@ -1,13 +1,14 @@
 -- What the calls that take pages and give them back leave, at a fault too.
-use Rattle.std.specs.Prelude.{◌≡◌, ℕ, ◌+◌, ◌≤◌, IsTrue, IsSome, Result, IfOk, IfErr, OnOk, OnErr}
+use Rattle.std.specs.Prelude.{◌≡◌, ℕ, ◌+◌, ◌≤◌, IsTrue, IsSome, Result, IfOk, IfErr, OnOk, OnErr, ⊤}
 use Rattle.io_state.specs.declared.fault.Fault.{Fault}
 use Rattle.page_store.specs.ShelfState.{ShelfState}
 use Rattle.page_cache.specs.declared.cache.Cache.{Cache}
 use Rattle.page_cache.specs.Cached.{pages_of}
+use Rattle.page_cache.specs.Calls.{KeepsPages}
 use Rattle.pages.specs.PagesState.{Rests}
 use Rattle.page_alloc.specs.declared.pager.Pager.{Pager}
 use Rattle.page_alloc.specs.FreePage.{is_free, next_of}
-use Rattle.page_alloc.specs.Joining.{pages_state, free_pages, IsJoined, PartsGo, HasFailed}
+use Rattle.page_alloc.specs.Joining.{pages_state, free_pages, HasNoRoom, IsJoined, PartsGo, HasFailed}
 use Rattle.page_alloc.specs.Order.{TakesInOrder, GivesInOrder}
 use Rattle.page_alloc.specs.Taking.{Taken, Given, CallFails}
 
@@ -69,13 +70,33 @@ module _ {H : Type 0} (state : H → ShelfState) where
         → GivesInOrder n from to (free_pages old from (state before)) (free_pages new to (state after)) result
 
 -- of shelves that show this state and count their faults so
-module _ {H : Type 0} (state : H → ShelfState) (count : H → ℕ) {X : Type 0} where
-  -- a fault of a call that takes a page is no Damage where the free pages were what they should be
-  abbrev pub FailsToTake : Type 0 → Cache → Pager → H → H → Result X Fault → Type 0
-  FailsToTake lacks_room cache pager before after result =
-      FailsOnly count (WasSound state cache pager before after) lacks_room before after result
+module _ {H : Type 0} (state : H → ShelfState) (count : H → ℕ) where
+  -- a call that takes a page: it is no Damage where the pages were sound, and Full only where room
+  -- was lacking
+  pub record PagerTakes (sound lacks_room : Type 0) (old new : Cache) (from to : Pager) (before after : H)
+      (result : Result ℕ Fault) : Type 0 where
+    pub takes : TakesPage state old new from to before after result
+    pub fails : FailsOnly count sound lacks_room before after result
+    pub goes : PagerGoes state count old new from to before after
 
-  -- one of a call that gives page n back is no Damage where it was in use
+  -- whichever: no Damage where the free pages were what they should be, and Full where none is left
+  abbrev pub TakesAnyPage : (old new : Cache) (from to : Pager) → H → H → Result ℕ Fault → Type 0
+  TakesAnyPage old new from to before after result = PagerTakes (WasSound state old from before after)
+      (HasNoRoom from) old new from to before after result
+
+  -- a free one: never Full
+  abbrev pub TakesFreePage : (old new : Cache) (from to : Pager) → H → H → Result ℕ Fault → Type 0
+  TakesFreePage old new from to before after result = PagerTakes (WasSound state old from before after)
+      ⊥ old new from to before after result
+
+  -- a new one: never Damage
+  abbrev pub TakesNewPage : (old new : Cache) (from to : Pager) → H → H → Result ℕ Fault → Type 0
+  TakesNewPage old new from to before after result = PagerTakes ⊤
+      (HasNoRoom from) old new from to before after result
+
+-- of shelves that show this state and count their faults so
+module _ {H : Type 0} (state : H → ShelfState) (count : H → ℕ) {X : Type 0} where
+  -- a fault of a call that gives page n back is no Damage where it was in use
   abbrev pub FailsToGive : ℕ → Cache → Pager → H → H → Result X Fault → Type 0
   FailsToGive n cache pager before after result =
       FailsOnly count (WasInUse state n cache pager before after) ⊥ before after result
@@ -84,3 +105,12 @@ module _ {H : Type 0} (state : H → ShelfState) (count : H → ℕ) {X : Type 0
   abbrev pub FailsToFollow : ℕ → Cache → H → H → Result X Fault → Type 0
   FailsToFollow n cache before after result =
       FailsOnly count (WasMarked state n cache before after) ⊥ before after result
+
+-- of shelves that show this state and count their faults so
+module _ {H : Type 0} (state : H → ShelfState) (count : H → ℕ) where
+  -- a call that follows free page n
+  pub record FollowsFree (n : ℕ) (old new : Cache) (before after : H) (result : Result ℕ Fault) : Type 0 where
+    pub next : AnswersNext state n old before after result
+    pub kept : KeepsPages old new (state before) (state after)
+    pub fails : FailsToFollow state count n old before after result
+    pub asks : AsksOnce state count old new before after

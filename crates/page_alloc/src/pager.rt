@@ -1,10 +1,10 @@
 //! The free pages of a file, and how many pages it has.
-ghost use Rattle.std.specs.Prelude.{◌≡◌, ◌<◌, OnOk, OnErr, ⊤};
+ghost use Rattle.std.specs.Prelude.{◌≡◌, OnOk, OnErr, ⊤};
 ghost use Rattle.page_cache.specs.Cached.{IsOver, IsOverPage};
 ghost use Rattle.page_cache.specs.Calls.{KeepsPages};
-ghost use Rattle.page_alloc.specs.Joining.{available_of, HasNoRoom, IsJoined};
-ghost use Rattle.page_alloc.specs.PagerCalls.{AnswersNext, FailsOnly, FailsToTake, FailsToGive};
-ghost use Rattle.page_alloc.specs.PagerCalls.{FailsToFollow, AsksOnce, PagerGoes, TakesPage, GivesPage};
+ghost use Rattle.page_alloc.specs.Joining.{available_of, IsJoined, CanTakeFree, CanTakeNew};
+ghost use Rattle.page_alloc.specs.PagerCalls.{FailsOnly, FailsToGive, FollowsFree, AsksOnce, PagerGoes};
+ghost use Rattle.page_alloc.specs.PagerCalls.{TakesAnyPage, TakesFreePage, TakesNewPage, GivesPage};
 ghost use Rattle.page_alloc.specs.Taking.{Freed};
 
 use crate::free_page;
@@ -50,11 +50,8 @@ impl Pager {
     /// page as it was.
     pub fn take<S: Shelf>(&mut self, cache: &mut Cache, shelf: &mut S) -> Result<u32, Fault>
         requires ready { IsJoined cache.old self.old (S.state shelf.old) }
-        ensures takes { TakesPage S.state cache.old cache.new self.old self.new shelf.old shelf.new result }
-        ensures fails { FailsToTake S.state S.fault_count (HasNoRoom self.old) cache.old self.old
+        ensures { TakesAnyPage S.state S.fault_count cache.old cache.new self.old self.new
             shelf.old shelf.new result }
-        ensures goes { PagerGoes S.state S.fault_count cache.old cache.new self.old self.new shelf.old
-            shelf.new }
     {
         if self.free > 0 {
             self.take_free(cache, shelf)
@@ -65,12 +62,9 @@ impl Pager {
 
     // Takes the first free page.
     fn take_free<S: Shelf>(&mut self, cache: &mut Cache, shelf: &mut S) -> Result<u32, Fault>
-        requires ready { IsJoined cache.old self.old (S.state shelf.old) }
-        requires free { 0 < self.old.free }
-        ensures takes { TakesPage S.state cache.old cache.new self.old self.new shelf.old shelf.new result }
-        ensures fails { FailsToTake S.state S.fault_count ⊥ cache.old self.old shelf.old shelf.new result }
-        ensures goes { PagerGoes S.state S.fault_count cache.old cache.new self.old self.new shelf.old
-            shelf.new }
+        requires { CanTakeFree cache.old self.old (S.state shelf.old) }
+        ensures { TakesFreePage S.state S.fault_count cache.old cache.new self.old self.new
+            shelf.old shelf.new result }
     {
         let n = self.first;
         if n == 0 || n >= self.count {
@@ -84,12 +78,9 @@ impl Pager {
 
     // Takes the next new page.
     fn take_new<S: Shelf>(&mut self, cache: &mut Cache, shelf: &mut S) -> Result<u32, Fault>
-        requires ready { IsJoined cache.old self.old (S.state shelf.old) }
-        requires free { self.old.free ≡ 0 }
-        ensures takes { TakesPage S.state cache.old cache.new self.old self.new shelf.old shelf.new result }
-        ensures fails { FailsOnly S.fault_count ⊤ (HasNoRoom self.old) shelf.old shelf.new result }
-        ensures goes { PagerGoes S.state S.fault_count cache.old cache.new self.old self.new shelf.old
-            shelf.new }
+        requires { CanTakeNew cache.old self.old (S.state shelf.old) }
+        ensures { TakesNewPage S.state S.fault_count cache.old cache.new self.old self.new
+            shelf.old shelf.new result }
     {
         if self.count >= self.limit {
             return Err(Fault::Full);
@@ -122,10 +113,7 @@ impl Pager {
 // The page that a free page links to.
 fn next_free<S: Shelf>(cache: &mut Cache, shelf: &mut S, n: u32) -> Result<u32, Fault>
     requires { IsOverPage n cache.old (S.state shelf.old) }
-    ensures next { AnswersNext S.state n cache.old shelf.old shelf.new result }
-    ensures kept { KeepsPages cache.old cache.new (S.state shelf.old) (S.state shelf.new) }
-    ensures fails { FailsToFollow S.state S.fault_count n cache.old shelf.old shelf.new result }
-    ensures asks { AsksOnce S.state S.fault_count cache.old cache.new shelf.old shelf.new }
+    ensures { FollowsFree S.state S.fault_count n cache.old cache.new shelf.old shelf.new result }
 {
     cache.load(shelf, n)?;
     let page = cache.held(n)?;

@@ -1,6 +1,6 @@
 -- The pages of a file, some of them in memory.
-use Rattle.std.specs.Prelude.{◌≡◌, ℕ, ◌<◌, ltb, ◌&&◌, if◌then◌else◌, Bool, false, IsTrue, nat_eq, List, []}
-use Rattle.std.specs.Prelude.{Option, Some, None}
+use Rattle.std.specs.Prelude.{◌≡◌, ℕ, ◌-◌, ◌^◌, ◌<◌, ◌≤◌, ltb, ◌&&◌, if◌then◌else◌, Bool, false, IsTrue}
+use Rattle.std.specs.Prelude.{nat_eq, List, [], Option, Some, None}
 use Rattle.std.specs.Option.{option_map_or}
 use Rattle.std.specs.Map.{lookup}
 use Rattle.lru.specs.LruCache.{lru_cache}
@@ -49,6 +49,16 @@ pub record IsOverMissing (n : ℕ) (cache : Cache) (shelf : ShelfState) : Type 0
   pub over : IsOver cache shelf
   pub page : IsTrue (is_counted cache n)
   pub absent : frame_of cache n ≡ None
+
+-- so, and n is the page behind the last one
+pub record IsOverNext (n : ℕ) (cache : Cache) (shelf : ShelfState) : Type 0 where
+  pub over : IsOver cache shelf
+  pub page : (0 < n) × (n ≡ cache.store.pages) × (n < 2 ^ 32 - 1)
+
+-- so, and n is that one, or a page of the store
+pub record IsOverPageOrNext (n : ℕ) (cache : Cache) (shelf : ShelfState) : Type 0 where
+  pub over : IsOver cache shelf
+  pub page : (0 < n) × (n ≤ cache.store.pages) × (n < 2 ^ 32 - 1)
 
 -- it is over a file that has a header
 pub record IsOverHeader (cache : Cache) (shelf : ShelfState) : Type 0 where

@@ -1,6 +1,6 @@
 -- What a loan of a held page leaves.
 use Rattle.std.specs.Prelude.{◌≡◌, ◌≢◌, ℕ, Bool, List, Result, Some, true, is_some, IsTrue, option_map}
-use Rattle.std.specs.Prelude.{slice_get, ⊤}
+use Rattle.std.specs.Prelude.{slice_get, IsSome, IsOk, IfOk, ⊤}
 use Rattle.std.specs.Borrow.{LendsSoOk, follows_so, MutBor, Fml, u8, Array}
 use mathlib.Core.Option.{none}
 use Rattle.io_state.specs.declared.fault.Fault.{Fault}
@@ -20,6 +20,13 @@ pub record PutsFirst (n : ℕ) (old new : Cache) (result : Bool) : Type 0 where
   pub held : result ≡ is_some (frame_of old n)
   pub first : IsTrue result → option_map (λ e. e.0) (slice_get new.frames.entries 0) ≡ Some n
   pub same : SameFrames old new
+
+-- the bytes of page n are answered where it has a frame, and it fails only where it has none
+pub record FindsBytes {X : Type 0} (n : ℕ) (cache : Cache) (result : Result X Fault)
+    (bytes_of : X → List ℕ) : Type 0 where
+  pub ok : IsSome (frame_of cache n) → IsOk result
+  pub value : IfOk result (λ page.
+      option_map (λ frame. frame.page.value) (frame_of cache n) ≡ Some (bytes_of page))
 
 -- the frame of page n holds these bytes, and counts as changed; every other frame is as it was
 pub record FrameSet (n : ℕ) (bytes : List ℕ) (old new : Cache) : Type 0 where

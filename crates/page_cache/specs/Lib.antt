@@ -1,6 +1,8 @@
 pub mod Quietly
 pub mod Rewrites
 pub mod HeaderCalls
+pub mod HeaderChanges
+pub mod FrameCalls
 pub mod Places
 pub mod FirstLends
 pub mod Pushing

@@ -1,15 +1,13 @@
 //! The cache, and what it reads and writes.
-ghost use Rattle.std.specs.Prelude.{◌≡◌, ◌-◌, ◌^◌, ◌<◌, ◌≤◌, length, slice_get, option_map, None, Some};
-ghost use Rattle.std.specs.Prelude.{IsSome, IsTrue, IfOk, OnOk, OnErr};
+ghost use Rattle.std.specs.Prelude.{◌≡◌, ◌≤◌, length, slice_get, option_map, None, Some, IsSome, IsTrue};
+ghost use Rattle.std.specs.Prelude.{OnOk, MatchResult};
 ghost use Rattle.std.specs.NonZero.{non_zero_usize_get};
 ghost use Rattle.lru.specs.LruCache.{lru_cache};
-ghost use Rattle.page_store.specs.ShelfState.{OnlyAnswers, FaultHasCause};
-ghost use Rattle.page_cache.specs.Cached.{frame_of, IsOver, IsOverPage, IsOverMissing, IsClean, IsEmptyCache};
-ghost use Rattle.page_cache.specs.Calls.{asked_once, KeepsFrames, ChangesFrames, PagesStay, LooksUp};
-ghost use Rattle.page_cache.specs.Calls.{PutsZeros};
-ghost use Rattle.page_cache.specs.HeaderCalls.{WasPage};
+ghost use Rattle.page_cache.specs.Cached.{frame_of, IsOver, IsOverPage, IsOverMissing, IsOverNext};
+ghost use Rattle.page_cache.specs.Cached.{IsOverPageOrNext, IsEmptyCache};
+ghost use Rattle.page_cache.specs.Calls.{asked_once, ChangesFrames, TakesBox, PutsFrame, PagesStay};
+ghost use Rattle.page_cache.specs.Calls.{BringsPage, ReadsIntoBox, WritesLast, WritesChanged, PutsZeros};
 ghost use Rattle.page_cache.specs.Lending.{SameFrames, PutsFirst};
-ghost use Rattle.page_cache.specs.Pushing.{Pushes};
 ghost use Rattle.page_cache.specs.Turning.{HasRoom, IsLastWritten, settled, Turned};
 
 use crate::frame::{self, Frame};
@@ -34,8 +32,8 @@ impl Cache {
     /// A cache that holds no page yet, and at most `frames` pages later. Memory is its only fault,
     /// and no file is changed.
     pub fn new(alloc: Global, store: Store, frames: NonZeroUsize) -> Result<Cache, Fault>
-        ensures empty { IfOk result (IsEmptyCache store (non_zero_usize_get frames)) }
-        ensures memory { OnErr result (result ≡ Err Fault.Memory) }
+        ensures { MatchResult result (IsEmptyCache store (non_zero_usize_get frames))
+            (λ fault. fault ≡ Fault.Memory) }
     {
         Ok(Cache {
             store,
@@ -74,9 +72,8 @@ impl Cache {
     #[inline(always)]
     pub fn load<S: Shelf>(&mut self, shelf: &mut S, n: u32) -> Result<(), Fault>
         requires { IsOverPage n self.old (S.state shelf.old) }
-        ensures held { OnOk result (IsSome (frame_of self.new n)) }
-        ensures looks { LooksUp S.state S.fault_count
-            (asked_once self.old) self.old self.new shelf.old shelf.new result }
+        ensures { BringsPage S.state S.fault_count n (asked_once self.old) self.old self.new
+            shelf.old shelf.new result }
     {
         self.asked = self.asked.saturating_add(1);
         if self.promote(n) {
@@ -121,8 +118,7 @@ impl Cache {
     /// Makes page `n` one of zeros, and counts one page asked. Where `n` is the number of pages, it
     /// is added, and written at once.
     pub fn zero<S: Shelf>(&mut self, shelf: &mut S, n: u32) -> Result<(), Fault>
-        requires over { IsOver self.old (S.state shelf.old) }
-        requires page { (0 < n) × (n ≤ self.old.store.pages) × (n < 2 ^ 32 - 1) }
+        requires { IsOverPageOrNext n self.old (S.state shelf.old) }
         ensures { PutsZeros S.state S.fault_count n (asked_once self.old) self.old self.new shelf.old
             shelf.new result }
     {
@@ -169,8 +165,7 @@ impl Cache {
 
     // Writes a page of zeros behind the last page, and holds it.
     fn add<S: Shelf>(&mut self, shelf: &mut S, n: u32) -> Result<(), Fault>
-        requires over { IsOver self.old (S.state shelf.old) }
-        requires page { (0 < n) × (n ≡ self.old.store.pages) × (n < 2 ^ 32 - 1) }
+        requires { IsOverNext n self.old (S.state shelf.old) }
         ensures { PutsZeros S.state S.fault_count n (asked_once self.old) self.old self.new shelf.old
             shelf.new result }
     {
@@ -200,9 +195,7 @@ impl Cache {
     /// Writes each page that was changed; all stay held. A fault leaves the rest for the next flush.
     pub fn flush<S: Shelf>(&mut self, shelf: &mut S) -> Result<(), Fault>
         requires over { IsOver self.old (S.state shelf.old) }
-        ensures clean { OnOk result (IsClean self.new) }
-        ensures stay { PagesStay S.state S.fault_count self.old.asked self.old self.new shelf.old shelf.new
-            result }
+        ensures { WritesChanged S.state S.fault_count self.old self.new shelf.old shelf.new result }
     {
         for turn in 0..self.frames.len() {
             self.settle_last(shelf)?;
@@ -248,9 +241,8 @@ impl Cache {
     #[inline(never)]
     fn bring<S: Shelf>(&mut self, shelf: &mut S, n: u32) -> Result<(), Fault>
         requires { IsOverMissing n self.old (S.state shelf.old) }
-        ensures held { OnOk result (IsSome (frame_of self.new n)) }
-        ensures looks { LooksUp S.state S.fault_count self.old.asked self.old self.new shelf.old shelf.new
-            result }
+        ensures { BringsPage S.state S.fault_count n self.old.asked self.old self.new
+            shelf.old shelf.new result }
     {
         self.make_room(shelf)?;
         let page = self.read(shelf, n)?;
@@ -266,10 +258,7 @@ impl Cache {
     // Writes the page that the next one will push out.
     fn make_room<S: Shelf>(&mut self, shelf: &mut S) -> Result<(), Fault>
         requires over { IsOver self.old (S.state shelf.old) }
-        ensures room { OnOk result (HasRoom self.new (S.state shelf.new)) }
-        ensures same { self.new ≡ self.old }
-        ensures looks { LooksUp S.state S.fault_count self.old.asked self.old self.new shelf.old shelf.new
-            result }
+        ensures { WritesLast S.state S.fault_count HasRoom self.old self.new shelf.old shelf.new result }
     {
         if self.frames.len() < self.frames.cap().get() {
             return Ok(());
@@ -280,10 +269,8 @@ impl Cache {
     // Writes the last page, where it was changed.
     fn write_last<S: Shelf>(&mut self, shelf: &mut S) -> Result<(), Fault>
         requires over { IsOver self.old (S.state shelf.old) }
-        ensures last { OnOk result (IsLastWritten self.old (S.state shelf.new)) }
-        ensures same { self.new ≡ self.old }
-        ensures looks { LooksUp S.state S.fault_count self.old.asked self.old self.new shelf.old shelf.new
-            result }
+        ensures { WritesLast S.state S.fault_count IsLastWritten self.old self.new
+            shelf.old shelf.new result }
     {
         let _held = self.frames.len();
         let Some((n, frame)) = self.frames.peek_lru() else {
@@ -298,11 +285,7 @@ impl Cache {
     // A box with the bytes of page n.
     fn read<S: Shelf>(&mut self, shelf: &mut S, n: u32) -> Result<Box<[u8; PAGE_SIZE]>, Fault>
         requires { IsOverPage n self.old (S.state shelf.old) }
-        ensures bytes { IfOk result (λ page. WasPage self.old.store.unit n (S.state shelf.old)
-            (S.state shelf.new) page.value) }
-        ensures same { KeepsFrames self.old self.new }
-        ensures only { OnlyAnswers (S.state shelf.old) (S.state shelf.new) }
-        ensures cause { FaultHasCause (S.fault_count shelf.old) (S.fault_count shelf.new) result }
+        ensures { ReadsIntoBox S.state S.fault_count n self.old self.new shelf.old shelf.new result }
     {
         let mut page = self.box_for_page()?;
         match self.store.read_page(shelf, n, &mut *page) {
@@ -316,8 +299,7 @@ impl Cache {
 
     // A box with any bytes: the one left over, or a new one.
     fn box_for_page(&mut self) -> Result<Box<[u8; PAGE_SIZE]>, Fault>
-        ensures same { KeepsFrames self.old self.new }
-        ensures memory { OnErr result (result ≡ Err Fault.Memory) }
+        ensures { TakesBox self.old self.new result }
     {
         match self.spare.take() {
             Some(page) => Ok(page),
@@ -328,10 +310,7 @@ impl Cache {
     // Puts a frame in front, and keeps the box that it pushes out.
     fn put(&mut self, n: u32, frame: Frame) -> Result<(), Fault>
         requires { frame_of self.old n ≡ None }
-        ensures pushed { Pushes n frame self.old.frames self.new.frames result }
-        ensures fits { length self.old.frames.entries ≤ self.old.frames.cap }
-        ensures same { ChangesFrames self.old self.new }
-        ensures memory { OnErr result (result ≡ Err Fault.Memory) }
+        ensures { PutsFrame n frame self.old self.new result }
     {
         let _held = self.frames.len();
         match self.frames.push(n, frame) {

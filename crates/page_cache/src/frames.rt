@@ -1,6 +1,5 @@
 //! The frames of a cache, in the order of their use.
-ghost use Rattle.std.specs.Prelude.{◌≡◌, ◌<◌, ◌≤◌, [], length, nat_eq, slice_get, is_some, option_map, None};
-ghost use Rattle.std.specs.Prelude.{IfOk};
+ghost use Rattle.std.specs.Prelude.{◌≡◌, [], length, nat_eq, slice_get, option_map, None, IfOk};
 ghost use Rattle.std.specs.Option.{option_copied_mut};
 ghost use Rattle.std.specs.NonZero.{non_zero_usize_get};
 ghost use Rattle.std.specs.Borrow.{sem};
@@ -39,7 +38,7 @@ impl Model for Frames {
 
 impl Frames {
     ghost use Rattle.page_cache.specs.FirstLends.{LendsFirst};
-    ghost use Rattle.page_cache.specs.Pushing.{Pushes};
+    ghost use Rattle.page_cache.specs.Pushing.{Pushes, CanPushNew, MovesEntry};
 
     /// No frame yet, and room for so many.
     pub fn new(alloc: Global, cap: NonZeroUsize) -> Result<Frames, AllocError>
@@ -70,8 +69,7 @@ impl Frames {
     /// Puts page `n` first, and tells whether it has a frame.
     #[inline(always)]
     pub fn promote(&mut self, n: u32) -> bool
-        ensures value { result ≡ is_some (lookup (nat_eq n) self.old.entries) }
-        ensures entries { self.new ≡ lru_cache (promoted (nat_eq n) self.old.entries) self.old.cap }
+        ensures { MovesEntry promoted n self.old self.new result }
     {
         self.order.promote(&n)
     }
@@ -79,8 +77,7 @@ impl Frames {
     /// Puts page `n` last, and tells whether it has a frame.
     #[inline(always)]
     pub fn demote(&mut self, n: u32) -> bool
-        ensures value { result ≡ is_some (lookup (nat_eq n) self.old.entries) }
-        ensures entries { self.new ≡ lru_cache (demoted (nat_eq n) self.old.entries) self.old.cap }
+        ensures { MovesEntry demoted n self.old self.new result }
     {
         self.order.demote(&n)
     }
@@ -132,13 +129,20 @@ impl Frames {
         if self.len() < self.cap().get() {
             return self.push_new(n, frame);
         }
-        self.push_over(n, frame)
+        let _held = self.order.len();
+        let place = match self.order.peek_lru() {
+            Some((_, place)) => *place,
+            None => return Err(Some(frame)),
+        };
+        match self.order.put(n, place) {
+            Ok(_) => Ok(Some(mem::replace(&mut self.places[place], frame))),
+            Err(_) => Err(Some(frame)),
+        }
     }
 
     // Puts a page first, in a place of its own.
     fn push_new(&mut self, n: u32, frame: Frame) -> Result<Option<Frame>, Option<Frame>>
-        requires absent { lookup (nat_eq n) self.old.entries ≡ None }
-        requires room { length self.old.entries < self.old.cap }
+        requires { CanPushNew n self.old }
         ensures { Pushes n frame self.old self.new result }
     {
         let place = self.places.len();
@@ -148,23 +152,6 @@ impl Frames {
         match self.order.put(n, place) {
             Ok(_) => Ok(None),
             Err(_) => Err(self.places.pop()),
-        }
-    }
-
-    // Puts a page first, in the place of the one used longest ago.
-    fn push_over(&mut self, n: u32, frame: Frame) -> Result<Option<Frame>, Option<Frame>>
-        requires absent { lookup (nat_eq n) self.old.entries ≡ None }
-        requires full { self.old.cap ≤ length self.old.entries }
-        ensures { Pushes n frame self.old self.new result }
-    {
-        let _held = self.order.len();
-        let place = match self.order.peek_lru() {
-            Some((_, place)) => *place,
-            None => return Err(Some(frame)),
-        };
-        match self.order.put(n, place) {
-            Ok(_) => Ok(Some(mem::replace(&mut self.places[place], frame))),
-            Err(_) => Err(Some(frame)),
         }
     }
 }

@@ -1,10 +1,11 @@
 //! The header page and the gate, which are not asked through the frames.
-ghost use Rattle.std.specs.Prelude.{◌≡◌, OnOk};
+ghost use Rattle.std.specs.Prelude.{OnOk};
 ghost use Rattle.page_store.specs.Gate.{AllOpen, SameOrRefused};
-ghost use Rattle.page_store.specs.ShelfState.{WhereHonest, FileGoes, OnlyAnswers, ChangesOnly, FaultHasCause};
+ghost use Rattle.page_store.specs.ShelfState.{WhereHonest};
 ghost use Rattle.page_cache.specs.Cached.{IsOver, IsOverHeader};
-ghost use Rattle.page_cache.specs.HeaderCalls.{WasPage, HoldsHeader, MayClose, IsClosedAnew, OpensGate};
-ghost use Rattle.page_cache.specs.Calls.{ShowsSame, PagesStay};
+ghost use Rattle.page_cache.specs.HeaderCalls.{OpensGate};
+ghost use Rattle.page_cache.specs.HeaderChanges.{ReadsHeader, WritesHeader, FinishesChange};
+ghost use Rattle.page_cache.specs.Calls.{ShowsSame};
 
 use crate::cache::Cache;
 use io_state::Fault;
@@ -19,11 +20,7 @@ impl Cache {
         page: &mut [u8; PAGE_SIZE],
     ) -> Result<(), Fault>
         requires { IsOverHeader self.now (S.state shelf.old) }
-        ensures answer { OnOk result (WasPage self.now.store.unit 0 (S.state shelf.old)
-            (S.state shelf.new) page.new) }
-        ensures over { IsOver self.now (S.state shelf.new) }
-        ensures only { OnlyAnswers (S.state shelf.old) (S.state shelf.new) }
-        ensures cause { FaultHasCause (S.fault_count shelf.old) (S.fault_count shelf.new) result }
+        ensures { ReadsHeader S.state S.fault_count self.now page.new shelf.old shelf.new result }
     {
         self.store.read_page(shelf, 0, page)
     }
@@ -35,11 +32,7 @@ impl Cache {
         page: &[u8; PAGE_SIZE],
     ) -> Result<(), Fault>
         requires { IsOverHeader self.old (S.state shelf.old) }
-        ensures written { OnOk result
-            (HoldsHeader self.old.store.unit (S.state shelf.old) (S.state shelf.new) page.now) }
-        ensures same { self.new ≡ self.old }
-        ensures stay { PagesStay S.state S.fault_count self.old.asked self.old self.new shelf.old shelf.new
-            result }
+        ensures { WritesHeader S.state S.fault_count page.now self.old self.new shelf.old shelf.new result }
     {
         let _pages = self.store.pages;
         self.store.write_page(shelf, 0, page)
@@ -60,12 +53,7 @@ impl Cache {
     /// Closes the gate after the last change.
     pub fn finish<S: Shelf>(&self, shelf: &mut S) -> Result<(), Fault>
         requires over { IsOver self.now (S.state shelf.old) }
-        ensures images { MayClose self.now.store.unit (S.state shelf.old) (S.state shelf.new) }
-        ensures closed { OnOk result
-            (FileGoes self.now.store.unit (S.state shelf.old) (S.state shelf.new) IsClosedAnew) }
-        ensures same { OnOk result (ShowsSame self.now self.now (S.state shelf.old) (S.state shelf.new)) }
-        ensures only { ChangesOnly self.now.store.unit (S.state shelf.old) (S.state shelf.new) }
-        ensures cause { FaultHasCause (S.fault_count shelf.old) (S.fault_count shelf.new) result }
+        ensures { FinishesChange S.state S.fault_count self.now shelf.old shelf.new result }
     {
         self.store.finish(shelf)
     }

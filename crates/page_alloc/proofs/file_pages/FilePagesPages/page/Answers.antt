@@ -26,7 +26,7 @@ returns g c =
     let e = c.held.follows.lender-at-none in
     let same = c.held.follows.holds-at-none in
     let load = c.load.ensures.looks in
-    let ok = c.held.ensures.ok c.in_ok-load.ensures.held in
+    let ok = c.held.ensures.answer.ok c.in_ok-load.ensures.held in
     let asked = load.asked in
     let again = same.asked in
     let grows = load.grows in
@@ -38,7 +38,7 @@ returns g c =
           reads.rests,
           omega arith,
           (refl, refl, reads),
-          (λ h. IfOk-weaker c.held.result _ _ (λ page value. shown old.cache d old.pager s t c.args.n page.now (load.kept.pages h) value) c.held.ensures.value),
+          (λ h. IfOk-weaker c.held.result _ _ (λ page value. shown old.cache d old.pager s t c.args.n page.now (load.kept.pages h) value) c.held.ensures.answer.value),
           (λ h there. no_fault c.held.result _ ok),
           no_fault c.held.result _ ok,
         ),

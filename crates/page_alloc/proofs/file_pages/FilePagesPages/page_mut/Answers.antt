@@ -25,7 +25,7 @@ returns g c =
     let t = g.S.Shelf.state c.load.new.shelf in
     let d = c.load.new.self in
     let load = c.load.ensures.looks in
-    let ok = c.held_mut.ensures.ok c.in_ok-load.ensures.held in
+    let ok = c.held_mut.ensures.answer.ok c.in_ok-load.ensures.held in
     let asked = load.asked in
     let loaded = joined_after old.cache d old.pager s t c.requires.ready.joined load.kept.keeps.store load.kept.over in
     let here = counted_page d old.pager t c.args.n loaded c.if-n-eq0.false c.if-n-self.false in (
@@ -40,7 +40,7 @@ returns g c =
               left c.args.n w old.cache d e old.pager s t set load.kept.pages load.kept.goes.others.honest,
               omega arith,
               (refl, refl, goes_after old (record old { cache = e }) s t _ _ c.requires.open refl refl (parts_after old.cache e s t _ _ (record { store = set.store ∙ load.kept.keeps.store; cap = set.cap ∙ load.kept.keeps.cap }) load.kept.goes (omega arith) load.cause.no_fewer) joined),
-              (λ h. IfOk-weaker c.held_mut.result _ _ (λ page value. shown old.cache d old.pager s t c.args.n page.now (load.kept.pages h) value) c.held_mut.ensures.value),
+              (λ h. IfOk-weaker c.held_mut.result _ _ (λ page value. shown old.cache d old.pager s t c.args.n page.now (load.kept.pages h) value) c.held_mut.ensures.answer.value),
             )),
         no_fault c.held_mut.result _ ok,
       ),

@@ -61,12 +61,12 @@ returns-clause-ready g c =
     let added = c.in_ok-write_page.ensures.added in
     let named : w.unit ≡ unit = ap (λ x. x.unit) added ∙ c.in_ok-store.ensures.store.named in
     let more = ap (λ x. x.pages) added in
-    let same = c.in_ok-cache.ensures.empty.store_is in
+    let same = c.in_ok-cache.ensures.store_is in
     let one : 1 ≤ w.pages = omega arith in
     let has : HasUnit u w.unit = subst (λ n. HasUnit u n) (sym named) (record { attached = rw (c.write_page.ensures.only.names, c.make.ensures.only.names) c.requires.unit.attached }) in
     record {
       joined = record {
-        over = c.in_ok-cache.ensures.empty.over u has c.write_page.ensures.pages;
+        over = c.in_ok-cache.ensures.over u has c.write_page.ensures.pages;
         counted = rw c.fresh.ensures (subst (λ x. 1 ≤ x.pages) (sym same) one);
         header = rw c.fresh.ensures (omega arith);
       };

@@ -5,41 +5,45 @@ use Rattle.page_alloc.proofs.ChainLemmas.{front_marked_at, taken_at, taken_sound
 use Rattle.page_alloc.proofs.JoinLemmas.{at_err, rested}
 use Rattle.page_alloc.proofs.pager.Pager.take_free.Goals as goal
 
-pub returns-in_err-next-clause-takes : goal.returns-in_err-next-clause-takes
-returns-in_err-next-clause-takes g c =
-    let kept = c.next_free.ensures.kept in
-    record {
-      taken = search rules;
-      kept = at_err c.from_residual.result (rested c.args.cache.now c.next_free.new.cache c.args.self.now (g.S.Shelf.state c.args.shelf.now) (g.S.Shelf.state c.next_free.new.shelf) kept.pages kept.goes.others.honest);
-      order = search rules;
-    }
-
-pub returns-in_err-next-clause-fails : goal.returns-in_err-next-clause-fails
-returns-in_err-next-clause-fails g c =
+pub returns-in_err-next : goal.returns-in_err-next
+returns-in_err-next g c =
     let p = c.args.self.now in
+    let kept = c.next_free.ensures.kept in
     let y = err_from_is_err_and c.from_residual.result c.from_residual.ensures.1 in
     let fails = c.in_err-next.ensures.fails in
-    rw (y.1, y.2) (record {
-      caused = fails.caused;
-      damage = λ sound. fails.damage (sound.0, front_marked_at (pages_of c.args.cache.now (g.S.Shelf.state c.args.shelf.now)) p.count p.first p.free c.requires.free sound.1);
-    })
+    record {
+      takes = record {
+        taken = search rules;
+        kept = at_err c.from_residual.result (rested c.args.cache.now c.next_free.new.cache c.args.self.now (g.S.Shelf.state c.args.shelf.now) (g.S.Shelf.state c.next_free.new.shelf) kept.pages kept.goes.others.honest);
+        order = search rules;
+      };
+      fails = rw (y.1, y.2) (record {
+        caused = fails.caused;
+        damage = λ sound. fails.damage (sound.0, front_marked_at (pages_of c.args.cache.now (g.S.Shelf.state c.args.shelf.now)) p.count p.first p.free c.requires.free sound.1);
+      });
+      goes = search rules;
+    }
 
-pub returns-clause-takes : goal.returns-clause-takes
-returns-clause-takes g c =
+pub returns : goal.returns
+returns g c =
     let p = c.args.self.now in
     let old = pages_of c.args.cache.now (g.S.Shelf.state c.args.shelf.now) in
     let new = pages_of c.next_free.new.cache (g.S.Shelf.state c.next_free.new.shelf) in
     let some = c.requires.free in
     let positive = c.if-n-eq0.false in
     record {
-      taken = record {
-        number = omega arith;
-        page = λ honest sound. (_, taken_at old new p.count p.first c.in_ok-next.next p.free some (c.next_free.ensures.kept.pages honest) (c.in_ok-next.ensures.next honest) sound);
-        sound = λ honest sound. taken_sound_at old new p.count p.first c.in_ok-next.next p.free some (c.next_free.ensures.kept.pages honest) (c.in_ok-next.ensures.next honest) sound;
-        one = omega arith;
+      takes = record {
+        taken = record {
+          number = omega arith;
+          page = λ honest sound. (_, taken_at old new p.count p.first c.in_ok-next.next p.free some (c.next_free.ensures.kept.pages honest) (c.in_ok-next.ensures.next honest) sound);
+          sound = λ honest sound. taken_sound_at old new p.count p.first c.in_ok-next.next p.free some (c.next_free.ensures.kept.pages honest) (c.in_ok-next.ensures.next honest) sound;
+          one = omega arith;
+        };
+        kept = tt;
+        order = λ honest free before.
+            let taken = first_taken old new p.count p.first c.in_ok-next.next p.free free c.requires.free (c.next_free.ensures.kept.pages honest) (c.in_ok-next.ensures.next honest) before in
+            rw taken.1 (refl, refl, taken.2);
       };
-      kept = tt;
-      order = λ honest free before.
-          let taken = first_taken old new p.count p.first c.in_ok-next.next p.free free c.requires.free (c.next_free.ensures.kept.pages honest) (c.in_ok-next.ensures.next honest) before in
-          rw taken.1 (refl, refl, taken.2);
+      fails = tt;
+      goes = search rules;
     }

@@ -62,10 +62,10 @@ returns-in-Ok g c =
     let added = rw box.store at c.in-Ok.ensures.added in
     record {
       zeroed = zeroed_then c.args.n old m d s t u kept goes
-          (zeroed_put m e d t u c.args.n frame c.requires.page.0 last room.over c.in_ok-make_room.ensures.room valid box.frames extends goes added w.zeros refl c.put-put.ensures.same.store c.put-put.result put.put put.kept);
+          (zeroed_put m e d t u c.args.n frame c.requires.page.0 last room.over c.in_ok-make_room.ensures.written valid box.frames extends goes added w.zeros refl c.put-put.ensures.same.store c.put-put.result put.put put.kept);
       kept = tt;
       goes_on = goes_on_then old m d s t u kept
-          (goes_on_put m e d t u c.args.n frame c.requires.page.0 last room.over c.in_ok-make_room.ensures.room valid box.frames extends goes added w.zeros refl c.put-put.ensures.same.store c.put-put.result put.put put.kept);
+          (goes_on_put m e d t u c.args.n frame c.requires.page.0 last room.over c.in_ok-make_room.ensures.written valid box.frames extends goes added w.zeros refl c.put-put.ensures.same.store c.put-put.result put.put put.kept);
       asked = search rules;
       grows = search rules;
       cause = search rules;

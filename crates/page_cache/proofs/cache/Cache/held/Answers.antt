@@ -15,5 +15,5 @@ returns-in-Some c =
     let same : first ≡ c.args.n = ap (λ (o : Option ℕ). option_map_or (λ k. k) o first) key in
     let found : frame_of c.args.self.now c.args.n ≡ Some c.in-Some.frame.now = sym (c.front.ensures.same.frames c.args.n) ∙ first_found c.args.n es first c.in-Some.frame.now at same in (
       (refl, (λ _. tt), c.front.ensures.same),
-      record { rests = tt; ok = λ _. refl; value = ap (option_map (λ frame. frame.page.value)) found ∙ ap Some (sym c.deref.ensures) },
+      record { rests = tt; answer = record { ok = λ _. refl; value = ap (option_map (λ frame. frame.page.value)) found ∙ ap Some (sym c.deref.ensures) } },
     )

@@ -24,5 +24,5 @@ returns-in-Some c =
         }),
         tt,
       ),
-      record { lends = tt; ok = λ _. refl; value = ap (option_map (λ frame. frame.page.value)) found ∙ ap Some (sym c.deref_mut.ensures.value) },
+      record { lends = tt; answer = record { ok = λ _. refl; value = ap (option_map (λ frame. frame.page.value)) found ∙ ap Some (sym c.deref_mut.ensures.value) } },
     )

@@ -30,7 +30,7 @@ all g c =
     let same = c.make_room.ensures.same in
     let box = c.box_for_page.ensures.same in
     blanked c.make_room.new.self c.put.new.self (g.S.Shelf.state c.make_room.new.shelf) c.args.n (record { changed = true; page = with_value c.in_ok-page.page c.fill.new.self })
-    c.make_room.ensures.looks.kept.over c.in_ok-make_room.ensures.room (rw box.frames at c.put.ensures.fits) (rw (sym same) at c.requires.page) (rw (sym same) at c.requires.absent) (c.put.ensures.same.store ∙ box.store)
+    c.make_room.ensures.looks.kept.over c.in_ok-make_room.ensures.written (rw box.frames at c.put.ensures.fits) (rw (sym same) at c.requires.page) (rw (sym same) at c.requires.absent) (c.put.ensures.same.store ∙ box.store)
     refl (zeros_page c.fill.new.self _ (c.fill.ensures.after (λ y is. is)) (c.fill.ensures.len ∙ whole)) c.put.result (rw box.frames at c.put.ensures.pushed.put) (rw box.frames at c.put.ensures.pushed.kept)
   where
     whole : length c.deref_mut.result.now ≡ 4096

@@ -24,7 +24,7 @@ returns-in-Some-clause-stay g c =
     let held = last_held w n frame c.len-held.ensures.valid last in
     let t = g.S.Shelf.state c.write_last.new.shelf in
     let kept = c.write_last.ensures.looks.kept in
-    let written = rw (sym c.write_last.ensures.same) at c.in_ok-write_last.ensures.last in
+    let written = c.in_ok-write_last.ensures.written in
     record {
       kept = record {
         over = over_settled w c.settle.new.self n frame held c.settle.ensures.frames t c.settle.ensures.same.store kept.over (λ honest. written.settled honest n frame last);

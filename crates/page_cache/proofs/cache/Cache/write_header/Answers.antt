@@ -17,26 +17,24 @@ kept g c =
     (subst (λ x. WhereHonest t x.unit (HasPages x.pages)) same c.write_page.ensures.pages)
     (either c.write_page.result c.write_page.ensures.written c.write_page.ensures.failed)
 
-pub returns-clause-written : goal.returns-clause-written
-returns-clause-written g c =
-    let s = g.S.Shelf.state c.args.shelf.now in
-    let t = g.S.Shelf.state c.write_page.new.shelf in
-    let store = c.args.self.now.store in
-    if_ok c.write_page.result (λ w honest. written_is_read (unit_file s store.unit) (unit_file t store.unit) 0 c.args.page.now (fewer 0 store.pages (unit_file s store.unit) (omega arith) (c.requires.over.pages (sym c.write_page.ensures.only.honest ∙ honest))) c.told-page w) c.write_page.ensures.written
-
-pub returns-clause-stay : goal.returns-clause-stay
-returns-clause-stay g c =
+pub returns : goal.returns
+returns g c =
     let old = c.args.self.now in
     let s = g.S.Shelf.state c.args.shelf.now in
     let t = g.S.Shelf.state c.write_page.new.shelf in
+    let unit = old.store.unit in
     let store = store_same old.store c.write_page.new.self 0 c.requires.header c.write_page.result c.write_page.ensures.added c.write_page.ensures.kept in
     rw store (record {
-      kept = record {
-        over = over_kept old s t (kept g c) c.requires.over;
-        pages = pages_kept old s t (kept g c);
-        keeps = record { store = refl; cap = refl };
-        goes = changes_quietly old.store.unit s t c.write_page.ensures.only c.write_page.ensures.quiet;
+      written = if_ok c.write_page.result (λ w honest. written_is_read (unit_file s unit) (unit_file t unit) 0 c.args.page.now (fewer 0 old.store.pages (unit_file s unit) (omega arith) (c.requires.over.pages (sym c.write_page.ensures.only.honest ∙ honest))) c.told-page w) c.write_page.ensures.written;
+      same = refl;
+      stay = record {
+        kept = record {
+          over = over_kept old s t (kept g c) c.requires.over;
+          pages = pages_kept old s t (kept g c);
+          keeps = record { store = refl; cap = refl };
+          goes = changes_quietly unit s t c.write_page.ensures.only c.write_page.ensures.quiet;
+        };
+        asked = refl;
+        cause = c.write_page.ensures.cause;
       };
-      asked = refl;
-      cause = c.write_page.ensures.cause;
     })

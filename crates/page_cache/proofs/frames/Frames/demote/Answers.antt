@@ -6,8 +6,8 @@ use Rattle.page_cache.proofs.frames.Frames.demote.Goals as goal
 pub invariant_of-self : goal.invariant_of-self
 invariant_of-self c = rw c.demote.ensures.entries (placed_demoted (nat_eq c.args.n) c.self.inside.places.items c.self.inside.order.entries c.self.invariant)
 
-pub returns-clause-value : goal.returns-clause-value
-returns-clause-value c = rw (← c.self.view_is) (c.demote.ensures.value ∙ sym (framed_found (nat_eq c.args.n) c.self.inside.places.items c.self.inside.order.entries c.self.invariant))
-
-pub returns-clause-entries : goal.returns-clause-entries
-returns-clause-entries c = rw (← c.self.view_is, c.demote.ensures.entries) (ap (λ l. lru_cache l c.self.inside.order.cap) (framed_demoted (nat_eq c.args.n) c.self.inside.places.items c.self.inside.order.entries))
+pub returns : goal.returns
+returns c = record {
+  value = rw (← c.self.view_is) (c.demote.ensures.value ∙ sym (framed_found (nat_eq c.args.n) c.self.inside.places.items c.self.inside.order.entries c.self.invariant));
+  entries = rw (← c.self.view_is, c.demote.ensures.entries) (ap (λ l. lru_cache l c.self.inside.order.cap) (framed_demoted (nat_eq c.args.n) c.self.inside.places.items c.self.inside.order.entries));
+}
