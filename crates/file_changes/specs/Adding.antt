@@ -108,9 +108,9 @@ entries_added bytes file = record {
 }
 
 -- where the record clashes with none, the pages stand for the file with it
-abbrev pub AddsRecord : {S : Type 0} → ShownPages S → (before after : FileInPages S) → List ℕ
+abbrev pub LeavesAdded : {S : Type 0} → ShownPages S → (before after : FileInPages S) → List ℕ
     → Result Unit Fault → Type 0
-AddsRecord shown before after bytes result =
+LeavesAdded shown before after bytes result =
     IsTrue (shown.state after.pages).is_honest → IsTrue (shown.state before.pages).is_sound → (file : File)
     → Stands before.file (shown.state before.pages).live file
     → clashes before.file.schema bytes file.rows ≡ false

@@ -57,6 +57,12 @@ abbrev pub MakesRemoval : {S : Type 0} → ShownPages S → List ℕ → (old ne
 MakesRemoval shown prime old new before after result = Changes (shown_in shown)
     (removal old.schema prime) (in_pages old before) (in_pages new after) result
 
+-- a record is added, or the file may break
+pub record AddsRecord {S : Type 0} (shown : ShownPages S) (bytes : List ℕ) (old new : OpenFile)
+    (before after : S) (result : Result Added Fault) : Type 0 where
+  pub adds : MakesAddition shown bytes old new before after result
+  pub breaks : MayBreak (shown_in shown) true (in_pages old before) (in_pages new after) result
+
 -- a record takes the place of that of its prime value, or the file may break
 pub record ReplacesRecord {S : Type 0} (shown : ShownPages S) (bytes : List ℕ) (old new : OpenFile)
     (before after : S) (result : Result Replaced Fault) : Type 0 where

@@ -4,11 +4,9 @@ ghost use Rattle.std.specs.Prelude.{true, false, ◌≡◌, ◌*◌, ◌≤◌, 
 ghost use Rattle.indexed_file.specs.Room.{need_of_add};
 ghost use Rattle.pages.specs.PageCalls.{ReadsPages, WritesPages};
 ghost use Rattle.open_file.specs.Stands.{heights_of};
-ghost use Rattle.indexed_file.specs.FileChange.{addition};
-ghost use Rattle.file_changes.specs.Changes.{Changes, MayBreak};
 ghost use Rattle.file_changes.specs.Contents.{TakesStep};
-ghost use Rattle.file_changes.specs.InPages.{in_pages, shown_in, IsReadyIn, MakesAddition};
-ghost use Rattle.file_changes.specs.Adding.{levels_in, PutsRow, AddsRecord, AnswersAdding, TakesPagesOfPrime};
+ghost use Rattle.file_changes.specs.InPages.{in_pages, MakesAddition, AddsRecord};
+ghost use Rattle.file_changes.specs.Adding.{levels_in, PutsRow, LeavesAdded, AnswersAdding, TakesPagesOfPrime};
 ghost use Rattle.file_changes.specs.Adding.{new_slot, prime_added, entry_added, entries_added};
 ghost use Rattle.file_changes.specs.Steps.{CanTakeRecord, CanLookFor, CanChangeWith, CanChangeIndex};
 ghost use Rattle.file_changes.specs.Steps.{CanStore, HasRoomFor, KeepsMark, KeepsMade, ChangesHeap};
@@ -31,13 +29,8 @@ use record_heap::Place;
 ///
 /// Device, Memory, Damage, Broken, after which the file is broken; Full, where nothing is changed.
 pub fn add<P: Pages>(opened: &mut OpenFile, pages: &mut P, bytes: &[u8]) -> Result<Added, Fault>
-    requires ready { IsReadyIn P.shown (in_pages opened.old pages.old) }
-    requires least { opened.old.schema.least ≤ length bytes.now }
-    requires greatest { length bytes.now ≤ opened.old.schema.greatest }
-    ensures adds { Changes (shown_in P.shown) (addition opened.old.schema bytes.now)
-        (in_pages opened.old pages.old) (in_pages opened.new pages.new) result }
-    ensures breaks { MayBreak (shown_in P.shown) true (in_pages opened.old pages.old)
-        (in_pages opened.new pages.new) result }
+    requires { CanTakeRecord P.shown (in_pages opened.old pages.old) bytes.now }
+    ensures { AddsRecord P.shown bytes.now opened.old opened.new pages.old pages.new result }
 {
     if opened.broken {
         return Err(Fault::Broken);
@@ -87,7 +80,7 @@ fn adding<P: Pages>(opened: &OpenFile, pages: &mut P, bytes: &[u8]) -> Result<Ad
 fn put_in<P: Pages>(opened: &mut OpenFile, pages: &mut P, bytes: &[u8]) -> Result<(), Fault>
     requires can { CanStore P.shown opened.old pages.old bytes.now }
     requires room { HasRoomFor P.shown opened.old pages.old (need_of_add (heights_of opened.old)) true }
-    ensures done { AddsRecord P.shown (in_pages opened.old pages.old)
+    ensures done { LeavesAdded P.shown (in_pages opened.old pages.old)
         (in_pages opened.new pages.new) bytes.now result }
     ensures keeps { KeepsMade opened.old opened.new }
     ensures writes { WritesPages P.shown (8 * need_of_add (heights_of opened.old)) ⊥ pages.old pages.new

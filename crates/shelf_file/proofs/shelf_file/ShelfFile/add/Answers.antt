@@ -4,8 +4,12 @@ use Rattle.shelf_file.specs.Calls.{AddsHeld}
 use Rattle.shelf_file.proofs.StepLemmas.{reads_same, at_end}
 use Rattle.shelf_file.proofs.shelf_file.ShelfFile.add.Goals as goal
 
-pub add-requires-clause-ready : goal.add-requires-clause-ready
-add-requires-clause-ready g c = record { pages = c.requires.ready.over; shaped = c.requires.ready.shaped }
+pub add-requires : goal.add-requires
+add-requires g c = record {
+  ready = record { pages = c.requires.ready.over; shaped = c.requires.ready.shaped };
+  least = c.requires.least;
+  greatest = c.requires.greatest;
+}
 
 pub returns : goal.returns
 returns g c =
