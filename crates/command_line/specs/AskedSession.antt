@@ -1,11 +1,16 @@
 -- What became of words that ask for a session. All of this is ours.
-use Rattle.std.specs.Prelude.{◌≡◌, ◌⊎◌, ℕ, List, Result, Ok, Err}
+use Rattle.std.specs.Prelude.{◌≡◌, ◌⊎◌, ℕ, List, map, Option, Result, Ok, Err, String, string_bytes}
+use Rattle.std.specs.Global.{Global}
 use Rattle.clap.specs.Words.{Text}
+use Rattle.page_store.specs.declared.shelf.Shelf.{Ghosts}
+use Rattle.folder_shelf.specs.Replay.{Unseen}
 use Rattle.indexed_file.specs.Shown.{Shown}
+use Rattle.standard_input.specs.declared.standard_input.StandardInput.{StandardInput}
 use Rattle.command_words.specs.Asks.{AskServe}
+use Rattle.command_words.specs.declared.limits.Limits.{Limits}
 use Rattle.serve.specs.Serving.{Streams, Served as ServedRequests}
 use Rattle.serve.specs.declared.fault.ServeFault.{ServeFault}
-use Rattle.command_line.specs.Session.{session_end_as}
+use Rattle.command_line.specs.Session.{shown_over, IsNewOver, streams_of, session_end_as}
 use Rattle.command_outcomes.specs.declared.fault.Fault.{Fault}
 use Rattle.command_outcomes.specs.declared.outcome.Outcome.{Outcome}
 use Rattle.command_outcomes.specs.declared.outcome.Outcome.TheVariants.{Served}
@@ -34,6 +39,14 @@ abbrev pub CameToServe : {S : Type 0} → Shown S → (IsNew : S → Type 0) →
     → Type 0
 CameToServe shown IsNew s outcome = EndsUnbegun s outcome ⊎ EndsServed shown IsNew s outcome
 
+-- so of a session over the folder of this path
+abbrev pub EndsAt : {X I W : Type 0} → (shelf : Ghosts X) → (List ℕ → Unseen)
+    → (path : List ℕ) → Limits → (I → Option (List ℕ)) → (W → Option (List ℕ))
+    → (input input_after : StandardInput I) → (out out_after : W) → Result Outcome Fault → Type 0
+EndsAt shelf disk path limits left contents input input_after out out_after outcome =
+    CameToServe (shown_over shelf) (IsNewOver shelf disk path limits.pages limits.frames.value)
+    (streams_of left contents input input_after out out_after) outcome
+
 -- where the words ask for a session, it came to this over the folder that they name, with their
 -- limit of pages and number of frames: libraries that are new are over these
 abbrev pub ServedAsAsked : {S : Type 0} → Shown S
@@ -42,3 +55,11 @@ abbrev pub ServedAsAsked : {S : Type 0} → Shown S
 ServedAsAsked shown IsNew words s outcome =
     (folder : Text) (pages frames : ℕ) → AskServe words folder pages frames
     → CameToServe shown (IsNew folder pages frames) s outcome
+
+-- so of the words of a command line
+abbrev pub ServedFor : {X I W : Type 0} → (shelf : Ghosts X) → (List ℕ → Unseen)
+    → (words : List (String Global)) → (I → Option (List ℕ)) → (W → Option (List ℕ))
+    → (input input_after : StandardInput I) → (out out_after : W) → Result Outcome Fault → Type 0
+ServedFor shelf disk words left contents input input_after out out_after outcome =
+    ServedAsAsked (shown_over shelf) (IsNewOver shelf disk) (map string_bytes words)
+    (streams_of left contents input input_after out out_after) outcome

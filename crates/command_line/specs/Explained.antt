@@ -1,16 +1,14 @@
 -- What is told of a number that is explained. All of this is ours.
-use Rattle.std.specs.Prelude.{ℕ, List, map, Option, Some, None}
+use Rattle.std.specs.Prelude.{ℕ, List, Option, Some, None}
 use Rattle.std.specs.Io.KnownBytes.{Appends}
-use Rattle.explanations.specs.Explained.{explained}
-use Rattle.explanations.specs.declared.tables.TheConstants.{STATUSES, FAULTS, REASONS}
-
--- the text that two words name in the tables of the program: the kind, and the number as it is written
-abbrev pub explanation : (kind number : List ℕ) → Option (List ℕ)
-explanation kind number =
-    explained (map (λ row. (row.0.now, row.1.now)) STATUSES) (map (λ row. (row.0.now, row.1.now)) FAULTS)
-    (map (λ row. (row.0.now, row.1.now)) REASONS) kind number
+use Rattle.explanations.specs.Tables.{explanation}
 
 -- the text was written, if there is one
 abbrev pub WritesText : Option (List ℕ) → (before behind : Option (List ℕ)) → Type 0
 WritesText None before behind = ⊥
 WritesText (Some text) before behind = Appends before behind text
+
+-- the text that two words name was written: the kind, and the number as it is written
+abbrev pub Explains : {W : Type 0} → (kind number : List ℕ) → (W → Option (List ℕ)) → (old new : W) → Type 0
+Explains kind number contents old new =
+    WritesText (explanation kind number) (contents old) (contents new)

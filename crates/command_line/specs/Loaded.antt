@@ -1,5 +1,7 @@
 -- What is loaded into a file of a deck over a folder. All of this is ours.
-use Rattle.std.specs.Prelude.{◌≡◌, ℕ, Bool, true, false, List, Option, Result, Ok, IfOk, OnErr}
+use Rattle.std.specs.Prelude.{◌≡◌, ℕ, Bool, true, false, List, Option, Result, Ok, IfOk, OnErr, String}
+use Rattle.std.specs.Prelude.{string_bytes}
+use Rattle.std.specs.Global.{Global}
 use Rattle.std.specs.Io.KnownBytes.{Appends}
 use Rattle.arrayvec.specs.ArrayString.{ArrayString}
 use Rattle.folder_shelf.specs.Events.{Event}
@@ -18,10 +20,11 @@ use Rattle.shelf_loading.specs.Loaded.{Ends, KeepsOthers, IsSafe}
 use Rattle.shelf_loading.specs.declared.end.ShelfEnd.{ShelfEnd}
 use Rattle.shelf_loading.specs.declared.end.ShelfEnd.TheVariants.{IsThere, Loaded}
 use Rattle.command_line.specs.Folder.{OverFolder}
-use Rattle.command_line.specs.LoadForm.{IsFormOf}
+use Rattle.command_line.specs.LoadForm.{IsFormOf, word_of}
 use Rattle.file_commands.specs.DeckFile.{IsFileOf}
 use Rattle.file_commands.specs.Front.{IsTextNamed, OfDeck}
 use Rattle.standard_input.specs.declared.standard_input.StandardInput.{StandardInput}
+use Rattle.command_line.specs.declared.load_form.FormKind.{FormKind}
 use Rattle.command_line.specs.declared.loading.Loading.{Loading}
 use Rattle.command_outcomes.specs.declared.outcome.Outcome.{Outcome}
 use Rattle.command_outcomes.specs.declared.outcome.Outcome.TheVariants.{Loaded as LoadEnded}
@@ -45,10 +48,21 @@ pub record LoadsFolder (disk : List ℕ → Unseen) (folder name : List ℕ) (sc
   pub others : OverFolder disk folder names calls (KeepsOthers name)
   pub safe : OverFolder disk folder names calls (IsSafe name)
 
+-- so of a load of a text in a form into a file that is described
+abbrev pub LoadsDescribed : (disk : List ℕ → Unseen) → (path : String Global) → FileDesc → Load → Form
+    → (text : List ℕ) → Result ShelfEnd Fault → Type 0
+LoadsDescribed disk path file load form text result =
+    LoadsFolder disk (string_bytes path) file.file file.schema load (listing form text) result
+
 -- the lines that tell of a load were written; or nothing was, where the name has a file already
 abbrev pub WritesAnswer : ShelfEnd → (before behind : Option (List ℕ)) → Type 0
 WritesAnswer IsThere before behind = behind ≡ before
 WritesAnswer (Loaded end) before behind = Appends before behind (answer_of end)
+
+-- so by what a writer has, and that is what was done
+abbrev pub TellsLoad : {W : Type 0} → ShelfEnd → (W → Option (List ℕ)) → (old new : W) → Outcome → Type 0
+TellsLoad end contents old new outcome =
+    (outcome ≡ LoadEnded end) × WritesAnswer end (contents old) (contents new)
 
 -- the bytes are a deck that has a file of this name, a text was loaded into that file in this
 -- folder, in the form that a word asks for, and it was told how that ended
@@ -68,12 +82,12 @@ pub record LoadsDeck
 
 -- into a file of the deck that the bytes are, a text was loaded that is read of a path or of the input
 abbrev pub LoadsBytes : {F I W : Type 0} → (F → Option (List ℕ)) → (I → Option (List ℕ)) → StandardInput I
-    → (List ℕ → Unseen) → (bytes folder word : List ℕ) → Loading → (W → Option (List ℕ)) → (old new : W)
-    → Outcome → Type 0
-LoadsBytes remaining left input disk bytes folder word asked contents old new outcome = (end : ShelfEnd)
+    → (List ℕ → Unseen) → (bytes : List ℕ) → (path : String Global) → FormKind → Loading
+    → (W → Option (List ℕ)) → (old new : W) → Outcome → Type 0
+LoadsBytes remaining left input disk bytes path kind asked contents old new outcome = (end : ShelfEnd)
     × (outcome ≡ LoadEnded end)
-    × LoadsDeck disk (IsTextNamed remaining (left input.reader) asked.text.now) bytes folder asked.file.now
-    word asked.into (contents old) (contents new) end
+    × LoadsDeck disk (IsTextNamed remaining (left input.reader) asked.text.now) bytes (string_bytes path)
+    asked.file.now (word_of kind) asked.into (contents old) (contents new) end
 
 -- into a file of the deck of a path, or of the input where the path is a hyphen
 abbrev pub LoadsAsked : {F I W : Type 0} → (F → Option (List ℕ)) → (I → Option (List ℕ)) → StandardInput I

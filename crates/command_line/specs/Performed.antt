@@ -1,11 +1,16 @@
 -- What the program did for the words of its command line. All of this is ours.
-use Rattle.std.specs.Prelude.{◌≡◌, ◌≢◌, ◌⊎◌, ℕ, Bool, true, List, [], ◌∷◌, Option, Some, None, Result, Ok}
-use Rattle.std.specs.Prelude.{Err, IfOk, ⊤}
+use Rattle.std.specs.Prelude.{◌≡◌, ◌≢◌, ◌⊎◌, ℕ, Bool, true, List, [], ◌∷◌, map, Option, Some, None, option_map}
+use Rattle.std.specs.Prelude.{Result, Ok, Err, IfOk, ⊤, String, string_bytes}
+use Rattle.std.specs.Global.{Global}
+use Rattle.std.specs.declared.io.traits.Read.{Ghosts as Reads}
+use Rattle.std.specs.declared.io.traits.Write.{Ghosts as Writes}
+use Rattle.std.specs.declared.io.traits.Seek.{Ghosts as Seeks}
 use Rattle.arrayvec.specs.ArrayString.{ArrayString}
 use Rattle.clap.specs.Words.{Text}
 use Rattle.clap.specs.declared.error.Error.{Error}
 use Rattle.folder_shelf.specs.Events.{Event}
 use Rattle.folder_shelf.specs.Replay.{Unseen}
+use Rattle.folder_shelf.specs.declared.disk.Disk.{Ghosts as On}
 use Rattle.deck_words.specs.declared.fault.DeckFault.{DeckFault}
 use Rattle.deck_runner.specs.DeckRun.{IsNoDeck}
 use Rattle.deck_runner.specs.RunEnd.{Told, ToldInPart}
@@ -13,12 +18,14 @@ use Rattle.deck_runner.specs.declared.run_end.RunEnd.{RunEnd}
 use Rattle.shelf_run.specs.ShelfRun.{OnShelf, IsExactRun, Runs, BreaksOff, LeavesFiles, StaysSound}
 use Rattle.command_words.specs.Asks.{FormText, AskRun, AskCheck, AskServe, AskSchema, AskExplain, AskDeck}
 use Rattle.command_words.specs.Asks.{AskList, AskCobol, AskLoad, AskStat, AskHelp, AskNothing}
+use Rattle.command_words.specs.declared.limits.Limits.{Limits}
 use Rattle.command_line.specs.Folder.{OverFolder}
 use Rattle.command_line.specs.LoadForm.{IsNoFormWord}
 use Rattle.file_commands.specs.DeckFile.{IsDeckAsked, IsHalf}
 use Rattle.file_commands.specs.Forms.{HasFormFault}
 use Rattle.file_commands.specs.Front.{IsDeckNamed}
 use Rattle.standard_input.specs.declared.standard_input.StandardInput.{StandardInput}
+use Rattle.command_line.specs.declared.transcript.Ran.{Ran}
 use Rattle.command_outcomes.specs.Status.{status_of}
 use Rattle.command_outcomes.specs.declared.form_fault.FormFault.{FormFault}
 use Rattle.command_outcomes.specs.declared.form_fault.FormFault.TheVariants.{Kind, HalfDeck}
@@ -50,6 +57,15 @@ begun disk bytes names calls faults = record {
   calls = calls;
   faults = faults;
 }
+
+-- the type parameters of a run, and of what they are
+module _
+    {R D F E : Type 0} {reads : Reads F} {writes : Writes F} {seeks : Seeks F} {entries : Reads E} {on : On D}
+    where
+  -- the run that was given back, if one was begun
+  abbrev pub begun_by : (List ℕ → Unseen) → Option (Ran R D F E reads writes seeks entries on) → Option Begun
+  begun_by disk = option_map (λ ran.
+      begun disk ran.bytes.items ran.shelf.units.items ran.shelf.folder.calls.events ran.shelf.faults)
 
 -- how a run ended, as what was done
 abbrev pub outcome_of : Result RunEnd Fault → Result Outcome Fault
@@ -100,6 +116,10 @@ CameToEnd folder limit frames (Some run) out outcome =
 CameToEnd folder limit frames None out (Ok outcome) = ⊥
 CameToEnd folder limit frames None out (Err fault) = status_of fault ≡ 4
 
+-- so with these limits
+abbrev pub RunsTo : (folder : List ℕ) → Limits → Option Begun → Written → Result Outcome Fault → Type 0
+RunsTo folder limits run out outcome = CameToEnd folder limits.pages limits.frames.value run out outcome
+
 -- the words ask for a run, and this run, over the folder that they name, with their limit of pages
 -- and number of frames, came to this
 pub record RanAsAsked (words : List Text) (run : Begun) (out : Written)
@@ -111,11 +131,16 @@ pub record RanAsAsked (words : List Text) (run : Begun) (out : Written)
   pub asked : AskRun words deck folder pages frames
   pub came : CameTo folder pages frames run out outcome
 
+-- the bytes are those of the deck of a path, or of the input where the path is a hyphen
+abbrev pub IsDeckFrom : {F I : Type 0} → (F → Option (List ℕ)) → (I → Option (List ℕ)) → StandardInput I
+    → (path bytes : List ℕ) → Type 0
+IsDeckFrom remaining left input path bytes = IsDeckNamed remaining (left input.reader) path bytes
+
 -- the words ask for a run, and the bytes are those of the deck that they name
-abbrev pub AreOfAskedRun : {F I : Type 0} → List Text → (F → Option (List ℕ)) → (I → Option (List ℕ))
-    → StandardInput I → List ℕ → Type 0
+abbrev pub AreOfAskedRun : {F I : Type 0} → List (String Global) → (F → Option (List ℕ))
+    → (I → Option (List ℕ)) → StandardInput I → List ℕ → Type 0
 AreOfAskedRun words remaining left input bytes = (deck : Text) × (folder : Text) × (pages : ℕ) × (frames : ℕ)
-    × AskRun words deck folder pages frames × IsDeckNamed remaining (left input.reader) deck bytes
+    × AskRun (map string_bytes words) deck folder pages frames × IsDeckFrom remaining left input deck bytes
 
 -- the words ask for the list of a deck, or for a deck as a COBOL program
 abbrev pub AskOfDeck : List Text → Type 0
@@ -204,3 +229,7 @@ Did words None out (Err Memory) = ⊤
 Did words (Some run) out (Ok (Ended end)) = RanAsAsked words run out (Ok (Ended end))
 Did words (Some run) out (Err fault) = RanAsAsked words run out (Err fault)
 Did words run out outcome = ⊥
+
+-- so for the words of a command line
+abbrev pub DidFor : List (String Global) → Option Begun → Written → Result Outcome Fault → Type 0
+DidFor words run out outcome = Did (map string_bytes words) run out outcome

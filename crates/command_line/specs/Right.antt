@@ -1,5 +1,7 @@
 -- What an outcome means: of what it is right, and what was written. All of this is ours.
-use Rattle.std.specs.Prelude.{ℕ, Bool, List, length, Option, Result, Ok, Err, IfOk, ⊤}
+use Rattle.std.specs.Prelude.{ℕ, Bool, List, length, map, Option, Result, Ok, Err, IfOk, ⊤, String}
+use Rattle.std.specs.Prelude.{string_bytes}
+use Rattle.std.specs.Global.{Global}
 use Rattle.clap.specs.Words.{Text}
 use Rattle.folder_shelf.specs.Replay.{Unseen}
 use Rattle.file_checker.specs.Sound.{IsRight}
@@ -16,7 +18,8 @@ use Rattle.file_commands.specs.Front.{IsDeckNamed, IsTextNamed, OfFile, OfWholeF
 use Rattle.file_commands.specs.Listed.{WritesList, WritesCobol}
 use Rattle.file_commands.specs.Records.{ListsRecords}
 use Rattle.file_commands.specs.Verdicts.{AreVerdicts}
-use Rattle.command_line.specs.Explained.{explanation, WritesText}
+use Rattle.explanations.specs.Tables.{explanation}
+use Rattle.command_line.specs.Explained.{WritesText}
 use Rattle.command_line.specs.Loaded.{LoadsDeck}
 use Rattle.command_line.specs.Performed.{Written, wrote, AskForLoad, AskForRecords, AskForSchema}
 use Rattle.standard_input.specs.declared.standard_input.StandardInput.{StandardInput}
@@ -102,6 +105,8 @@ IsRightOf given words out (Counted end) =
 
 -- where something was done, it is right of what was read of the files, of the input and of the folder
 abbrev pub RightIfOk : {F I W : Type 0} → (F → Option (List ℕ)) → (I → Option (List ℕ)) → StandardInput I
-    → (List ℕ → Unseen) → List Text → (W → Option (List ℕ)) → (old new : W) → Result Outcome Fault → Type 0
+    → (List ℕ → Unseen) → (words : List (String Global)) → (W → Option (List ℕ)) → (old new : W)
+    → Result Outcome Fault → Type 0
 RightIfOk remaining left input unseen words contents old new result =
-    IfOk result (IsRightOf (given_by remaining (left input.reader) unseen) words (wrote contents old new))
+    IfOk result (IsRightOf (given_by remaining (left input.reader) unseen) (map string_bytes words)
+    (wrote contents old new))

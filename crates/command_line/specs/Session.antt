@@ -1,27 +1,44 @@
 -- The libraries of the files that are described in a session over a folder. All of this is ours.
-use Rattle.std.specs.Prelude.{◌≡◌, ℕ, List, [], Result, Ok, Err}
-use Rattle.arrayvec.specs.ArrayString.{ArrayString}
-use Rattle.folder_shelf.specs.Events.{Event}
+use Rattle.std.specs.Prelude.{◌≡◌, ◌≢◌, ℕ, List, [], Option, Result, Ok, Err}
+use Rattle.std.specs.NonZero.{non_zero_usize_get}
+use Rattle.page_store.specs.declared.shelf.Shelf.{Ghosts}
 use Rattle.folder_shelf.specs.Replay.{Unseen}
+use Rattle.indexed_file.specs.Shown.{Shown}
+use Rattle.shelf_library.specs.Library.{shown_by}
 use Rattle.shelf_library.specs.State.{LibraryState}
-use Rattle.shelf_library.specs.declared.held.Held.{Held}
+use Rattle.shelf_library.specs.declared.library.ShelfLibrary.{ShelfLibrary}
 use Rattle.shelf_run.specs.ShelfRun.{over}
+use Rattle.standard_input.specs.Source.{source_of}
+use Rattle.standard_input.specs.declared.standard_input.StandardInput.{StandardInput}
+use Rattle.serve.specs.Serving.{Streams, streams, Served}
 use Rattle.serve.specs.declared.fault.ServeFault.{ServeFault}
 use Rattle.serve.specs.declared.fault.ServeFault.TheVariants.{Input as NotRead, Output as NotWritten}
 use Rattle.serve.specs.declared.fault.ServeFault.TheVariants.{Memory as NoMemory}
-use Rattle.command_line.specs.Folder.{folder_at_first, folder_after}
+use Rattle.command_words.specs.declared.limits.Limits.{Limits}
+use Rattle.command_line.specs.Folder.{folder_at_first}
 use Rattle.command_outcomes.specs.declared.fault.Fault.{Fault}
 use Rattle.command_outcomes.specs.declared.fault.Fault.TheVariants.{Input, Output, Memory}
 
--- a library over a folder that was asked this and answered so
-abbrev pub over_folder : (limit frames : ℕ) → (List ℕ → Unseen) → List ArrayString → List Event → List Held
-    → (faults : ℕ) → LibraryState
-over_folder limit frames disk names calls held faults =
-    over limit frames (folder_after disk names calls) held faults
+-- a library, by what its shelf shows
+abbrev pub library_state : {X : Type 0} → (shelf : Ghosts X) → ShelfLibrary X shelf → LibraryState
+library_state shelf library = over library.limit (non_zero_usize_get library.frames)
+    (shelf.state library.shelf) library.units.items (shelf.fault_count library.shelf)
+
+-- what libraries over such shelves show
+abbrev pub shown_over : {X : Type 0} → (shelf : Ghosts X) → Shown (ShelfLibrary X shelf)
+shown_over shelf = shown_by (library_state shelf)
 
 -- a library over the folder of this path that was asked nothing yet
-abbrev pub IsNewOver : (limit frames : ℕ) → (List ℕ → Unseen) → List ℕ → LibraryState → Type 0
-IsNewOver limit frames disk path library = library ≡ over limit frames (folder_at_first disk path) [] 0
+abbrev pub IsNewOver : {X : Type 0} → (shelf : Ghosts X) → (List ℕ → Unseen) → (path : List ℕ)
+    → (limit frames : ℕ) → ShelfLibrary X shelf → Type 0
+IsNewOver shelf disk path limit frames library =
+    library_state shelf library ≡ over limit frames (folder_at_first disk path) [] 0
+
+-- what the input of a session gave and what its output took, by what they have left and have
+abbrev pub streams_of : {I W : Type 0} → (I → Option (List ℕ)) → (W → Option (List ℕ))
+    → (input input_after : StandardInput I) → (out out_after : W) → Streams
+streams_of left contents input input_after out out_after =
+    streams (source_of left input) (source_of left input_after) (contents out) (contents out_after)
 
 -- how the program tells why a session ended
 abbrev pub session_told_as : ServeFault → Fault
@@ -32,3 +49,14 @@ session_told_as NoMemory = Memory
 abbrev pub session_end_as : Result Unit ServeFault → Result Unit Fault
 session_end_as (Ok _) = Ok tt
 session_end_as (Err fault) = Err (session_told_as fault)
+
+-- unless memory was wanted before the first request: requests were answered over libraries that are
+-- new at first, over the folder of this path, and how that ended is told
+abbrev pub ServedAt : {X I W : Type 0} → (shelf : Ghosts X) → (List ℕ → Unseen) → (path : List ℕ) → Limits
+    → (I → Option (List ℕ)) → (W → Option (List ℕ)) → (input input_after : StandardInput I)
+    → (out out_after : W) → Result Unit Fault → Type 0
+ServedAt shelf disk path limits left contents input input_after out out_after result =
+    result ≢ Err Memory → (end : Result Unit ServeFault) × (result ≡ session_end_as end)
+    × Served (shown_over shelf)
+    (IsNewOver shelf disk path limits.pages (non_zero_usize_get limits.frames))
+    (streams_of left contents input input_after out out_after) end

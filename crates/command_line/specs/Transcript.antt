@@ -1,35 +1,56 @@
 -- What a run of a deck over a folder writes and leaves, by what the folder was asked and answered.
-use Rattle.std.specs.Prelude.{ℕ, List, Option, Result, ◌≢◌, IfErr}
+use Rattle.std.specs.Prelude.{◌≡◌, ◌≢◌, ℕ, true, List, Option, String}
+use Rattle.std.specs.Global.{Global}
+use Rattle.std.specs.declared.io.traits.Read.{Ghosts as Reads}
+use Rattle.std.specs.declared.io.traits.Write.{Ghosts as Writes}
+use Rattle.std.specs.declared.io.traits.Seek.{Ghosts as Seeks}
 use Rattle.std.specs.NonZero.{non_zero_usize_get}
-use Rattle.arrayvec.specs.ArrayString.{ArrayString}
-use Rattle.folder_shelf.specs.Events.{Event}
 use Rattle.folder_shelf.specs.Replay.{Unseen}
+use Rattle.folder_shelf.specs.declared.disk.Disk.{Ghosts as On}
+use Rattle.folder_shelf.specs.declared.folder_shelf.FolderShelf.{FolderShelf}
+use Rattle.deck_words.specs.declared.fault.DeckFault.{DeckFault}
+use Rattle.deck_runner.specs.DeckRun.{IsNoDeck}
 use Rattle.deck_runner.specs.RunEnd.{Told, ToldInPart}
 use Rattle.deck_runner.specs.declared.run_end.RunEnd.{RunEnd}
-use Rattle.shelf_run.specs.ShelfRun.{OnShelf, Runs, BreaksOff, LeavesFiles}
+use Rattle.shelf_run.specs.ShelfRun.{OnShelf, IsExactRun, Runs, BreaksOff, LeavesFiles}
 use Rattle.command_words.specs.declared.limits.Limits.{Limits}
-use Rattle.command_line.specs.Folder.{OverFolder}
+use Rattle.command_line.specs.Folder.{OverShelf}
 use Rattle.command_outcomes.specs.declared.fault.Fault.{Fault}
-use Rattle.command_outcomes.specs.declared.fault.Fault.TheVariants.{Output}
+use Rattle.command_outcomes.specs.declared.fault.Fault.TheVariants.{Deck, Output}
 
--- the transcript of the deck was written, up to this end
-abbrev pub TellsRun : {W : Type 0} → (List ℕ → Unseen) → (folder : List ℕ) → List ArrayString → List Event
-    → (faults : ℕ) → (bytes : List ℕ) → Limits → (W → Option (List ℕ)) → (old new : W) → RunEnd → Type 0
-TellsRun disk folder names calls faults bytes limits contents old new end =
-    OverFolder disk folder names calls (λ first last.
-    OnShelf bytes first last (λ deck. Told (contents old) (contents new) end
-    (Runs limits.pages (non_zero_usize_get limits.frames) first last 0 faults deck)))
+-- the type parameters of a shelf over a folder, and of what they are
+module _
+    {R D F E : Type 0} {reads : Reads F} {writes : Writes F} {seeks : Seeks F} {entries : Reads E} {on : On D}
+    where
+  -- a run whose end is clean is exact, between what the folder held first and what it holds last
+  abbrev pub TellsExactly : {W : Type 0} → (List ℕ → Unseen) → (path : String Global)
+      → FolderShelf R D F E reads writes seeks entries on → (bytes : List ℕ) → (W → Option (List ℕ))
+      → (old new : W) → RunEnd → Type 0
+  TellsExactly disk path shelf bytes contents old new end = end.clean ≡ true
+      → OverShelf disk path shelf (λ first last. IsExactRun bytes first last (contents old) (contents new) end)
 
--- lines of it were written, up to one that the writer refused
-abbrev pub TellsPart : {W : Type 0} → (List ℕ → Unseen) → (folder : List ℕ) → List ArrayString → List Event
-    → (faults : ℕ) → (bytes : List ℕ) → Limits → (W → Option (List ℕ)) → (old new : W) → Type 0
-TellsPart disk folder names calls faults bytes limits contents old new =
-    OverFolder disk folder names calls (λ first last.
-    OnShelf bytes first last (λ deck. ToldInPart (contents old) (contents new)
-    (BreaksOff limits.pages (non_zero_usize_get limits.frames) first last 0 faults deck)))
+  -- the transcript of the deck was written, up to this end
+  abbrev pub TellsRun : {W : Type 0} → (List ℕ → Unseen) → (path : String Global)
+      → FolderShelf R D F E reads writes seeks entries on → (bytes : List ℕ) → Limits
+      → (W → Option (List ℕ)) → (old new : W) → RunEnd → Type 0
+  TellsRun disk path shelf bytes limits contents old new end = OverShelf disk path shelf (λ first last.
+      OnShelf bytes first last (λ deck. Told (contents old) (contents new) end
+      (Runs limits.pages (non_zero_usize_get limits.frames) first last 0 shelf.faults deck)))
 
--- at any other fault nothing was written, and no file was changed
-abbrev pub LeavesAll : {X : Type 0} → (IsUnwritten : Type 0) → (List ℕ → Unseen) → (folder : List ℕ)
-    → List ArrayString → List Event → Result X Fault → Type 0
-LeavesAll IsUnwritten disk folder names calls result = IfErr result (λ fault. fault ≢ Output
-    → IsUnwritten × OverFolder disk folder names calls LeavesFiles)
+  -- where the writer refused a line, lines of it were written, up to that one
+  abbrev pub TellsPart : {W : Type 0} → (List ℕ → Unseen) → (path : String Global)
+      → FolderShelf R D F E reads writes seeks entries on → (bytes : List ℕ) → Limits
+      → (W → Option (List ℕ)) → (old new : W) → Fault → Type 0
+  TellsPart disk path shelf bytes limits contents old new fault =
+      fault ≡ Output → OverShelf disk path shelf (λ first last.
+      OnShelf bytes first last (λ deck. ToldInPart (contents old) (contents new)
+      (BreaksOff limits.pages (non_zero_usize_get limits.frames) first last 0 shelf.faults deck)))
+
+  -- at any other fault nothing was written, and no file was changed
+  abbrev pub LeavesAll : {W : Type 0} → (List ℕ → Unseen) → (path : String Global)
+      → FolderShelf R D F E reads writes seeks entries on → (old new : W) → Fault → Type 0
+  LeavesAll disk path shelf old new fault = fault ≢ Output → (new ≡ old) × OverShelf disk path shelf LeavesFiles
+
+-- a deck that is refused is none, for this fault
+abbrev pub TellsNoDeck : (bytes : List ℕ) → Fault → Type 0
+TellsNoDeck bytes fault = (told : DeckFault) → fault ≡ Deck told → IsNoDeck bytes told

@@ -1,10 +1,8 @@
 //! The loading of a text into a file of a deck over a folder.
-ghost use Rattle.std.specs.Prelude.{◌≡◌, ◌≢◌, [], true, false, string_bytes, codes, IfOk, IfErr};
+ghost use Rattle.std.specs.Prelude.{◌≡◌, ◌≢◌, [], true, false, codes, IfOk, IfErr};
 ghost use Rattle.file_commands.specs.DeckFile.{IsDeckFault};
 ghost use Rattle.record_reading.specs.Whole.{IsWhole};
-ghost use Rattle.record_loading.specs.Loading.{listing};
-ghost use Rattle.command_line.specs.LoadForm.{word_of};
-ghost use Rattle.command_line.specs.Loaded.{load_of, LoadsFolder, WritesAnswer, LoadsBytes};
+ghost use Rattle.command_line.specs.Loaded.{load_of, LoadsDescribed, TellsLoad, LoadsBytes};
 ghost use Rattle.command_outcomes.specs.Status.{status_of};
 
 use crate::load_form::{FormKind, form_of};
@@ -79,8 +77,7 @@ fn load_over_folder<R: Files, D: Disk, P: Progress>(
 where
     R::File: FileExt + LockFile,
     requires whole { IsWhole form.now file.now.schema.greatest }
-    ensures loads { LoadsFolder D.Disk.unseen (string_bytes folder) file.now.file file.now.schema load
-        (listing form.now text.now) result }
+    ensures loads { LoadsDescribed D.Disk.unseen folder file.now load form.now text.now result }
     ensures fault { IfErr result (λ fault. status_of fault ≡ 4) }
 {
     let shelf: FolderShelf<&R, D> = FolderShelf::new(rt, alloc, folder);
@@ -107,8 +104,7 @@ where
 /// file already.
 fn write_answer<W: Write>(room: Vec<u8>, end: ShelfEnd, out: &mut W) -> Result<Outcome, Fault>
     requires { room.items ≡ [] }
-    ensures done { IfOk result (λ outcome. (outcome ≡ Outcome.Loaded end)
-        × WritesAnswer end (W.contents out.old) (W.contents out.new)) }
+    ensures done { IfOk result (TellsLoad end W.contents out.old out.new) }
     ensures fault { IfErr result (λ fault. status_of fault ≡ 4) }
 {
     let mut answer = room;
@@ -137,8 +133,8 @@ pub fn load_deck<R: Files, D: Disk, I: Read, P: Progress, W: Write>(
 ) -> Result<Outcome, Fault>
 where
     R::File: FileExt + LockFile,
-    ensures loaded { IfOk result (LoadsBytes R.File.remaining I.remaining input.old D.Disk.unseen bytes.now
-        (string_bytes folder) (word_of kind) asked.entry W.contents out.old out.new) }
+    ensures loaded { IfOk result (LoadsBytes R.File.remaining I.remaining input.old D.Disk.unseen
+        bytes.now folder kind asked.entry W.contents out.old out.new) }
     ensures untouched { IfErr result (λ fault. status_of fault ≢ 4 → out.new ≡ out.old) }
     ensures fault { IfErr result IsDeckFault }
 {

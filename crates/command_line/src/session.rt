@@ -1,17 +1,13 @@
 //! The answering of requests over the files of a folder.
-ghost use Rattle.std.specs.Prelude.{◌≡◌, ◌≢◌, Result, Err, IfErr};
-ghost use Rattle.std.specs.NonZero.{non_zero_usize_get};
-ghost use Rattle.standard_input.specs.Source.{source_of};
-ghost use Rattle.serve.specs.Serving.{streams, Served};
-ghost use Rattle.serve.specs.declared.fault.ServeFault.{ServeFault as ToldFault};
+ghost use Rattle.std.specs.Prelude.{◌≡◌, Err, IfErr};
 ghost use Rattle.command_outcomes.specs.Status.{status_of};
 ghost use Rattle.command_line.specs.AskedSession.{outcome_of_end};
-ghost use Rattle.command_line.specs.Session.{over_folder, IsNewOver, session_told_as, session_end_as};
+ghost use Rattle.command_line.specs.Session.{ServedAt, session_told_as, session_end_as};
 
 use command_outcomes::{Fault, Outcome};
 use command_words::Limits;
 use folder_shelf::{Disk, FolderShelf};
-use indexed_file::Library;
+use page_store::Shelf;
 use serve::{Libraries, ServeFault, serve};
 use shelf_library::ShelfLibrary;
 use standard_input::{ReadsAhead, StandardInput};
@@ -37,14 +33,12 @@ where
     R::File: FileExt + LockFile,
 {
     ghost use Rattle.std.specs.NonZero.{non_zero_usize_get};
-    ghost use Rattle.command_line.specs.AskedSession.{outcome_of_end};
-    ghost use Rattle.command_line.specs.Session.{over_folder, IsNewOver};
+    ghost use Rattle.command_line.specs.Session.{IsNewOver};
 
     type Library = ShelfLibrary<FolderShelf<&'a R, D>>;
 
-    ghost is_new = { λ libraries library. IsNewOver libraries.limits.pages (non_zero_usize_get libraries.limits.frames) D.Disk.unseen libraries.folder.now
-        (over_folder library.limit (non_zero_usize_get library.frames) D.Disk.unseen library.shelf.units.items library.shelf.folder.calls.events
-        library.units.items library.shelf.faults) };
+    ghost is_new = { λ libraries. IsNewOver ⟦<FolderShelf<&'a R, D> as Shelf>⟧ D.Disk.unseen libraries.folder.now
+        libraries.limits.pages (non_zero_usize_get libraries.limits.frames) };
 
     fn make(&self) -> Option<ShelfLibrary<FolderShelf<&'a R, D>>> {
         let folder = self.folder.to_string(self.alloc).ok()?;
@@ -87,14 +81,8 @@ pub fn serve_folder<'a, R: Files, D: Disk, I: Read + ReadsAhead, W: Write>(
 ) -> Result<(), Fault>
 where
     R::File: FileExt + LockFile,
-    ensures served { result ≢ Err Fault.Memory → (end : Result Unit ToldFault) × (result ≡ session_end_as end)
-        × Served ⟦<ShelfLibrary<FolderShelf<&'a R, D>> as Library>⟧.shown
-        (λ library. IsNewOver limits.pages (non_zero_usize_get limits.frames) D.Disk.unseen folder.now
-        (over_folder library.limit (non_zero_usize_get library.frames) D.Disk.unseen
-        library.shelf.units.items library.shelf.folder.calls.events
-        library.units.items library.shelf.faults))
-        (streams (source_of I.remaining input.old) (source_of I.remaining input.new) (W.contents out.old)
-        (W.contents out.new)) end }
+    ensures served { ServedAt ⟦<FolderShelf<&'a R, D> as Shelf>⟧ D.Disk.unseen folder.now limits
+        I.remaining W.contents input.old input.new out.old out.new result }
     ensures memory { result ≡ Err Fault.Memory → (input.new ≡ input.old) × (out.new ≡ out.old) }
     ensures fault { IfErr result (λ fault. status_of fault ≡ 4) }
 {
