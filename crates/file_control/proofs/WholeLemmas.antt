@@ -14,8 +14,8 @@ use Rattle.deck_entries.specs.FileControlEntry.{indexed, mode, access, record_ke
 use Rattle.deck_words.proofs.TestLemmas.{bind_some, bind_is, map_some}
 use Rattle.deck_words.proofs.ClassLemmas.{begins_apart}
 use Rattle.deck_entries.specs.declared.divisions.Divisions.{Divisions}
-use Rattle.deck_entries.specs.FileDescription.{count, level, label, up_to, block, fixed, varying, length_clause, record_clause, description_clause, item_name, may_item_name, picture_clause, may_picture_clause, item, FileDescription, StorageEntry, described_name, description_behind, storage_item}
-use Rattle.deck_entries.specs.Divisions.{identification, may_identification, more_entry, entries, file_control_paragraph, more_description, descriptions, file_section, storage_items, storage_section, data_division, SpellsDivisions, reads_divisions}
+use Rattle.deck_entries.specs.FileDescription.{count, level, label, up_to, block, fixed, varying, length_clause, record_clause, description_clause, item_name, may_item_name, picture_clause, item, FileDescription, StorageEntry, described_name, description_behind, storage_item}
+use Rattle.deck_entries.specs.Divisions.{identification, may_identification, more_entry, entries, file_control_paragraph, more_description, descriptions, file_section, storage_section, data_division, SpellsDivisions, reads_divisions}
 use Rattle.file_control.specs.declared.description.Description.{Description}
 use Rattle.file_control.specs.Description.{FileDesc, LengthItem}
 use Rattle.file_control.specs.Whole.{Describe, IsDescription}
@@ -34,7 +34,7 @@ unfolding data_division file_section storage_section the
 data_some selected = refl
 
 data_goes_on : (selected : List FileControlEntry) → all_apart (this (codes "PROCEDURE") ∷ []) (data_division selected).goes_on ≡ true
-unfolding data_division file_section storage_section storage_items storage_item descriptions more_description description_behind described_name description_clause label block record_clause length_clause fixed varying up_to count digits item item_name may_item_name picture_clause may_picture_clause level the name period is_reserved
+unfolding data_division file_section storage_section storage_item descriptions more_description description_behind described_name description_clause label block record_clause length_clause fixed varying up_to count digits item item_name may_item_name picture_clause level the name period is_reserved
 data_goes_on selected = refl
 
 pub reads_sound : (divisions : Divisions) (words rest : List Word) → reads_divisions words ≡ Some (divisions, rest) → SpellsDivisions divisions words rest

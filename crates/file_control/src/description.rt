@@ -1,6 +1,7 @@
 //! The description of a deck, read whole.
-ghost use Rattle.std.specs.Prelude.{◌≡◌, ◌≢◌, List, IfOk, IfErr};
-ghost use Rattle.deck_words.specs.Fault.{IsTold, HasNoneIfRefused, HasNoneIfTold};
+ghost use Rattle.std.specs.Prelude.{◌≡◌, List, IfOk, IfErr};
+ghost use Rattle.deck_words.specs.Fault.{GivesOrRefuses, GivesOrTells};
+ghost use Rattle.deck_words.specs.OneReading.{Determines};
 ghost use Rattle.deck_words.specs.Word.{Word};
 ghost use Rattle.file_control.specs.declared.description.Description.{Description};
 ghost use Rattle.file_control.specs.Description.{FileDesc as File, LengthItem as Digits};
@@ -48,8 +49,7 @@ fn contents_of(alloc: Global, divisions: &Divisions) -> Result<Contents, Refusal
 }
 
 fn read(alloc: Global, words: &Words<'_>) -> Result<Description, Refusal>
-    ensures description { IfOk result (IsDescription words.now) }
-    ensures none { HasNoneIfRefused (IsDescription words.now) result }
+    ensures { GivesOrRefuses (IsDescription words.now) result }
 {
     let mut parser = Parser::new(words);
     let divisions = read_divisions(&mut parser, alloc)?;
@@ -73,9 +73,7 @@ fn read(alloc: Global, words: &Words<'_>) -> Result<Description, Refusal>
 /// name that nothing has, 7 for items, lengths and keys that are none, 4 for a data name that is
 /// there already. Or code 8.
 pub fn read_description(alloc: Global, words: &Words<'_>) -> Result<Description, DeckFault>
-    ensures description { IfOk result (IsDescription words.now) }
-    ensures none { HasNoneIfTold (IsDescription words.now) result }
-    ensures told { IfErr result IsTold }
+    ensures { GivesOrTells (IsDescription words.now) result }
 {
     Ok(read(alloc, words)?)
 }
@@ -87,6 +85,5 @@ pub fn are_described()
 
 /// No words have two descriptions.
 pub fn one_description()
-    ensures { (a b : Description) (words : List Word) → IsDescription words a → IsDescription words b
-        → a ≡ b }
+    ensures { Determines IsDescription }
 {}

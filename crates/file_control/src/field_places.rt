@@ -1,7 +1,7 @@
 //! The places of a record's items, by their names.
-ghost use Rattle.std.specs.Prelude.{◌≡◌, ◌∷◌, List, OnOk, IfOk};
-ghost use Rattle.record_layout.specs.Layout.{Placed as PlacedItem, item_of};
-ghost use Rattle.file_control.specs.FieldPlaces.{AreFields};
+ghost use Rattle.std.specs.Prelude.{OnOk, IfOk};
+ghost use Rattle.record_layout.specs.Layout.{item_of};
+ghost use Rattle.file_control.specs.FieldPlaces.{AreFields, AddsField};
 
 use io_state::Name;
 use record_layout::{Field, Layout, Placed};
@@ -13,8 +13,7 @@ pub type FieldPlaces = BTreeMap<Name, Field>;
 
 /// Adds the place of an item that stands before the others.
 fn add_item(fields: &mut FieldPlaces, item: &Placed) -> Result<(), AllocError>
-    ensures { OnOk result ((items : List PlacedItem) → AreFields fields.old items
-        → AreFields fields.new (item_of item.now ∷ items)) }
+    ensures { OnOk result (AddsField (item_of item.now) fields.old fields.new) }
 {
     if let Some(name) = item.name {
         fields.insert(name, item.field)?;

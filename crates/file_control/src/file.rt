@@ -5,7 +5,7 @@ ghost use Rattle.record_layout.specs.Layout.{Placed as PlacedItem, entry_of, IsL
 ghost use Rattle.record_layout.specs.Schema.{Schema as Keys, IsSchema};
 ghost use Rattle.record_layout.specs.SchemaFault.{GivesSchema};
 ghost use Rattle.record_layout.specs.declared.fault.LayoutFault.{LayoutFault};
-ghost use Rattle.deck_words.specs.Fault.{IsFault, HasNoneIfRefused};
+ghost use Rattle.deck_words.specs.Fault.{IsFault, HasNoneIfRefused, GivesOrRefuses};
 ghost use Rattle.file_control.specs.Description.{FileDesc as File, record_name, described_by, GivesKeys};
 ghost use Rattle.file_control.specs.Description.{least_length, DependsOn, IsFile, are_new};
 ghost use Rattle.file_control.specs.Checks.{are_keys_named};
@@ -83,8 +83,7 @@ fn layout_refusal(line: u64, fault: LayoutFault) -> Refusal
 }
 
 fn layout_of(alloc: Global, line: u64, items: &[Item]) -> Result<Layout, Refusal>
-    ensures laid { IfOk result (IsLayout (map entry_of items.now)) }
-    ensures none { HasNoneIfRefused (IsLayout (map entry_of items.now)) result }
+    ensures { GivesOrRefuses (IsLayout (map entry_of items.now)) result }
 {
     one_outcome();
     match Layout::build(alloc, items) {
@@ -94,8 +93,7 @@ fn layout_of(alloc: Global, line: u64, items: &[Item]) -> Result<Layout, Refusal
 }
 
 fn described_layout(alloc: Global, described: &Described) -> Result<Layout, Refusal>
-    ensures laid { IfOk result (IsLayout described.now.items) }
-    ensures none { HasNoneIfRefused (IsLayout described.now.items) result }
+    ensures { GivesOrRefuses (IsLayout described.now.items) result }
 {
     layout_of(alloc, described.line, described.items())
 }
@@ -277,8 +275,7 @@ pub fn file(
     storage: &[StorageItem],
     names: &DataNames<'_>,
 ) -> Result<FileDesc, Refusal>
-    ensures file { IfOk result (IsFile names.now storage.now selected.now described.now) }
-    ensures none { HasNoneIfRefused (IsFile names.now storage.now selected.now described.now) result }
+    ensures { GivesOrRefuses (IsFile names.now storage.now selected.now described.now) result }
 {
     check_entry(selected, described)?;
     let layout = described_layout(alloc, described)?;

@@ -1,7 +1,7 @@
 //! The files of a deck, and its 77-level items.
 ghost use Rattle.std.specs.Prelude.{◌≡◌, ℕ, List, [], ◌∷◌, option_map, OnOk, IfOk, IfErr};
 ghost use Rattle.std.specs.Str.{bytes_eq};
-ghost use Rattle.deck_words.specs.Fault.{HasNoneIfRefused};
+ghost use Rattle.deck_words.specs.Fault.{HasNoneIfRefused, GivesOrRefuses};
 ghost use Rattle.file_control.specs.Description.{FileDesc as File, LengthItem as Digits, description_of_file};
 ghost use Rattle.file_control.specs.Description.{AreFiles, AreNoFiles, AreItems, HaveDigits};
 
@@ -175,8 +175,7 @@ pub fn check_items<'a>(storage: &'a [StorageItem], names: DataNames<'a>) -> Resu
 
 /// The 77-level items, whatever their names are.
 pub fn items_of(alloc: Global, storage: &[StorageItem]) -> Result<ItemList, Refusal>
-    ensures items { IfOk result (HaveDigits storage.now) }
-    ensures none { HasNoneIfRefused (HaveDigits storage.now) result }
+    ensures { GivesOrRefuses (HaveDigits storage.now) result }
 {
     let mut items = ItemList::with_capacity(alloc, storage.len())?;
     let mut rest = storage;

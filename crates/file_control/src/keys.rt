@@ -3,7 +3,7 @@ ghost use Rattle.std.specs.Prelude.{◌≡◌, map, Some};
 ghost use Rattle.std.specs.List.{list_any, list_all};
 ghost use Rattle.record_layout.specs.Layout.{entry_of, is_named, is_name_of};
 ghost use Rattle.record_layout.specs.SchemaFault.{clause_of};
-ghost use Rattle.file_control.specs.Checks.{are_keys_named};
+ghost use Rattle.file_control.specs.Checks.{are_named, are_keys_named};
 
 use deck_entries::FileControlEntry;
 use io_state::Name;
@@ -43,8 +43,7 @@ fn are_items(items: &[Item], keys: &[(Name, bool)]) -> bool
 /// Whether each of the alternate keys is an item.
 #[tactic(auto, using(crate::proofs::NameLemmas::all_of_map))]
 fn are_alternates_named(items: &[Item], keys: &[(Name, bool)]) -> bool
-    ensures { result ≡ list_all (λ clause. is_name_of (map entry_of items.now) (Some clause.name))
-        (map clause_of keys.now) }
+    ensures { result ≡ are_named (map entry_of items.now) (map clause_of keys.now) }
 {
     are_items(items, keys)
 }

@@ -32,5 +32,5 @@ returns-clause-contents c =
     let made = files_made divisions c.as_slice-2.result.now c.as_slice-3.result.now c.as_slice.result.now _ c.in_ok-files.files after c.as_slice-2.ensures c.as_slice-3.ensures c.as_slice.ensures c.new-names.ensures c.in_ok-files.ensures.files in
     let known = c.in_ok-check_items.ensures.items in
     let new = subst (λ (storage : List StorageEntry). AreItems after storage known.0) c.as_slice-4.ensures known.1 in
-    let digits = subst (λ (storage : List StorageEntry). HaveDigits storage c.in_ok-items.items) c.as_slice-5.ensures c.in_ok-items.ensures.items in
+    let digits = subst (λ (storage : List StorageEntry). HaveDigits storage c.in_ok-items.items) c.as_slice-5.ensures c.in_ok-items.ensures.given in
     (after, made, with_new_names after divisions.storage known.0 c.in_ok-items.items new digits)

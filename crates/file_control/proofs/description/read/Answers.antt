@@ -17,33 +17,45 @@ none_read : {A : Type 0} (refusal : Refusal) (read : Option A) → Refuses read 
 none_read Memory read r f = absurd f
 none_read (Fault line cause) read r f = r
 
-pub returns-in_err-divisions-clause-none : goal.returns-in_err-divisions-clause-none
-returns-in_err-divisions-clause-none c =
+pub returns-in_err-divisions : goal.returns-in_err-divisions
+returns-in_err-divisions c =
     let p = err_from_is_err_and c.from_residual.result c.from_residual.ensures.1 in
-    rw (p.1, p.2) (λ f. subst (λ words. (description : Description) → IsDescription words description → ⊥) c.new-parser.ensures
-    (nothing_described c.new-parser.result (none_read _ _ c.in_err-divisions.ensures f)))
+    rw (p.1, p.2) (record {
+      given = tt;
+      none = λ f. subst (λ words. (description : Description) → IsDescription words description → ⊥) c.new-parser.ensures
+          (nothing_described c.new-parser.result (none_read _ _ c.in_err-divisions.ensures f));
+    })
 
-pub returns-then-not-sees-clause-none : goal.returns-then-not-sees-clause-none
-returns-then-not-sees-clause-none c = λ f.
-    subst (λ words. (description : Description) → IsDescription words description → ⊥) c.new-parser.ensures
-    (no_end c.in_ok-divisions.divisions c.new-parser.result c.read_divisions.new.parser c.in_ok-divisions.ensures (sym c.sees.ensures ∙ c.if-not-sees.true))
+pub returns-then-not-sees : goal.returns-then-not-sees
+returns-then-not-sees c = record {
+  given = tt;
+  none = λ f. subst (λ words. (description : Description) → IsDescription words description → ⊥) c.new-parser.ensures
+      (no_end c.in_ok-divisions.divisions c.new-parser.result c.read_divisions.new.parser c.in_ok-divisions.ensures (sym c.sees.ensures ∙ c.if-not-sees.true));
+}
 
-pub returns-in_err-contents-clause-none : goal.returns-in_err-contents-clause-none
-returns-in_err-contents-clause-none c =
+pub returns-in_err-contents : goal.returns-in_err-contents
+returns-in_err-contents c =
     let p = err_from_is_err_and c.from_residual-in_err-contents.result c.from_residual-in_err-contents.ensures.1 in
-    rw (p.1, p.2) (λ f. subst (λ words. (description : Description) → IsDescription words description → ⊥) c.new-parser.ensures
-    (no_contents c.in_ok-divisions.divisions c.new-parser.result c.read_divisions.new.parser c.in_ok-divisions.ensures (c.in_err-contents.ensures.none f)))
+    rw (p.1, p.2) (record {
+      given = tt;
+      none = λ f. subst (λ words. (description : Description) → IsDescription words description → ⊥) c.new-parser.ensures
+          (no_contents c.in_ok-divisions.divisions c.new-parser.result c.read_divisions.new.parser c.in_ok-divisions.ensures (c.in_err-contents.ensures.none f));
+    })
 
-pub returns-clause-description : goal.returns-clause-description
-returns-clause-description c =
+pub returns : goal.returns
+returns c =
     let divisions = c.in_ok-divisions.divisions in
     let rest = c.read_divisions.new.parser in
     let spelled = subst (λ words. SpellsDivisions divisions words rest) c.new-parser.ensures (reads_sound divisions c.new-parser.result rest c.in_ok-divisions.ensures) in
     let count = c.saturating_sub.ensures ∙ (ap (λ n. n - c.left.result) c.len.ensures.count ∙ ap (λ n. length c.args.words.now - n) c.left.ensures) in
-    let left : drop c.saturating_sub.result c.args.words.now ≡ rest = ap (λ n. drop n c.args.words.now) count ∙ rest_is divisions c.args.words.now rest spelled in (
-      divisions,
-      omega (arith, count),
-      subst (λ ws. SpellsDivisions divisions c.args.words.now ws) (sym left) spelled,
-      ap (begins (this (codes "PROCEDURE") ∷ [])) left ∙ (sym c.sees.ensures ∙ c.if-not-sees.false),
-      c.in_ok-contents.ensures.contents,
-    )
+    let left : drop c.saturating_sub.result c.args.words.now ≡ rest = ap (λ n. drop n c.args.words.now) count ∙ rest_is divisions c.args.words.now rest spelled in
+    record {
+      given = (
+        divisions,
+        omega (arith, count),
+        subst (λ ws. SpellsDivisions divisions c.args.words.now ws) (sym left) spelled,
+        ap (begins (this (codes "PROCEDURE") ∷ [])) left ∙ (sym c.sees.ensures ∙ c.if-not-sees.false),
+        c.in_ok-contents.ensures.contents,
+      );
+      none = tt;
+    }

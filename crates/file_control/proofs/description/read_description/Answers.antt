@@ -10,7 +10,7 @@ is_fault : (refusal : Refusal) (fault : DeckFault) → fault ≡ told refusal �
 is_fault Memory fault e other = absurd (other (ap (λ (f : DeckFault). f.code) e))
 is_fault (Fault line cause) fault e other = tt
 
-pub returns-in_err-read-clause-none : goal.returns-in_err-read-clause-none
-returns-in_err-read-clause-none c =
+pub returns-in_err-read : goal.returns-in_err-read
+returns-in_err-read c =
     let p = err_from_is_err_and c.from_residual.result c.from_residual.ensures.1 in
-    rw (p.1) (λ other. c.in_err-read.ensures.none (is_fault _ p.0 p.2 other))
+    rw (p.1) (record { given = tt; none = λ other. c.in_err-read.ensures.none (is_fault _ p.0 p.2 other); told = (c.in_err-read.field-0.0, p.2) })

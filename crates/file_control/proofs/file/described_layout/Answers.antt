@@ -1,9 +1,7 @@
-use Rattle.std.proofs.Common.{List, subst}
-use Rattle.std.specs.Result.{IfErr}
-use Rattle.record_layout.specs.Layout.{Placed, IsLayout}
-use Rattle.deck_words.specs.Fault.{IsFault}
+use Rattle.std.proofs.Common.{subst}
+use Rattle.record_layout.specs.Layout.{IsLayout}
+use Rattle.deck_words.specs.Fault.{GivesOrRefuses}
 use Rattle.file_control.proofs.file.described_layout.Goals as goal
 
-pub returns-clause-none : goal.returns-clause-none
-returns-clause-none c =
-    subst (λ entries. IfErr c.layout_of.result (λ refusal. IsFault refusal → (layout : List Placed) → IsLayout entries layout → ⊥)) c.items.ensures c.layout_of.ensures.none
+pub returns : goal.returns
+returns c = subst (λ entries. GivesOrRefuses (IsLayout entries) c.layout_of.result) c.items.ensures c.layout_of.ensures

@@ -17,7 +17,7 @@ returns-in_err-next-clause-none c =
 pub more-preserved : goal.more-preserved
 more-preserved c =
     let found = ap (description_of_file c.args.descriptions.now) (sym c.name.ensures) ∙ sym c.in-Some-described_as.ensures in
-    let next = step c.args.descriptions.now c.args.storage.now c.args.names.now c.args.entries.now c.more.names c.in-Some.selected.now c.more.rest.now c.in-Some.after.now c.more.files c.in-Some-described_as.described.now c.in_ok-next.next c.more.invariant c.in-Some.ensures.cases.0 found c.in_ok-next.ensures.file in
+    let next = step c.args.descriptions.now c.args.storage.now c.args.names.now c.args.entries.now c.more.names c.in-Some.selected.now c.more.rest.now c.in-Some.after.now c.more.files c.in-Some-described_as.described.now c.in_ok-next.next c.more.invariant c.in-Some.ensures.cases.0 found c.in_ok-next.ensures.given in
     let names_are = c.in_ok-add_all.ensures ∙ ap (with_names c.more.names) c.items.ensures in
     subst (λ (fs : List FileDesc). FilesSoFar c.args.descriptions.now c.args.storage.now c.args.names.now c.add_all.new.self c.args.entries.now c.in-Some.after.now fs) (sym c.in_ok-push.ensures)
     (subst (λ ns. FilesSoFar c.args.descriptions.now c.args.storage.now c.args.names.now ns c.args.entries.now c.in-Some.after.now (c.more.files ++ c.in_ok-next.next ∷ [])) (sym names_are) next)
