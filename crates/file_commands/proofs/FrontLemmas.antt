@@ -1,8 +1,10 @@
 -- What was read of a reader.
-use Rattle.std.proofs.Common.{◌≡◌, ◌≤◌, ℕ, List, [], ◌++◌, take, length, Option, Some, None, sym, ap, ◌∙◌, append-nil, arith}
+use Rattle.std.proofs.Common.{◌≡◌, ◌≤◌, ℕ, List, [], ◌++◌, take, length, Option, Some, None, Result, Ok, Err, IfOk, IfErr, sym, ap, ◌∙◌, append-nil, arith}
 use Rattle.std.proofs.lemmas.List.{take_all, take-append-le}
 use Rattle.std.specs.Io.KnownBytes.{Consumes, IsAtEnd}
-use Rattle.file_commands.specs.Front.{IsFrontOfInput}
+use Rattle.file_commands.specs.Front.{IsFrontOfInput, GivesSuch}
+use Rattle.command_outcomes.specs.Status.{status_of}
+use Rattle.command_outcomes.specs.declared.fault.Fault.{Fault}
 
 -- all bytes came, and then none at the end
 pub all_read : (a b c : Option (List ℕ)) (bytes part : List ℕ) (n most : ℕ) → Consumes a b bytes → Consumes b c (take n part) → n ≡ 0
@@ -23,3 +25,13 @@ front_read (Some x) (Some y) bytes most p e =
     let least : most ≤ length bytes = rw e (omega arith) in
     let whole : length bytes ≤ most = rw e (omega arith) in
     sym (ap (λ l. take most l) p ∙ take-append-le most bytes y least ∙ take_all most bytes whole)
+
+-- a value came, and it is so
+pub such_came : {X : Type 0} (P : X → Type 0) (result : Result X Fault) → GivesSuch P result → IfOk result P
+such_came P (Ok x) is = is
+such_came P (Err fault) is = tt
+
+-- none came, since the input, the output or memory failed
+pub none_came : {X : Type 0} (P : X → Type 0) (Q : Fault → Type 0) (result : Result X Fault) → ((fault : Fault) → status_of fault ≡ 4 → Q fault) → GivesSuch P result → IfErr result Q
+none_came P Q (Ok x) so is = tt
+none_came P Q (Err fault) so is = so fault is

@@ -1,4 +1,5 @@
 pub mod FrontLemmas
+pub mod SchemaLemmas
 pub mod DeckLemmas
 pub mod CutLemmas
 pub mod FormLemmas

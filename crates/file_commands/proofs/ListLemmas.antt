@@ -1,7 +1,7 @@
 -- Why a deck is not listed, and what follows where it is.
-use Rattle.std.proofs.Common.{◌≡◌, Result, Ok, Err, IfOk, IfErr, refl, subst}
+use Rattle.std.proofs.Common.{◌≡◌, ℕ, List, Result, Ok, Err, IfOk, IfErr, refl, ap, subst}
 use Rattle.command_outcomes.specs.Status.{status_of}
-use Rattle.file_commands.specs.Listed.{IsListFault}
+use Rattle.file_commands.specs.Listed.{IsListFault, TellsDeck, AreRefused}
 use Rattle.file_listing.specs.declared.listing.FileList.{FileList}
 use Rattle.record_listing.specs.declared.end.ListFault.{ListFault}
 use Rattle.command_outcomes.specs.declared.outcome.Outcome.{Outcome}
@@ -46,3 +46,35 @@ module _ {P : FileList → Type 0} where
   listed_as (Ok list) (Err fault) known done there = tt
   listed_as (Err why) (Ok outcome) known done there = absurd there
   listed_as (Err why) (Err fault) known done there = tt
+
+-- what becomes of a deck: it was not read, it is refused, or its text was written or not
+module _ {W : Type 0} {IsRead IsWritten : List ℕ → Type 0} {told : Outcome} {old : W} where
+  pub deck_not_read : (fault : Fault) → status_of fault ≡ 4 → TellsDeck IsRead IsWritten told old old (Err fault)
+  deck_not_read fault four = record {
+    done = tt;
+    written = tt;
+    refused = λ why. not_refused fault why four;
+    untouched = λ _. refl;
+    fault = not_read fault four;
+  }
+
+  pub deck_refused : (bytes : List ℕ) → IsRead bytes → (fault : Fault) → ((why : RefusedDeck) → fault ≡ NotListed why → AreRefused bytes why) → IsListFault fault
+      → TellsDeck IsRead IsWritten told old old (Err fault)
+  deck_refused bytes read fault refused listed = record {
+    done = tt;
+    written = tt;
+    refused = λ why is. (bytes, read, refused why is);
+    untouched = λ _. refl;
+    fault = listed;
+  }
+
+  pub deck_told : {new : W} (result : Result Outcome Fault) → IfOk result (λ outcome. outcome ≡ told) → IfOk result (λ _. (bytes : List ℕ) × IsRead bytes × IsWritten bytes)
+      → IfErr result (λ fault. fault ≡ Output) → TellsDeck IsRead IsWritten told old new result
+  deck_told (Ok outcome) done written out = record { done = done; written = written; refused = tt; untouched = tt; fault = tt }
+  deck_told (Err fault) done written out = record {
+    done = tt;
+    written = tt;
+    refused = λ why is. not_refused fault why (ap status_of out) is;
+    untouched = λ other. absurd (other (ap status_of out));
+    fault = not_written fault out;
+  }

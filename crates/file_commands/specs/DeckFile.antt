@@ -1,10 +1,13 @@
 -- A file of a deck, by its name. All of this is ours.
 use Rattle.std.specs.Prelude.{◌≡◌, ℕ, Bool, List, map, find, bytes_eq, Option, Some, None, IsSome, ⊤}
+use Rattle.std.specs.Prelude.{Result, IfOk, IfErr}
 use Rattle.std.specs.Char.{to_ascii_lowercase}
 use Rattle.clap.specs.Words.{Text as Word}
 use Rattle.file_control.specs.Description.{FileDesc}
 use Rattle.deck_reader.specs.declared.deck.Deck.{Deck}
 use Rattle.deck_reader.specs.Deck.{IsDeck}
+use Rattle.deck_runner.specs.DeckRun.{IsNoDeck}
+use Rattle.deck_words.specs.declared.fault.DeckFault.{DeckFault}
 use Rattle.file_commands.specs.Front.{OfDeck}
 use Rattle.command_outcomes.specs.declared.fault.Fault.{Fault}
 use Rattle.command_outcomes.specs.declared.fault.Fault.TheVariants.{Deck as DeckRefused, NoSuchFile, Input}
@@ -58,3 +61,14 @@ IsDeckFault fault = ⊥
 abbrev pub IsDeckAt : {F I : Type 0} → (F → Option (List ℕ)) → (I → Option (List ℕ)) → I → (path : List ℕ)
     → Deck → Type 0
 IsDeckAt remaining left input path deck = OfDeck remaining (left input) path (λ bytes. IsDeck bytes deck)
+
+-- what came of a file of a deck is so; or nothing did
+pub record ComesOfDeck {X : Type 0} (IsSo : X → Type 0) (result : Result X Fault) : Type 0 where
+  pub right : IfOk result IsSo
+  pub fault : IfErr result IsDeckFault
+
+-- the deck that the bytes are; or they are none, and it is told why
+pub record GivesDeck (bytes : List ℕ) (result : Result Deck Fault) : Type 0 where
+  pub deck : IfOk result (IsDeck bytes)
+  pub refused : IfErr result (λ fault. (told : DeckFault) → fault ≡ DeckRefused told → IsNoDeck bytes told)
+  pub fault : IfErr result IsDeckFault

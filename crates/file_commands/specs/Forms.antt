@@ -1,14 +1,17 @@
 -- The form that a list is asked for in, and its columns. All of this is ours.
 use Rattle.std.specs.Prelude.{◌≡◌, ◌≢◌, ◌⊎◌, ℕ, true, List, [], ◌∷◌, map, Option, Some, None, IsSome, codes}
-use Rattle.std.specs.Prelude.{⊤}
+use Rattle.std.specs.Prelude.{⊤, ◌++◌, Result, Err, IfOk, IfErr}
+use Rattle.std.specs.Global.{Vec}
 use Rattle.clap.specs.Words.{Text as Word}
 use Rattle.file_control.specs.Description.{FileDesc}
 use Rattle.record_forms.specs.declared.column.Column.{Column}
 use Rattle.record_forms.specs.declared.form.Form.{Form}
 use Rattle.record_forms.specs.declared.form.Form.TheVariants.{Text, Csv, Json}
 use Rattle.record_forms.specs.Parts.{part_of, do_rise, cut_parts, item_parts, whole_part}
-use Rattle.command_words.specs.Asks.{FormText}
+use Rattle.command_words.specs.Asks.{FormText, IsNumber, form_text}
+use Rattle.command_words.specs.declared.form_words.FormWords.{FormWords}
 use Rattle.file_commands.specs.Cuts.{AreCuts}
+use Rattle.file_commands.specs.Front.{IsDeckNamed}
 use Rattle.file_commands.specs.DeckFile.{IsOfDeck, IsHalf, IsDeckAsked}
 use Rattle.command_outcomes.specs.declared.form_fault.FormFault.{FormFault}
 use Rattle.command_outcomes.specs.declared.form_fault.FormFault.TheVariants.{Kind, TextColumns, CutAndDeck}
@@ -77,9 +80,45 @@ abbrev pub IsListRefused : FormText → Fault → Type 0
 IsListRefused asked fault = (fault ≡ LongValue) ⊎ IsFormRefused asked fault
 
 -- the columns are those that the words of a form ask for
-abbrev pub AreColumnsAsked : (IsRead : Word → List ℕ → Type 0) → FormText → List Column → Type 0
-AreColumnsAsked IsRead asked columns = AreColumns IsRead asked.cut asked.deck asked.name columns
+abbrev pub AreColumnsAsked : (IsRead : Word → List ℕ → Type 0) → FormText → Vec Column → Type 0
+AreColumnsAsked IsRead asked columns = AreColumns IsRead asked.cut asked.deck asked.name columns.items
 
 -- no cuts, or want of memory
 abbrev pub IsCutFault : Fault → Type 0
 IsCutFault fault = (fault ≡ NoForm Cuts) ⊎ (fault ≡ Memory)
+
+-- what came of cuts is so; or there are none, and this is so of the text, or memory was wanted
+pub record ComesOfCuts {X : Type 0} (IsSo : X → Type 0) (HasNone : Type 0)
+    (result : Result X Fault) : Type 0 where
+  pub cuts : IfOk result IsSo
+  pub none : result ≡ Err (NoForm Cuts) → HasNone
+  pub fault : IfErr result IsCutFault
+
+-- the text is a number, which was added to others
+abbrev pub AddsNumber : (text : List ℕ) → (old new : List ℕ) → Type 0
+AddsNumber text old new = (n : ℕ) × IsNumber 16 text n × (new ≡ old ++ n ∷ [])
+
+abbrev pub IsNoNumber : (text : List ℕ) → Type 0
+IsNoNumber text = (n : ℕ) → IsNumber 16 text n → ⊥
+
+-- the text is no numbers with commas between, whether they rise or not
+abbrev pub IsNoCuts : (text : List ℕ) → Type 0
+IsNoCuts text = (cuts : List ℕ) → AreCuts text cuts → ⊥
+
+-- a value that is so; or memory was wanted
+pub record WantsOnlyMemory {X : Type 0} (IsSo : X → Type 0) (result : Result X Fault) : Type 0 where
+  pub column : IfOk result IsSo
+  pub fault : IfErr result (λ fault. fault ≡ Memory)
+
+-- what came of the words of a form is so; or the form is refused
+pub record ComesOfForm {X : Type 0} (IsSo : FormText → X → Type 0) (asked : FormWords)
+    (result : Result X Fault) : Type 0 where
+  pub form : IfOk result (IsSo (form_text asked))
+  pub refused : IfErr result (IsFormRefused (form_text asked))
+
+-- the columns are the elementary items of the record of the file of this name in the deck of a path,
+-- or of the input where the path is a hyphen
+abbrev pub AreItemsAt : {F I : Type 0} → (F → Option (List ℕ)) → (I → Option (List ℕ)) → I
+    → (path name : Word) → Vec Column → Type 0
+AreItemsAt remaining left input path name columns =
+    AreItemsOf (IsDeckNamed remaining (left input) path) name columns.items

@@ -1,5 +1,7 @@
 -- What is told of a deck that is listed, or written in COBOL. All of this is ours.
 use Rattle.std.specs.Prelude.{◌≡◌, ◌≢◌, ℕ, Bool, true, false, List, Option, Result, IfOk, IfErr, ⊤}
+use Rattle.std.specs.Prelude.{String, string_bytes}
+use Rattle.std.specs.Global.{Global}
 use Rattle.std.specs.Io.KnownBytes.{Appends}
 use Rattle.deck_reader.specs.declared.deck.Deck.{Deck}
 use Rattle.deck_reader.specs.Deck.{IsDeck}
@@ -8,7 +10,10 @@ use Rattle.deck_diagnosis.specs.Told.{TellsOf}
 use Rattle.cobol_program.specs.Layout.{IsLaidOut}
 use Rattle.cobol_program.specs.declared.form.Form.{Form}
 use Rattle.cobol_program.specs.declared.form.Form.TheVariants.{Free, Fixed}
-use Rattle.file_commands.specs.Front.{OfDeck}
+use Rattle.file_commands.specs.Front.{IsDeckNamed}
+use Rattle.command_outcomes.specs.Status.{status_of}
+use Rattle.command_outcomes.specs.declared.outcome.Outcome.{Outcome}
+use Rattle.command_outcomes.specs.declared.outcome.Outcome.TheVariants.{Listed, InCobol}
 use Rattle.command_outcomes.specs.declared.fault.Fault.{Fault}
 use Rattle.command_outcomes.specs.declared.fault.RefusedDeck.{RefusedDeck}
 use Rattle.command_outcomes.specs.declared.fault.Fault.TheVariants.{NotListed, Input, Output, Memory}
@@ -49,20 +54,36 @@ IsListFault fault = ⊥
 abbrev pub IsRefusalOf : List ℕ → Fault → Type 0
 IsRefusalOf bytes fault = (told : RefusedDeck) → fault ≡ NotListed told → AreRefused bytes told
 
--- where the deck of a path is refused, or of the input where the path is a hyphen, it is so for its bytes
-abbrev pub RefusesDeck : {F I X : Type 0} → (F → Option (List ℕ)) → (I → Option (List ℕ)) → I
-    → (path : List ℕ) → Result X Fault → Type 0
-RefusesDeck remaining left input path result = IfErr result (λ fault. (told : RefusedDeck)
-    → fault ≡ NotListed told → OfDeck remaining (left input) path (λ bytes. AreRefused bytes told))
+-- a text of the deck that the bytes are, or the fault by which it is refused
+pub record GivesText (IsText : List ℕ → Type 0) (bytes : List ℕ)
+    (result : Result (String Global) Fault) : Type 0 where
+  pub text : IfOk result (λ text. IsText (string_bytes text))
+  pub refused : IfErr result (IsRefusalOf bytes)
+  pub fault : IfErr result IsListFault
 
--- else its list was written
-abbrev pub WritesListAt : {F I W X : Type 0} → (F → Option (List ℕ)) → (I → Option (List ℕ)) → I
-    → (path : List ℕ) → (W → Option (List ℕ)) → (old new : W) → Result X Fault → Type 0
-WritesListAt remaining left input path contents old new result = IfOk result (λ _.
-    OfDeck remaining (left input) path (λ bytes. WritesList bytes (contents old) (contents new)))
+-- the deck that was read so was told, and this is what was done and so of what was written; or it was
+-- refused, or the input, the output or memory failed. Unless one of these failed, nothing is written
+-- of a deck that is refused
+pub record TellsDeck {W : Type 0} (IsRead IsWritten : List ℕ → Type 0) (told : Outcome) (old new : W)
+    (result : Result Outcome Fault) : Type 0 where
+  pub done : IfOk result (λ outcome. outcome ≡ told)
+  pub written : IfOk result (λ _. (bytes : List ℕ) × IsRead bytes × IsWritten bytes)
+  pub refused : IfErr result (λ fault. (why : RefusedDeck) → fault ≡ NotListed why
+      → (bytes : List ℕ) × IsRead bytes × AreRefused bytes why)
+  pub untouched : IfErr result (λ fault. status_of fault ≢ 4 → new ≡ old)
+  pub fault : IfErr result IsListFault
+
+-- the deck of a path, or of the input where the path is a hyphen, and its list was written
+abbrev pub ListsDeckAt : {F I W : Type 0} → (F → Option (List ℕ)) → (I → Option (List ℕ)) → I
+    → (path : List ℕ) → (W → Option (List ℕ)) → (old new : W) → Result Outcome Fault → Type 0
+ListsDeckAt remaining left input path contents old new result =
+    TellsDeck (IsDeckNamed remaining (left input) path)
+    (λ bytes. WritesList bytes (contents old) (contents new)) Listed old new result
 
 -- or a program of it, in fixed form or in free form
-abbrev pub WritesCobolAt : {F I W X : Type 0} → (F → Option (List ℕ)) → (I → Option (List ℕ)) → I
-    → (path : List ℕ) → (fixed : Bool) → (W → Option (List ℕ)) → (old new : W) → Result X Fault → Type 0
-WritesCobolAt remaining left input path fixed contents old new result = IfOk result (λ _.
-    OfDeck remaining (left input) path (λ bytes. WritesCobol bytes fixed (contents old) (contents new)))
+abbrev pub WritesCobolAt : {F I W : Type 0} → (F → Option (List ℕ)) → (I → Option (List ℕ)) → I
+    → (path : List ℕ) → (fixed : Bool) → (W → Option (List ℕ)) → (old new : W) → Result Outcome Fault
+    → Type 0
+WritesCobolAt remaining left input path fixed contents old new result =
+    TellsDeck (IsDeckNamed remaining (left input) path)
+    (λ bytes. WritesCobol bytes fixed (contents old) (contents new)) InCobol old new result

@@ -1,13 +1,18 @@
 -- What is listed of the records of a file. All of this is ours.
-use Rattle.std.specs.Prelude.{◌≡◌, ℕ, List, [], Option, option_map}
+use Rattle.std.specs.Prelude.{◌≡◌, ◌≢◌, ℕ, List, [], Option, option_map, Result, IfOk, IfErr}
 use Rattle.std.specs.Option.{unwrap_or}
 use Rattle.record_listing.specs.declared.asked.Asked.{Asked}
 use Rattle.record_forms.specs.declared.form.Form.{Form}
 use Rattle.file_listing.specs.Listing.{EndsWithIn}
 use Rattle.file_listing.specs.declared.listing.FileList.{FileList}
-use Rattle.command_words.specs.Asks.{FormText}
+use Rattle.record_listing.specs.declared.end.ListFault.{ListFault}
+use Rattle.command_outcomes.specs.Status.{status_of}
+use Rattle.command_outcomes.specs.declared.fault.Fault.{Fault}
+use Rattle.command_outcomes.specs.declared.fault.Fault.TheVariants.{LongValue}
+use Rattle.command_words.specs.Asks.{FormText, form_text}
+use Rattle.command_words.specs.declared.form_words.FormWords.{FormWords}
 use Rattle.file_commands.specs.Front.{IsDeckNamed, OfWholeFile, word_in}
-use Rattle.file_commands.specs.Forms.{IsFormAsked}
+use Rattle.file_commands.specs.Forms.{IsFormAsked, IsListRefused}
 use Rattle.file_commands.specs.declared.listing.Bounds.{Bounds}
 use Rattle.command_outcomes.specs.declared.outcome.Outcome.{Outcome}
 use Rattle.command_outcomes.specs.declared.outcome.Outcome.TheVariants.{Records}
@@ -38,3 +43,24 @@ ListsAsked remaining left input bounds asked contents old new outcome =
     × ((form : Form) × IsFormAsked (IsDeckNamed remaining (left input)) asked form
     × OfWholeFile remaining (λ bytes. ListsRecords form bytes bounds.key (word_in bounds.from)
     (word_in bounds.to) bounds.first (contents old) (contents new) list))
+
+-- a value that is so; or a text is too long for one
+pub record FitsValue {X : Type 0} (IsSo : X → Type 0) (result : Result X Fault) : Type 0 where
+  pub value : IfOk result IsSo
+  pub fault : IfErr result (λ fault. fault ≡ LongValue)
+
+-- how a list ended, as what was done
+pub record ToldOfList (end : Result FileList ListFault) (result : Result Outcome Fault) : Type 0 where
+  pub done : IfOk result (λ outcome. IfOk end (λ list. outcome ≡ Records list))
+  pub there : IfErr end (λ _. IfOk result (λ _. ⊥))
+  pub fault : IfErr result (λ fault. status_of fault ≡ 4)
+
+-- the records that words ask for were listed; or the words are refused, or the input, the output or
+-- memory failed. Unless one of these failed, nothing is written where nothing is listed
+pub record ListsFile
+    {F I W : Type 0} (remaining : F → Option (List ℕ)) (left : I → Option (List ℕ)) (input : I)
+    (bounds : Bounds) (form : FormWords) (contents : W → Option (List ℕ)) (old new : W)
+    (result : Result Outcome Fault) : Type 0 where
+  pub records : IfOk result (ListsAsked remaining left input bounds (form_text form) contents old new)
+  pub untouched : IfErr result (λ fault. status_of fault ≢ 4 → new ≡ old)
+  pub fault : IfErr result (IsListRefused (form_text form))

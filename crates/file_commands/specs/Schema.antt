@@ -1,5 +1,6 @@
 -- What is told of a file by its first page, as what was done. All of this is ours.
-use Rattle.std.specs.Prelude.{◌≡◌, ℕ, List, Option, None, Result, Ok, Err, IfOk, IfSome, ⊤}
+use Rattle.std.specs.Prelude.{◌≡◌, ◌≢◌, ℕ, List, Option, None, Result, Ok, Err, IfOk, IfErr, IfSome, ⊤}
+use denote.Ref.{Bor}
 use Rattle.clap.specs.Words.{Text}
 use Rattle.record_layout.specs.Schema.{Schema}
 use Rattle.file_header.specs.declared.header.Header.{Header}
@@ -12,8 +13,9 @@ use Rattle.schema_listing.specs.Listing.{Tells, read_in}
 use Rattle.schema_listing.specs.declared.comparing.Comparison.{Comparison}
 use Rattle.file_control.specs.Description.{FileDesc}
 use Rattle.schema_listing.specs.Comparing.{TellsDifferences}
-use Rattle.file_commands.specs.DeckFile.{IsOfDeck, IsDeckAsked, IsDeckFile, IsHalf}
-use Rattle.file_commands.specs.Front.{IsDeckNamed, OfFile}
+use Rattle.file_commands.specs.DeckFile.{IsOfDeck, IsDeckAsked, IsDeckFile, IsHalf, IsDeckFault}
+use Rattle.file_commands.specs.Front.{IsDeckNamed, OfFile, GivesSuch, word_in}
+use Rattle.command_outcomes.specs.Status.{status_of}
 use Rattle.command_outcomes.specs.declared.form_fault.FormFault.TheVariants.{HalfDeck}
 use Rattle.command_outcomes.specs.declared.fault.Fault.{Fault}
 use Rattle.command_outcomes.specs.declared.fault.Fault.TheVariants.{Deck as DeckRefused, NoSuchFile}
@@ -73,15 +75,15 @@ IsSchemaFault deck name Memory = ⊤
 IsSchemaFault deck name fault = ⊥
 
 -- of the file that a reader has
-abbrev pub TellsReader : {R W : Type 0} → (R → Option (List ℕ)) → R → (W → Option (List ℕ))
-    → (old new : W) → Result Outcome Fault → Type 0
-TellsReader remaining reader contents old new result = IfSome (remaining reader) (λ bytes.
-    IfOk result (TellsAs (contents old) (contents new) (read_in bytes)))
+abbrev pub TellsReader : {W : Type 0} → (known : Option (List ℕ)) → (W → Option (List ℕ)) → (old new : W)
+    → Outcome → Type 0
+TellsReader known contents old new outcome = IfSome known (λ bytes.
+    TellsAs (contents old) (contents new) (read_in bytes) outcome)
 
-abbrev pub ComparesReader : {R W : Type 0} → (R → Option (List ℕ)) → R → Schema → (W → Option (List ℕ))
-    → (old new : W) → Result Outcome Fault → Type 0
-ComparesReader remaining reader deck contents old new result = IfSome (remaining reader) (λ bytes.
-    IfOk result (ComparesAs deck (contents old) (contents new) (read_in bytes)))
+abbrev pub ComparesReader : {W : Type 0} → (known : Option (List ℕ)) → Schema → (W → Option (List ℕ))
+    → (old new : W) → Outcome → Type 0
+ComparesReader known deck contents old new outcome = IfSome known (λ bytes.
+    ComparesAs deck (contents old) (contents new) (read_in bytes) outcome)
 
 -- of some file that was opened
 abbrev pub TellsFile : {F W : Type 0} → (F → Option (List ℕ)) → (W → Option (List ℕ)) → (old new : W)
@@ -108,3 +110,31 @@ ComparesAsked remaining left input deck name contents old new outcome =
     (told : Comparison) → outcome ≡ SchemaCompared told → (described : FileDesc)
     × IsDeckFile (IsDeckNamed remaining (left input)) deck name described
     × ComparesFile remaining described.schema contents old new outcome
+
+-- an outcome of a kind, of which this is so
+pub record ComesOfFile (IsKind IsSo : Outcome → Type 0) (result : Result Outcome Fault) : Type 0 where
+  pub told : IfOk result IsSo
+  pub kind : GivesSuch IsKind result
+
+-- the schema of a file was held against that of the file of a name in the deck of a path; or nothing
+-- came of them. Unless the input, the output or memory failed, nothing is written then
+pub record ComparesPaths
+    {F I W : Type 0} (remaining : F → Option (List ℕ)) (left : I → Option (List ℕ)) (input : I)
+    (deck name : Text) (contents : W → Option (List ℕ)) (old new : W)
+    (result : Result Outcome Fault) : Type 0 where
+  pub told : IfOk result (ComparesWithDeck remaining left input deck name contents old new)
+  pub kind : IfOk result IsOfComparison
+  pub untouched : IfErr result (λ fault. status_of fault ≢ 4 → new ≡ old)
+  pub fault : IfErr result IsDeckFault
+
+-- the same where a deck and a name may be given, without which the schema is told
+pub record AnswersSchema
+    {F I W : Type 0} (remaining : F → Option (List ℕ)) (left : I → Option (List ℕ)) (input : I)
+    (deck name : Option (Bor (List ℕ))) (contents : W → Option (List ℕ)) (old new : W)
+    (result : Result Outcome Fault) : Type 0 where
+  pub told : IfOk result (λ outcome. IsOfSchema outcome → TellsFile remaining contents old new outcome)
+  pub compared : IfOk result
+      (ComparesAsked remaining left input (word_in deck) (word_in name) contents old new)
+  pub done : IfOk result (IsSchemaDone (word_in deck) (word_in name))
+  pub untouched : IfErr result (λ fault. status_of fault ≢ 4 → new ≡ old)
+  pub fault : IfErr result (IsSchemaFault (word_in deck) (word_in name))

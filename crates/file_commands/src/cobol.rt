@@ -1,8 +1,6 @@
 //! The deck in a file as a COBOL program.
-ghost use Rattle.std.specs.Prelude.{◌≡◌, ◌≢◌, string_bytes, IfOk, IfErr};
-ghost use Rattle.file_commands.specs.Listed.{form_of, IsInCobol, IsRefusalOf, RefusesDeck, WritesCobolAt};
-ghost use Rattle.file_commands.specs.Listed.{IsListFault};
-ghost use Rattle.command_outcomes.specs.Status.{status_of};
+ghost use Rattle.std.specs.Prelude.{◌≡◌};
+ghost use Rattle.file_commands.specs.Listed.{form_of, IsInCobol, GivesText, WritesCobolAt};
 
 use crate::deck_list::refused;
 use crate::file_bytes::read_deck_bytes;
@@ -15,9 +13,7 @@ use std::rt::Files;
 
 /// The program of the deck that the bytes are.
 fn program_of(alloc: Global, bytes: &[u8], form: Form) -> Result<String, Fault>
-    ensures text { IfOk result (λ text. IsInCobol bytes.now form (string_bytes text)) }
-    ensures refused { IfErr result (IsRefusalOf bytes.now) }
-    ensures fault { IfErr result IsListFault }
+    ensures { GivesText (IsInCobol bytes.now form) bytes.now result }
 {
     match write_program(alloc, bytes, form) {
         Ok(text) => Ok(text),
@@ -43,12 +39,8 @@ pub fn write_cobol<R: Files, I: Read, W: Write>(
     input: &mut I,
     out: &mut W,
 ) -> Result<Outcome, Fault>
-    ensures done { IfOk result (λ outcome. outcome ≡ Outcome.InCobol) }
-    ensures written { WritesCobolAt R.File.remaining I.remaining input.old path.now fixed W.contents out.old out.new
-        result }
-    ensures refused { RefusesDeck R.File.remaining I.remaining input.old path.now result }
-    ensures untouched { IfErr result (λ fault. status_of fault ≢ 4 → out.new ≡ out.old) }
-    ensures fault { IfErr result IsListFault }
+    ensures { WritesCobolAt R.File.remaining I.remaining input.old path.now fixed
+        W.contents out.old out.new result }
 {
     let bytes = match read_deck_bytes(rt, alloc, path, input) {
         Ok(bytes) => bytes,

@@ -1,9 +1,6 @@
 //! The schema of a file, held against that of a file of a deck.
-ghost use Rattle.std.specs.Prelude.{◌≡◌, ◌≢◌, IfOk, IfErr};
-ghost use Rattle.file_commands.specs.DeckFile.{IsDeckFault};
-ghost use Rattle.file_commands.specs.Front.{GivesSuch};
-ghost use Rattle.file_commands.specs.Schema.{ComparesReader, ComparesFile, ComparesWithDeck, IsOfComparison};
-ghost use Rattle.command_outcomes.specs.Status.{status_of};
+ghost use Rattle.file_commands.specs.Schema.{ComparesReader, ComparesFile, IsOfComparison, ComesOfFile};
+ghost use Rattle.file_commands.specs.Schema.{ComparesPaths};
 
 use crate::deck::{deck_at, file_in};
 use crate::file_bytes::open_shared;
@@ -24,8 +21,8 @@ fn write_differences<R: Read + Drop, W: Write>(
     deck: &Schema,
     out: &mut W,
 ) -> Result<Outcome, Fault>
-    ensures told { ComparesReader R.remaining reader deck.now W.contents out.old out.new result }
-    ensures kind { GivesSuch IsOfComparison result }
+    ensures { ComesOfFile IsOfComparison
+        (ComparesReader (R.remaining reader) deck.now W.contents out.old out.new) result }
 {
     match compare_schema(alloc, reader, deck, out) {
         Ok(Ok(told)) => Ok(Outcome::SchemaCompared(told)),
@@ -44,8 +41,8 @@ fn compare_file<R: Files, W: Write>(
 ) -> Result<Outcome, Fault>
 where
     R::File: LockFile,
-    ensures told { IfOk result (ComparesFile R.File.remaining deck.now W.contents out.old out.new) }
-    ensures kind { GivesSuch IsOfComparison result }
+    ensures { ComesOfFile IsOfComparison
+        (ComparesFile R.File.remaining deck.now W.contents out.old out.new) result }
 {
     let file = open_shared(rt, path)?;
     write_differences(alloc, file, deck, out)
@@ -65,11 +62,8 @@ pub fn compare_path<R: Files, I: Read, W: Write>(
 ) -> Result<Outcome, Fault>
 where
     R::File: LockFile,
-    ensures told { IfOk result (ComparesWithDeck R.File.remaining I.remaining input.old deck.now name.now
-        W.contents out.old out.new) }
-    ensures kind { IfOk result IsOfComparison }
-    ensures untouched { IfErr result (λ fault. status_of fault ≢ 4 → out.new ≡ out.old) }
-    ensures fault { IfErr result IsDeckFault }
+    ensures { ComparesPaths R.File.remaining I.remaining input.old deck.now name.now
+        W.contents out.old out.new result }
 {
     let deck = match deck_at(rt, alloc, deck, input) {
         Ok(deck) => deck,

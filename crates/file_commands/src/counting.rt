@@ -1,6 +1,7 @@
 //! The count of what the file of a path has.
-ghost use Rattle.std.specs.Prelude.{◌≡◌, IfOk, IfErr};
+ghost use Rattle.std.specs.Prelude.{◌≡◌};
 ghost use Rattle.file_commands.specs.Counted.{CountsFile};
+ghost use Rattle.file_commands.specs.Front.{DoesSuch};
 ghost use Rattle.command_outcomes.specs.Status.{status_of};
 
 use crate::file_bytes::read_file;
@@ -32,8 +33,7 @@ pub fn count_path<R: Files, W: Write>(
 ) -> Result<Outcome, Fault>
 where
     R::File: LockFile,
-    ensures counted { IfOk result (CountsFile R.File.remaining W.contents out.old out.new) }
-    ensures fault { IfErr result (λ fault. status_of fault ≡ 4) }
+    ensures { DoesSuch (CountsFile R.File.remaining W.contents out.old out.new) result }
 {
     let bytes = match read_file(rt, alloc, path, &mut Silent) {
         Ok(bytes) => bytes,

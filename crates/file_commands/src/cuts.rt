@@ -1,9 +1,9 @@
 //! The cuts of a text: numbers with commas between.
-ghost use Rattle.std.specs.Prelude.{◌≡◌, ◌++◌, ◌∷◌, [], ℕ, List, None, IfOk, OnOk, IfErr};
+ghost use Rattle.std.specs.Prelude.{◌≡◌, None};
 ghost use Rattle.std.specs.Option.{IfSome};
 ghost use Rattle.command_words.specs.Asks.{IsNumber};
 ghost use Rattle.file_commands.specs.Cuts.{AreCuts};
-ghost use Rattle.file_commands.specs.Forms.{IsCutFault};
+ghost use Rattle.file_commands.specs.Forms.{AddsNumber, IsNoNumber, IsNoCuts, ComesOfCuts};
 
 use command_outcomes::{Fault, FormFault};
 use std::alloc::Global;
@@ -11,17 +11,15 @@ use std::alloc::Global;
 /// The number that a text is.
 fn cut_of(text: &str) -> Option<u16>
     ensures some { IfSome result (IsNumber 16 text.now) }
-    ensures none { result ≡ None → (n : ℕ) → IsNumber 16 text.now n → ⊥ }
+    ensures none { result ≡ None → IsNoNumber text.now }
 {
     text.parse().ok()
 }
 
 /// Adds the number that a text is.
 fn push_cut(cuts: &mut Vec<u16>, text: &str) -> Result<(), Fault>
-    ensures cut { OnOk result ((n : ℕ) × IsNumber 16 text.now n
-        × (cuts.new.items ≡ cuts.old.items ++ n ∷ [])) }
-    ensures none { result ≡ Err (Fault.Form FormFault.Cuts) → (n : ℕ) → IsNumber 16 text.now n → ⊥ }
-    ensures fault { IfErr result IsCutFault }
+    ensures { ComesOfCuts (λ _. AddsNumber text.now cuts.old.items cuts.new.items) (IsNoNumber text.now)
+        result }
 {
     let Some(cut) = cut_of(text) else {
         return Err(Fault::Form(FormFault::Cuts));
@@ -35,9 +33,7 @@ fn push_cut(cuts: &mut Vec<u16>, text: &str) -> Result<(), Fault>
 /// The cuts of a text. `Form`: between two commas, or before the first or behind the last one, is
 /// no number up to 65,535. `Memory`.
 pub fn read_cuts(alloc: Global, text: &str) -> Result<Vec<u16>, Fault>
-    ensures cuts { IfOk result (λ cuts. AreCuts text.now cuts.items) }
-    ensures none { result ≡ Err (Fault.Form FormFault.Cuts) → (cuts : List ℕ) → AreCuts text.now cuts → ⊥ }
-    ensures fault { IfErr result IsCutFault }
+    ensures { ComesOfCuts (λ cuts. AreCuts text.now cuts.items) (IsNoCuts text.now) result }
 {
     let mut cuts = Vec::new(alloc);
     let mut rest = text;

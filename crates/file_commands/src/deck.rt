@@ -1,9 +1,6 @@
 //! The deck in a file, and a file of it.
 ghost use Rattle.std.specs.Prelude.{◌≡◌, None, find, option_map, IfOk, IfErr};
-ghost use Rattle.deck_reader.specs.Deck.{IsDeck};
-ghost use Rattle.deck_runner.specs.DeckRun.{IsNoDeck};
-ghost use Rattle.deck_words.specs.declared.fault.DeckFault.{DeckFault as ToldFault};
-ghost use Rattle.file_commands.specs.DeckFile.{is_named, IsFileOf, IsDeckAt, IsDeckFault};
+ghost use Rattle.file_commands.specs.DeckFile.{is_named, IsFileOf, IsDeckAt, ComesOfDeck, GivesDeck};
 
 use crate::file_bytes::read_deck_bytes;
 use command_outcomes::Fault;
@@ -16,10 +13,7 @@ use std::rt::Files;
 #[tactic(auto, using(crate::proofs::DeckLemmas::of_a_deck))]
 /// The deck that the bytes are.
 pub fn deck_of(alloc: Global, bytes: &[u8]) -> Result<Deck, Fault>
-    ensures deck { IfOk result (IsDeck bytes.now) }
-    ensures refused { IfErr result (λ fault. (told : ToldFault) → fault ≡ Fault.Deck told
-        → IsNoDeck bytes.now told) }
-    ensures fault { IfErr result IsDeckFault }
+    ensures { GivesDeck bytes.now result }
 {
     match read_deck(alloc, bytes) {
         Ok(deck) => Ok(deck),
@@ -49,8 +43,7 @@ pub fn deck_at<R: Files, I: Read>(
     path: &str,
     input: &mut I,
 ) -> Result<Deck, Fault>
-    ensures deck { IfOk result (IsDeckAt R.File.remaining I.remaining input.old path.now) }
-    ensures fault { IfErr result IsDeckFault }
+    ensures { ComesOfDeck (IsDeckAt R.File.remaining I.remaining input.old path.now) result }
 {
     let bytes = match read_deck_bytes(rt, alloc, path, input) {
         Ok(bytes) => bytes,

@@ -1,10 +1,9 @@
 //! The list of the deck in a file.
-ghost use Rattle.std.specs.Prelude.{◌≡◌, ◌≢◌, string_bytes, IfOk, IfErr};
+ghost use Rattle.std.specs.Prelude.{◌≢◌};
 ghost use Rattle.deck_reader.specs.declared.deck.Deck.{Deck as ToldDeck};
 ghost use Rattle.deck_reader.specs.Deck.{IsDeck};
 ghost use Rattle.deck_listing.specs.Listing.{Lists};
-ghost use Rattle.file_commands.specs.Listed.{IsRefusalOf, RefusesDeck, WritesListAt, IsListFault};
-ghost use Rattle.command_outcomes.specs.Status.{status_of};
+ghost use Rattle.file_commands.specs.Listed.{IsRefusalOf, IsListFault, GivesText, ListsDeckAt};
 
 use crate::file_bytes::read_deck_bytes;
 use crate::text::write_text;
@@ -36,9 +35,7 @@ pub fn refused(alloc: Global, bytes: &[u8], fault: DeckFault) -> Fault
 
 /// The list of the deck that the bytes are.
 fn list(alloc: Global, bytes: &[u8]) -> Result<String, Fault>
-    ensures list { IfOk result (λ text. Lists bytes.now (string_bytes text)) }
-    ensures refused { IfErr result (IsRefusalOf bytes.now) }
-    ensures fault { IfErr result IsListFault }
+    ensures { GivesText (Lists bytes.now) bytes.now result }
 {
     match list_deck(alloc, bytes) {
         Ok(text) => Ok(text),
@@ -56,11 +53,7 @@ pub fn list_path<R: Files, I: Read, W: Write>(
     input: &mut I,
     out: &mut W,
 ) -> Result<Outcome, Fault>
-    ensures done { IfOk result (λ outcome. outcome ≡ Outcome.Listed) }
-    ensures listed { WritesListAt R.File.remaining I.remaining input.old path.now W.contents out.old out.new result }
-    ensures refused { RefusesDeck R.File.remaining I.remaining input.old path.now result }
-    ensures untouched { IfErr result (λ fault. status_of fault ≢ 4 → out.new ≡ out.old) }
-    ensures fault { IfErr result IsListFault }
+    ensures { ListsDeckAt R.File.remaining I.remaining input.old path.now W.contents out.old out.new result }
 {
     let bytes = match read_deck_bytes(rt, alloc, path, input) {
         Ok(bytes) => bytes,

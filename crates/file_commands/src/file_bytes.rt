@@ -1,8 +1,7 @@
 //! The bytes of a file: of a deck, of records, or of a text.
-ghost use Rattle.std.specs.Prelude.{◌≡◌, ◌≤◌, ◌<◌, IfOk, IfErr, length, take, codes};
-ghost use Rattle.std.specs.Io.KnownBytes.{Consumes, IsAtEnd};
-ghost use Rattle.file_commands.specs.Front.{IsFrontOfNamed, IsFrontOfInput, IsDeckNamed, IsTextNamed};
-ghost use Rattle.file_commands.specs.Front.{IsWholeFile, GivesSuch};
+ghost use Rattle.std.specs.Prelude.{◌≡◌, IfErr};
+ghost use Rattle.file_commands.specs.Front.{IsFrontOfInput, IsTextNamed, IsWholeFile, GivesSuch};
+ghost use Rattle.file_commands.specs.Front.{FillsPart, ReadsNamed, ReadsDeckNamed};
 ghost use Rattle.command_outcomes.specs.Status.{status_of};
 
 use command_outcomes::Fault;
@@ -25,12 +24,7 @@ const MOST_INTERRUPTED: u32 = 1000;
 
 /// Reads a part, and answers how many bytes came: none at the end.
 fn read_part<R: Read>(reader: &mut R, part: &mut [u8]) -> Result<usize, Fault>
-    ensures within { IfOk result (λ n. n ≤ length part.new) }
-    ensures length { length part.new ≡ length part.old }
-    ensures bytes { IfOk result (λ n. Consumes (R.remaining reader.old) (R.remaining reader.new)
-        (take n part.new)) }
-    ensures end { IfOk result (λ n. n ≡ 0 → 0 < length part.old → IsAtEnd (R.remaining reader.new)) }
-    ensures fault { IfErr result (λ fault. status_of fault ≡ 4) }
+    ensures { FillsPart (R.remaining reader.old) (R.remaining reader.new) part.old part.new result }
 {
     for _ in 0..MOST_INTERRUPTED {
         match reader.read(part) {
@@ -71,9 +65,7 @@ fn read_named<R: Files, I: Read>(
     input: &mut I,
     most: usize,
 ) -> Result<Vec<u8>, Fault>
-    ensures bytes { GivesSuch (λ bytes.
-        IsFrontOfNamed most R.File.remaining (I.remaining input.old) path.now bytes.items) result }
-    ensures unread { (path.now ≡ codes "-" → ⊥) → input.new ≡ input.old }
+    ensures { ReadsNamed most R.File.remaining I.remaining path.now input.old input.new result }
 {
     if path == "-" {
         return read_front(alloc, input, most);
@@ -90,9 +82,7 @@ pub fn read_deck_bytes<R: Files, I: Read>(
     path: &str,
     input: &mut I,
 ) -> Result<Vec<u8>, Fault>
-    ensures bytes { GivesSuch (λ bytes.
-        IsDeckNamed R.File.remaining (I.remaining input.old) path.now bytes.items) result }
-    ensures unread { (path.now ≡ codes "-" → ⊥) → input.new ≡ input.old }
+    ensures { ReadsDeckNamed R.File.remaining I.remaining path.now input.old input.new result }
 {
     read_named(rt, alloc, path, input, MOST_BYTES)
 }

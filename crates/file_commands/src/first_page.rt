@@ -1,8 +1,7 @@
 //! The schema of a file, by its first page, told or held against that of a file of a deck.
-ghost use Rattle.std.specs.Prelude.{◌≡◌, ◌≢◌, IfOk, IfErr};
-ghost use Rattle.file_commands.specs.Front.{word_in, GivesSuch};
-ghost use Rattle.file_commands.specs.Schema.{TellsReader, TellsFile, ComparesAsked, IsOfSchema, IsSchemaDone};
-ghost use Rattle.file_commands.specs.Schema.{IsSchemaFault, listing_told_as};
+ghost use Rattle.std.specs.Prelude.{◌≡◌};
+ghost use Rattle.file_commands.specs.Schema.{TellsReader, TellsFile, IsOfSchema, ComesOfFile, AnswersSchema};
+ghost use Rattle.file_commands.specs.Schema.{listing_told_as};
 ghost use Rattle.command_outcomes.specs.Status.{status_of};
 
 use crate::comparing::compare_path;
@@ -33,8 +32,7 @@ fn write_schema<R: Read + Drop, W: Write>(
     reader: R,
     out: &mut W,
 ) -> Result<Outcome, Fault>
-    ensures told { TellsReader R.remaining reader W.contents out.old out.new result }
-    ensures kind { GivesSuch IsOfSchema result }
+    ensures { ComesOfFile IsOfSchema (TellsReader (R.remaining reader) W.contents out.old out.new) result }
 {
     match list_schema(alloc, reader, out) {
         Ok(Ok(())) => Ok(Outcome::SchemaTold),
@@ -52,8 +50,7 @@ fn schema_path<R: Files, W: Write>(
 ) -> Result<Outcome, Fault>
 where
     R::File: LockFile,
-    ensures told { IfOk result (TellsFile R.File.remaining W.contents out.old out.new) }
-    ensures kind { GivesSuch IsOfSchema result }
+    ensures { ComesOfFile IsOfSchema (TellsFile R.File.remaining W.contents out.old out.new) result }
 {
     let file = open_shared(rt, path)?;
     write_schema(alloc, file, out)
@@ -71,13 +68,8 @@ pub fn schema<R: Files, I: Read, W: Write>(
 ) -> Result<Outcome, Fault>
 where
     R::File: LockFile,
-    ensures told { IfOk result (λ outcome. IsOfSchema outcome
-        → TellsFile R.File.remaining W.contents out.old out.new outcome) }
-    ensures compared { IfOk result (ComparesAsked R.File.remaining I.remaining input.old (word_in deck.entry)
-        (word_in name.entry) W.contents out.old out.new) }
-    ensures done { IfOk result (IsSchemaDone (word_in deck.entry) (word_in name.entry)) }
-    ensures untouched { IfErr result (λ fault. status_of fault ≢ 4 → out.new ≡ out.old) }
-    ensures fault { IfErr result (IsSchemaFault (word_in deck.entry) (word_in name.entry)) }
+    ensures { AnswersSchema R.File.remaining I.remaining input.old deck.entry name.entry
+        W.contents out.old out.new result }
 {
     match (deck, name) {
         (None, None) => schema_path(rt, alloc, path, out),

@@ -1,11 +1,10 @@
 //! The form in which records are listed, as the words ask for it.
-ghost use Rattle.std.specs.Prelude.{◌≡◌, ◌∷◌, [], ℕ, List, map, codes, IfOk, IfErr};
+ghost use Rattle.std.specs.Prelude.{◌≡◌, ◌∷◌, [], map, codes};
 ghost use Rattle.record_forms.specs.Parts.{part_of, whole_part};
-ghost use Rattle.command_words.specs.Asks.{form_text};
 ghost use Rattle.file_commands.specs.Cuts.{AreNoCuts};
-ghost use Rattle.file_commands.specs.DeckFile.{IsDeckFault};
-ghost use Rattle.file_commands.specs.Forms.{IsCutInto, AreItemsOf, AreColumnsAsked, IsCutFault, IsFormAsked};
-ghost use Rattle.file_commands.specs.Forms.{IsFormRefused};
+ghost use Rattle.file_commands.specs.DeckFile.{ComesOfDeck};
+ghost use Rattle.file_commands.specs.Forms.{IsCutInto, AreItemsAt, AreColumnsAsked, IsFormAsked};
+ghost use Rattle.file_commands.specs.Forms.{ComesOfCuts, ComesOfForm, WantsOnlyMemory};
 ghost use Rattle.file_commands.specs.Front.{IsDeckNamed};
 
 use crate::cuts::read_cuts;
@@ -19,9 +18,7 @@ use std::rt::Files;
 
 /// The columns between the cuts of a text.
 fn columns_between(alloc: Global, text: &str) -> Result<Vec<Column>, Fault>
-    ensures columns { IfOk result (λ columns. IsCutInto text.now columns.items) }
-    ensures none { result ≡ Err (Fault.Form FormFault.Cuts) → AreNoCuts text.now }
-    ensures fault { IfErr result IsCutFault }
+    ensures { ComesOfCuts (λ columns. IsCutInto text.now columns.items) (AreNoCuts text.now) result }
 {
     let cuts = match read_cuts(alloc, text) {
         Ok(cuts) => cuts,
@@ -42,9 +39,7 @@ fn columns_in<R: Files, I: Read>(
     name: &str,
     input: &mut I,
 ) -> Result<Vec<Column>, Fault>
-    ensures columns { IfOk result (λ columns.
-        AreItemsOf (IsDeckNamed R.File.remaining (I.remaining input.old) deck.now) name.now columns.items) }
-    ensures fault { IfErr result IsDeckFault }
+    ensures { ComesOfDeck (AreItemsAt R.File.remaining I.remaining input.old deck.now name.now) result }
 {
     let deck = match deck_at(rt, alloc, deck, input) {
         Ok(deck) => deck,
@@ -62,8 +57,7 @@ fn columns_in<R: Files, I: Read>(
 
 /// The record as one column.
 fn whole(alloc: Global) -> Result<Vec<Column>, Fault>
-    ensures column { IfOk result (λ columns. map part_of columns.items ≡ whole_part ∷ []) }
-    ensures fault { IfErr result (λ fault. fault ≡ Fault.Memory) }
+    ensures { WantsOnlyMemory (λ columns. map part_of columns.items ≡ whole_part ∷ []) result }
 {
     match whole_column(alloc) {
         Ok(columns) => Ok(columns),
@@ -78,9 +72,8 @@ fn columns_of<R: Files, I: Read>(
     asked: FormWords<'_>,
     input: &mut I,
 ) -> Result<Vec<Column>, Fault>
-    ensures columns { IfOk result (λ columns.
-        AreColumnsAsked (IsDeckNamed R.File.remaining (I.remaining input.old)) (form_text asked.entry) columns.items) }
-    ensures refused { IfErr result (IsFormRefused (form_text asked.entry)) }
+    ensures { ComesOfForm (AreColumnsAsked (IsDeckNamed R.File.remaining (I.remaining input.old)))
+        asked.entry result }
 {
     match (asked.cut, asked.deck, asked.name) {
         (None, None, None) => whole(alloc),
@@ -94,8 +87,7 @@ fn columns_of<R: Files, I: Read>(
 /// Text, where no columns are asked for.
 fn text_form(asked: FormWords<'_>) -> Result<Form, Fault>
     requires { asked.kind.now ≡ codes "text" }
-    ensures form { IfOk result (IsFormAsked (λ deck bytes. ⊥) (form_text asked.entry)) }
-    ensures refused { IfErr result (IsFormRefused (form_text asked.entry)) }
+    ensures { ComesOfForm (IsFormAsked (λ deck bytes. ⊥)) asked.entry result }
 {
     match (asked.cut, asked.deck, asked.name) {
         (None, None, None) => Ok(Form::Text),
@@ -111,9 +103,8 @@ pub fn form_of<R: Files, I: Read>(
     asked: FormWords<'_>,
     input: &mut I,
 ) -> Result<Form, Fault>
-    ensures form { IfOk result (
-        IsFormAsked (IsDeckNamed R.File.remaining (I.remaining input.old)) (form_text asked.entry)) }
-    ensures refused { IfErr result (IsFormRefused (form_text asked.entry)) }
+    ensures { ComesOfForm (IsFormAsked (IsDeckNamed R.File.remaining (I.remaining input.old)))
+        asked.entry result }
 {
     if asked.kind == "text" {
         return text_form(asked);

@@ -1,10 +1,7 @@
 //! The list of the records of the file of a path.
-ghost use Rattle.std.specs.Prelude.{◌≡◌, ◌≢◌, option_map, IfOk, IfErr};
-ghost use Rattle.command_words.specs.Asks.{form_text};
-ghost use Rattle.file_commands.specs.Forms.{IsListRefused};
+ghost use Rattle.std.specs.Prelude.{◌≡◌, option_map};
 ghost use Rattle.file_commands.specs.Front.{word_in};
-ghost use Rattle.file_commands.specs.Records.{IsAskedBy, ListsAsked};
-ghost use Rattle.command_outcomes.specs.Status.{status_of};
+ghost use Rattle.file_commands.specs.Records.{IsAskedBy, FitsValue, ToldOfList, ListsFile};
 
 use crate::file_bytes::read_file;
 use crate::forms::form_of;
@@ -31,8 +28,7 @@ pub struct Bounds<'a> {
 
 /// A value, of which no key has more than 250 bytes.
 fn value_of(text: &str) -> Result<Key, Fault>
-    ensures value { IfOk result (λ key. key.items ≡ text.now) }
-    ensures fault { IfErr result (λ fault. fault ≡ Fault.LongValue) }
+    ensures { FitsValue (λ key. key.items ≡ text.now) result }
 {
     let mut key = Key::new();
     match key.try_extend_from_slice(text.as_bytes()) {
@@ -43,8 +39,7 @@ fn value_of(text: &str) -> Result<Key, Fault>
 
 /// A last value, if there is one.
 fn last_of(text: Option<&str>) -> Result<Option<Key>, Fault>
-    ensures value { IfOk result (λ key. option_map (λ key. key.items) key ≡ word_in text.entry) }
-    ensures fault { IfErr result (λ fault. fault ≡ Fault.LongValue) }
+    ensures { FitsValue (λ key. option_map (λ key. key.items) key ≡ word_in text.entry) result }
 {
     match text {
         Some(text) => Ok(Some(value_of(text)?)),
@@ -54,8 +49,7 @@ fn last_of(text: Option<&str>) -> Result<Option<Key>, Fault>
 
 /// What the words of a command line ask of a list.
 fn asked_by(bounds: Bounds<'_>) -> Result<Asked, Fault>
-    ensures asked { IfOk result (IsAskedBy bounds.entry) }
-    ensures fault { IfErr result (λ fault. fault ≡ Fault.LongValue) }
+    ensures { FitsValue (IsAskedBy bounds.entry) result }
 {
     let from = value_of(bounds.from.unwrap_or(""))?;
     let to = last_of(bounds.to)?;
@@ -69,9 +63,7 @@ fn asked_by(bounds: Bounds<'_>) -> Result<Asked, Fault>
 
 /// How a list ended, as what was done.
 fn ended(end: Result<FileList, ListFault>) -> Result<Outcome, Fault>
-    ensures done { IfOk result (λ outcome. IfOk end (λ list. outcome ≡ Outcome.Records list)) }
-    ensures there { IfErr end (λ _. IfOk result (λ _. ⊥)) }
-    ensures fault { IfErr result (λ fault. status_of fault ≡ 4) }
+    ensures { ToldOfList end result }
 {
     match end {
         Ok(list) => Ok(Outcome::Records(list)),
@@ -96,10 +88,8 @@ pub fn list_records<R: Files, I: Read, P: Progress, W: Write>(
 ) -> Result<Outcome, Fault>
 where
     R::File: LockFile,
-    ensures records { IfOk result (ListsAsked R.File.remaining I.remaining input.old bounds.entry
-        (form_text form.entry) W.contents out.old out.new) }
-    ensures untouched { IfErr result (λ fault. status_of fault ≢ 4 → out.new ≡ out.old) }
-    ensures fault { IfErr result (IsListRefused (form_text form.entry)) }
+    ensures { ListsFile R.File.remaining I.remaining input.old bounds.entry form.entry
+        W.contents out.old out.new result }
 {
     let asked = match asked_by(bounds) {
         Ok(asked) => asked,

@@ -1,9 +1,8 @@
 //! The check of files, and what is written of them.
-ghost use Rattle.std.specs.Prelude.{◌≡◌, ◌&&◌, length, IfOk, IfErr};
+ghost use Rattle.std.specs.Prelude.{◌≡◌, ◌&&◌, length};
 ghost use Rattle.std.specs.Option.{IfSome};
 ghost use Rattle.file_checker.specs.Sound.{IsRight};
-ghost use Rattle.command_outcomes.specs.Status.{status_of};
-ghost use Rattle.file_commands.specs.Front.{GivesSuch};
+ghost use Rattle.file_commands.specs.Front.{GivesSuch, DoesSuch};
 ghost use Rattle.file_commands.specs.Verdicts.{is_sound, AreVerdicts, IsOnFile, ChecksFile, ChecksFiles};
 
 use crate::file_bytes::{open_shared, with_progress};
@@ -18,8 +17,8 @@ use system_files::LockFile;
 
 /// Checks the file that a reader has.
 pub fn check<R: Read>(alloc: Global, reader: &mut R) -> Result<Verdict, Fault>
-    ensures right { IfSome (R.remaining reader.old) (λ bytes. IfOk result (IsRight bytes)) }
-    ensures fault { IfErr result (λ fault. status_of fault ≡ 4) }
+    ensures right { GivesSuch (λ verdict. IfSome (R.remaining reader.old)
+        (λ bytes. IsRight bytes verdict)) result }
 {
     match check_file(alloc, reader) {
         Ok(verdict) => Ok(verdict),
@@ -83,8 +82,7 @@ pub fn check_path<R: Files, P: Progress, W: Write>(
 ) -> Result<Outcome, Fault>
 where
     R::File: LockFile,
-    ensures right { IfOk result (ChecksFile R.File.remaining) }
-    ensures fault { IfErr result (λ fault. status_of fault ≡ 4) }
+    ensures { DoesSuch (ChecksFile R.File.remaining) result }
 {
     let verdict = verdict_of(rt, alloc, path, progress)?;
     match write_line(verdict, out) {
@@ -136,8 +134,7 @@ pub fn check_paths<R: Files, P: Progress, W: Write>(
 ) -> Result<Outcome, Fault>
 where
     R::File: LockFile,
-    ensures right { IfOk result (ChecksFiles R.File.remaining (length paths.now)) }
-    ensures fault { IfErr result (λ fault. status_of fault ≡ 4) }
+    ensures { DoesSuch (ChecksFiles R.File.remaining (length paths.now)) result }
 {
     match check_files(rt, alloc, paths, progress, out) {
         Ok(sound) => Ok(Outcome::CheckedAll(sound)),

@@ -74,7 +74,7 @@ returns-in-Deck-clause-right g c =
     let given = given_by g.R.File.Read.remaining (g.I.Read.remaining c.args.input.now.reader) g.D.Disk.unseen in
     let asked = subst (Ask (map string_bytes c.args.words.now)) c.in-Deck.is c.in-Ok.ensures.asked in
     right_as given (map string_bytes c.args.words.now) (wrote g.W.Write.contents c.args.out.now c.list_path.new.out) Listed
-    c.list_path.result c.list_path.ensures.done c.list_path.ensures.listed (λ listed. (c.in-Deck.deck.now, asked, listed))
+    c.list_path.result c.list_path.ensures.done c.list_path.ensures.written (λ listed. (c.in-Deck.deck.now, asked, listed))
 
 pub returns-in-List-clause-did : goal.returns-in-List-clause-did
 returns-in-List-clause-did g c =
@@ -98,7 +98,7 @@ returns-in-Stat-clause-right g c =
     let given = given_by g.R.File.Read.remaining (g.I.Read.remaining c.args.input.now.reader) g.D.Disk.unseen in
     let asked = subst (Ask (map string_bytes c.args.words.now)) c.in-Stat.is c.in-Ok.ensures.asked in
     right_by given (map string_bytes c.args.words.now) (wrote g.W.Write.contents c.args.out.now c.count_path.new.out) Counted _
-    c.count_path.result c.count_path.ensures.counted (λ end is. (c.in-Stat.file.now, asked, is))
+    c.count_path.result c.count_path.ensures.right (λ end is. (c.in-Stat.file.now, asked, is))
 
 pub returns-in-Cobol-clause-right : goal.returns-in-Cobol-clause-right
 returns-in-Cobol-clause-right g c =

@@ -11,25 +11,37 @@ more-preserved c =
     let off = cut_off c.more.rest.now c.split_once.result c.in-Some.front c.in-Some.behind c.split_once.ensures.cases c.in-Some.is in
     record {
       text = search rules;
-      read = read_on c.args.text.now c.more.rest.now read.0 c.more.cuts.items read.1 read.2 c.in-Some.front.now c.in-Some.behind.now c.push_cut.new.cuts.items off c.in-Ok.ensures.cut;
+      read = read_on c.args.text.now c.more.rest.now read.0 c.more.cuts.items read.1 read.2 c.in-Some.front.now c.in-Some.behind.now c.push_cut.new.cuts.items off c.in-Ok.ensures.cuts;
     }
 
-pub returns-in-Err-clause-none : goal.returns-in-Err-clause-none
-returns-in-Err-clause-none c is =
-    let read = c.more.invariant.read in
-    let off = cut_off c.more.rest.now c.split_once.result c.in-Some.front c.in-Some.behind c.split_once.ensures.cases c.in-Some.is in
-    let same : c.in-Err.fault ≡ Form Cuts = cc in
-    not_read c.args.text.now c.more.rest.now read.0 c.more.cuts.items read.1 read.2 c.in-Some.front.now (between_commas c.in-Some.behind.now) off (c.push_cut.ensures.none (c.in-Err.is ∙ ap Err same))
+pub returns-in-Err : goal.returns-in-Err
+returns-in-Err c = record {
+  cuts = tt;
+  none = λ is.
+      let read = c.more.invariant.read in
+      let off = cut_off c.more.rest.now c.split_once.result c.in-Some.front c.in-Some.behind c.split_once.ensures.cases c.in-Some.is in
+      let same : c.in-Err.fault ≡ Form Cuts = cc in
+      not_read c.args.text.now c.more.rest.now read.0 c.more.cuts.items read.1 read.2 c.in-Some.front.now (between_commas c.in-Some.behind.now) off (c.push_cut.ensures.none (c.in-Err.is ∙ ap Err same));
+  fault = c.in-Err.ensures.fault;
+}
 
-pub returns-in-Ok-push_cut-clause-cuts : goal.returns-in-Ok-push_cut-clause-cuts
-returns-in-Ok-push_cut-clause-cuts c =
+pub returns-in-Ok-push_cut : goal.returns-in-Ok-push_cut
+returns-in-Ok-push_cut c =
     let read = c.more.invariant.read in
-    read_all c.args.text.now c.more.rest.now read.0 c.more.cuts.items read.1 read.2 c.push_cut-2.new.cuts.items
-    (not_cut c.more.rest.now c.split_once.result c.split_once.ensures.cases c.in_default.is) c.in-Ok-push_cut.ensures.cut
+    record {
+      cuts = read_all c.args.text.now c.more.rest.now read.0 c.more.cuts.items read.1 read.2 c.push_cut-2.new.cuts.items
+          (not_cut c.more.rest.now c.split_once.result c.split_once.ensures.cases c.in_default.is) c.in-Ok-push_cut.ensures.cuts;
+      none = λ is. absurd (cc);
+      fault = tt;
+    }
 
-pub returns-in-Err-push_cut-clause-none : goal.returns-in-Err-push_cut-clause-none
-returns-in-Err-push_cut-clause-none c is =
-    let read = c.more.invariant.read in
-    let same : c.in-Err-push_cut.fault ≡ Form Cuts = cc in
-    not_read c.args.text.now c.more.rest.now read.0 c.more.cuts.items read.1 read.2 c.more.rest.now []
-    (not_cut c.more.rest.now c.split_once.result c.split_once.ensures.cases c.in_default.is) (c.push_cut-2.ensures.none (c.in-Err-push_cut.is ∙ ap Err same))
+pub returns-in-Err-push_cut : goal.returns-in-Err-push_cut
+returns-in-Err-push_cut c = record {
+  cuts = tt;
+  none = λ is.
+      let read = c.more.invariant.read in
+      let same : c.in-Err-push_cut.fault ≡ Form Cuts = cc in
+      not_read c.args.text.now c.more.rest.now read.0 c.more.cuts.items read.1 read.2 c.more.rest.now []
+      (not_cut c.more.rest.now c.split_once.result c.split_once.ensures.cases c.in_default.is) (c.push_cut-2.ensures.none (c.in-Err-push_cut.is ∙ ap Err same));
+  fault = c.in-Err-push_cut.ensures.fault;
+}
