@@ -1,14 +1,14 @@
 //! REWRITE and DELETE.
-ghost use Rattle.std.specs.Prelude.{◌≡◌, ◌<◌, ℕ, length as count_of, false, option_map};
+ghost use Rattle.std.specs.Prelude.{◌≡◌, ◌<◌, ℕ, length as count_of, false};
 ghost use Rattle.io_state.specs.declared.statement.FileStatement.TheVariants.{Rewrite, Delete};
 ghost use Rattle.verbs.specs.Refusals.{is_refusal};
 ghost use Rattle.verbs.specs.Faults.{is_boundary_violation};
 ghost use Rattle.verbs.specs.Performed.{AnswersFrom};
 ghost use Rattle.verbs.specs.Parts.{MakesUpdate, rewriting, deleting};
-ghost use Rattle.verbs.specs.Held.{bytes_of, prime_by};
+ghost use Rattle.verbs.specs.Held.{last_read_in, prime_by};
 ghost use Rattle.verbs.specs.Fits.{MayPerform, MaySubstitute, MayTakeOut};
 
-use super::Connector;
+use super::{Connector, copy_of};
 use crate::checks::{
     changes_prime, is_for_updating, is_length, is_sequential, is_unread, status_by,
 };
@@ -31,7 +31,8 @@ impl Connector {
         let Some(mode) = self.mode else {
             return Status::NotOpenForUpdating;
         };
-        let last_read = self.last_read.take();
+        let was_read = self.was_read;
+        self.was_read = false;
         if self.failed {
             return Status::ConnectorFailed;
         }
@@ -39,7 +40,7 @@ impl Connector {
         if !updatable {
             return Status::NotOpenForUpdating;
         }
-        let unread = is_unread(self.access, &last_read);
+        let unread = is_unread(self.access, was_read);
         if unread {
             return Status::NoRecordRead;
         }
@@ -49,7 +50,7 @@ impl Connector {
         }
         let bytes = &area[..usize::from(length)];
         let prime = self.value(bytes, 0);
-        let other = changes_prime(self.access, &prime, &last_read);
+        let other = changes_prime(self.access, &prime, was_read, &self.last_read);
         if other {
             return Status::OutOfSequence;
         }
@@ -85,7 +86,8 @@ impl Connector {
         let Some(mode) = self.mode else {
             return Status::NotOpenForUpdating;
         };
-        let last_read = self.last_read.take();
+        let was_read = self.was_read;
+        self.was_read = false;
         if self.failed {
             return Status::ConnectorFailed;
         }
@@ -93,25 +95,22 @@ impl Connector {
         if !updatable {
             return Status::NotOpenForUpdating;
         }
-        let unread = is_unread(self.access, &last_read);
+        let unread = is_unread(self.access, was_read);
         if unread {
             return Status::NoRecordRead;
         }
-        let prime = self.prime_to_delete(last_read, area);
+        let prime = self.prime_to_delete(was_read, &self.last_read, area);
         self.take_out(lib, u, &prime)
     }
 
     /// The prime value of the record that DELETE takes out.
-    fn prime_to_delete(&self, last_read: Option<Key>, area: &[u8]) -> Key
+    fn prime_to_delete(&self, was_read: bool, last_read: &Key, area: &[u8]) -> Key
         requires { 0 < count_of self.now.connector.schema.keys }
-        ensures { result.items ≡ prime_by self.now area.now (option_map bytes_of last_read) }
+        ensures { result.items ≡ prime_by self.now area.now (last_read_in was_read last_read.now) }
     {
-        let Some(read) = last_read else {
-            return self.value(area, 0);
-        };
         let sequential = is_sequential(self.access);
-        if sequential {
-            return read;
+        if sequential && was_read {
+            return copy_of(last_read);
         }
         self.value(area, 0)
     }

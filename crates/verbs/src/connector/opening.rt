@@ -19,7 +19,7 @@ impl Connector {
             self.old lib.old result self.new lib.new }
     {
         if self.mode.is_some() {
-            self.last_read = None;
+            self.was_read = false;
             return Status::AlreadyOpen;
         }
         if self.locked {

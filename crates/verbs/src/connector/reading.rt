@@ -25,7 +25,7 @@ impl Connector {
         let Some(mode) = self.mode else {
             return Answer::silent(Status::NotOpenForReading);
         };
-        self.last_read = None;
+        self.was_read = false;
         if self.failed {
             return Answer::silent(Status::ConnectorFailed);
         }
@@ -42,7 +42,7 @@ impl Connector {
         }
         let key = self.key;
         match lib.next(u, key, &self.position, area) {
-            Ok(Some(found)) => self.deliver(key, found, area),
+            Ok(Some(found)) => self.deliver(key, &found, area),
             Ok(None) => Answer::silent(self.lose(Status::AtEnd)),
             Err(fault) => Answer::silent(self.lose(status_of(fault))),
         }
@@ -63,7 +63,7 @@ impl Connector {
         let Some(mode) = self.mode else {
             return Answer::silent(Status::NotOpenForReading);
         };
-        self.last_read = None;
+        self.was_read = false;
         if self.failed {
             return Answer::silent(Status::ConnectorFailed);
         }
@@ -76,7 +76,7 @@ impl Connector {
         }
         let wanted = self.value(area, k);
         match lib.by_key(u, k, &wanted, area) {
-            Ok(Some(found)) => self.deliver(k, found, area),
+            Ok(Some(found)) => self.deliver(k, &found, area),
             Ok(None) => Answer::silent(self.lose(Status::RecordNotFound)),
             Err(fault) => Answer::silent(self.lose(status_of(fault))),
         }
@@ -99,7 +99,7 @@ impl Connector {
         let Some(mode) = self.mode else {
             return Status::NotOpenForReading;
         };
-        self.last_read = None;
+        self.was_read = false;
         if self.failed {
             return Status::ConnectorFailed;
         }

@@ -32,7 +32,7 @@ impl Connector {
         let Some(mode) = self.mode else {
             return Status::NotOpenForWriting;
         };
-        self.last_read = None;
+        self.was_read = false;
         if self.failed {
             return Status::ConnectorFailed;
         }
@@ -129,7 +129,7 @@ impl Connector {
         let sequential = is_sequential(self.access);
         if sequential {
             self.highest = Some(Some(self.value(bytes, 0)));
-        } else {
+        } else if self.highest.is_some() {
             self.highest = None;
         }
     }

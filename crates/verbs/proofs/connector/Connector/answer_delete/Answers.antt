@@ -1,6 +1,5 @@
 use Rattle.std.proofs.Common.{rules, arith, sym, ap}
 use Rattle.std.proofs.lemmas.Grind.{common_steps}
-use Rattle.verbs.specs.Fields.{held_of}
 use Rattle.verbs.proofs.ChangeLemmas.{delete_done}
 use Rattle.verbs.proofs.connector.Connector.answer_delete.Goals as goal
 
@@ -18,7 +17,7 @@ returns g c n = record {
   step = λ honest truly standing.
       delete_done c.self.inside c.args.self.now c.take_out.new.self c.in-Some.mode (g.L.Library.shown.world c.args.lib.now) (g.L.Library.shown.world c.take_out.new.lib) c.args.u n c.args.area.now c.take_out.result
       c.self.view_is c.in-Some.is c.if-self.false
-      (held_of (record c.self.inside { last_read = c.take-last_read.new.self })) c.take-last_read.result c.prime_to_delete-prime.result (ap (λ x. held_of (record c.self.inside { last_read = x })) c.take-last_read.ensures.after) c.take-last_read.ensures.value (sym c.if-not-updatable.ensures) (sym c.if-unread.ensures) c.prime_to_delete-prime.ensures
+      c.prime_to_delete-prime.result (sym c.if-not-updatable.ensures) (sym c.if-unread.ensures) c.prime_to_delete-prime.ensures
       (λ session is. (c.take_out.ensures.updates.change honest truly).step session is c.args.area.now);
   standing = first_of (search rules, grind (arith, common_steps));
   room = first_of (search rules, grind (arith, common_steps));

@@ -1,7 +1,6 @@
 use Rattle.std.proofs.Common.{sym, ap, ◌∙◌, take, rules, arith}
 use Rattle.std.proofs.lemmas.Grind.{common_steps}
 use Rattle.record_layout.specs.Schema.{prime_of}
-use Rattle.verbs.specs.Fields.{held_of}
 use Rattle.verbs.proofs.ChangeLemmas.{rewrite_done, rewrite_room}
 use Rattle.verbs.proofs.PageLemmas.{none_more}
 use Rattle.verbs.proofs.connector.Connector.answer_rewrite.Goals as goal
@@ -19,14 +18,13 @@ returns g c = record {
   cause = first_of (search rules, grind (arith, common_steps));
   step = λ honest truly standing. rewrite_done c.self.inside c.args.self.now c.substitute.new.self c.in-Some.mode (g.L.Library.shown.world c.args.lib.now) (g.L.Library.shown.world c.substitute.new.lib) c.args.u c.args.length c.args.area.now c.substitute.result
       c.self.view_is c.in-Some.is c.if-self.false
-      (held_of (record c.self.inside { last_read = c.take-last_read.new.self })) c.take-last_read.result c.value-prime.result (ap (λ x. held_of (record c.self.inside { last_read = x })) c.take-last_read.ensures.after) c.take-last_read.ensures.value (sym c.if-not-updatable.ensures) (sym c.if-unread.ensures) (sym c.if-not-fit.ensures)
+      c.value-prime.result (sym c.if-not-updatable.ensures) (sym c.if-unread.ensures) (sym c.if-not-fit.ensures)
       (c.value-prime.ensures ∙ ap (λ n. prime_of c.self.inside.schema (take n c.args.area.now)) c.from.ensures) (sym c.if-other.ensures)
       (λ session is. rw (← c.from.ensures) ((c.substitute.ensures.updates.change honest truly).step session is c.args.area.now));
   standing = first_of (search rules, grind (arith, common_steps));
   room = λ honest truly standing. rewrite_room c.self.inside c.args.self.now c.substitute.new.self c.in-Some.mode (g.L.Library.shown.world c.args.lib.now) (g.L.Library.shown.world c.substitute.new.lib) c.args.u c.args.length c.args.area.now c.substitute.result
       c.self.view_is c.in-Some.is c.if-self.false
-      (held_of (record c.self.inside { last_read = c.take-last_read.new.self })) c.take-last_read.result c.value-prime.result (g.L.Library.shown.room c.args.lib.now c.args.u)
-      (ap (λ x. held_of (record c.self.inside { last_read = x })) c.take-last_read.ensures.after) c.take-last_read.ensures.value (sym c.if-not-updatable.ensures) (sym c.if-unread.ensures) (sym c.if-not-fit.ensures)
+      c.value-prime.result (g.L.Library.shown.room c.args.lib.now c.args.u) (sym c.if-not-updatable.ensures) (sym c.if-unread.ensures) (sym c.if-not-fit.ensures)
       (c.value-prime.ensures ∙ ap (λ n. prime_of c.self.inside.schema (take n c.args.area.now)) c.from.ensures) (sym c.if-other.ensures)
       (λ session. rw (← c.from.ensures) ((c.substitute.ensures.updates.change honest truly).room c.args.area.now session));
   asked = first_of (search rules, grind (arith, common_steps));
