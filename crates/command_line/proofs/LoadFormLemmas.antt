@@ -1,6 +1,6 @@
 -- The columns of the form of a load are the whole of the record of its file.
 use Rattle.std.proofs.Common.{◌≡◌, ℕ, Bool, true, false, List, [], ◌∷◌, find, Option, Some, map, if◌then◌else◌, sym, subst}
-use Rattle.record_layout.specs.Layout.{Entry, Placed, IsLayout, length_of}
+use Rattle.record_layout.specs.Layout.{Entry, IsLayout, length_of}
 use Rattle.deck_entries.specs.FileControlEntry.{FileControlEntry}
 use Rattle.deck_entries.specs.FileDescription.{FileDescription, StorageEntry}
 use Rattle.file_control.specs.Description.{FileDesc, IsFile, AreFiles, with_names}

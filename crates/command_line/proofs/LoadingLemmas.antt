@@ -1,5 +1,5 @@
 -- What a load leaves of the folder that it is over, and what it reads.
-use Rattle.std.proofs.Common.{◌≡◌, ℕ, Bool, List, [], ◌∷◌, Option, Ok, Err, codes, subst}
+use Rattle.std.proofs.Common.{◌≡◌, ℕ, Bool, List, [], ◌∷◌, Option, Result, Ok, Err, IfOk, IfErr, codes, subst}
 use Rattle.arrayvec.specs.ArrayString.{ArrayString}
 use Rattle.folder_shelf.specs.Events.{Event, in_folder}
 use Rattle.folder_shelf.specs.Replay.{Unseen}
@@ -11,9 +11,10 @@ use Rattle.record_loading.specs.declared.end.Load.{Load}
 use Rattle.shelf_loading.specs.Loaded.{Ends, KeepsOthers, IsSafe}
 use Rattle.shelf_loading.specs.declared.end.ShelfEnd.{ShelfEnd}
 use Rattle.command_line.specs.Folder.{folder_at_first, folder_after}
-use Rattle.file_commands.specs.Front.{IsFrontOfInput, IsTextNamed}
+use Rattle.file_commands.specs.Front.{IsFrontOfInput, IsTextNamed, GivesSuch}
 use Rattle.command_line.specs.Loaded.{LoadsFolder, LoadsDeck}
 use Rattle.command_line.proofs.FolderLemmas.{untouched}
+use Rattle.command_outcomes.specs.Status.{status_of}
 use Rattle.command_outcomes.specs.declared.fault.Fault.{Fault}
 
 -- a load over the folder of a path, before whose first call no name was attached, with the names and the calls behind it
@@ -76,3 +77,13 @@ loads_as so known = record {
   loads = known.loads;
   told = known.told;
 }
+
+-- ---- what was given, or the input, the output or memory failed
+
+pub such_if_ok : {X : Type 0} (IsSo : X → Type 0) (result : Result X Fault) → GivesSuch IsSo result → IfOk result IsSo
+such_if_ok IsSo (Ok x) such = such
+such_if_ok IsSo (Err fault) such = tt
+
+pub failed_if_err : {X : Type 0} (IsSo : X → Type 0) (result : Result X Fault) → GivesSuch IsSo result → IfErr result (λ fault. status_of fault ≡ 4)
+failed_if_err IsSo (Ok x) such = tt
+failed_if_err IsSo (Err fault) such = such

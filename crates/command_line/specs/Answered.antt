@@ -22,10 +22,9 @@ use Rattle.command_outcomes.specs.declared.outcome.Outcome.{Outcome}
 abbrev pub taken : {W : Type 0} → StandardOutput W → Option (List ℕ)
 taken out = Some (taken_by out.calls.writes)
 
--- the type parameters of a run, and of what they are
-module _
-    {R D F E : Type 0} {reads : Reads F} {writes : Writes F} {seeks : Seeks F} {entries : Reads E} {on : On D}
-    where
+-- a run has these types as parameters, and the ghost members of some of them
+module _ {R D F E : Type 0} {reads : Reads F} {writes : Writes F} {seeks : Seeks F}
+    {entries : Reads E} {on : On D} where
   -- the exit status, which is answered with the run that was begun, is that of an outcome: this was
   -- done for the words, where they ask for a session it came to that, and the outcome is right of what
   -- was read and written

@@ -24,12 +24,11 @@ abbrev pub OverFolder : (List ℕ → Unseen) → List ℕ → List ArrayString 
     → (ShelfState → ShelfState → Type 0) → Type 0
 OverFolder disk path names calls IsSo = IsSo (folder_at_first disk path) (folder_after disk names calls)
 
--- the type parameters of a shelf over a folder, and of what they are
-module _
-    {R D F E : Type 0} {reads : Reads F} {writes : Writes F} {seeks : Seeks F} {entries : Reads E} {on : On D}
-    where
+-- a shelf over a folder has these types as parameters, and the ghost members of some of them
+module _ {R D F E : Type 0} {reads : Reads F} {writes : Writes F} {seeks : Seeks F}
+    {entries : Reads E} {on : On D} where
   -- the same by the shelf over it, which has these calls and names
-  abbrev pub OverShelf : (List ℕ → Unseen) → (path : String Global) → FolderShelf R D F E reads writes seeks entries on
-      → (ShelfState → ShelfState → Type 0) → Type 0
+  abbrev pub OverShelf : (List ℕ → Unseen) → (path : String Global)
+      → FolderShelf R D F E reads writes seeks entries on → (ShelfState → ShelfState → Type 0) → Type 0
   OverShelf disk path shelf IsSo =
       OverFolder disk (string_bytes path) shelf.units.items shelf.folder.calls.events IsSo

@@ -1,6 +1,6 @@
 -- What the program did for the words of its command line. All of this is ours.
-use Rattle.std.specs.Prelude.{◌≡◌, ◌≢◌, ◌⊎◌, ℕ, Bool, true, List, [], ◌∷◌, map, Option, Some, None, option_map}
-use Rattle.std.specs.Prelude.{Result, Ok, Err, IfOk, ⊤, String, string_bytes}
+use Rattle.std.specs.Prelude.{◌≡◌, ◌≢◌, ◌⊎◌, ℕ, Bool, true, List, [], ◌∷◌, map, Option, Some, None}
+use Rattle.std.specs.Prelude.{option_map, Result, Ok, Err, IfOk, ⊤, String, string_bytes}
 use Rattle.std.specs.Global.{Global}
 use Rattle.std.specs.declared.io.traits.Read.{Ghosts as Reads}
 use Rattle.std.specs.declared.io.traits.Write.{Ghosts as Writes}
@@ -58,10 +58,9 @@ begun disk bytes names calls faults = record {
   faults = faults;
 }
 
--- the type parameters of a run, and of what they are
-module _
-    {R D F E : Type 0} {reads : Reads F} {writes : Writes F} {seeks : Seeks F} {entries : Reads E} {on : On D}
-    where
+-- a run has these types as parameters, and the ghost members of some of them
+module _ {R D F E : Type 0} {reads : Reads F} {writes : Writes F} {seeks : Seeks F}
+    {entries : Reads E} {on : On D} where
   -- the run that was given back, if one was begun
   abbrev pub begun_by : (List ℕ → Unseen) → Option (Ran R D F E reads writes seeks entries on) → Option Begun
   begun_by disk = option_map (λ ran.

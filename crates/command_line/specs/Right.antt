@@ -82,7 +82,8 @@ IsRightOf given words out Explained =
     × WritesText (explanation kind number) out.before out.behind
 -- the list of the deck that the words name was written
 IsRightOf given words out Listed =
-    (deck : Text) × AskDeck words deck × OfDeck given.of_file given.of_input deck (λ bytes. WritesList bytes out.before out.behind)
+    (deck : Text) × AskDeck words deck
+    × OfDeck given.of_file given.of_input deck (λ bytes. WritesList bytes out.before out.behind)
 -- the records that the words ask for were written, in the form that they name, or it is told why not
 IsRightOf given words out (Records list) =
     (asked : AskForRecords words) × (form : Form) × IsFormAsked (AreOfDeck given) asked.form form

@@ -18,16 +18,16 @@ use Rattle.command_line.specs.Folder.{OverShelf}
 use Rattle.command_outcomes.specs.declared.fault.Fault.{Fault}
 use Rattle.command_outcomes.specs.declared.fault.Fault.TheVariants.{Deck, Output}
 
--- the type parameters of a shelf over a folder, and of what they are
-module _
-    {R D F E : Type 0} {reads : Reads F} {writes : Writes F} {seeks : Seeks F} {entries : Reads E} {on : On D}
-    where
+-- a shelf over a folder has these types as parameters, and the ghost members of some of them
+module _ {R D F E : Type 0} {reads : Reads F} {writes : Writes F} {seeks : Seeks F}
+    {entries : Reads E} {on : On D} where
   -- a run whose end is clean is exact, between what the folder held first and what it holds last
   abbrev pub TellsExactly : {W : Type 0} → (List ℕ → Unseen) → (path : String Global)
       → FolderShelf R D F E reads writes seeks entries on → (bytes : List ℕ) → (W → Option (List ℕ))
       → (old new : W) → RunEnd → Type 0
   TellsExactly disk path shelf bytes contents old new end = end.clean ≡ true
-      → OverShelf disk path shelf (λ first last. IsExactRun bytes first last (contents old) (contents new) end)
+      → OverShelf disk path shelf (λ first last.
+      IsExactRun bytes first last (contents old) (contents new) end)
 
   -- the transcript of the deck was written, up to this end
   abbrev pub TellsRun : {W : Type 0} → (List ℕ → Unseen) → (path : String Global)
@@ -49,7 +49,8 @@ module _
   -- at any other fault nothing was written, and no file was changed
   abbrev pub LeavesAll : {W : Type 0} → (List ℕ → Unseen) → (path : String Global)
       → FolderShelf R D F E reads writes seeks entries on → (old new : W) → Fault → Type 0
-  LeavesAll disk path shelf old new fault = fault ≢ Output → (new ≡ old) × OverShelf disk path shelf LeavesFiles
+  LeavesAll disk path shelf old new fault =
+      fault ≢ Output → (new ≡ old) × OverShelf disk path shelf LeavesFiles
 
 -- a deck that is refused is none, for this fault
 abbrev pub TellsNoDeck : (bytes : List ℕ) → Fault → Type 0

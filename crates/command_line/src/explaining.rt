@@ -15,7 +15,8 @@ use std::io::Write;
 pub fn explain<W: Write>(kind: &str, number: &str, out: &mut W) -> Result<Outcome, Fault>
     ensures done { IfOk result (λ outcome. outcome ≡ Outcome.Explained) }
     ensures text { IfOk result (λ _. Explains kind.now number.now W.contents out.old out.new) }
-    ensures none { IfErr result (λ fault. fault ≡ Fault.Unexplained → explanation kind.now number.now ≡ None) }
+    ensures none { IfErr result (λ fault.
+        fault ≡ Fault.Unexplained → explanation kind.now number.now ≡ None) }
     ensures untouched { IfErr result (λ fault. fault ≡ Fault.Unexplained → out.new ≡ out.old) }
     ensures fault { IfErr result (λ fault. (fault ≡ Fault.Unexplained) ⊎ (fault ≡ Fault.Output)) }
 {

@@ -1,6 +1,7 @@
 //! The loading of a text into a file of a deck over a folder.
 ghost use Rattle.std.specs.Prelude.{◌≡◌, ◌≢◌, [], true, false, codes, IfOk, IfErr};
 ghost use Rattle.file_commands.specs.DeckFile.{IsDeckFault};
+ghost use Rattle.file_commands.specs.Front.{GivesSuch};
 ghost use Rattle.record_reading.specs.Whole.{IsWhole};
 ghost use Rattle.command_line.specs.Loaded.{load_of, LoadsDescribed, TellsLoad, LoadsBytes};
 ghost use Rattle.command_outcomes.specs.Status.{status_of};
@@ -104,8 +105,7 @@ where
 /// file already.
 fn write_answer<W: Write>(room: Vec<u8>, end: ShelfEnd, out: &mut W) -> Result<Outcome, Fault>
     requires { room.items ≡ [] }
-    ensures done { IfOk result (TellsLoad end W.contents out.old out.new) }
-    ensures fault { IfErr result (λ fault. status_of fault ≡ 4) }
+    ensures { GivesSuch (TellsLoad end W.contents out.old out.new) result }
 {
     let mut answer = room;
     if let ShelfEnd::Loaded(loaded) = end {

@@ -37,8 +37,8 @@ where
 
     type Library = ShelfLibrary<FolderShelf<&'a R, D>>;
 
-    ghost is_new = { λ libraries. IsNewOver ⟦<FolderShelf<&'a R, D> as Shelf>⟧ D.Disk.unseen libraries.folder.now
-        libraries.limits.pages (non_zero_usize_get libraries.limits.frames) };
+    ghost is_new = { λ libraries. IsNewOver ⟦<FolderShelf<&'a R, D> as Shelf>⟧ D.Disk.unseen
+        libraries.folder.now libraries.limits.pages (non_zero_usize_get libraries.limits.frames) };
 
     fn make(&self) -> Option<ShelfLibrary<FolderShelf<&'a R, D>>> {
         let folder = self.folder.to_string(self.alloc).ok()?;

@@ -5,9 +5,11 @@ use Rattle.record_loading.specs.Loading.{listing}
 use Rattle.record_loading.specs.declared.end.Load.{Load}
 use Rattle.shelf_loading.specs.declared.end.ShelfEnd.{ShelfEnd}
 use Rattle.file_commands.specs.Front.{IsTextNamed}
-use Rattle.file_commands.specs.DeckFile.{is_named, IsFileOf}
+use Rattle.file_commands.specs.DeckFile.{is_named, IsFileOf, IsDeckFault}
 use Rattle.command_line.specs.LoadForm.{word_of}
 use Rattle.command_line.proofs.LoadFormLemmas.{laid_in, form_is_whole}
+use Rattle.command_line.proofs.LoadingLemmas.{such_if_ok, failed_if_err}
+use Rattle.file_commands.proofs.DeckLemmas.{not_there}
 use Rattle.command_line.specs.Loaded.{LoadsFolder, LoadsDeck, WritesAnswer, load_of}
 use Rattle.command_outcomes.specs.Status.{status_of}
 use Rattle.command_outcomes.specs.declared.outcome.Outcome.TheVariants.{Loaded}
@@ -54,9 +56,14 @@ returns-in-Ok-end-clause-loaded g c =
         told = done.1;
       },
     ))
-    c.write_answer.ensures.done
+    (such_if_ok _ c.write_answer.result c.write_answer.ensures)
 
 -- where the answer is not written, the status is 4
 pub returns-in-Ok-end-clause-untouched : goal.returns-in-Ok-end-clause-untouched
 returns-in-Ok-end-clause-untouched g c =
-    IfErr-weaker c.write_answer.result (λ fault. status_of fault ≡ 4) (λ fault. status_of fault ≢ 4 → c.write_answer.new.out ≡ c.args.out.now) (λ fault is other. absurd (other is)) c.write_answer.ensures.fault
+    IfErr-weaker c.write_answer.result (λ fault. status_of fault ≡ 4) (λ fault. status_of fault ≢ 4 → c.write_answer.new.out ≡ c.args.out.now) (λ fault is other. absurd (other is))
+    (failed_if_err _ c.write_answer.result c.write_answer.ensures)
+
+pub returns-in-Ok-end-clause-fault : goal.returns-in-Ok-end-clause-fault
+returns-in-Ok-end-clause-fault g c =
+    IfErr-weaker c.write_answer.result (λ fault. status_of fault ≡ 4) IsDeckFault not_there (failed_if_err _ c.write_answer.result c.write_answer.ensures)
