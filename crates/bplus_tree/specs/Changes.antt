@@ -73,6 +73,11 @@ pub record Alters {S X : Type 0} (shown : ShownPages S)
   pub leaves : WhereSound shown old new (Leaves result)
   pub writes : Keeps shown most old new result
 
+-- one that edits pages of a tree with so many levels above its leaves, and asks for one a level
+abbrev pub EditsDown : {S X : Type 0} → ShownPages S → (levels : ℕ)
+    → (Result X Fault → PageMap → PageMap → Type 0 → Type 0) → (old new : S) → Result X Fault → Type 0
+EditsDown shown levels Leaves old new result = Alters shown EditsPages (levels + 1) Leaves old new result
+
 -- the tree has the shape that it had, and at most so many levels above its leaves
 pub record KeepsShape (most : ℕ) (old new : Tree) : Type 0 where
   pub shape : new.shape ≡ old.shape

@@ -42,6 +42,12 @@ pub record HasNeighbour (cursor : Cursor) (tree : Tree) : Type 0 where
   pub counted : cursor.changes < 2 ^ 64 - 1
   pub more : cursor.spot.place + 1 < cursor.spot.count
 
+-- and pages may be asked for
+pub record CanStep {S : Type 0} (shown : ShownPages S) (cursor : Cursor) (tree : Tree)
+    (pages : S) : Type 0 where
+  pub near : HasNeighbour cursor tree
+  pub ready : shown.IsReady pages
+
 -- the first entry above the cursor's key, and where it stands
 pub record IsBehind (cursor : Cursor) (tree : Tree) (pages : PageMap) (entries : List (List ℕ))
     (own : List ℕ) (spot : Spot) (found : Option (ArrayVec ℕ)) : Type 0 where

@@ -40,7 +40,7 @@ impl Tree {
 
 impl Cursor {
     ghost use Rattle.bplus_tree.specs.LookUps.{LooksAlong};
-    ghost use Rattle.bplus_tree.specs.Cursor.{HasNeighbour, LooksBehind, StepsOn, TellsNext};
+    ghost use Rattle.bplus_tree.specs.Cursor.{HasNeighbour, CanStep, LooksBehind, StepsOn, TellsNext};
 
     /// The next entry: the first one whose key is above that of the entry given last. Where there
     /// is none the cursor stays where it is, and at a fault. It asks one page mostly, and never
@@ -97,8 +97,7 @@ impl Cursor {
 
     /// The next entry where it stands in the same leaf.
     fn step<P: Pages>(&mut self, tree: &Tree, pages: &mut P) -> Result<Option<Entry>, Fault>
-        requires near { HasNeighbour self.old tree.now }
-        requires ready { P.shown.IsReady pages.old }
+        requires { CanStep P.shown self.old tree.now pages.old }
         ensures { StepsOn P.shown 1 tree.now self.old self.new pages.old pages.new result }
     {
         let Spot { leaf, place, count } = self.spot;

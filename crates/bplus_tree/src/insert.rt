@@ -2,7 +2,8 @@
 
 ghost use Rattle.std.specs.Prelude.{◌+◌, ◌*◌, IfOk, insert};
 ghost use Rattle.tree_node.specs.Leaf.{leaf_entries};
-ghost use Rattle.bplus_tree.specs.Changes.{CanInsert, WhereSound, Alters, EditsPages, TakesOne, TakesUpTo};
+ghost use Rattle.bplus_tree.specs.Changes.{CanInsert, WhereSound, Alters, EditsPages, EditsDown};
+ghost use Rattle.bplus_tree.specs.Changes.{TakesOne, TakesUpTo};
 ghost use Rattle.bplus_tree.specs.Insert.{Inserts, HasWholeKey, PutsBelow, PutsInPlace, CanPut, CanPutAt};
 ghost use Rattle.bplus_tree.specs.Insert.{PutsInLeaf};
 ghost use Rattle.bplus_tree.specs.Edits.{IsLeafOf};
@@ -61,8 +62,7 @@ pub fn put_below<P: Pages>(
     entry: &[u8],
 ) -> Result<bool, Fault>
     requires { CanInsert P.shown shape entry.now pages.old }
-    ensures put { WhereSound P.shown pages.old pages.new (PutsBelow shape levels page entry.now result) }
-    ensures writes { EditsPages P.shown (levels + 1) pages.old pages.new result }
+    ensures { EditsDown P.shown levels (PutsBelow shape levels page entry.now) pages.old pages.new result }
 {
     if levels == 0 {
         return put_in_place(pages, shape, page, entry);

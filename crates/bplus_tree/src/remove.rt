@@ -3,7 +3,7 @@
 ghost use Rattle.std.specs.Prelude.{◌≡◌, ◌+◌, ◌*◌, ◌<◌, ◌≤◌, ◌↔◌, false, IsTrue, length, remove};
 ghost use Rattle.tree_node.specs.Leaf.{IsLeaf, leaf_entries};
 ghost use Rattle.node_balance.specs.Fill.{least};
-ghost use Rattle.bplus_tree.specs.Changes.{CanWrite, WhereSound, Alters, EditsPages, GivesPages};
+ghost use Rattle.bplus_tree.specs.Changes.{CanWrite, WhereSound, Alters, EditsPages, EditsDown, GivesPages};
 ghost use Rattle.bplus_tree.specs.Remove.{Removes, HasPlace, OutOfLeaf, TakesBelow, TakesInPlace};
 ghost use Rattle.bplus_tree.specs.Remove.{TakesFromLeaf};
 ghost use Rattle.bplus_tree.specs.Edits.{IsLeafOf};
@@ -65,9 +65,8 @@ pub fn take_below<P: Pages>(
     to: &mut Entry,
 ) -> Result<bool, Fault>
     requires { CanWrite P.shown pages.old }
-    ensures taken { WhereSound P.shown pages.old pages.new
-        (TakesBelow shape levels page key.now to.new result) }
-    ensures writes { EditsPages P.shown (levels + 1) pages.old pages.new result }
+    ensures { EditsDown P.shown levels (TakesBelow shape levels page key.now to.new) pages.old pages.new
+        result }
 {
     if levels == 0 {
         return take_in_place(pages, shape, page, key, to);

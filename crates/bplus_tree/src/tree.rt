@@ -42,7 +42,7 @@ impl Tree {
     ghost use Rattle.bplus_tree.specs.Within.{FindsWithin};
     ghost use Rattle.bplus_tree.specs.Depth.{IsPastAll, FindsDamage};
     ghost use Rattle.bplus_tree.specs.Standing.{Answers, Tells, MakesTree, Inserts, Removes, one_more};
-    ghost use Rattle.tree_search.specs.Tail.{IsTail, TellsPresence};
+    ghost use Rattle.tree_search.specs.Tail.{CanFillTail, IsTail, TellsPresence};
     ghost use Rattle.tree_search.specs.Calls.{entry_of, first_from, first_after, last_of};
 
     /// A tree without entries, in a page of its own. Full where no page is available.
@@ -89,8 +89,7 @@ impl Tree {
         key: &[u8],
         tail: &mut [u8],
     ) -> Result<bool, Fault>
-        requires ready { P.shown.IsReady pages.old }
-        requires size { self.now.shape.width + length tail.old ≡ self.now.shape.entry }
+        requires { CanFillTail P.shown self.now.shape tail.old pages.old }
         ensures { LooksDown P.shown self.now (Tells (IsTail self.now.shape.width tail.new) key.now)
             pages.old pages.new result }
     {

@@ -161,9 +161,9 @@ Forks shape pages page from to result =
     → IsAnswer result (IsFork shape.width from to separators below)
 
 -- the same of looks that fill an entry
-abbrev pub FillsBelow : Shape → (h page : ℕ) → List ℕ → List ℕ → ArrayVec ℕ → Result (Option Bool) Fault
-    → PageMap → Type 0
-FillsBelow shape h page from to entry result pages =
+abbrev pub FillsBelow : Shape → (h page : ℕ) → List ℕ → List ℕ → ArrayVec ℕ → PageMap
+    → Result (Option Bool) Fault → Type 0
+FillsBelow shape h page from to entry pages result =
     FindsBelow shape h page from to pages (told_first entry result)
 
 abbrev pub SeesBelow : Shape → (h page : ℕ) → List ℕ → List ℕ → ArrayVec ℕ → Result Sight Fault → PageMap
@@ -171,16 +171,16 @@ abbrev pub SeesBelow : Shape → (h page : ℕ) → List ℕ → List ℕ → Ar
 SeesBelow shape h page from to entry result pages =
     Sights shape pages h page from to (told_seen entry result)
 
-abbrev pub SeesInLeaf : Shape → ℕ → List ℕ → List ℕ → ArrayVec ℕ → Result Sight Fault → PageMap → Type 0
-SeesInLeaf shape page from to entry result pages =
+abbrev pub SeesInLeaf : Shape → ℕ → List ℕ → List ℕ → ArrayVec ℕ → PageMap → Result Sight Fault → Type 0
+SeesInLeaf shape page from to entry pages result =
     SightsInLeaf shape pages page from to (told_seen entry result)
 
-abbrev pub FillsFrontBelow : Shape → (h page : ℕ) → List ℕ → ArrayVec ℕ → Result (Option Bool) Fault → PageMap
+abbrev pub FillsFrontBelow : Shape → (h page : ℕ) → List ℕ → ArrayVec ℕ → PageMap → Result (Option Bool) Fault
     → Type 0
-FillsFrontBelow shape h page to entry result pages = Fronts shape pages h page to (told_first entry result)
+FillsFrontBelow shape h page to entry pages result = Fronts shape pages h page to (told_first entry result)
 
-abbrev pub FillsFrontOfLeaf : Shape → ℕ → List ℕ → ArrayVec ℕ → Result (Option Bool) Fault → PageMap → Type 0
-FillsFrontOfLeaf shape page to entry result pages =
+abbrev pub FillsFrontOfLeaf : Shape → ℕ → List ℕ → ArrayVec ℕ → PageMap → Result (Option Bool) Fault → Type 0
+FillsFrontOfLeaf shape page to entry pages result =
     FrontsInLeaf shape pages page to (told_first entry result)
 
 -- a look that the end of the page has stopped has asked for one page a level

@@ -40,8 +40,8 @@ TellsInLeaf Says shape pages page key result =
     → IsAnswer result (Says (entry_of shape.width key entries))
 
 -- the bytes behind a key are filled in, where a tree has an entry of it
-abbrev pub TellsTail : Shape → (h page : ℕ) → List ℕ → List ℕ → Result Bool Fault → PageMap → Type 0
-TellsTail shape h page key tail result pages =
+abbrev pub TellsTail : Shape → (h page : ℕ) → List ℕ → List ℕ → PageMap → Result Bool Fault → Type 0
+TellsTail shape h page key tail pages result =
     TellsBelow (IsTail shape.width tail) shape pages h page key result
 
 -- the same of a leaf, and of the bytes of a leaf
@@ -54,8 +54,8 @@ TellsTailOfBytes shape page key tail told =
     WhereRising shape page (λ entries. IsTail shape.width tail (entry_of shape.width key entries) told)
 
 -- whether a tree has an entry of a key
-abbrev pub HasKeyBelow : Shape → (h page : ℕ) → List ℕ → Result Bool Fault → PageMap → Type 0
-HasKeyBelow shape h page key result pages = TellsBelow TellsPresence shape pages h page key result
+abbrev pub HasKeyBelow : Shape → (h page : ℕ) → List ℕ → PageMap → Result Bool Fault → Type 0
+HasKeyBelow shape h page key pages result = TellsBelow TellsPresence shape pages h page key result
 
 -- pages may be asked for, and what is to be filled in is as long as what stands behind a key
 pub record CanFillTail {S : Type 0} (shown : ShownPages S) (shape : Shape) (tail : List ℕ)

@@ -5,7 +5,7 @@ ghost use Rattle.tree_node.specs.Inner.{IsInner, separators, children};
 ghost use Rattle.tree_node.specs.Leaf.{IsLeaf, leaf_entries};
 ghost use Rattle.tree_node.specs.Order.{less};
 ghost use Rattle.pages.specs.PageCalls.{ReadsPages};
-ghost use Rattle.tree_search.specs.LookUps.{WhenHonest, LooksUp};
+ghost use Rattle.tree_search.specs.LookUps.{WhenHonest, LooksUp, LooksBelow, LooksAcross};
 ghost use Rattle.tree_search.specs.Range.{FindsBelow, FillsBelow, SeesBelow, SeesInLeaf, IsSightFrom};
 ghost use Rattle.tree_search.specs.Range.{FillsFrontBelow, FillsFrontOfLeaf, HasFront, IsFork, Forks};
 ghost use Rattle.tree_search.specs.Range.{IsUnended, AsksFewAtEnd, seen, alone};
@@ -52,7 +52,7 @@ pub fn first_within<P: Pages>(
     to: &[u8],
 ) -> Result<Option<First>, Fault>
     requires ready { P.shown.IsReady pages.old }
-    ensures { LooksUp P.shown (2 * (levels + 1)) (FindsBelow shape levels page from.now to.now) pages.old
+    ensures { LooksAcross P.shown levels (FindsBelow shape levels page from.now to.now) pages.old
         pages.new result }
 {
     let mut entry = Entry::new();
@@ -74,9 +74,8 @@ fn fill_within<P: Pages>(
     entry: &mut Entry,
 ) -> Result<Option<bool>, Fault>
     requires ready { P.shown.IsReady pages.old }
-    ensures found { WhenHonest P.shown pages.old pages.new
-        (FillsBelow shape levels page from.now to.now entry.new result) }
-    ensures reads { ReadsPages P.shown (2 * (levels + 1)) pages.old pages.new result }
+    ensures { LooksAcross P.shown levels (FillsBelow shape levels page from.now to.now entry.new)
+        pages.old pages.new result }
 {
     match look_below(pages, shape, page, levels, from, to, entry)? {
         Sight::Answered(found) => Ok(found),
@@ -132,9 +131,7 @@ fn look_in_leaf<P: Pages>(
     entry: &mut Entry,
 ) -> Result<Sight, Fault>
     requires ready { P.shown.IsReady pages.old }
-    ensures sight { WhenHonest P.shown pages.old pages.new
-        (SeesInLeaf shape page from.now to.now entry.new result) }
-    ensures reads { ReadsPages P.shown 1 pages.old pages.new result }
+    ensures { LooksUp P.shown 1 (SeesInLeaf shape page from.now to.now entry.new) pages.old pages.new result }
 {
     let bytes = pages.page(page)?;
     if !is_leaf(bytes, shape) {
@@ -214,9 +211,8 @@ fn front_below<P: Pages>(
     entry: &mut Entry,
 ) -> Result<Option<bool>, Fault>
     requires ready { P.shown.IsReady pages.old }
-    ensures front { WhenHonest P.shown pages.old pages.new
-        (FillsFrontBelow shape levels page to.now entry.new result) }
-    ensures reads { ReadsPages P.shown (levels + 1) pages.old pages.new result }
+    ensures { LooksBelow P.shown levels (FillsFrontBelow shape levels page to.now entry.new) pages.old
+        pages.new result }
 {
     if levels == 0 {
         return front_of_leaf(pages, shape, page, to, entry);
@@ -234,9 +230,8 @@ fn has_front<P: Pages>(
     to: &[u8],
 ) -> Result<bool, Fault>
     requires ready { P.shown.IsReady pages.old }
-    ensures front { WhenHonest P.shown pages.old pages.new
-        (λ live. HasFront shape live levels page to.now result) }
-    ensures reads { ReadsPages P.shown (levels + 1) pages.old pages.new result }
+    ensures { LooksBelow P.shown levels (λ live. HasFront shape live levels page to.now) pages.old
+        pages.new result }
 {
     let mut entry = Entry::new();
     let front = front_below(pages, shape, page, levels, to, &mut entry)?;
@@ -252,9 +247,7 @@ fn front_of_leaf<P: Pages>(
     entry: &mut Entry,
 ) -> Result<Option<bool>, Fault>
     requires ready { P.shown.IsReady pages.old }
-    ensures front { WhenHonest P.shown pages.old pages.new
-        (FillsFrontOfLeaf shape page to.now entry.new result) }
-    ensures reads { ReadsPages P.shown 1 pages.old pages.new result }
+    ensures { LooksUp P.shown 1 (FillsFrontOfLeaf shape page to.now entry.new) pages.old pages.new result }
 {
     let bytes = pages.page(page)?;
     if !is_leaf(bytes, shape) {

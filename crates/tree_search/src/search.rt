@@ -1,10 +1,10 @@
 //! Look-ups by descent.
 
-ghost use Rattle.std.specs.Prelude.{◌≡◌, ◌+◌, ◌*◌, ◌<◌, ◌≤◌, IsTrue, IfOk, Ok, None, length, option_map};
+ghost use Rattle.std.specs.Prelude.{◌≡◌, ◌+◌, ◌<◌, ◌≤◌, IsTrue, length};
 ghost use Rattle.tree_node.specs.Leaf.{IsLeaf, leaf_entries};
 ghost use Rattle.tree_search.specs.Stored.{WhereRising};
 ghost use Rattle.pages.specs.PageCalls.{ReadsPages};
-ghost use Rattle.tree_search.specs.LookUps.{WhenHonest, LooksUp};
+ghost use Rattle.tree_search.specs.LookUps.{WhenHonest, LooksUp, LooksBelow, AsksFewForNone};
 ghost use Rattle.tree_search.specs.Calls.{last_of};
 ghost use Rattle.tree_search.specs.Spot.{IsInLeafIf, Spots, SpotsInLeaf, SpotsFirst, SpotsFirstInLeaf};
 ghost use Rattle.tree_search.specs.Search.{FindsKey, FindsNext, FindsNextInLeaf, FindsFirst, FirstOfLeaf};
@@ -27,9 +27,7 @@ pub fn find_below<P: Pages>(
     key: &[u8],
 ) -> Result<Option<Entry>, Fault>
     requires ready { P.shown.IsReady pages.old }
-    ensures found { WhenHonest P.shown pages.old pages.new
-        (λ live. FindsKey shape levels page key.now live result) }
-    ensures reads { ReadsPages P.shown (levels + 1) pages.old pages.new result }
+    ensures { LooksBelow P.shown levels (FindsKey shape levels page key.now) pages.old pages.new result }
 {
     let leaf = leaf_below(pages, shape, page, levels, key)?;
     let mut entry = Entry::new();
@@ -107,9 +105,7 @@ pub fn next_below<P: Pages>(
         (λ live. FindsNext past shape levels page key.now live result) }
     ensures spot { WhenHonest P.shown pages.old pages.new
         (λ live. Spots shape live levels page spot.new result) }
-    ensures none { result ≡ Ok None → (P.shown.state pages.new).asked ≤ (P.shown.state pages.old).asked
-        + (levels + 1) }
-    ensures reads { ReadsPages P.shown (2 * (levels + 1)) pages.old pages.new result }
+    ensures asks { AsksFewForNone P.shown levels pages.old pages.new result }
 {
     if levels == 0 {
         return next_in_leaf(pages, shape, page, key, past, spot);
@@ -134,11 +130,9 @@ fn next_in_leaf<P: Pages>(
     spot: &mut Spot,
 ) -> Result<Option<Entry>, Fault>
     requires ready { P.shown.IsReady pages.old }
-    ensures found { WhenHonest P.shown pages.old pages.new
-        (λ live. FindsNextInLeaf past shape page key.now live result) }
+    ensures looks { LooksUp P.shown 1 (FindsNextInLeaf past shape page key.now) pages.old pages.new result }
     ensures spot { WhenHonest P.shown pages.old pages.new
         (λ live. SpotsInLeaf shape live page spot.new result) }
-    ensures reads { ReadsPages P.shown 1 pages.old pages.new result }
 {
     let bytes = pages.page(page)?;
     if !is_leaf(bytes, shape) {
@@ -208,11 +202,9 @@ fn first_of_leaf<P: Pages>(
     spot: &mut Spot,
 ) -> Result<Entry, Fault>
     requires ready { P.shown.IsReady pages.old }
-    ensures first { WhenHonest P.shown pages.old pages.new
-        (λ live. FirstOfLeaf shape live page result) }
+    ensures looks { LooksUp P.shown 1 (λ live. FirstOfLeaf shape live page) pages.old pages.new result }
     ensures spot { WhenHonest P.shown pages.old pages.new
         (λ live. SpotsFirstInLeaf shape live page spot.new result) }
-    ensures reads { ReadsPages P.shown 1 pages.old pages.new result }
 {
     match entry_in_leaf(pages, shape, page, 0, spot)? {
         Some(entry) => Ok(entry),
@@ -239,9 +231,8 @@ pub fn last_below<P: Pages>(
     levels: u8,
 ) -> Result<Option<Entry>, Fault>
     requires ready { P.shown.IsReady pages.old }
-    ensures last { WhenHonest P.shown pages.old pages.new
-        (λ live. FindsLast shape live levels page result) }
-    ensures reads { ReadsPages P.shown (levels + 1) pages.old pages.new result }
+    ensures { LooksBelow P.shown levels (λ live. FindsLast shape live levels page) pages.old pages.new
+        result }
 {
     if levels == 0 {
         return last_of_leaf(pages, shape, page);

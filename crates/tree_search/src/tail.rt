@@ -1,8 +1,7 @@
 //! What the entry of a key has behind the key, and whether a key has an entry.
 
 ghost use Rattle.std.specs.Prelude.{◌+◌};
-ghost use Rattle.pages.specs.PageCalls.{ReadsPages};
-ghost use Rattle.tree_search.specs.LookUps.{WhenHonest, LooksUp};
+ghost use Rattle.tree_search.specs.LookUps.{LooksUp, LooksBelow};
 ghost use Rattle.tree_node.specs.Leaf.{IsLeaf};
 ghost use Rattle.tree_search.specs.Stored.{WhereRising};
 ghost use Rattle.tree_search.specs.Calls.{entry_of};
@@ -27,9 +26,8 @@ pub fn find_tail<P: Pages>(
     tail: &mut [u8],
 ) -> Result<bool, Fault>
     requires { CanFillTail P.shown shape tail.old pages.old }
-    ensures found { WhenHonest P.shown pages.old pages.new
-        (TellsTail shape levels page key.now tail.new result) }
-    ensures reads { ReadsPages P.shown (levels + 1) pages.old pages.new result }
+    ensures { LooksBelow P.shown levels (TellsTail shape levels page key.now tail.new) pages.old pages.new
+        result }
 {
     let leaf = leaf_below(pages, shape, page, levels, key)?;
     tail_in_leaf(pages, shape, leaf, key, tail)
@@ -77,8 +75,7 @@ pub fn has_below<P: Pages>(
     key: &[u8],
 ) -> Result<bool, Fault>
     requires ready { P.shown.IsReady pages.old }
-    ensures told { WhenHonest P.shown pages.old pages.new (HasKeyBelow shape levels page key.now result) }
-    ensures reads { ReadsPages P.shown (levels + 1) pages.old pages.new result }
+    ensures { LooksBelow P.shown levels (HasKeyBelow shape levels page key.now) pages.old pages.new result }
 {
     let leaf = leaf_below(pages, shape, page, levels, key)?;
     is_in_leaf(pages, shape, leaf, key)

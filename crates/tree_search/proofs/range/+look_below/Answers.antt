@@ -8,7 +8,7 @@ use Rattle.tree_search.proofs.range.+look_below.Goals as goal
 
 pub returns-then-levels-eq0-clause-sight : goal.returns-then-levels-eq0-clause-sight
 returns-then-levels-eq0-clause-sight g m c honest =
-    sights_leaf c.args.shape ((g.P.Pages.shown.state c.args.pages.now).live) c.args.levels c.args.page c.args.from.now c.args.to.now (told_seen c.look_in_leaf.new.entry c.look_in_leaf.result) c.if-levels-eq0.true (c.look_in_leaf.ensures.sight honest)
+    sights_leaf c.args.shape ((g.P.Pages.shown.state c.args.pages.now).live) c.args.levels c.args.page c.args.from.now c.args.to.now (told_seen c.look_in_leaf.new.entry c.look_in_leaf.result) c.if-levels-eq0.true (c.look_in_leaf.ensures.found honest)
 
 pub returns-in_err-fork-clause-sight : goal.returns-in_err-fork-clause-sight
 returns-in_err-fork-clause-sight g m c honest =
@@ -63,7 +63,7 @@ returns-in_err-followed-clause-sight g m c honest =
     sights_behind_fails c.args.shape ((g.P.Pages.shown.state c.args.pages.now).live) c.args.levels (c.args.levels - 1) c.args.page c.args.from.now c.args.to.now one
     ((g.P.Pages.shown.state c.fork_at.new.pages).live) live c.in_ok-fork.fork (c.in_ok-fork.ensures.found h1)
     ((g.P.Pages.shown.state c.look_below.new.pages).live) _ (told_seen c.look_below.new.entry c.from_residual-in_err-followed.result) (g.met.P.Pages.reads_live c.fork_at.new.pages c.look_below.new.pages c.look_below.ensures.reads.step h2 ∙ live) c.if-fork-2.false
-    (c.in_err-followed.ensures.front honest) (seen_fails c.look_below.new.entry _ c.from_residual-in_err-followed.result c.from_residual-in_err-followed.ensures.1)
+    (c.in_err-followed.ensures.found honest) (seen_fails c.look_below.new.entry _ c.from_residual-in_err-followed.result c.from_residual-in_err-followed.ensures.1)
 
 pub returns-in_err-followed-clause-reads : goal.returns-in_err-followed-clause-reads
 returns-in_err-followed-clause-reads g m c =
@@ -86,7 +86,7 @@ returns-then-here-clause-sight g m c honest =
     let live = g.met.P.Pages.reads_live c.args.pages.now c.fork_at.new.pages c.fork_at.ensures.reads.step h1 in
     let entry = c.look_below.new.entry in
     let told = c.in_ok-followed.followed in
-    let front = c.in_ok-followed.ensures.front honest in
+    let front = c.in_ok-followed.ensures.found honest in
     sights_behind c.args.shape ((g.P.Pages.shown.state c.args.pages.now).live) c.args.levels (c.args.levels - 1) c.args.page c.args.from.now c.args.to.now one
     ((g.P.Pages.shown.state c.fork_at.new.pages).live) live c.in_ok-fork.fork (c.in_ok-fork.ensures.found h1)
     ((g.P.Pages.shown.state c.look_below.new.pages).live) (filled entry c.in-Unended.here) front.0 (first_with entry (Some told))
@@ -107,7 +107,7 @@ returns-in_err-front-clause-sight g m c honest =
     sights_behind_fails c.args.shape ((g.P.Pages.shown.state c.args.pages.now).live) c.args.levels (c.args.levels - 1) c.args.page c.args.from.now c.args.to.now one
     ((g.P.Pages.shown.state c.fork_at.new.pages).live) live c.in_ok-fork.fork (c.in_ok-fork.ensures.found h1)
     ((g.P.Pages.shown.state c.look_below.new.pages).live) _ (told_seen c.front_below.new.entry c.from_residual-in_err-front.result) (g.met.P.Pages.reads_live c.fork_at.new.pages c.look_below.new.pages c.look_below.ensures.reads.step h2 ∙ live) c.if-fork-2.false
-    (c.in_err-front.ensures.front honest) (seen_fails c.front_below.new.entry _ c.from_residual-in_err-front.result c.from_residual-in_err-front.ensures.1)
+    (c.in_err-front.ensures.found honest) (seen_fails c.front_below.new.entry _ c.from_residual-in_err-front.result c.from_residual-in_err-front.ensures.1)
 
 pub returns-in_err-front-clause-reads : goal.returns-in_err-front-clause-reads
 returns-in_err-front-clause-reads g m c =
@@ -133,7 +133,7 @@ returns-clause-sight g m c honest =
     ((g.P.Pages.shown.state c.fork_at.new.pages).live) live c.in_ok-fork.fork (c.in_ok-fork.ensures.found h1)
     ((g.P.Pages.shown.state c.look_below.new.pages).live) (filled c.look_below.new.entry c.in-Unended.here) found found
     (g.met.P.Pages.reads_live c.fork_at.new.pages c.look_below.new.pages c.look_below.ensures.reads.step h2 ∙ live) c.if-fork-2.false
-    (rw c.in-Unended.is at (c.in_ok-found.ensures.sight h2)) (c.in_ok-front.ensures.front honest)
+    (rw c.in-Unended.is at (c.in_ok-found.ensures.sight h2)) (c.in_ok-front.ensures.found honest)
     (λ others begin. subst (λ (b : Bool). Begin (only (filled c.look_below.new.entry b) ++ others) found) (sym c.if-here.false) begin)
 
 pub returns-clause-reads : goal.returns-clause-reads

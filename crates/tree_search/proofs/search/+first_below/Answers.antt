@@ -5,7 +5,7 @@ use Rattle.tree_search.proofs.search.+first_below.Goals as goal
 
 pub returns-then-levels-eq0-clause-first : goal.returns-then-levels-eq0-clause-first
 returns-then-levels-eq0-clause-first g m c honest =
-    first_leaf c.args.shape ((g.P.Pages.shown.state c.args.pages.now).live) c.args.levels c.args.page c.first_of_leaf.result c.if-levels-eq0.true (c.first_of_leaf.ensures.first honest)
+    first_leaf c.args.shape ((g.P.Pages.shown.state c.args.pages.now).live) c.args.levels c.args.page c.first_of_leaf.result c.if-levels-eq0.true (c.first_of_leaf.ensures.looks.found honest)
 
 pub returns-in_err-child-clause-first : goal.returns-in_err-child-clause-first
 returns-in_err-child-clause-first g m c honest =

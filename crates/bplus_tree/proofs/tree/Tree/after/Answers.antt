@@ -10,5 +10,5 @@ returns g c =
       found = λ honest entries own stands.
           subst (λ (es : List (List ℕ)). IsAnswer c.next_below.result (IsFound (first_after c.args.self.now.shape.width c.args.key.now) es)) stands.has
           (c.next_below.ensures.found honest stands.value None None stands.whole.stands stands.whole.filled);
-      reads = c.next_below.ensures.reads;
+      reads = c.next_below.ensures.asks.reads;
     }

@@ -9,6 +9,6 @@ returns g c =
     record {
       found = λ honest entries own stands.
           subst (λ (es : List (List ℕ)). IsAnswer c.has_below.result (TellsPresence (entry_of c.args.self.now.shape.width c.args.key.now es))) stands.has
-          (c.has_below.ensures.told honest stands.value None None stands.whole.stands);
+          (c.has_below.ensures.found honest stands.value None None stands.whole.stands);
       reads = c.has_below.ensures.reads;
     }

@@ -11,14 +11,14 @@ use Rattle.bplus_tree.proofs.tree.Tree.insert.Goals.{then-self-ge-GREATEST_LEVEL
 
 pub returns-in_err-put_below-clause-inserted : goal.returns-in_err-put_below-clause-inserted
 returns-in_err-put_below-clause-inserted g c honest sound entries own stands =
-    fails c.from_residual.result _ _ c.from_residual.ensures.1 (c.in_err-put_below.ensures.put honest sound stands.value None None stands.whole tt tt).no_damage
+    fails c.from_residual.result _ _ c.from_residual.ensures.1 (c.in_err-put_below.ensures.leaves honest sound stands.value None None stands.whole tt tt).no_damage
 
 pub returns-then-branch-clause-inserted : goal.returns-then-branch-clause-inserted
 returns-then-branch-clause-inserted g c honest sound entries own stands =
     let old = c.args.self.now in
     let before = (g.P.Pages.shown.state c.args.pages.now).live in
     let new = g.P.Pages.shown.state c.put_below.new.pages in
-    let a = (c.in_ok-put_below.ensures.put honest sound stands.value None None stands.whole tt tt).answer in
+    let a = (c.in_ok-put_below.ensures.leaves honest sound stands.value None None stands.whole tt tt).answer in
     let h = subst (λ (b : Bool). HasPutIf old.shape before new.live old.levels old.root None None c.args.entry.now stands.value b) c.if-branch.true a.0 in
     record {
       answer = inserted_one old c.args.entry.now before entries own stands new.live new.live (IsTrue new.is_sound) None (record { root = old.root; levels = old.levels }) _ _ _ refl h
@@ -33,7 +33,7 @@ returns-clause-inserted g c honest sound entries own stands =
     let mid = g.P.Pages.shown.state c.put_below.new.pages in
     let new = g.P.Pages.shown.state c.insert_or_split.new.pages in
     let h1 = g.met.P.Pages.writes_honestly c.put_below.new.pages c.insert_or_split.new.pages c.insert_or_split.ensures.writes.step honest in
-    let a = (c.in_ok-put_below.ensures.put h1 sound stands.value None None stands.whole tt tt).answer in
+    let a = (c.in_ok-put_below.ensures.leaves h1 sound stands.value None None stands.whole tt tt).answer in
     let same : mid.live ≡ before = subst (λ (b : Bool). HasPutIf old.shape before mid.live old.levels old.root None None c.args.entry.now stands.value b) c.if-branch.false a.0 in
     (subst (λ (m : PageMap). Inserts old c.insert_or_split.new.self c.args.entry.now c.insert_or_split.result m new.live (IsTrue new.is_sound)) same
     (c.insert_or_split.ensures.inserts.inserted honest a.1)) entries own stands

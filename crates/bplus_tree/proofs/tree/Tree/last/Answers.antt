@@ -9,6 +9,6 @@ returns g c =
     record {
       found = λ honest entries own stands.
           subst (λ (es : List (List ℕ)). IsAnswer c.last_below.result (IsFound last_of es)) stands.has
-          (c.last_below.ensures.last honest stands.value None None stands.whole.stands stands.whole.filled);
+          (c.last_below.ensures.found honest stands.value None None stands.whole.stands stands.whole.filled);
       reads = c.last_below.ensures.reads;
     }
