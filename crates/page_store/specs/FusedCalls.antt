@@ -1,5 +1,5 @@
 -- What the calls of a shelf behind a fuse ensure.
-use Rattle.std.specs.Prelude.{ℕ, IsTrue, List, length, Result}
+use Rattle.std.specs.Prelude.{ℕ, IsTrue, List, length, Result, ⊤}
 use Rattle.io_state.specs.declared.fault.Fault.{Fault}
 use Rattle.page_store.specs.DeviceFile.{DeviceFile}
 use Rattle.page_store.specs.Calls.{ReadsBytes, Written, WriteFails}
@@ -7,7 +7,7 @@ use Rattle.page_store.specs.ShelfState.{ShelfState, unit_file, FileGoes}
 use Rattle.page_store.specs.ShelfCalls.{AsksUnit, ChangesUnitFile}
 use Rattle.page_store.specs.Fuses.{capped, Fused}
 use Rattle.page_store.specs.declared.fuse.Call.{Call}
-use Rattle.page_store.specs.declared.fuse.Call.TheVariants.{Read, Write}
+use Rattle.page_store.specs.declared.fuse.Call.TheVariants.{Read, Write, Other}
 use Rattle.page_store.specs.declared.fuse_shelf.FuseShelf.{FuseShelf}
 
 -- of shelves that show this state and count their faults so, each behind a fuse
@@ -26,6 +26,11 @@ module _ {S : Type 0} (state : S → ShelfState) (count : S → ℕ) where
       pub asks : AsksUnit state_behind count_behind unit IsTold old new result
       pub fuse : Fused call count (IsTrue (state new.inner).is_honest → Effect (unit_file (state old.inner) unit))
           old.fuse new.fuse old.inner new.inner result
+
+    -- a call that only answers, and that no fuse counts
+    abbrev pub LooksBehindFuse : ℕ → (DeviceFile → X → Type 0) → (old new : FuseShelf S)
+        → Result X Fault → Type 0
+    LooksBehindFuse unit IsTold old new result = AsksBehindFuse Other unit (λ _. ⊤) IsTold old new result
 
     -- bytes of the file of a unit are read
     abbrev pub ReadsBehindFuse : ℕ → ℕ → List ℕ → FuseShelf S → FuseShelf S → Result X Fault → Type 0

@@ -8,7 +8,7 @@ use Rattle.page_store.specs.Moments.{Throughout}
 use Rattle.page_store.specs.Pages.{page_of, PageWritten, PageFails, HasPages, IsStoreOf}
 use Rattle.page_store.specs.ShelfState.{ShelfState, unit_file, WhereHonest, FileGoes, OnlyAnswers}
 use Rattle.page_store.specs.ShelfState.{ChangesOnly, KeepsOthers, IsQuiet, FaultHasCause}
-use Rattle.page_store.specs.ShelfCalls.{GoesHonestly, StaysOrRefuses}
+use Rattle.page_store.specs.ShelfCalls.{GoesHonestly, StaysOrRefuses, ChangesUnitFile}
 use Rattle.page_store.specs.declared.store.Store.{Store}
 
 -- at each moment a crash of a refused file leaves a refused file, or the content with a closed gate
@@ -53,6 +53,11 @@ module _ {H : Type 0} (state : H → ShelfState) (count : H → ℕ) where
       pub quiet : IsQuiet unit (state before) (state after)
       pub only : OnlyAnswers (state before) (state after)
       pub cause : FaultHasCause (count before) (count after) result
+
+    -- a call that writes page n of the unit's file in its place
+    abbrev pub ChangesPage : ℕ → ℕ → List ℕ → H → H → Result X Fault → Type 0
+    ChangesPage unit n page before after result = ChangesUnitFile state count unit (PageWritten n page)
+        (PageFails n) before after result
 
     -- page n of a store's file was written, or added behind the last one
     pub record WritesPage (n : ℕ) (page : List ℕ) (old new : Store) (before after : H)

@@ -1,13 +1,13 @@
 //! A shelf whose calls fail on purpose, for tests.
-ghost use Rattle.std.specs.Prelude.{◌≡◌, ◌+◌, length, None, ⊤};
-ghost use Rattle.page_store.specs.declared.fuse.Call.TheVariants.{Create, Sync, Other};
+ghost use Rattle.std.specs.Prelude.{◌≡◌, ◌+◌, length, None};
+ghost use Rattle.page_store.specs.declared.fuse.Call.TheVariants.{Create, Sync};
 ghost use Rattle.page_store.specs.DeviceFile.{IsWithin, IsThere};
 ghost use Rattle.page_store.specs.Calls.{TellsWhetherThere, TellsSize, Created, CreateFails, Synced};
 ghost use Rattle.page_store.specs.Calls.{SyncFails};
 ghost use Rattle.page_store.specs.ShelfState.{HasUnit};
 ghost use Rattle.page_store.specs.ShelfCalls.{HasUnitWith};
 ghost use Rattle.page_store.specs.Fuses.{capped, calls_of, unused_fuse};
-ghost use Rattle.page_store.specs.FusedCalls.{AsksBehindFuse, ReadsBehindFuse, ChangesBehindFuse};
+ghost use Rattle.page_store.specs.FusedCalls.{LooksBehindFuse, ReadsBehindFuse, ChangesBehindFuse};
 ghost use Rattle.page_store.specs.FusedCalls.{WritesBehindFuse};
 
 use crate::fuse::{Call, Fuse, Kind, Turn};
@@ -76,7 +76,7 @@ impl<S: Shelf + Drop> Shelf for FuseShelf<S> {
 
     fn exists(&mut self, unit: usize) -> Result<bool, Fault>
         requires unit { HasUnit (S.Shelf.state self.old.inner) unit }
-        ensures { AsksBehindFuse S.Shelf.state S.Shelf.fault_count Other unit (λ _. ⊤) TellsWhetherThere
+        ensures { LooksBehindFuse S.Shelf.state S.Shelf.fault_count unit TellsWhetherThere
             self.old self.new result }
     {
         match self.fuse.turn(Call::Other) {
@@ -102,7 +102,7 @@ impl<S: Shelf + Drop> Shelf for FuseShelf<S> {
 
     fn size(&mut self, unit: usize) -> Result<u64, Fault>
         requires { HasUnitWith (S.Shelf.state self.old.inner) unit IsThere }
-        ensures { AsksBehindFuse S.Shelf.state S.Shelf.fault_count Other unit (λ _. ⊤) TellsSize
+        ensures { LooksBehindFuse S.Shelf.state S.Shelf.fault_count unit TellsSize
             self.old self.new result }
     {
         match self.fuse.turn(Call::Other) {

@@ -4,10 +4,9 @@ ghost use Rattle.std.specs.Prelude.{IsOkUnless};
 ghost use Rattle.io_state.specs.declared.fault.Fault.TheVariants.{Memory};
 ghost use Rattle.page_store.specs.DeviceFile.{content, IsWithin, IsThere};
 ghost use Rattle.page_store.specs.Images.{Leaves};
-ghost use Rattle.page_store.specs.Calls.{ReadsBytes, Created, CreateFails, Written, WriteFails, Synced};
-ghost use Rattle.page_store.specs.Calls.{SyncFails};
+ghost use Rattle.page_store.specs.Calls.{ReadsBytes, Created, CreateFails, Synced, SyncFails};
 ghost use Rattle.page_store.specs.ShelfState.{ShelfState, HasUnit, attached_as};
-ghost use Rattle.page_store.specs.ShelfCalls.{HasUnitWith, AsksUnit, ChangesUnitFile};
+ghost use Rattle.page_store.specs.ShelfCalls.{HasUnitWith, AsksUnit, ChangesUnitFile, WritesUnitFile};
 
 use io_state::{Fault, FileName};
 
@@ -54,8 +53,7 @@ pub trait Shelf {
     /// of these bytes.
     fn write_at(&mut self, unit: usize, at: u64, bytes: &[u8]) -> Result<(), Fault>
         requires { HasUnitWith (state self.old) unit (IsWithin at) }
-        ensures { ChangesUnitFile state fault_count unit (Written at bytes.now)
-            (WriteFails at (length bytes.now)) self.old self.new result };
+        ensures { WritesUnitFile state fault_count unit at bytes.now self.old self.new result };
 
     /// Brings to the disk what reads give of the unit's file. A sync that fails may have been done.
     fn sync(&mut self, unit: usize) -> Result<(), Fault>

@@ -2,9 +2,10 @@
 ghost use Rattle.std.specs.Prelude.{◌≡◌, ◌+◌, ◌-◌, ◌/◌, ◌^◌, ◌<◌, ◌≤◌, min, OnOk};
 ghost use Rattle.page_store.specs.DeviceFile.{IsWithin, IsThere, IsNoShorter};
 ghost use Rattle.page_store.specs.ShelfState.{HasUnit, IsQuiet};
-ghost use Rattle.page_store.specs.Pages.{PageWritten, PageFails, ReachesPage, HasPages, offset_of};
-ghost use Rattle.page_store.specs.ShelfCalls.{HasUnitWith, GoesFromHonest, ChangesUnitFile, ReopensGate};
-ghost use Rattle.page_store.specs.StoreCalls.{MakesStore, OpensStore, ClosesUnit, ReadsPage, WritesPage};
+ghost use Rattle.page_store.specs.Pages.{ReachesPage, HasPages, offset_of};
+ghost use Rattle.page_store.specs.ShelfCalls.{HasUnitWith, GoesFromHonest, ReopensGate};
+ghost use Rattle.page_store.specs.StoreCalls.{MakesStore, OpensStore, ClosesUnit, ReadsPage, ChangesPage};
+ghost use Rattle.page_store.specs.StoreCalls.{WritesPage};
 
 use crate::gate::{self, CLOSED};
 use crate::shelf::Shelf;
@@ -116,8 +117,7 @@ fn write_at_page<S: Shelf>(
     page: &[u8; PAGE_SIZE],
 ) -> Result<(), Fault>
     requires { HasUnitWith (S.state shelf.old) unit (IsWithin (offset_of n)) }
-    ensures changes { ChangesUnitFile S.state S.fault_count unit (PageWritten n page.now) (PageFails n)
-        shelf.old shelf.new result }
+    ensures changes { ChangesPage S.state S.fault_count unit n page.now shelf.old shelf.new result }
     ensures reached { OnOk result
         (GoesFromHonest unit (S.state shelf.old) (S.state shelf.new) (ReachesPage n)) }
     ensures longer { GoesFromHonest unit (S.state shelf.old) (S.state shelf.new) IsNoShorter }
