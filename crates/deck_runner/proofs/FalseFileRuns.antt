@@ -1,6 +1,8 @@
 -- In the run of a deck each name stands by its ledger.
 use Rattle.std.proofs.Common.{◌≡◌, ℕ, List, [], ◌∷◌, refl, sym, ap, subst, inl, inr}
-use Rattle.indexed_file.specs.Moments.{Test}
+use Rattle.indexed_file.specs.Images.{Stays}
+use Rattle.indexed_file.specs.Moments.{EndsNow, EachImage}
+use Rattle.indexed_file.proofs.ImageLemmas.{each_weaker}
 use Rattle.indexed_file.specs.Shown.{Shown}
 use Rattle.procedure_division.specs.declared.statement.Statement.{Statement}
 use Rattle.deck_reader.specs.declared.deck.Deck.{Deck}
@@ -8,12 +10,12 @@ use Rattle.deck_runner.specs.Line.{Line}
 use Rattle.deck_runner.specs.Steps.{until_stop, closes_from, AreStepsOf, AreStepsInPart}
 use Rattle.deck_runner.specs.Stretches.{Point, AreStretches, IsRunOver, AreStretchesInPart, IsBrokenOff}
 use Rattle.deck_runner.specs.Beginning.{run_before, WorldIsLeft, DeckLeads}
-use Rattle.deck_runner.specs.NoFalseFile.{first_ledger, Judged, IsSafeStretch, StandNow, IsSafeRun, IsSafeBrokenOff, DeckRuns, RunsWhole, RunsInPart}
+use Rattle.deck_runner.specs.NoFalseFile.{first_ledger, IsOfLedger, Judged, IsSafeStretch, StandNow, IsSafeRun, IsSafeBrokenOff, DeckRuns, RunsWhole, RunsInPart}
 use Rattle.deck_runner.proofs.FalseFileLaws.{no_false_file}
 
 module _
     {S : Type 0} (library : Shown S)
-    (ends : (test : Test) (old new : S) (name : List ℕ) → library.Throughout test old new name → library.Throughout test new new name)
+    (ends : EndsNow library.moments)
     (start : S) where
   -- what comes of a run of stretches
   abbrev Safe : (Judged S → List Line → Judged S → Type 0) → Judged S → List Line → Point S → Type 0
@@ -51,6 +53,13 @@ module _
 
   -- ---- of a deck
 
+  -- where the images of a name stay, it stands by the first ledger
+  pub begun_stands : (begun : S) (name : List ℕ) → Stays library.moments start begun name → library.moments.AreReal start start name
+      → EachImage library.moments (IsOfLedger (library.moments.IsImage start start name) first_ledger) begun begun name
+  begun_stands begun name stays real =
+      let all = stays.within real in
+      each_weaker library.moments _ _ begun begun name (λ image is. inl (refl, all.1 image is)) (ends start begun name all.0)
+
   stands : (new : S) (deck : Deck) (Steps : Point S → List Line → Point S → Type 0) (Stretches : Judged S → List Line → Judged S → Type 0)
       → ((before : Judged S) (lines : List Line) (next : Point S) → Steps before.point lines next → StandNow library start before → Safe Stretches before lines next)
       → (lines : List Line) → DeckLeads library start new deck Steps lines → DeckRuns library start new deck Stretches lines
@@ -58,7 +67,7 @@ module _
     stretches = λ honest shown.
         let led = p.steps honest shown in
         let before : Judged S = record { point = record { run = run_before (library.world start) deck; library = led.0 }; ledger = λ name. first_ledger } in
-        let now : StandNow library start before = λ name test was all. ends test start led.0 name ((led.2.images name).within test (was refl)) in
+        let now : StandNow library start before = λ name was. begun_stands led.0 name (led.2.images name) (was refl) in
         let done = safe before lines (record { run = led.1; library = new }) led.3 now in (
           led.0,
           done.0,

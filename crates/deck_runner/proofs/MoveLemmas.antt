@@ -75,7 +75,7 @@ still library statement lib run next lines name trace causes shows shows_after s
   keeps = keeps_same library lib;
   causes = causes;
   names = refl;
-  images = rw (name, trace) (goes_none library.Throughout lib []);
+  images = rw (name, trace) (goes_none library.moments lib []);
 }
 
 pub move_step : (world : World) (files : List Running) (items : List LengthValue) (u : ℕ) (file : Running) (field : Field) (source : Source (List ℕ))

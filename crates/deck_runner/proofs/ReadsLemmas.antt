@@ -218,19 +218,19 @@ module _ {S : Type 0} (library : Shown S) where
       ]
 
   -- the images of every name, where the trace of the one is none
-  images_stay : (here : List ℕ) (trace : Trace) (old new : S) → ImagesGo library.Throughout here trace old new → trace ≡ untouched → (name : List ℕ) → Stays library.Throughout old new name
+  images_stay : (here : List ℕ) (trace : Trace) (old new : S) → ImagesGo library.moments here trace old new → trace ≡ untouched → (name : List ℕ) → Stays library.moments old new name
   images_stay here trace old new go none name =
-      let may : Stays library.Throughout old new here = subst (λ (t : Trace). LibraryMayLeave library.Throughout t.may old new here) none go.may in
-      either (bytes_eq here name) (Stays library.Throughout old new name)
-      (λ same. subst (λ (n : List ℕ). Stays library.Throughout old new n) ((bytes_eq-Decides here name).0 same) may)
+      let may : Stays library.moments old new here = subst (λ (t : Trace). LibraryMayLeave library.moments t.may old new here) none go.may in
+      either (bytes_eq here name) (Stays library.moments old new name)
+      (λ same. subst (λ (n : List ℕ). Stays library.moments old new n) ((bytes_eq-Decides here name).0 same) may)
       (λ apart. go.others name apart)
 
-  module _ (joins : JoinsStretches library.Throughout) (ends : EndsNow library.Throughout) where
+  module _ (joins : JoinsStretches library.moments) (ends : EndsNow library.moments) where
     files_then : (a b c : Point S) → FilesStay library a b → FilesStay library b c → FilesStay library a c
     files_then a b c p q = record {
       named = q.named ∙ p.named;
       rows = q.rows ∙ p.rows;
-      images = λ name. stays_then library.Throughout joins ends a.library b.library c.library name (p.images name) (q.images name);
+      images = λ name. stays_then library.moments joins ends a.library b.library c.library name (p.images name) (q.images name);
     }
 
     one_stays : (statement : Statement) (run : Point S) (lines : List Line) (next : Point S) → IsStretch library statement run lines next → All IsOfReading lines → FilesStay library run next
@@ -244,7 +244,7 @@ module _ {S : Type 0} (library : Shown S) where
 
     all_stay : (statements : List Statement) (run : Point S) (lines : List Line) (next : Point S) → AreStretches library statements run lines next → All IsOfReading lines → FilesStay library run next
     all_stay [] run lines next steps all =
-        subst (λ (p : Point S). FilesStay library run p) (sym steps.1) (record { named = refl; rows = refl; images = λ name. stays_none library.Throughout run.library name })
+        subst (λ (p : Point S). FilesStay library run p) (sym steps.1) (record { named = refl; rows = refl; images = λ name. stays_none library.moments run.library name })
     all_stay (statement ∷ statements) run lines next steps all =
         let both = subst (All IsOfReading) steps.5 all in
         files_then run steps.1 next (one_stays statement run steps.0 steps.1 steps.3 (all_before steps.0 steps.2 both))

@@ -82,7 +82,7 @@ SameNames old new = (name : List ℕ) → named_in new name ≡ named_in old nam
 -- nothing has come of a call: every name stands for what it stood for, and no image changes
 pub record IsUntouched {S : Type 0} (library : Shown S) (old new : S) : Type 0 where
   pub named : SameNames (library.world old) (library.world new)
-  pub images : IsTrue (library.is_honest new) → (name : List ℕ) → Stays library.Throughout old new name
+  pub images : IsTrue (library.is_honest new) → (name : List ℕ) → Stays library.moments old new name
 
 -- where the library has not lied by then, and what it showed of the deck's files was true before
 abbrev pub WhereFilesAreTrue : {S : Type 0} → Shown S → (old new : S) → Deck → Type 0 → Type 0
@@ -94,7 +94,7 @@ WhereFilesAreTrue library old new deck claim =
 pub record IsAttached {S : Type 0} (library : Shown S) (old begun : S) (deck : Deck) : Type 0 where
   pub keeps : Keeps library old begun
   pub names : unit_names (library.world begun) ≡ file_names deck.files
-  pub images : (name : List ℕ) → Stays library.Throughout old begun name
+  pub images : (name : List ℕ) → Stays library.moments old begun name
 
 -- the names of the files in the deck
 abbrev pub program_names : Deck → List (List ℕ)

@@ -2,12 +2,11 @@
 -- last CLOSE of a change that answered 00 left, or for that of a CLOSE in progress or one that
 -- failed since, or is refused; before the first such CLOSE it may also be as in an image at the
 -- start. All of this is ours.
-use Rattle.std.specs.Prelude.{◌≡◌, ℕ, Bool, true, false, List, [], ◌∷◌, ◌++◌, Option, Some, None, bytes_eq}
-use Rattle.std.specs.Prelude.{if◌then◌else◌, IsTrue}
-use Rattle.std.specs.List.{list_all}
+use Rattle.std.specs.Prelude.{◌≡◌, ◌⊎◌, ℕ, Bool, true, false, List, [], ◌∷◌, ◌++◌, Option, Some, None}
+use Rattle.std.specs.Prelude.{bytes_eq, if◌then◌else◌}
 use Rattle.indexed_file.specs.World.{World, Named}
-use Rattle.indexed_file.specs.Images.{Trace, untouched, is_one_of}
-use Rattle.indexed_file.specs.Moments.{Test, Moments}
+use Rattle.indexed_file.specs.Images.{Trace, untouched, IsAmong}
+use Rattle.indexed_file.specs.Moments.{Moments, EachImage}
 use Rattle.indexed_file.specs.Shown.{Shown}
 use Rattle.procedure_division.specs.declared.statement.Statement.{Statement}
 use Rattle.deck_runner.specs.Line.{Line}
@@ -40,12 +39,15 @@ behind_by (Some only) ledger = record { as_at_start = false; may = only ∷ [] }
 abbrev pub behind : Trace → Ledger → Ledger
 behind trace ledger = behind_by trace.only (during trace ledger)
 
--- at each moment from the one library to the other, each image of the name is one that the ledger
--- has: it passes each test that all of these pass
+-- it is one that the ledger has: one at the start, while it may be as then, or one of these
+abbrev pub IsOfLedger : (Named → Type 0) → Ledger → Named → Type 0
+IsOfLedger IsAtStart ledger image = ((ledger.as_at_start ≡ true) × IsAtStart image) ⊎ IsAmong ledger.may image
+
+-- at each moment from the one library to the other each image of the name is real, and is one that
+-- the ledger has; where images may be as at the start, those at the start have to be real for this
 abbrev pub StandsBy : {S : Type 0} → Moments S → S → List ℕ → Ledger → S → S → Type 0
-StandsBy Throughout start name ledger old new =
-    (test : Test) → (ledger.as_at_start ≡ true → Throughout test start start name)
-    → IsTrue (list_all test ledger.may) → Throughout test old new name
+StandsBy moments start name ledger old new = (ledger.as_at_start ≡ true → moments.AreReal start start name)
+    → EachImage moments (IsOfLedger (moments.IsImage start start name) ledger) old new name
 
 -- what a step may leave of any name
 abbrev pub trace_for : World → Statement → Run → List Line → List ℕ → Trace
@@ -63,7 +65,7 @@ pub record IsSafeStretch {S : Type 0} (library : Shown S) (start : S) (statement
   pub stretch : IsStretch library statement before.point lines after.point
   pub stands : (name : List ℕ) → let trace = trace_for
       (library.world before.point.library) statement before.point.run lines name in
-      StandsBy library.Throughout start name (during trace (before.ledger name)) before.point.library
+      StandsBy library.moments start name (during trace (before.ledger name)) before.point.library
       after.point.library
   pub ledger : (name : List ℕ) → let trace = trace_for
       (library.world before.point.library) statement before.point.run lines name in
@@ -72,7 +74,7 @@ pub record IsSafeStretch {S : Type 0} (library : Shown S) (start : S) (statement
 -- each name stands by its ledger now
 abbrev pub StandNow : {S : Type 0} → Shown S → S → Judged S → Type 0
 StandNow library start judged =
-    (name : List ℕ) → StandsBy library.Throughout start name
+    (name : List ℕ) → StandsBy library.moments start name
     (judged.ledger name) judged.point.library judged.point.library
 
 -- the law: in every run of steps with their stretches each name stands by its ledger throughout
@@ -89,13 +91,13 @@ NoFalseFile {S} library =
 abbrev pub images_by : List Named → Ledger → List Named
 images_by first ledger = if ledger.as_at_start then first ++ ledger.may else ledger.may
 
--- the law: where a name stands by its ledger, each image at each moment is one of these
+-- the law: where a name stands by its ledger, each image at each moment is real and one of these
 abbrev pub ImagesAreOfLedger : {S : Type 0} → Shown S → Type 0
 ImagesAreOfLedger {S} library =
     (start old new : S) → (name : List ℕ) → (ledger : Ledger) → (first : List Named)
-    → library.Throughout (is_one_of first) start start name
-    → StandsBy library.Throughout start name ledger old new
-    → library.Throughout (is_one_of (images_by first ledger)) old new name
+    → EachImage library.moments (IsAmong first) start start name
+    → StandsBy library.moments start name ledger old new
+    → EachImage library.moments (IsAmong (images_by first ledger)) old new name
 
 -- ---- a run
 

@@ -27,7 +27,7 @@ IsOfReading line = IsTrue (only_reads line.statement)
 pub record FilesStay {S : Type 0} (library : Shown S) (before after : Point S) : Type 0 where
   pub named : map (λ file. file.state.named) after.run.files ≡ map (λ file. file.state.named) before.run.files
   pub rows : map (λ file. file.state.file) after.run.files ≡ map (λ file. file.state.file) before.run.files
-  pub images : (name : List ℕ) → Stays library.Throughout before.library after.library name
+  pub images : (name : List ℕ) → Stays library.moments before.library after.library name
 
 -- the law: in a run that was broken off, where all lines behind the first ones are of statements
 -- that only read, the files are as they were behind the first ones

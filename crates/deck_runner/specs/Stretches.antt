@@ -95,7 +95,7 @@ pub record IsStretch {S : Type 0} (library : Shown S) (statement : Statement) (b
   pub keeps : Keeps library before.library after.library
   pub causes : HasCauses library statement before.run lines before.library after.library
   pub names : unit_names (library.world after.library) ≡ unit_names (library.world before.library)
-  pub images : ImagesGo library.Throughout (name_by (library.world before.library) statement)
+  pub images : ImagesGo library.moments (name_by (library.world before.library) statement)
       (trace_by statement before.run lines)
       before.library after.library
 

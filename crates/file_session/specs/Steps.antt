@@ -59,7 +59,7 @@ RefusesDescription files d Key = ⊥
 pub record AttachesName {S : Type 0} (shown : Shown S) (name : List ℕ) (old new : S) : Type 0 where
   pub units : (shown.world new).units ≡ attached (shown.world old) (name ∷ [])
   pub named : (other : List ℕ) → named_in (shown.world new) other ≡ named_in (shown.world old) other
-  pub images : IsTrue (shown.is_honest new) → AllStay shown.Throughout old new
+  pub images : IsTrue (shown.is_honest new) → AllStay shown.moments old new
   pub keeps : Keeps shown old new
 
 -- the file of a description: its connector is closed, and its record area all spaces

@@ -35,7 +35,7 @@ pub record RestartsCount {S : Type 0} (shown : Shown S) (u : ℕ) (old new : S) 
   pub count : shown.fault_count new ≡ shown.fault_count old
   pub limit : shown.page_limit new ≡ shown.page_limit old
   pub frames : shown.frames new ≡ shown.frames old
-  pub images : AllStay shown.Throughout old new
+  pub images : AllStay shown.moments old new
 
 -- a call that opens unit u, or looks whether it can be opened: a fault leaves it shut
 pub record OpensUnit {S X : Type 0} (shown : Shown S) (u : ℕ) (trace : Trace) (old new : S)

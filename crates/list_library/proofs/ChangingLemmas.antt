@@ -17,7 +17,7 @@ use Rattle.list_library.specs.ListWorld.{world_of, shown_in_memory}
 use Rattle.list_library.specs.Units.{named_among, unit_changed, ChangesHeld}
 use Rattle.indexed_file.proofs.TestLemmas.{either}
 use Rattle.list_library.proofs.KeptLemmas.{IsKept, change_keeps, unit_set, only_set}
-use Rattle.list_library.proofs.ListWorldLemmas.{keeps_all}
+use Rattle.list_library.proofs.ListWorldLemmas.{keeps_all, goes_in_memory}
 use Rattle.list_library.proofs.UnitWorldLemmas.{unit_read, same_world, changed_world}
 
 -- a broken unit is broken with its schema
@@ -95,6 +95,6 @@ module _
     opened = rw is kept.opened;
     schema = rw (is, was) kept.schema;
     unmade = λ none. record { room = refl; counts = refl };
-    images = first_of (search rules, grind (arith, common_steps));
+    images = λ honest shown. goes_in_memory _ _ _ _;
     keeps = keeps_all old new;
   }

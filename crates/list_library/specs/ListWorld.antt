@@ -24,5 +24,5 @@ shown_in_memory = record {
   page_counts = λ library u. record { count = 0; free = 0 };
   unit_frames = λ library u. None;
   pages_asked = λ library u. 0;
-  Throughout = λ test old new name. Unit {0};
+  moments = record { IsImage = λ old new name image. ⊥; AreReal = λ old new name. Unit {0} };
 }

@@ -92,18 +92,16 @@ fn exchange(units: &mut [ListUnit], others: &mut [ListUnit])
     }
 }
 
-#[tactic(auto, using(crate::proofs::ShownLemmas::sound_set, crate::proofs::ListWorldLemmas::keeps_all))]
+#[tactic(auto, using(crate::proofs::ShownLemmas::sound_set, crate::proofs::ListWorldLemmas::keeps_all, crate::proofs::ListWorldLemmas::all_stay_in_memory, crate::proofs::ListWorldLemmas::goes_in_memory))]
 impl Library for ListLibrary {
     ghost use Rattle.std.specs.Prelude.{refl};
     ghost use Rattle.list_library.specs.ListWorld.{shown_in_memory};
 
     ghost shown = { shown_in_memory };
 
-    ghost joins = { λ _ _ _ _ _ _ _. tt };
+    ghost joins = { λ first then last name real later. (tt, λ image is. absurd is) };
 
-    ghost ends = { λ _ _ _ _ _. tt };
-
-    ghost widens = { λ _ _ _ _ _ _ _. tt };
+    ghost ends = { λ old new name real. (tt, λ image is. absurd is) };
 
     ghost shows_files = { λ library name shown. shown };
 

@@ -62,7 +62,7 @@ module _ {S : Type 0} (shown : Shown S) where
         let before = keeps.honest honest in
         believed honest (still_true shown a.library b.library some first.only first.keeps before truly) (first.standing before truly standing)
 
-    pub goes_both : JoinsStretches shown.Throughout → EndsNow shown.Throughout → GoesOn shown b c → GoesOn shown a c
+    pub goes_both : JoinsStretches shown.moments → EndsNow shown.moments → GoesOn shown b c → GoesOn shown a c
     goes_both joins ends second = record {
       fits = second.fits;
       schema = second.schema ∙ first.schema;

@@ -46,7 +46,7 @@ module _ {S : Type 0} (shown : Shown S) (schema : Schema) (mode : OpenMode) (lis
   }
 
   -- the lines were written, and the file was closed
-  module _ (joins : JoinsStretches shown.Throughout) (ends : EndsNow shown.Throughout) (some : 0 < length (shown.world start).units) (success : is_successful status ≡ true) (between end : S) (written closed : Held) (lines : LinesEnd) (answer : Status)
+  module _ (joins : JoinsStretches shown.moments) (ends : EndsNow shown.moments) (some : 0 < length (shown.world start).units) (success : is_successful status ≡ true) (between end : S) (written closed : Held) (lines : LinesEnd) (answer : Status)
       (goes : GoesOn shown (in_memory opened begun []) (in_memory written between []))
       (does : Trusted shown 0 (in_memory opened begun []) (in_memory written between []) (LeavesLines shown list lines (in_memory opened begun area) (in_memory written between [])))
       (closes : PerformsWithout shown 0 (Close false) written between answer closed end) where

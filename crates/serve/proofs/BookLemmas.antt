@@ -1,24 +1,23 @@
 -- The book of one file goes on.
-use Rattle.std.proofs.Common.{◌≡◌, ℕ, ◌<◌, true, List, [], ◌∷◌, length, slice_index_or, bytes_eq, Option, Some, None, IsTrue, refl, sym, ap, subst, ◌∙◌, arith, if◌then◌else◌}
-use Rattle.std.specs.List.{list_all}
-use Rattle.std.proofs.lemmas.Bool.{and_parts}
+use Rattle.std.proofs.Common.{◌≡◌, ℕ, ◌<◌, List, [], length, slice_index_or, bytes_eq, IsTrue, inl, refl, sym, ap, subst, ◌∙◌, arith, if◌then◌else◌}
 use Rattle.std.proofs.lemmas.Slice.Eq.{bytes_eq-Decides}
-use Rattle.indexed_file.specs.World.{FileUnit, Named, Absent, Shut, name_at}
+use Rattle.indexed_file.specs.World.{FileUnit, Absent, Shut, name_at}
 use Rattle.indexed_file.specs.Images.{Trace, untouched, LibraryMayLeave, LeavesOnly, ImagesGo}
 use Rattle.indexed_file.specs.Moments.{JoinsStretches, EndsNow}
 use Rattle.indexed_file.specs.Shown.{Shown}
+use Rattle.indexed_file.proofs.ImageLemmas.{each_weaker, each_now}
 use Rattle.indexed_file.proofs.TestLemmas.{either}
 use Rattle.verbs.specs.declared.answer.Answer.{Answer}
 use Rattle.verbs.specs.Fits.{IsStanding}
 use Rattle.verbs.specs.Performed.{IsPerformed, state_in}
 use Rattle.verbs.specs.Traces.{trace_of}
 use Rattle.verbs.proofs.WorldLemmas.{name_after}
-use Rattle.deck_runner.specs.NoFalseFile.{Ledger, during, behind, behind_by, StandsBy}
-use Rattle.deck_runner.proofs.FalseFileLaws.{stands_during}
+use Rattle.deck_runner.specs.NoFalseFile.{Ledger, during, behind, StandsBy}
+use Rattle.deck_runner.proofs.FalseFileLaws.{stands_during, stands_behind}
 use Rattle.request_frames.specs.Request.{Described, Performed}
 use Rattle.file_session.specs.Files.{NumberedFile}
 use Rattle.file_session.specs.Steps.{AttachesName, file_described, with_bytes}
-use Rattle.serve.specs.Books.{Book, first_book, book_during, book_behind, AllStand, any, Stands}
+use Rattle.serve.specs.Books.{Book, first_book, book_during, book_behind, AllStand, Stands}
 use Rattle.serve.specs.NoFalseFile.{trace_for}
 
 -- what is known of a file and its book: its library has it as unit 0; and where that library has not lied, and what the given one showed of the
@@ -31,51 +30,42 @@ pub record IsKept {S : Type 0} (shown : Shown S) (file : NumberedFile S) (book :
       → IsStanding file.memory.held (shown.world file.memory.library) 0
   pub stands : Stands shown file book
 
-every_named : (these : List Named) → list_all any these ≡ true
-every_named [] = refl
-every_named (one ∷ these) = every_named these
-
 -- what is left of a name where the file of this name has left this
 abbrev trace_at : List ℕ → Trace → List ℕ → Trace
 trace_at file trace name = if bytes_eq file name then trace else untouched
 
-module _ {S : Type 0} (shown : Shown S) (joins : JoinsStretches shown.Throughout) (ends : EndsNow shown.Throughout) where
+module _ {S : Type 0} (shown : Shown S) (joins : JoinsStretches shown.moments) (ends : EndsNow shown.moments) where
   -- ---- a stretch of time
 
-  module _ (start old new : S) (file name : List ℕ) (trace : Trace) (ledger : Ledger) (images : ImagesGo shown.Throughout file trace old new)
-      (now : StandsBy shown.Throughout start name ledger old old) where
-    may_here : LibraryMayLeave shown.Throughout (trace_at file trace name).may old new name
+  module _ (start old new : S) (file name : List ℕ) (trace : Trace) (ledger : Ledger) (images : ImagesGo shown.moments file trace old new)
+      (now : StandsBy shown.moments start name ledger old old) where
+    may_here : LibraryMayLeave shown.moments (trace_at file trace name).may old new name
     may_here =
         either (bytes_eq file name) _
         (λ same.
         let is : file ≡ name = (bytes_eq-Decides file name).0 same in
-        rw same (subst (λ (n : List ℕ). LibraryMayLeave shown.Throughout trace.may old new n) is images.may))
+        rw same (subst (λ (n : List ℕ). LibraryMayLeave shown.moments trace.may old new n) is images.may))
         (λ apart. rw apart (images.others name apart))
 
-    only_here : LeavesOnly shown.Throughout (trace_at file trace name).only new name
+    only_here : LeavesOnly shown.moments (trace_at file trace name).only new name
     only_here =
         either (bytes_eq file name) _
         (λ same.
         let is : file ≡ name = (bytes_eq-Decides file name).0 same in
-        rw same (subst (λ (n : List ℕ). LeavesOnly shown.Throughout trace.only new n) is images.only))
+        rw same (subst (λ (n : List ℕ). LeavesOnly shown.moments trace.only new n) is images.only))
         (λ apart. rw apart tt)
 
-    in_stretch : StandsBy shown.Throughout start name (during (trace_at file trace name) ledger) old new
+    in_stretch : StandsBy shown.moments start name (during (trace_at file trace name) ledger) old new
     in_stretch = stands_during shown ends start old new name (trace_at file trace name) ledger may_here now
 
-    stands_by : (only : Option Named) (now_in : Ledger) → LeavesOnly shown.Throughout only new name → StandsBy shown.Throughout start name now_in old new
-        → StandsBy shown.Throughout start name (behind_by only now_in) new new
-    stands_by None now_in leaves stands test was all = ends test old new name (stands test was all)
-    stands_by (Some x) now_in leaves stands test was all = leaves test (and_parts (test x) true all).0
-
-    behind_stretch : StandsBy shown.Throughout start name (behind (trace_at file trace name) ledger) new new
-    behind_stretch = stands_by (trace_at file trace name).only (during (trace_at file trace name) ledger) only_here in_stretch
+    behind_stretch : StandsBy shown.moments start name (behind (trace_at file trace name) ledger) new new
+    behind_stretch = stands_behind shown ends start old new name (trace_at file trace name).only (during (trace_at file trace name) ledger) only_here in_stretch
 
   -- ---- a file is described
 
   module _ (d : Described) (given library : S) (attaches : AttachesName shown d.name given library) where
     pub described_stands : AllStand shown d.name (first_book given) given library
-    described_stands honest truly name test was all = (attaches.images honest name).within test (was refl)
+    described_stands honest truly name was = each_weaker shown.moments _ _ given library name (λ image is. inl (refl, is)) ((attaches.images honest name).within (was refl))
 
     pub described_kept : IsKept shown (file_described d library) (first_book given)
     described_kept = record {
@@ -84,8 +74,8 @@ module _ {S : Type 0} (shown : Shown S) (joins : JoinsStretches shown.Throughout
       truly = λ honest truly. attaches.keeps.truth honest d.name truly;
       standing = λ honest truly. tt;
       stands = record {
-        now = λ honest truly name test was all. ends test given library name (described_stands honest truly name test was all);
-        since = λ honest truly name was. (attaches.images honest name).within any was;
+        now = λ honest truly name was. each_now shown.moments joins ends _ given library name (described_stands honest truly name was);
+        since = λ honest truly name was. ((attaches.images honest name).within was).0;
       };
     }
 
@@ -97,9 +87,9 @@ module _ {S : Type 0} (shown : Shown S) (joins : JoinsStretches shown.Throughout
     truly_before honest truly = subst (λ (n : List ℕ). shown.IsShownTruly before.memory.library n) (sym kept.name) (kept.truly (performed.keeps.honest honest) truly)
 
     goes : IsTrue (shown.is_honest after.memory.library) → shown.IsShownTruly book.given before.name
-        → ImagesGo shown.Throughout before.name (trace_of p.statement (state_in shown 0 (with_bytes p.bytes before.memory)) answer.status) before.memory.library after.memory.library
+        → ImagesGo shown.moments before.name (trace_of p.statement (state_in shown 0 (with_bytes p.bytes before.memory)) answer.status) before.memory.library after.memory.library
     goes honest truly =
-        subst (λ (n : List ℕ). ImagesGo shown.Throughout n (trace_of p.statement (state_in shown 0 (with_bytes p.bytes before.memory)) answer.status) before.memory.library after.memory.library)
+        subst (λ (n : List ℕ). ImagesGo shown.moments n (trace_of p.statement (state_in shown 0 (with_bytes p.bytes before.memory)) answer.status) before.memory.library after.memory.library)
         kept.name (performed.images honest (truly_before honest truly) (kept.standing (performed.keeps.honest honest) truly))
 
     pub performed_stands : AllStand shown before.name (book_during (trace_for shown p before answer.status) book) before.memory.library after.memory.library
@@ -123,9 +113,8 @@ module _ {S : Type 0} (shown : Shown S) (joins : JoinsStretches shown.Throughout
                 (trace_of p.statement (state_in shown 0 (with_bytes p.bytes before.memory)) answer.status) (book.ledger name)
                 (goes honest (named truly)) (kept.stands.now (performed.keeps.honest honest) (named truly) name);
             since = λ honest truly name was.
-                joins any book.given before.memory.library after.memory.library name
+                (joins book.given before.memory.library after.memory.library name
                 (kept.stands.since (performed.keeps.honest honest) (named truly) name was)
-                (performed_stands honest (named truly) name any (λ at_start. was)
-                (every_named ((book_during (trace_for shown p before answer.status) book).ledger name).may));
+                (performed_stands honest (named truly) name (λ at_start. was)).0).0;
           };
         }

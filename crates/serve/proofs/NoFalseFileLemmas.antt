@@ -18,7 +18,7 @@ use Rattle.serve.specs.Serving.{Exchange, Serving, Closes}
 use Rattle.serve.proofs.BookLemmas.{described_stands, described_kept, performed_stands, performed_kept}
 use Rattle.serve.proofs.JudgedLemmas.{within_places, put_there, AllKept, stand_now, none_kept, book_of, put_kept}
 
-module _ {S : Type 0} (shown : Shown S) (joins : JoinsStretches shown.Throughout) (ends : EndsNow shown.Throughout) where
+module _ {S : Type 0} (shown : Shown S) (joins : JoinsStretches shown.moments) (ends : EndsNow shown.moments) where
   -- ---- a file
 
   begins : (IsNew : S → Type 0) (d : Described) (old : Judged S) (new : Files S) (given : S) → AllKept shown old → IsNew given → Describes shown d given old.files new

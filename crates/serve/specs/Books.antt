@@ -1,8 +1,7 @@
 -- The books of a session: what the images of each name may be, for each described file. All of this is ours.
-use Rattle.std.specs.Prelude.{ℕ, true, List, eqb, Option, Some, None, if◌then◌else◌, IsTrue}
+use Rattle.std.specs.Prelude.{ℕ, List, eqb, Option, Some, None, if◌then◌else◌, IsTrue}
 use Rattle.indexed_file.specs.Shown.{Shown}
 use Rattle.indexed_file.specs.Images.{Trace}
-use Rattle.indexed_file.specs.Moments.{Test, Moments}
 use Rattle.deck_runner.specs.NoFalseFile.{Ledger, first_ledger, during, behind, StandsBy}
 use Rattle.file_session.specs.Files.{NumberedFile, Files, file_at, no_files}
 
@@ -28,23 +27,15 @@ book_behind trace book = record book { ledger = λ name. behind (trace name) (bo
 abbrev pub AllStand : {S : Type 0} → Shown S → (file : List ℕ) → Book S → (old new : S) → Type 0
 AllStand shown file book old new =
     IsTrue (shown.is_honest new) → shown.IsShownTruly book.given file
-    → (name : List ℕ) → StandsBy shown.Throughout book.given name (book.ledger name) old new
+    → (name : List ℕ) → StandsBy shown.moments book.given name (book.ledger name) old new
 
--- each image passes
-abbrev pub any : Test
-any named = true
-
--- at each moment each image of the name really is absent, closed or refused
-abbrev pub IsReal : {S : Type 0} → Moments S → (old new : S) → List ℕ → Type 0
-IsReal Throughout old new name = Throughout any old new name
-
--- under the same premises: where this is so of a name in the given library, it is so at each moment
--- from then until now
+-- under the same premises: where each image of a name really is absent, closed or refused in the
+-- given library, it is so at each moment from then until now
 abbrev pub AllReal : {S : Type 0} → Shown S → (file : List ℕ) → Book S → (now : S) → Type 0
 AllReal shown file book now =
     IsTrue (shown.is_honest now) → shown.IsShownTruly book.given file
-    → (name : List ℕ) → IsReal shown.Throughout book.given book.given name
-    → IsReal shown.Throughout book.given now name
+    → (name : List ℕ) → shown.moments.AreReal book.given book.given name
+    → shown.moments.AreReal book.given now name
 
 -- a file and its book: each name stands by its ledger now, and has had no false image since the
 -- file was described

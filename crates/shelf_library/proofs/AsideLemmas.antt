@@ -12,7 +12,6 @@ use Rattle.indexed_file.specs.Images.{Stays}
 use Rattle.page_store.specs.DeviceFile.{DeviceFile, content}
 use Rattle.page_store.specs.ShelfState.{ShelfState, unit_name, unit_file}
 use Rattle.page_store.specs.Gate.{AllOpen}
-use Rattle.page_store.specs.Moments.{Throughout}
 use Rattle.page_store.specs.Pages.{page_of, HasPages}
 use Rattle.page_cache.specs.Cached.{pages_in}
 use Rattle.page_alloc.specs.Chain.{chain, used}
@@ -30,7 +29,8 @@ use Rattle.shelf_library.specs.State.{LibraryState, held_at, IsLooked, AreLooked
 use Rattle.shelf_library.specs.Units.{holding_of, world_of}
 use Rattle.shelf_library.specs.Truth.{IsTrulyClosed, IsTrulyOpen, IsShownTruly}
 use Rattle.shelf_library.specs.OneUnit.{AreUnits, ChangesAt, FitsItsFile, IsTrulyHeld}
-use Rattle.shelf_library.specs.Crashes.{Passes}
+use Rattle.shelf_library.specs.Crashes.{MayReadAs}
+use Rattle.shelf_library.specs.MomentLaws.{EachRead}
 use Rattle.shelf_library.specs.Library.{shown_by}
 use Rattle.shelf_library.proofs.WorldLemmas.{only_at, set_here, set_aside, set_long, name_now, holding_now, named_now}
 
@@ -267,8 +267,12 @@ module _ (u : ℕ) (one : Held) (old new : ShelfState) (held now : List Held) (a
 -- ---- images
 
 -- of a name whose file is as it was a crash leaves what it could leave before
-pub images_aside : {S : Type 0} (state : S → LibraryState) (old new : S) (name : List ℕ) → (state new).shelf.file name ≡ (state old).shelf.file name → Stays (shown_by state).Throughout old new name
+pub images_aside : {S : Type 0} (state : S → LibraryState) (old new : S) (name : List ℕ) → (state new).shelf.file name ≡ (state old).shelf.file name → Stays (shown_by state).moments old new name
 images_aside {S} state old new name same = record {
-  within = λ test all. subst (λ (bytes : DeviceFile). Throughout (Passes test) ((state old).shelf.file name) bytes) (sym same) all;
-  back = λ test all. subst (λ (bytes : DeviceFile). Throughout (Passes test) bytes bytes) same all;
+  within = λ real.
+      let f = (state old).shelf.file name in
+      subst (λ (bytes : DeviceFile). EachRead (MayReadAs f f) f bytes) (sym same) (real, λ image is. is);
+  back = λ real.
+      let g = (state new).shelf.file name in
+      subst (λ (bytes : DeviceFile). EachRead (MayReadAs g g) bytes bytes) same (real, λ image is. is);
 }

@@ -94,7 +94,7 @@ attach_keeps state names count old new call = record {
 }
 
 pub attach_images : {S : Type 0} (state : S → LibraryState) (names : List (List ℕ)) (count : ℕ) (old new : S) → Attaches names count (state old) (state new)
-    → (name : List ℕ) → Stays (shown_by state).Throughout old new name
+    → (name : List ℕ) → Stays (shown_by state).moments old new name
 attach_images state names count old new call name = images_aside state old new name (same_files names count (state old) (state new) call name)
 
 -- a library without units

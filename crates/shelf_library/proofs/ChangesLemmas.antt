@@ -40,7 +40,7 @@ module _
   Change result = ChangesFile change_of file after old new result
 
   abbrev Images : Trace → Type 0
-  Images trace = ImagesGo (shown_by state).Throughout (name_at (world_of old.shelf old.held) u) trace a b
+  Images trace = ImagesGo (shown_by state).moments (name_at (world_of old.shelf old.held) u) trace a b
 
   begun : IsTrue new.shelf.is_honest → Images unfinished
   begun = goes_unfinished state u file after a b call

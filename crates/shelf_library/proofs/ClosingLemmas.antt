@@ -1,16 +1,15 @@
 -- What the closing of a unit's file leaves of its name.
-use Rattle.std.proofs.Common.{◌≡◌, ◌⊎◌, inl, inr, ℕ, true, false, List, Option, Some, IsTrue, IsFalse, OnOk, Result, Ok, Err, refl, sym, ap, subst, ◌∙◌}
+use Rattle.std.proofs.Common.{◌≡◌, ◌⊎◌, inl, inr, ℕ, true, false, List, [], ◌∷◌, Option, IsTrue, IsFalse, OnOk, Result, Ok, Err, refl, sym, ap, subst, ◌∙◌}
 use Rattle.std.proofs.lemmas.Bool.{cases_Bool}
 use Rattle.indexed_file.proofs.TestLemmas.{either}
 use Rattle.io_state.specs.declared.fault.Fault.{Fault}
 use Rattle.record_layout.specs.Schema.{Schema}
 use Rattle.indexed_file.specs.File.{File}
-use Rattle.indexed_file.specs.Moments.{Test}
-use Rattle.indexed_file.specs.World.{Closed, Unsound}
+use Rattle.indexed_file.specs.Images.{IsAmong}
+use Rattle.indexed_file.specs.World.{Named, Closed, Unsound}
 use Rattle.page_store.specs.DeviceFile.{DeviceFile, content, bytes_or_none}
 use Rattle.page_store.specs.Gate.{AllOpen}
 use Rattle.page_store.specs.Images.{IsSettled}
-use Rattle.page_store.specs.Moments.{Throughout}
 use Rattle.page_store.proofs.MomentLemmas.{throughout_none, throughout_last}
 use Rattle.page_store.proofs.OpenLemmas.{refused_open}
 use Rattle.page_store.specs.ShelfState.{KeepsOthers, unit_file}
@@ -21,43 +20,53 @@ use Rattle.shelf_file.specs.declared.shelf_file.ShelfFile.{ShelfFile}
 use Rattle.shelf_file.specs.Named.{look_of, named_of, StandsIn}
 use Rattle.shelf_file.specs.Shelves.{AreClosed, ClosedFileOrRefused, Closes}
 use Rattle.shelf_library.specs.declared.held.Held.TheVariants.{Nothing}
-use Rattle.shelf_library.specs.Crashes.{Passes, PassesBy}
+use Rattle.shelf_library.specs.Crashes.{IsSoundImage, MayReadAs}
+use Rattle.shelf_library.specs.MomentLaws.{EachRead, each_read}
 use Rattle.shelf_library.specs.State.{LibraryState, IsReadyAt, held_at}
 use Rattle.shelf_library.specs.Truth.{IsTrulyClosed, IsTrulyOpen}
 use Rattle.shelf_library.specs.OneUnit.{ChangesAt, IsTrulyHeld}
 use Rattle.shelf_library.specs.Closing.{ClosesUnitAt}
-use Rattle.shelf_library.proofs.RefusedLemmas.{refused_look, refused_named, refused_passes}
+use Rattle.shelf_library.proofs.RefusedLemmas.{refused_look, refused_named}
 use Rattle.shelf_library.proofs.AcceptedLemmas.{closed_named, closed_there}
 
 -- ---- bytes that are closed
-
--- they pass each test that their rows pass
-pub closed_passes : (test : Test) (bytes : List ℕ) (schema : Schema) (rows : File) → AreClosed schema rows bytes → IsTrue (test (Closed schema rows)) → Passes test (Some bytes)
-closed_passes test bytes schema rows closed passes =
-    subst (PassesBy test bytes) (sym closed.accepted)
-    (record { rows = rows; stands = closed.stands; passes = subst (λ (s : Schema). IsTrue (test (Closed s rows))) (sym closed.schema_is) passes })
-
-pub closing_passes : (test : Test) (c : Option (List ℕ)) (schema : Schema) (rows : File) → ClosedFileOrRefused schema rows c → IsTrue (test Unsound) → IsTrue (test (Closed schema rows)) → Passes test c
-closing_passes test c schema rows (inl refused) unsound passes = refused_passes test c refused unsound
-closing_passes test c schema rows (inr closed) unsound passes = subst (Passes test) (sym closed.1) (closed_passes test closed.0 schema rows closed.2 passes)
-
--- a crash leaves nothing else
-pub settled_passes : (test : Test) (file : DeviceFile) (schema : Schema) (rows : File) → IsSettled file → AreClosed schema rows (content file) → IsTrue (test (Closed schema rows)) → Throughout (Passes test) file file
-settled_passes test file schema rows settled closed passes =
-    throughout_none (Passes test) file file refl (λ c may. subst (Passes test) (sym (settled c may)) (closed_passes test (content file) schema rows closed passes))
 
 pub closing_named : (c : Option (List ℕ)) (schema : Schema) (rows : File) → ClosedFileOrRefused schema rows c → (named_of c ≡ Closed schema rows) ⊎ (named_of c ≡ Unsound)
 closing_named c schema rows (inl refused) = inr (refused_named c refused)
 closing_named c schema rows (inr closed) = inl (ap named_of closed.1 ∙ closed_named closed.0 schema rows closed.2)
 
--- where a look accepts the file, it stands for the rows
-closing_truly : (file : DeviceFile) (header : Header) (schema : Schema) (rows : File) → ClosedFileOrRefused schema rows file.seen → look_of file.seen ≡ Accepted header → IsTrulyClosed file header
-closing_truly file header schema rows (inl refused) is = let clash : Refused ≡ Accepted header = sym (refused_look file.seen refused) ∙ is in absurd (cc)
-closing_truly file header schema rows (inr closed) is =
+-- where a look accepts it, it stands for the rows
+closed_stands : (c : Option (List ℕ)) (header : Header) (schema : Schema) (rows : File) → ClosedFileOrRefused schema rows c → look_of c ≡ Accepted header → StandsIn header (bytes_or_none c) rows
+closed_stands c header schema rows (inl refused) is = let clash : Refused ≡ Accepted header = sym (refused_look c refused) ∙ is in absurd (cc)
+closed_stands c header schema rows (inr closed) is =
     let accepted : Accepted closed.2.header ≡ Accepted header = sym closed.2.accepted ∙ ap look_of (sym closed.1) ∙ is in
     let same : closed.2.header ≡ header = cc in
-    let bytes : closed.0 ≡ content file = ap bytes_or_none (sym closed.1) in
-    record { rows = rows; stands = subst (λ b. StandsIn header b rows) bytes (subst (λ (h : Header). StandsIn h closed.0 rows) same closed.2.stands) }
+    let bytes : closed.0 ≡ bytes_or_none c = ap bytes_or_none (sym closed.1) in
+    subst (λ b. StandsIn header b rows) bytes (subst (λ (h : Header). StandsIn h closed.0 rows) same closed.2.stands)
+
+closing_truly : (file : DeviceFile) (header : Header) (schema : Schema) (rows : File) → ClosedFileOrRefused schema rows file.seen → look_of file.seen ≡ Accepted header → IsTrulyClosed file header
+closing_truly file header schema rows closed is = record { rows = rows; stands = closed_stands file.seen header schema rows closed is }
+
+-- an image is one from before, or one of these
+abbrev pub IsLeft : List Named → DeviceFile → Named → Type 0
+IsLeft these file image = MayReadAs file file image ⊎ IsAmong these image
+
+-- what a closing leaves is sound, and refused or closed
+pub closing_reads : (file : DeviceFile) (schema : Schema) (rows : File) (c : Option (List ℕ)) → ClosedFileOrRefused schema rows c
+    → IsSoundImage c × IsLeft (Unsound ∷ Closed schema rows ∷ []) file (named_of c)
+closing_reads file schema rows c closed = (
+  λ header is. (rows, closed_stands c header schema rows closed is),
+  elim (closing_named c schema rows closed) [ inl is ↦ inr (inr (inl is)) | inr is ↦ inr (inl is) ],
+)
+
+-- a crash leaves nothing else
+pub settled_reads : (file : DeviceFile) (schema : Schema) (rows : File) → IsSettled file → AreClosed schema rows (content file) → EachRead (λ image. image ≡ Closed schema rows) file file
+settled_reads file schema rows settled closed =
+    each_read (λ image. image ≡ Closed schema rows) file file
+    (throughout_none _ file file refl (λ c may. (
+      λ header is. (rows, closed_stands c header schema rows (inr (content file, settled c may, closed)) is),
+      ap named_of (settled c may) ∙ closed_named (content file) schema rows closed,
+    )))
 
 -- ---- results
 

@@ -23,3 +23,4 @@ pub mod ChangingLemmas
 pub mod ChangesLemmas
 pub mod ClosingLemmas
 pub mod ShutLemmas
+pub mod TestedLemmas

@@ -1,6 +1,5 @@
 -- A file that was made in the place of what a unit's name stood for.
 use Rattle.std.proofs.Common.{◌≡◌, ◌⊎◌, inl, inr, ℕ, true, false, List, IsTrue, IsFalse, IfOk, OnOk, OnErr, Result, Ok, Err, refl, sym, ap, subst, ◌∙◌}
-use Rattle.std.proofs.lemmas.Bool.{and_parts}
 use Rattle.io_state.specs.declared.fault.Fault.{Fault}
 use Rattle.record_layout.specs.Schema.{Schema}
 use Rattle.indexed_file.specs.File.{empty_file}
@@ -138,8 +137,8 @@ module _ {S : Type 0} (state : S → LibraryState) (u : ℕ) (schema : Schema) (
       (faults_are false (state new).shelf.is_honest (IsShownTruly (state old).shelf (state old).held (name_at (world_of (state old).shelf (state old).held) u)) (state old).faults (state new).faults r
       call.make.cause (λ e. absurd (let clash : false ≡ true = e in cc)) (λ honest shown. call.make.damage honest))
       (λ honest shown. images_at state u (held_open r) old new call.units at unfinished
-      (λ test passes all. was_or_refused test ((state old).shelf.file (unit_name (state old).shelf u)) ((state new).shelf.file (unit_name (state old).shelf u))
-      (passed u schema r (state old) (state new) call honest) passes (and_parts _ _ all).0)
+      (λ real. was_or_refused ((state old).shelf.file (unit_name (state old).shelf u)) ((state new).shelf.file (unit_name (state old).shelf u))
+      (passed u schema r (state old) (state new) call honest) real)
       tt)
       (keeps_at state u (held_open r) old new call.units at call.limit call.frames call.make.count (truly u schema r (state old) (state new) call r call.make.made)))
 

@@ -1,10 +1,8 @@
 -- What a call that may open the gate leaves of its unit.
-use Rattle.std.proofs.Common.{◌≡◌, ◌⊎◌, inl, inr, ℕ, true, false, List, Option, IsTrue, sym, ap, subst, ◌∙◌, bytes_eq}
+use Rattle.std.proofs.Common.{◌≡◌, ◌⊎◌, inl, inr, ℕ, true, false, List, [], ◌∷◌, Option, IsTrue, refl, sym, ap, subst, ◌∙◌, bytes_eq}
 use Rattle.std.proofs.lemmas.Slice.Eq.{bytes_eq-Decides}
-use Rattle.indexed_file.specs.Images.{Trace, LibraryMayLeave, LeavesOnly, ImagesGo, unfinished}
-use Rattle.indexed_file.specs.Moments.{Test}
-use Rattle.indexed_file.specs.World.{Unsound, name_at}
-use Rattle.std.proofs.lemmas.Bool.{and_parts}
+use Rattle.indexed_file.specs.Images.{Trace, IsAmong, LibraryMayLeave, LeavesOnly, ImagesGo, unfinished}
+use Rattle.indexed_file.specs.World.{Named, Unsound, name_at}
 use Rattle.page_store.specs.DeviceFile.{DeviceFile, bytes_or_none}
 use Rattle.page_store.specs.Moments.{Throughout}
 use Rattle.page_store.proofs.MomentLemmas.{throughout_weaker, throughout_first}
@@ -19,7 +17,8 @@ use Rattle.shelf_file.specs.Calls.{OnlyReadsFile}
 use Rattle.shelf_file.specs.Named.{look_of, named_of, StandsIn}
 use Rattle.shelf_library.specs.State.{LibraryState, IsReadyAt}
 use Rattle.shelf_library.specs.Truth.{IsTrulyClosed}
-use Rattle.shelf_library.specs.Crashes.{Passes}
+use Rattle.shelf_library.specs.Crashes.{IsSoundImage, MayReadAs}
+use Rattle.shelf_library.specs.MomentLaws.{EachRead, each_read, found_now}
 use Rattle.shelf_library.specs.Library.{shown_by}
 use Rattle.shelf_library.specs.Units.{world_of}
 use Rattle.shelf_library.specs.OneUnit.{ChangesAt, FitsItsFile}
@@ -27,18 +26,21 @@ use Rattle.shelf_library.specs.Reading.{ReadsAt}
 use Rattle.shelf_library.specs.Changing.{MovesAt}
 use Rattle.shelf_library.specs.declared.held.Held.TheVariants.{Opened}
 use Rattle.shelf_library.proofs.AsideLemmas.{name_before, name_same, images_aside}
-use Rattle.shelf_library.proofs.RefusedLemmas.{refused_look, refused_named, refused_passes}
+use Rattle.shelf_library.proofs.RefusedLemmas.{refused_look, refused_named, refused_sound}
 
 opened_is : (a b : ShelfFile) → Opened a ≡ Opened b → a ≡ b
 opened_is a b e = cc
 
 -- images that a crash could leave before, and refused ones
-pub was_or_refused : (test : Test) (old new : DeviceFile) → Throughout (WasOrRefused old) old new → Throughout (Passes test) old old → IsTrue (test Unsound) → Throughout (Passes test) old new
-was_or_refused test old new images passed unsound = throughout_weaker (WasOrRefused old) (Passes test) old new one images
+abbrev pub WasOrUnsound : DeviceFile → Named → Type 0
+WasOrUnsound file image = MayReadAs file file image ⊎ IsAmong (Unsound ∷ []) image
+
+pub was_or_refused : (old new : DeviceFile) → Throughout (WasOrRefused old) old new → Throughout IsSoundImage old old → EachRead (WasOrUnsound old) old new
+was_or_refused old new images real = each_read (WasOrUnsound old) old new (throughout_weaker (WasOrRefused old) _ old new one images)
   where
-    one : (c : Option (List ℕ)) → WasOrRefused old c → Passes test c
-    one c (inl was) = throughout_first (Passes test) old old passed c was
-    one c (inr refused) = refused_passes test c refused unsound
+    one : (c : Option (List ℕ)) → WasOrRefused old c → IsSoundImage c × WasOrUnsound old (named_of c)
+    one c (inl was) = (throughout_first IsSoundImage old old real c was, inl (c, found_now old c was, refl))
+    one c (inr refused) = (refused_sound c refused, inr (inl (refused_named c refused)))
 
 -- bytes that a look accepts are those that it accepted before
 pub closed_kept : (old new : DeviceFile) → SameOrRefused old new → ((header : Header) → look_of old.seen ≡ Accepted header → IsTrulyClosed old header)
@@ -115,23 +117,22 @@ module _ (u : ℕ) (file after : ShelfFile) (old new : LibraryState) (call : Mov
   closed_truly honest = closed_kept (unit_file old.shelf u) (unit_file new.shelf u) (same_or_refused honest)
 
   -- at each moment a crash leaves what it could leave before, or a refused file
-  pub passes_unfinished : (test : Test) → IsTrue new.shelf.is_honest → IsTrue (test Unsound)
-      → Throughout (Passes test) (old.shelf.file (unit_name old.shelf u)) (old.shelf.file (unit_name old.shelf u))
-      → Throughout (Passes test) (old.shelf.file (unit_name old.shelf u)) (new.shelf.file (unit_name old.shelf u))
-  passes_unfinished test honest unsound passed =
-      subst (λ (name : List ℕ). Throughout (Passes test) (unit_file old.shelf u) (new.shelf.file name))
+  pub reads_unfinished : IsTrue new.shelf.is_honest → Throughout IsSoundImage (unit_file old.shelf u) (unit_file old.shelf u)
+      → EachRead (WasOrUnsound (unit_file old.shelf u)) (unit_file old.shelf u) (new.shelf.file (unit_name old.shelf u))
+  reads_unfinished honest real =
+      subst (λ (name : List ℕ). EachRead (WasOrUnsound (unit_file old.shelf u)) (unit_file old.shelf u) (new.shelf.file name))
       (name_same u (Opened after) old.shelf new.shelf old.held new.held call.units changes_at)
-      (was_or_refused test (unit_file old.shelf u) (unit_file new.shelf u) (images honest) passed unsound)
+      (was_or_refused (unit_file old.shelf u) (unit_file new.shelf u) (images honest) real)
 
 differs : (a b : List ℕ) → bytes_eq a b ≡ false → ¬ (b ≡ a)
 differs a b miss same = let hit = (bytes_eq-Decides a b).1 (sym same) in let clash : true ≡ false = sym hit ∙ miss in cc
 
 -- what the images of a name do in a call on the unit that has it
 pub images_of_unit : {S : Type 0} (state : S → LibraryState) (u : ℕ) (file after : ShelfFile) (old new : S) (trace : Trace) → MovesAt u file after (state old) (state new)
-    → LibraryMayLeave (shown_by state).Throughout trace.may old new (unit_name (state old).shelf u) → LeavesOnly (shown_by state).Throughout trace.only new (unit_name (state old).shelf u)
-    → ImagesGo (shown_by state).Throughout (name_at (world_of (state old).shelf (state old).held) u) trace old new
+    → LibraryMayLeave (shown_by state).moments trace.may old new (unit_name (state old).shelf u) → LeavesOnly (shown_by state).moments trace.only new (unit_name (state old).shelf u)
+    → ImagesGo (shown_by state).moments (name_at (world_of (state old).shelf (state old).held) u) trace old new
 images_of_unit {S} state u file after old new trace call may only =
-    subst (λ (name : List ℕ). ImagesGo (shown_by state).Throughout name trace old new)
+    subst (λ (name : List ℕ). ImagesGo (shown_by state).moments name trace old new)
     (sym (name_before u (Opened after) (state old).shelf (state new).shelf (state old).held (state new).held call.units (changes_at u file after (state old) (state new) call)))
     (record {
       may = may;
@@ -142,8 +143,8 @@ images_of_unit {S} state u file after old new trace call may only =
 
 pub goes_unfinished : {S : Type 0} (state : S → LibraryState) (u : ℕ) (file after : ShelfFile) (old new : S) → MovesAt u file after (state old) (state new)
     → IsTrue (state new).shelf.is_honest
-    → ImagesGo (shown_by state).Throughout (name_at (world_of (state old).shelf (state old).held) u) unfinished old new
+    → ImagesGo (shown_by state).moments (name_at (world_of (state old).shelf (state old).held) u) unfinished old new
 goes_unfinished {S} state u file after old new call honest =
     images_of_unit state u file after old new unfinished call
-    (λ test passed all. passes_unfinished u file after (state old) (state new) call test honest (and_parts _ _ all).0 passed)
+    (λ real. reads_unfinished u file after (state old) (state new) call honest real)
     tt

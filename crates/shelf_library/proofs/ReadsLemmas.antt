@@ -8,7 +8,6 @@ use Rattle.indexed_file.specs.Images.{Stays, ImagesGo, untouched}
 use Rattle.indexed_file.specs.Calls.{Keeps, OnlyReads as ReadsWorld, MayFail, SamePages}
 use Rattle.indexed_file.specs.UnitCalls.{ReadsUnit}
 use Rattle.page_store.specs.DeviceFile.{DeviceFile}
-use Rattle.page_store.specs.Moments.{Throughout}
 use Rattle.page_store.specs.ShelfState.{unit_name, unit_file}
 use Rattle.page_alloc.specs.Joining.{HasFailed}
 use Rattle.open_file.specs.Faults.{IsCausedIn}
@@ -20,14 +19,15 @@ use Rattle.shelf_file.specs.Standing.{file_in, room_in}
 use Rattle.shelf_library.specs.State.{LibraryState, held_at}
 use Rattle.shelf_library.specs.Units.{world_of, holding_of, room_of_held, counts_of_pager, counts_of_held, asked_of}
 use Rattle.shelf_library.specs.Truth.{IsShownTruly}
-use Rattle.shelf_library.specs.Crashes.{Passes}
+use Rattle.shelf_library.specs.Crashes.{MayReadAs}
+use Rattle.shelf_library.specs.MomentLaws.{EachRead}
 use Rattle.shelf_library.specs.Library.{shown_by}
 use Rattle.shelf_library.specs.OneUnit.{ChangesAt, IsTrulyHeld}
 use Rattle.shelf_library.specs.Reading.{ReadsAt, GoesOpen}
 use Rattle.shelf_library.specs.declared.held.Held.{Held}
 use Rattle.shelf_library.specs.declared.held.Held.TheVariants.{Opened}
 use Rattle.shelf_library.proofs.AsideLemmas.{held_here, held_truly, name_before, name_same, holding_before, holding_after, only_here, world_same, truth_after, images_aside}
-use Rattle.shelf_library.proofs.RefusedLemmas.{quiet_passes, open_passes}
+use Rattle.shelf_library.proofs.RefusedLemmas.{quiet_reads, open_reads}
 use Rattle.shelf_library.proofs.ReadingLemmas.{changes_at, was_honest, still_or_open, same_named, same_holding, same_schema, same_broken, truly_held}
 use Rattle.shelf_library.proofs.FaultLemmas.{faults_are}
 use Rattle.shelf_library.proofs.OpenedLemmas.{schema_open, open_open, broken_open}
@@ -45,27 +45,27 @@ module _ {S : Type 0} (state : S → LibraryState) (a b : S) (u : ℕ) (file aft
   -- ---- the images
 
   -- a file that went on behind an open gate
-  open_stays : GoesOpen (unit_file old.shelf u) (unit_file new.shelf u) → IsTrue new.shelf.is_honest → Stays (shown_by state).Throughout a b (unit_name old.shelf u)
+  open_stays : GoesOpen (unit_file old.shelf u) (unit_file new.shelf u) → IsTrue new.shelf.is_honest → Stays (shown_by state).moments a b (unit_name old.shelf u)
   open_stays goes honest =
       let f = unit_file old.shelf u in
       let g = unit_file new.shelf u in
       let name : unit_name new.shelf u ≡ unit_name old.shelf u = name_same u (Opened after) old.shelf new.shelf old.held new.held call.units at in
       let is_g : g ≡ new.shelf.file (unit_name old.shelf u) = ap new.shelf.file name in
       record {
-        within = λ test all. subst (λ (bytes : DeviceFile). Throughout (Passes test) f bytes) is_g
-            (quiet_passes test f g (call.image_before (was_honest u file after old new call honest)) goes.before goes.quiet all);
-        back = λ test all. open_passes test f g (call.image_after honest) goes.before goes.after (subst (λ (bytes : DeviceFile). Throughout (Passes test) bytes bytes) (sym is_g) all);
+        within = λ real. subst (λ (bytes : DeviceFile). EachRead (MayReadAs f f) f bytes) is_g
+            (quiet_reads f g (call.image_before (was_honest u file after old new call honest)) goes.before goes.quiet);
+        back = λ real. subst (λ (bytes : DeviceFile). EachRead (MayReadAs bytes bytes) f f) is_g (open_reads f g (call.image_after honest) goes.before goes.after);
       }
 
-  stays : IsTrue new.shelf.is_honest → Stays (shown_by state).Throughout a b (unit_name old.shelf u)
+  stays : IsTrue new.shelf.is_honest → Stays (shown_by state).moments a b (unit_name old.shelf u)
   stays honest = elim (still_or_open u file after old new call honest) [
     | inl still ↦ images_aside state a b (unit_name old.shelf u) (ap (λ (files : List ℕ → DeviceFile). files (unit_name old.shelf u)) still)
     | inr goes ↦ open_stays goes honest
   ]
 
-  pub reads_images : IsTrue new.shelf.is_honest → ImagesGo (shown_by state).Throughout (name_at (world_of old.shelf old.held) u) untouched a b
+  pub reads_images : IsTrue new.shelf.is_honest → ImagesGo (shown_by state).moments (name_at (world_of old.shelf old.held) u) untouched a b
   reads_images honest =
-      subst (λ (name : List ℕ). ImagesGo (shown_by state).Throughout name untouched a b) (sym (name_before u (Opened after) old.shelf new.shelf old.held new.held call.units at)) (record {
+      subst (λ (name : List ℕ). ImagesGo (shown_by state).moments name untouched a b) (sym (name_before u (Opened after) old.shelf new.shelf old.held new.held call.units at)) (record {
         may = stays honest;
         only = tt;
         others = λ other miss. images_aside state a b other (at.others.others other (λ same.

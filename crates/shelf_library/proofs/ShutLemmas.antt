@@ -1,7 +1,7 @@
 -- What the call that shuts a unit promises.
-use Rattle.std.proofs.Common.{◌≡◌, ◌≢◌, ◌⊎◌, inl, inr, ℕ, true, false, Bool, List, IsTrue, IsFalse, OnOk, IfErr, Result, Ok, Err, refl, sym, ap, subst, ◌∙◌}
+use Rattle.std.proofs.Common.{◌≡◌, ◌≢◌, ◌⊎◌, inl, inr, ℕ, true, false, Bool, List, [], ◌∷◌, IsTrue, IsFalse, OnOk, IfErr, Result, Ok, Err, refl, sym, ap, subst, ◌∙◌}
 use Rattle.std.specs.Prelude.{unwrap_or}
-use Rattle.std.proofs.lemmas.Bool.{cases_Bool, and_parts}
+use Rattle.std.proofs.lemmas.Bool.{cases_Bool}
 use Rattle.indexed_file.proofs.TestLemmas.{either}
 use Rattle.io_state.specs.declared.fault.Fault.{Fault}
 use Rattle.io_state.specs.declared.fault.Fault.TheVariants.{Broken as BrokenUnit}
@@ -12,6 +12,7 @@ use Rattle.indexed_file.specs.Images.{Trace, ImagesGo, untouched, finishing, fin
 use Rattle.indexed_file.specs.UnitCalls.{ShutsUnit}
 use Rattle.indexed_file.specs.World.{World, Holding, Opened as HasOpened, Broken, Named, Absent, Closed, Unsound, holding_at, named_at, name_at, schema_at, schema_in, file_at, file_in as rows_in, is_broken}
 use Rattle.page_store.specs.DeviceFile.{DeviceFile}
+use Rattle.page_store.specs.Moments.{Throughout}
 use Rattle.page_store.proofs.MomentLemmas.{throughout_weaker}
 use Rattle.page_store.specs.ShelfState.{unit_name, unit_file}
 use Rattle.shelf_file.specs.declared.shelf_file.ShelfFile.{ShelfFile}
@@ -19,7 +20,7 @@ use Rattle.shelf_file.specs.Named.{named_of}
 use Rattle.shelf_file.specs.Standing.{StandsFor, live_of}
 use Rattle.shelf_file.specs.Shelves.{ClosedFileOrRefused, Closes}
 use Rattle.shelf_library.specs.declared.held.Held.TheVariants.{Nothing}
-use Rattle.shelf_library.specs.Crashes.{Passes}
+use Rattle.shelf_library.specs.MomentLaws.{EachRead, each_read}
 use Rattle.shelf_library.specs.Library.{shown_by}
 use Rattle.shelf_library.specs.State.{LibraryState}
 use Rattle.shelf_library.specs.Truth.{IsTrulyOpen, IsShownTruly}
@@ -32,7 +33,7 @@ use Rattle.shelf_library.proofs.ShownLemmas.{holding_shown, broken_shown}
 use Rattle.shelf_library.proofs.FaultLemmas.{faults_are}
 use Rattle.shelf_library.proofs.OpensLemmas.{nothing_fits, open_holding}
 use Rattle.shelf_library.proofs.UnitLemmas.{keeps_at, images_at}
-use Rattle.shelf_library.proofs.ClosingLemmas.{closing_passes, settled_passes, closing_named, on_more, changes, still, was_unsound, closes_here, ends_closed, named_closed, named_before, closes_truly}
+use Rattle.shelf_library.proofs.ClosingLemmas.{IsLeft, closing_reads, settled_reads, closing_named, on_more, changes, still, was_unsound, closes_here, ends_closed, named_closed, named_before, closes_truly}
 
 if_any : {X : Type 0} (result : Result X Fault) (P : Fault → Type 0) → ((fault : Fault) → P fault) → IfErr result P
 if_any (Ok x) P p = tt
@@ -156,14 +157,14 @@ module _ {S : Type 0} (state : S → LibraryState) (u : ℕ) (file : ShelfFile) 
   abbrev name : List ℕ
   name = name_at (world_of (state old).shelf (state old).held) u
 
-  go_untouched : (state new).shelf.file ≡ (state old).shelf.file → ImagesGo (shown_by state).Throughout name untouched old new
+  go_untouched : (state new).shelf.file ≡ (state old).shelf.file → ImagesGo (shown_by state).moments name untouched old new
   go_untouched same =
       images_at state u Nothing old new call.units changed_at untouched
       (images_aside state old new (unit_name (state old).shelf u) (ap (λ (f : List ℕ → DeviceFile). f (unit_name (state old).shelf u)) same)) tt
 
   -- the gate is closed
   go_closed : (rows : File) (r : Result (Unit {0}) Fault) → Closes file.file.schema rows (unit_file (state old).shelf u) (unit_file (state new).shelf u) r
-      → ImagesGo (shown_by state).Throughout name (trace_of_finish (Closed file.file.schema rows) r) old new
+      → ImagesGo (shown_by state).moments name (trace_of_finish (Closed file.file.schema rows) r) old new
   go_closed rows r closes = go r (subst (λ (bytes : DeviceFile). Closes file.file.schema rows (unit_file (state old).shelf u) bytes r) (file_is u file result (state old) (state new) call) closes)
     where
       f : DeviceFile
@@ -172,32 +173,33 @@ module _ {S : Type 0} (state : S → LibraryState) (u : ℕ) (file : ShelfFile) 
       h : DeviceFile
       h = (state new).shelf.file (unit_name (state old).shelf u)
 
-      go : (r : Result (Unit {0}) Fault) → Closes file.file.schema rows f h r → ImagesGo (shown_by state).Throughout name (trace_of_finish (Closed file.file.schema rows) r) old new
+      closing : Throughout (ClosedFileOrRefused file.file.schema rows) f h → EachRead (IsLeft (Unsound ∷ Closed file.file.schema rows ∷ []) f) f h
+      closing images =
+          each_read (IsLeft (Unsound ∷ Closed file.file.schema rows ∷ []) f) f h
+          (throughout_weaker (ClosedFileOrRefused file.file.schema rows) _ f h (closing_reads f file.file.schema rows) images)
+
+      go : (r : Result (Unit {0}) Fault) → Closes file.file.schema rows f h r → ImagesGo (shown_by state).moments name (trace_of_finish (Closed file.file.schema rows) r) old new
       go (Err fault) closes =
           images_at state u Nothing old new call.units changed_at (finishing (Closed file.file.schema rows))
-          (λ test passes all. let both = and_parts _ _ all in
-          throughout_weaker (ClosedFileOrRefused file.file.schema rows) (Passes test) f h
-          (λ c is. closing_passes test c file.file.schema rows is both.0 (and_parts _ _ both.1).0) closes.images)
+          (λ real. closing closes.images)
           tt
       go (Ok done) closes =
           images_at state u Nothing old new call.units changed_at (finished (Closed file.file.schema rows))
-          (λ test passes all. let both = and_parts _ _ all in
-          throughout_weaker (ClosedFileOrRefused file.file.schema rows) (Passes test) f h
-          (λ c is. closing_passes test c file.file.schema rows is both.0 (and_parts _ _ both.1).0) closes.images)
-          (λ test passes. settled_passes test h file.file.schema rows closes.settled closes.closed passes)
+          (λ real. closing closes.images)
+          (settled_reads h file.file.schema rows closes.settled closes.closed)
 
   images : IsTrue (state new).shelf.is_honest → IsShownTruly (state old).shelf (state old).held name
-      → ImagesGo (shown_by state).Throughout name (trace_of_shut (named_at (world_of (state old).shelf (state old).held) u) (holding_at (world_of (state old).shelf (state old).held) u) result) old new
+      → ImagesGo (shown_by state).moments name (trace_of_shut (named_at (world_of (state old).shelf (state old).held) u) (holding_at (world_of (state old).shelf (state old).held) u) result) old new
   images honest truly = elim (cases_Bool file.file.broken) [
     | inl broken ↦
-        subst (λ (t : Trace). ImagesGo (shown_by state).Throughout name t old new) (sym (trace_broken u file result (state old) (state new) call broken)) (go_untouched (call.close.nothing broken))
+        subst (λ (t : Trace). ImagesGo (shown_by state).moments name t old new) (sym (trace_broken u file result (state old) (state new) call broken)) (go_untouched (call.close.nothing broken))
     | inr works ↦ elim (cases_Bool file.pages.changed) [
       | inl changed ↦
           let known = shown_open u file result (state old) (state new) call truly works in
-          subst (λ (t : Trace). ImagesGo (shown_by state).Throughout name t old new) (sym (trace_changed u file result (state old) (state new) call honest truly works changed))
+          subst (λ (t : Trace). ImagesGo (shown_by state).moments name t old new) (sym (trace_changed u file result (state old) (state new) call honest truly works changed))
           (go_closed known.rows result (closes_here u file result (state old) (state new) call honest works known changed))
       | inr unchanged ↦
-          subst (λ (t : Trace). ImagesGo (shown_by state).Throughout name t old new) (sym (trace_unchanged u file result (state old) (state new) call honest truly works unchanged))
+          subst (λ (t : Trace). ImagesGo (shown_by state).moments name t old new) (sym (trace_unchanged u file result (state old) (state new) call honest truly works unchanged))
           (go_untouched (call.close.unchanged unchanged))
     ]
   ]

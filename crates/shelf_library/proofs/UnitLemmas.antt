@@ -31,11 +31,11 @@ module _ {S : Type 0} (state : S → LibraryState) (u : ℕ) (one : Held) (old n
   }
 
   -- the images of other names stay
-  pub images_at : (trace : Trace) → LibraryMayLeave (shown_by state).Throughout trace.may old new (unit_name (state old).shelf u)
-      → LeavesOnly (shown_by state).Throughout trace.only new (unit_name (state old).shelf u)
-      → ImagesGo (shown_by state).Throughout (name_at (world_of (state old).shelf (state old).held) u) trace old new
+  pub images_at : (trace : Trace) → LibraryMayLeave (shown_by state).moments trace.may old new (unit_name (state old).shelf u)
+      → LeavesOnly (shown_by state).moments trace.only new (unit_name (state old).shelf u)
+      → ImagesGo (shown_by state).moments (name_at (world_of (state old).shelf (state old).held) u) trace old new
   images_at trace may only =
-      subst (λ (name : List ℕ). ImagesGo (shown_by state).Throughout name trace old new)
+      subst (λ (name : List ℕ). ImagesGo (shown_by state).moments name trace old new)
       (sym (name_before u one (state old).shelf (state new).shelf (state old).held (state new).held are call))
       (record {
         may = may;

@@ -1,31 +1,34 @@
 -- What a crash may leave of the files of a library over a shelf.
-use Rattle.std.specs.Prelude.{ℕ, List, Option, None, Some, IsTrue}
+use Rattle.std.specs.Prelude.{◌≡◌, ℕ, ◌+◌, List, length, take, Option}
 use Rattle.indexed_file.specs.File.{File}
-use Rattle.indexed_file.specs.Moments.{Test}
-use Rattle.indexed_file.specs.World.{Absent, Closed, Unsound}
+use Rattle.indexed_file.specs.Moments.{Moments}
+use Rattle.indexed_file.specs.World.{Named}
+use Rattle.page_store.specs.DeviceFile.{DeviceFile, bytes_or_none}
+use Rattle.page_store.specs.Images.{durable, MayLeave}
 use Rattle.page_store.specs.Moments.{Throughout}
 use Rattle.page_store.specs.ShelfState.{ShelfState}
 use Rattle.file_header.specs.declared.header.Header.{Header}
-use Rattle.shelf_file.specs.declared.look.Look.{Look}
-use Rattle.shelf_file.specs.declared.look.Look.TheVariants.{NoFile, Refused, Accepted}
-use Rattle.shelf_file.specs.Named.{look_of, StandsIn}
+use Rattle.shelf_file.specs.declared.look.Look.TheVariants.{Accepted}
+use Rattle.shelf_file.specs.Named.{look_of, named_of, StandsIn}
 
--- bytes of an accepted first page stand for rows, and the file passes the test
-pub record PassesClosed (test : Test) (header : Header) (bytes : List ℕ) : Type 0 where
-  pub rows : File
-  pub stands : StandsIn header bytes rows
-  pub passes : IsTrue (test (Closed header.schema rows))
+-- there is no file, or its first page is refused, as that of a file whose gate is open; or its gate
+-- is closed, and it stands for rows
+abbrev pub IsSoundImage : Option (List ℕ) → Type 0
+IsSoundImage c =
+    (header : Header) → look_of c ≡ Accepted header → (rows : File) × StandsIn header (bytes_or_none c) rows
 
-abbrev pub PassesBy : Test → List ℕ → Look → Type 0
-PassesBy test bytes NoFile = IsTrue (test Absent)
-PassesBy test bytes Refused = IsTrue (test Unsound)
-PassesBy test bytes (Accepted header) = PassesClosed test header bytes
+-- a crash at some moment from the one state of a file to the other may leave this: the log had n
+-- steps more by then
+abbrev pub MayBeFound : DeviceFile → DeviceFile → Option (List ℕ) → Type 0
+MayBeFound old new c = (n : ℕ) × MayLeave (durable (take (length old.log + n) new.log)) c
 
--- an image really is absent, closed or refused, and passes the test
-abbrev pub Passes : Test → Option (List ℕ) → Type 0
-Passes test None = IsTrue (test Absent)
-Passes test (Some bytes) = PassesBy test bytes (look_of (Some bytes))
+-- and that reads as this
+abbrev pub MayReadAs : DeviceFile → DeviceFile → Named → Type 0
+MayReadAs old new image = (c : Option (List ℕ)) × MayBeFound old new c × (named_of c ≡ image)
 
--- each image of a name, at each moment from the one shelf to the other
-abbrev pub AllPass : Test → ShelfState → ShelfState → List ℕ → Type 0
-AllPass test old new name = Throughout (Passes test) (old.file name) (new.file name)
+-- the images of the names of a shelf: each is what its file may read as, and is real where it is sound
+abbrev pub moments_on : Moments ShelfState
+moments_on = record {
+  IsImage = λ old new name. MayReadAs (old.file name) (new.file name);
+  AreReal = λ old new name. Throughout IsSoundImage (old.file name) (new.file name);
+}

@@ -5,16 +5,13 @@ use Rattle.std.specs.Prelude.{nat_lt}
 use Rattle.std.proofs.lemmas.Bool.{cases_Bool, ltb-true, ltb-false}
 use Rattle.std.proofs.lemmas.List.{get_or_past}
 use Rattle.indexed_file.specs.File.{File}
-use Rattle.indexed_file.specs.Moments.{Test}
 use Rattle.indexed_file.specs.Room.{IsFilled, available_under, available_in}
 use Rattle.indexed_file.specs.Sound.{is_file}
 use Rattle.indexed_file.specs.SoundWorld.{ShowsFiles, ShowsFilesAt, is_sound_named, is_sound_holding}
-use Rattle.indexed_file.specs.World.{FileUnit, Named, Absent, Closed, Unsound, Holding, Shut, Broken}
+use Rattle.indexed_file.specs.World.{FileUnit, Named, Absent, Closed, Holding, Shut, Broken}
 use Rattle.indexed_file.specs.World.{Opened as HasOpened, unit_at, holding_at, name_at, is_open}
 use Rattle.record_layout.specs.Schema.{Schema}
 use Rattle.page_store.specs.DeviceFile.{DeviceFile, content}
-use Rattle.page_store.proofs.MomentLemmas.{throughout_then, throughout_last, throughout_none}
-use Rattle.page_store.proofs.MomentLemmas.{throughout_weaker}
 use Rattle.page_store.specs.ShelfState.{ShelfState, unit_name, unit_file}
 use Rattle.page_alloc.specs.Joining.{available_of}
 use Rattle.file_header.specs.declared.header.Header.{Header}
@@ -27,49 +24,12 @@ use Rattle.shelf_library.specs.State.{held_at, AreReady, AreLimited}
 use Rattle.shelf_library.specs.Units.{world_of, units_of, holding_of, room_of_held, counts_of_held}
 use Rattle.shelf_library.specs.Units.{frames_of_held, asked_of}
 use Rattle.shelf_library.specs.Truth.{IsShownTruly, IsTrulyClosed}
-use Rattle.shelf_library.specs.Crashes.{Passes, PassesBy, AllPass}
 use Rattle.shelf_library.specs.WorldLaws.{named_anywhere, name_now, holding_now, named_now, units_long}
 use Rattle.open_file.proofs.ReadOffLemmas.{reads_as}
 use Rattle.open_file.proofs.FilledLemmas.{filled}
 use Rattle.shelf_file.proofs.AcceptedLemmas.{reads_back, accepted_there, accepted_named}
 use Rattle.shelf_library.specs.declared.held.Held.{Held}
 use Rattle.shelf_library.specs.declared.held.Held.TheVariants.{Nothing, Looked, Opened}
-
--- ---- images
-
-pub joins : (test : Test) (first middle last : ShelfState) (name : List ℕ) → AllPass test first middle name
-    → AllPass test middle last name → AllPass test first last name
-joins test first middle last name = throughout_then (Passes test) (first.file name) (middle.file name)
-    (last.file name)
-
-pub ends : (test : Test) (old new : ShelfState) (name : List ℕ) → AllPass test old new name
-    → AllPass test new new name
-ends test old new name all = throughout_none (Passes test) (new.file name) (new.file name) refl
-    (throughout_last (Passes test) (old.file name) (new.file name) all)
-
-wider_by : (test wider : Test) (bytes : List ℕ) (look : Look)
-    → ((named : Named) → IsTrue (test named) → IsTrue (wider named)) → PassesBy test bytes look
-    → PassesBy wider bytes look
-wider_by test wider bytes NoFile weaker passes = weaker Absent passes
-wider_by test wider bytes Refused weaker passes = weaker Unsound passes
-wider_by test wider bytes (Accepted header) weaker passes =
-    record {
-      rows = passes.rows;
-      stands = passes.stands;
-      passes = weaker (Closed header.schema passes.rows) passes.passes;
-    }
-
-wider_image : (test wider : Test) → ((named : Named) → IsTrue (test named) → IsTrue (wider named))
-    → (c : Option (List ℕ)) → Passes test c → Passes wider c
-wider_image test wider weaker None passes = weaker Absent passes
-wider_image test wider weaker (Some bytes) passes =
-    wider_by test wider bytes (look_of (Some bytes)) weaker passes
-
-pub widens : (test wider : Test) (old new : ShelfState) (name : List ℕ)
-    → ((named : Named) → IsTrue (test named) → IsTrue (wider named)) → AllPass test old new name
-    → AllPass wider old new name
-widens test wider old new name weaker = throughout_weaker (Passes test) (Passes wider) (old.file name)
-    (new.file name) (wider_image test wider weaker)
 
 -- ---- what is shown truly is a file
 

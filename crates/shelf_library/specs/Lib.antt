@@ -12,4 +12,5 @@ pub mod Library
 pub mod Reading
 pub mod Changing
 pub mod Told
+pub mod MomentLaws
 pub mod Laws

@@ -5,7 +5,7 @@ use Rattle.shelf_library.specs.State.{LibraryState, held_at}
 use Rattle.page_store.specs.ShelfState.{unit_file}
 use Rattle.shelf_library.specs.Units.{world_of, room_of_held, counts_of_held, frames_of_held, asked_of}
 use Rattle.shelf_library.specs.Truth.{IsShownTruly}
-use Rattle.shelf_library.specs.Crashes.{AllPass}
+use Rattle.shelf_library.specs.Crashes.{moments_on}
 
 abbrev pub shown_by : {S : Type 0} → (S → LibraryState) → Shown S
 shown_by state = record {
@@ -20,5 +20,8 @@ shown_by state = record {
       (held_at (state library).held u);
   unit_frames = λ library u. frames_of_held (held_at (state library).held u);
   pages_asked = λ library u. asked_of (held_at (state library).held u);
-  Throughout = λ test old new name. AllPass test (state old).shelf (state new).shelf name;
+  moments = record {
+    IsImage = λ old new. moments_on.IsImage (state old).shelf (state new).shelf;
+    AreReal = λ old new. moments_on.AreReal (state old).shelf (state new).shelf;
+  };
 }

@@ -136,7 +136,8 @@ impl<S: Shelf> ShelfLibrary<S> {
 
 impl<S: Shelf> Library for ShelfLibrary<S> {
     ghost use Rattle.shelf_library.specs.Library.{shown_by};
-    ghost use Rattle.shelf_library.specs.Laws.{joins, ends, widens, shows_files, fills};
+    ghost use Rattle.shelf_library.specs.MomentLaws.{joins, ends};
+    ghost use Rattle.shelf_library.specs.Laws.{shows_files, fills};
     ghost use Rattle.shelf_library.specs.Laws.{room_within, frames_within, none_counted};
 
     ghost shown = { shown_by (λ library. record {
@@ -147,13 +148,10 @@ impl<S: Shelf> Library for ShelfLibrary<S> {
       frames = non_zero_usize_get library.frames;
     }) };
 
-    ghost joins = { λ test first then last name. joins test (S.state first.shelf) (S.state then.shelf)
-        (S.state last.shelf) name };
+    ghost joins = { λ first then last. joins (S.state first.shelf) (S.state then.shelf)
+        (S.state last.shelf) };
 
-    ghost ends = { λ test old new name. ends test (S.state old.shelf) (S.state new.shelf) name };
-
-    ghost widens = { λ test wider old new name. widens test wider (S.state old.shelf)
-        (S.state new.shelf) name };
+    ghost ends = { λ old new. ends (S.state old.shelf) (S.state new.shelf) };
 
     ghost shows_files = { λ library name. shows_files (S.state library.shelf) library.units.items name
         library.many };

@@ -4,14 +4,15 @@ use Rattle.record_layout.specs.Schema.{Schema}
 use Rattle.indexed_file.specs.Calls.{Keeps}
 use Rattle.indexed_file.specs.World.{World, Named, named_in}
 use Rattle.page_store.specs.Images.{Leaves as MayBe}
-use Rattle.page_store.proofs.MomentLemmas.{throughout_none, throughout_weaker}
+use Rattle.page_store.proofs.MomentLemmas.{throughout_none}
 use Rattle.shelf_library.specs.State.{LibraryState}
 use Rattle.shelf_library.specs.Truth.{IsShownTruly}
 use Rattle.shelf_library.specs.Units.{world_of}
 use Rattle.shelf_library.specs.WorldLaws.{named_anywhere}
-use Rattle.shelf_run.specs.Files.{files_of, reads_of, Represents, IsSoundImage}
+use Rattle.shelf_library.specs.Crashes.{IsSoundImage}
+use Rattle.shelf_run.specs.Files.{files_of, reads_of, Represents}
 use Rattle.shelf_run.specs.ShelfRun.{shown_in}
-use Rattle.shelf_run.proofs.FilesLemmas.{world_at_first, named_is, sound_of, shown_truly, represents_sound, image_passes, image_sound}
+use Rattle.shelf_run.proofs.FilesLemmas.{world_at_first, named_is, sound_of, shown_truly, represents_sound}
 use Rattle.shelf_run.proofs.RunLemmas.{stays_sound}
 use Rattle.record_loading.specs.Loading.{Listing, Loads, LoadsNamed, mode_of}
 use Rattle.record_loading.specs.Real.{AllStayReal}
@@ -58,8 +59,7 @@ module _ (old new : LibraryState) (none : old.shelf.names ≡ []) (empty : old.h
     sound = stays_sound old new none empty many keeps an_image;
     no_false_file = λ honest all other sound.
         let now = all (old.shelf.file name).seen (an_image name (keeps.honest honest)) in
-        let first = throughout_none _ (old.shelf.file other) (old.shelf.file other) refl (λ c may. image_passes c (sound c may)) in
-        throughout_weaker _ IsSoundImage (old.shelf.file other) (new.shelf.file other) image_sound (real honest (truly now) other first);
+        real honest (truly now) other (throughout_none IsSoundImage (old.shelf.file other) (old.shelf.file other) refl sound);
   }
 
 -- ---- how a load over a library ended

@@ -8,8 +8,9 @@ use Rattle.page_store.specs.Moments.{Throughout}
 use Rattle.page_store.specs.ShelfState.{ShelfState}
 use Rattle.page_store.proofs.MomentLemmas.{throughout_none}
 use Rattle.shelf_file.specs.Named.{named_of}
-use Rattle.shelf_library.specs.Crashes.{Passes}
-use Rattle.shelf_run.specs.Files.{IsSoundImage, AllSound}
+use Rattle.shelf_library.specs.Crashes.{IsSoundImage, MayReadAs}
+use Rattle.shelf_library.specs.MomentLaws.{EachRead}
+use Rattle.shelf_run.specs.Files.{AllSound}
 use Rattle.shelf_run.specs.ShelfRun.{LeavesFiles}
 use Rattle.record_loading.specs.Loading.{Listing}
 use Rattle.record_loading.specs.declared.end.Load.TheVariants.{New}
@@ -28,8 +29,8 @@ module _ (old new : ShelfState) (same : new.file ≡ old.file) where
   untouched = record {
     named = λ name. ap (λ (file : List ℕ → DeviceFile). named_of (file name).seen) same;
     images = λ honest name. record {
-      within = λ test. subst (λ (file : List ℕ → DeviceFile). Throughout (Passes test) (old.file name) (file name)) (sym same);
-      back = λ test. subst (λ (file : List ℕ → DeviceFile). Throughout (Passes test) (file name) (file name)) same;
+      within = λ real. subst (λ (file : List ℕ → DeviceFile). EachRead (MayReadAs (old.file name) (old.file name)) (old.file name) (file name)) (sym same) (real, λ image is. is);
+      back = λ real. subst (λ (file : List ℕ → DeviceFile). EachRead (MayReadAs (new.file name) (new.file name)) (file name) (file name)) same (real, λ image is. is);
     };
   }
 
@@ -49,10 +50,10 @@ module _ (first then last : ShelfState) (same : then.file ≡ first.file) where
   left_from is = record {
     named = λ name. is.named name ∙ ap (λ (file : List ℕ → DeviceFile). named_of (file name).seen) same;
     images = λ honest name. let stays = is.images honest name in record {
-      within = λ test passes.
-          subst (λ (file : List ℕ → DeviceFile). Throughout (Passes test) (file name) (last.file name)) same
-          (stays.within test (subst (λ (file : List ℕ → DeviceFile). Throughout (Passes test) (file name) (file name)) (sym same) passes));
-      back = λ test passes. subst (λ (file : List ℕ → DeviceFile). Throughout (Passes test) (file name) (file name)) same (stays.back test passes);
+      within = λ real.
+          subst (λ (file : List ℕ → DeviceFile). EachRead (MayReadAs (file name) (file name)) (file name) (last.file name)) same
+          (stays.within (subst (λ (file : List ℕ → DeviceFile). Throughout IsSoundImage (file name) (file name)) (sym same) real));
+      back = λ real. subst (λ (file : List ℕ → DeviceFile). EachRead (MayReadAs (last.file name) (last.file name)) (file name) (file name)) same (stays.back real);
     };
   }
 

@@ -1,47 +1,26 @@
 -- Nights that end in any way, or that a crash stops.
-use Rattle.std.proofs.Common.{◌≡◌, ◌⊎◌, ℕ, zero, suc, ◌+◌, List, [], ◌∷◌, ◌++◌, length, take, All, Option, IsTrue, inl, inr, refl, ap, subst, ◌∙◌}
-use Rattle.std.proofs.Math.Seq.{take-append-add}
+use Rattle.std.proofs.Common.{◌⊎◌, ℕ, List, [], ◌∷◌, All, IsTrue, inl, inr, refl}
 use Rattle.std.proofs.lemmas.List.Elements.{All-nil, All-cons, All-head, All-tail, All-weaker}
-use Rattle.page_store.specs.DeviceFile.{FileStep, DeviceFile}
-use Rattle.page_store.specs.Images.{Durable, nothing, after, durable_from, durable, MayLeave}
-use Rattle.page_store.specs.Moments.{AtEachMoment, Throughout}
+use Rattle.page_store.specs.Moments.{Throughout}
 use Rattle.page_store.specs.ShelfState.{ShelfState}
-use Rattle.page_store.proofs.ImageLemmas.{durable_from-append}
-use Rattle.page_store.proofs.MomentLemmas.{throughout_none, throughout_weaker}
+use Rattle.page_store.proofs.MomentLemmas.{throughout_none}
 use Rattle.file_control.specs.Described.{file_names}
 use Rattle.deck_reader.specs.declared.deck.Deck.{Deck}
 use Rattle.deck_reader.specs.Deck.{IsDeck}
 use Rattle.shelf_file.specs.Named.{named_of}
-use Rattle.shelf_library.specs.Crashes.{Passes}
-use Rattle.shelf_run.specs.Files.{reads_of, IsSoundImage, AllSound, AreImagesSound, AreSoundThroughout}
+use Rattle.shelf_library.specs.MomentLaws.{found_such}
+use Rattle.shelf_library.specs.Crashes.{IsSoundImage}
+use Rattle.shelf_run.specs.Files.{reads_of, AllSound, AreImagesSound, AreSoundThroughout}
 use Rattle.shelf_run.specs.ShelfRun.{LeavesFiles}
-use Rattle.shelf_run.specs.AnyNights.{AnyNight, HasEnded, WasBrokenOff, IsNight, MayBeFound, FollowAnyhow, StartsSound, AnyNights}
-use Rattle.shelf_run.proofs.FilesLemmas.{any, image_passes, image_sound, represents_sound}
-
--- ---- moments
-
-moment_within : (P : Option (List ℕ) → Type 0) (d : Durable) (more : List FileStep) (n : ℕ) → AtEachMoment P d more
-    → (c : Option (List ℕ)) → MayLeave (durable_from d (take n more)) c → P c
-moment_within P d [] zero each c may = each c may
-moment_within P d [] (suc n) each c may = each c may
-moment_within P d (s ∷ more) zero each c may = each.0 c may
-moment_within P d (s ∷ more) (suc n) each c may = moment_within P (after d s) more n each.1 c may
-
--- what a crash at some moment may leave is as all images are
-pub moment : (P : Option (List ℕ) → Type 0) (old new : DeviceFile) → Throughout P old new → (c : Option (List ℕ)) → MayBeFound old new c → P c
-moment P old new all c found =
-    let n : ℕ = found.0 in
-    let steps : take (length old.log + n) new.log ≡ old.log ++ take n all.more = ap (take (length old.log + n)) all.goes_on ∙ take-append-add old.log all.more n in
-    moment_within P (durable old.log) all.more n all.each c
-    (subst (λ (d : Durable). MayLeave d c) (ap durable steps ∙ durable_from-append nothing old.log (take n all.more)) found.1)
+use Rattle.shelf_run.specs.AnyNights.{AnyNight, HasEnded, WasBrokenOff, IsNight, FollowAnyhow, StartsSound, AnyNights}
+use Rattle.shelf_run.proofs.FilesLemmas.{represents_sound}
 
 -- ---- one night
 
 -- a run of which nothing came leaves what is sound
 nothing_came : (old new : ShelfState) → IsTrue new.is_honest → LeavesFiles old new → AreSoundThroughout old new
 nothing_came old new honest leaves name all =
-    let now = throughout_none (Passes any) (old.file name) (old.file name) refl (λ c may. image_passes c (all c may)) in
-    throughout_weaker (Passes any) IsSoundImage (old.file name) (new.file name) image_sound ((leaves.images honest name).within any now)
+    ((leaves.images honest name).within (throughout_none IsSoundImage (old.file name) (old.file name) refl all)).0
 
 -- a night keeps what is sound, where whatever a crash may leave of the files of its deck was sound
 kept : (night : AnyNight) → IsNight night → ((deck : Deck) → IsDeck night.bytes deck → AreImagesSound night.old deck) → AreSoundThroughout night.old night.new
@@ -62,7 +41,7 @@ all_nights first old new (night ∷ nights) good follow decks =
     let is = follow.1 in
     let OfDecks : AnyNight → Type 0 = λ other. (deck : Deck) → IsDeck other.bytes deck → AreImagesSound first deck in
     let begun : (name : List ℕ) → AllSound (first.file name) → AllSound (night.old.file name) =
-    λ name all c leaves. moment IsSoundImage (old.file name) (new.file name) (good name all) c (starts.found name c leaves) in
+    λ name all c leaves. found_such IsSoundImage (old.file name) (new.file name) (good name all) c (starts.found name c leaves) in
     let here : StartsSound first night =
     λ name all. let c = reads_of night.old name in (named_of c, represents_sound c (begun name all c (starts.reads name))) in
     let own : (deck : Deck) → IsDeck night.bytes deck → AreImagesSound first deck = All-head OfDecks night nights decks in

@@ -1,7 +1,5 @@
 -- What a library over a shelf shows of its files, and what they stand for.
-use Rattle.std.proofs.Common.{◌≡◌, ℕ, ◌*◌, true, List, [], ◌∷◌, length, map, All, Option, None, Some, IsTrue, refl, sym, ap, subst, ◌∙◌, arith}
-use Rattle.std.specs.List.{list_all}
-use Rattle.indexed_file.specs.Moments.{Test}
+use Rattle.std.proofs.Common.{◌≡◌, ℕ, ◌*◌, List, [], ◌∷◌, length, map, All, Option, None, Some, refl, sym, ap, subst, ◌∙◌, arith}
 use Rattle.std.specs.Prelude.{nat_lt}
 use Rattle.indexed_file.specs.File.{File}
 use Rattle.indexed_file.specs.World.{Named, Absent, Closed, Unsound, named_in}
@@ -18,12 +16,12 @@ use Rattle.shelf_file.specs.declared.look.Look.{Look}
 use Rattle.shelf_file.specs.declared.look.Look.TheVariants.{NoFile, Refused, Accepted}
 use Rattle.shelf_file.specs.Named.{look_of, look_by, named_of, named_by, StandsIn}
 use Rattle.shelf_file.proofs.AcceptedLemmas.{reads_back, named_by_header}
-use Rattle.shelf_library.specs.Crashes.{Passes, PassesBy}
 use Rattle.shelf_library.specs.Truth.{IsShownTruly, IsTrulyClosed}
 use Rattle.shelf_library.specs.Units.{world_of}
 use Rattle.shelf_library.specs.WorldLaws.{named_anywhere}
 use Rattle.shelf_library.specs.declared.held.Held.{Held}
-use Rattle.shelf_run.specs.Files.{files_of, IsSoundImage, Represents}
+use Rattle.shelf_library.specs.Crashes.{IsSoundImage}
+use Rattle.shelf_run.specs.Files.{files_of, Represents}
 
 -- ---- what names stand for
 
@@ -116,27 +114,3 @@ represents_look bytes (Accepted header) is sound =
 pub represents_sound : (c : Option (List ℕ)) → IsSoundImage c → Represents c (named_of c)
 represents_sound None sound = refl
 represents_sound (Some bytes) sound = represents_look bytes (look_of (Some bytes)) refl sound
-
--- ---- images
-
--- the test that all pass
-abbrev pub any : Test
-any = λ named. true
-
-pub all_any : (these : List Named) → IsTrue (list_all any these)
-all_any [] = refl
-all_any (one ∷ these) = all_any these
-
-passes_by : (bytes : List ℕ) (look : Look) → look_of (Some bytes) ≡ look → IsSoundImage (Some bytes) → PassesBy any bytes look
-passes_by bytes NoFile is sound = refl
-passes_by bytes Refused is sound = refl
-passes_by bytes (Accepted header) is sound = let rows = sound header is in record { rows = rows.0; stands = rows.1; passes = refl }
-
--- an image passes that test where it is sound
-pub image_passes : (c : Option (List ℕ)) → IsSoundImage c → Passes any c
-image_passes None sound = refl
-image_passes (Some bytes) sound = passes_by bytes (look_of (Some bytes)) refl sound
-
-pub image_sound : (c : Option (List ℕ)) → Passes any c → IsSoundImage c
-image_sound None passes = λ header is. absurd (cc)
-image_sound (Some bytes) passes = λ header is. let closed = subst (λ (look : Look). PassesBy any bytes look) is passes in (closed.rows, closed.stands)

@@ -2,17 +2,15 @@
 use Rattle.std.proofs.Common.{ℕ, List, [], ◌∷◌, inl, inr, sym, subst}
 use Rattle.procedure_division.specs.declared.statement.Statement.{Statement}
 use Rattle.deck_runner.specs.Line.{Line}
-use Rattle.deck_runner.specs.NoFalseFile.{Judged, IsSafeStretch, IsSafeRun, IsSafeBrokenOff, during, trace_for}
+use Rattle.deck_runner.specs.NoFalseFile.{Judged, IsSafeStretch, IsSafeRun, IsSafeBrokenOff}
 use Rattle.deck_runner.specs.Steps.{AreStepsOf, until_stop, closes_from, AreStepsInPart}
-use Rattle.shelf_library.specs.Crashes.{AllPass}
-use Rattle.shelf_library.specs.Laws.{joins}
+use Rattle.shelf_library.specs.MomentLaws.{joins}
 use Rattle.shelf_library.specs.State.{LibraryState}
 use Rattle.shelf_run.specs.ShelfRun.{shown_in}
-use Rattle.shelf_run.proofs.FilesLemmas.{any, all_any}
 
 -- from the start on each image is absent, closed or refused
 abbrev pub AreReal : LibraryState → LibraryState → List ℕ → Type 0
-AreReal old new name = AllPass any old.shelf new.shelf name
+AreReal = shown_in.moments.AreReal
 
 module _ (start : LibraryState) (name : List ℕ) (real : AreReal start start name) where
   over_steps : (statements : List Statement) (before : Judged LibraryState) (lines : List Line) (after : Judged LibraryState)
@@ -20,9 +18,8 @@ module _ (start : LibraryState) (name : List ℕ) (real : AreReal start start na
   over_steps [] before lines after are begun = subst (λ (j : Judged LibraryState). AreReal start j.point.library name) (sym are.1) begun
   over_steps (statement ∷ rest) before lines after are begun =
       let between : Judged LibraryState = are.1 in
-      let trace = trace_for (shown_in.world before.point.library) statement before.point.run are.0 name in
-      let here : AreReal before.point.library between.point.library name = are.3.stands name any (λ first. real) (all_any (during trace (before.ledger name)).may) in
-      over_steps rest between are.2 after are.4 (joins any start.shelf before.point.library.shelf between.point.library.shelf name begun here)
+      let here : AreReal before.point.library between.point.library name = (are.3.stands name (λ first. real)).0 in
+      over_steps rest between are.2 after are.4 (joins start.shelf before.point.library.shelf between.point.library.shelf name begun here).0
 
   pub over_run : (statements : List Statement) (before : Judged LibraryState) (lines : List Line) (after : Judged LibraryState)
       → IsSafeRun shown_in start statements before lines after → AreReal start before.point.library name → AreReal start after.point.library name

@@ -1,13 +1,14 @@
 -- What one night may leave of a name, as rows.
-use Rattle.std.proofs.Common.{◌≡◌, ◌⊎◌, ℕ, zero, suc, true, false, List, [], ◌∷◌, ◌++◌, map, get_or, Option, Some, None, IsTrue, bytes_eq, inl, inr, refl, sym, ap, subst, ◌∙◌, if◌then◌else◌}
+use Rattle.std.proofs.Common.{◌≡◌, ℕ, zero, suc, List, [], ◌∷◌, ◌++◌, map, get_or, Option, bytes_eq, inl, inr, refl, sym, ap, subst, ◌∙◌, if◌then◌else◌}
 use Rattle.std.specs.Prelude.{slice_index_or}
 use Rattle.std.proofs.lemmas.List.{append-nil, append_assoc}
-use Rattle.indexed_file.specs.Images.{Trace, untouched, same_named, is_one_of}
-use Rattle.indexed_file.specs.Moments.{Test}
-use Rattle.indexed_file.specs.World.{World, FileUnit, Named, Absent, Closed, Unsound, Shut}
-use Rattle.indexed_file.proofs.NamedLaws.{same_is, same_self, one_of_more, one_of_rest}
-use Rattle.indexed_file.proofs.TestLemmas.{either}
+use Rattle.indexed_file.specs.Images.{Trace, untouched}
+use Rattle.indexed_file.specs.Moments.{EachImage}
+use Rattle.indexed_file.specs.World.{World, FileUnit, Named, Absent, Shut}
+use Rattle.indexed_file.proofs.ImageLemmas.{each_weaker, each_then}
+use Rattle.page_store.specs.Images.{Leaves}
 use Rattle.page_store.specs.ShelfState.{ShelfState}
+use Rattle.page_store.proofs.MomentLemmas.{throughout_none}
 use Rattle.file_control.specs.Described.{file_names}
 use Rattle.procedure_division.specs.declared.statement.Statement.{Statement}
 use Rattle.procedure_division.specs.declared.statement.Statement.TheVariants.{Perform, Move, MoveLength, StopRun}
@@ -15,108 +16,45 @@ use Rattle.deck_reader.specs.declared.deck.Deck.{Deck}
 use Rattle.deck_runner.specs.Line.{Line}
 use Rattle.deck_runner.specs.Run.{Run}
 use Rattle.deck_runner.specs.Running.{unit_names}
-use Rattle.deck_runner.specs.NoFalseFile.{Ledger, first_ledger, StandNow, during, behind, images_by, StandsBy, trace_for, Judged, IsSafeStretch, IsSafeRun, IsSafeBrokenOff}
+use Rattle.deck_runner.specs.NoFalseFile.{Ledger, first_ledger, StandNow, IsOfLedger, during, behind, StandsBy, trace_for, Judged, IsSafeStretch, IsSafeRun, IsSafeBrokenOff}
 use Rattle.deck_runner.specs.Steps.{AreStepsOf, AreStepsInPart, IsRunOf, IsRunInPart, until_stop, closes_from}
 use Rattle.deck_runner.specs.Stretches.{name_by, trace_by}
-use Rattle.deck_runner.proofs.FalseFileLaws.{behind_stretch, images_are_of_ledger}
-use Rattle.shelf_file.specs.declared.look.Look.{Look}
-use Rattle.shelf_file.specs.declared.look.Look.TheVariants.{NoFile, Refused, Accepted}
-use Rattle.shelf_file.specs.Named.{look_of}
-use Rattle.shelf_library.specs.Crashes.{Passes, PassesBy, AllPass}
-use Rattle.shelf_library.specs.Laws.{joins, ends, widens}
+use Rattle.deck_runner.proofs.FalseFileLaws.{behind_stretch}
+use Rattle.shelf_file.specs.Named.{named_of}
+use Rattle.shelf_library.specs.Crashes.{IsSoundImage, MayBeFound, moments_on}
+use Rattle.shelf_library.specs.MomentLaws.{found_such, each_read, joins, ends}
 use Rattle.shelf_library.specs.State.{LibraryState}
-use Rattle.shelf_run.specs.AnyNights.{MayBeFound}
 use Rattle.shelf_run.specs.Files.{Represents}
-use Rattle.shelf_run.specs.NightRows.{Watched, name_of, trace_at, IsWatchedStep, IsOfLedger, IsLeftBehind}
+use Rattle.shelf_run.specs.NightRows.{Watched, name_of, trace_at, IsWatchedStep, IsLeftBehind}
 use Rattle.shelf_run.specs.NightPoints.{RunGoesThrough}
 use Rattle.shelf_run.specs.ShelfRun.{shown_in}
-use Rattle.shelf_run.proofs.AnyNightLemmas.{moment}
-use Rattle.shelf_run.proofs.FilesLemmas.{file_there}
-
--- ---- one of some
-
-one_of_either : (xs ys : List Named) (named : Named) → IsTrue (is_one_of (xs ++ ys) named) → IsTrue (is_one_of xs named) ⊎ IsTrue (is_one_of ys named)
-one_of_either [] ys named e = inr e
-one_of_either (x ∷ xs) ys named e =
-    either (same_named x named) (IsTrue (is_one_of (x ∷ xs) named) ⊎ IsTrue (is_one_of ys named))
-    (λ yes. inl (rw yes refl))
-    (λ no. later no (one_of_either xs ys named (rw no at e)))
-  where
-    later : same_named x named ≡ false → IsTrue (is_one_of xs named) ⊎ IsTrue (is_one_of ys named) → IsTrue (is_one_of (x ∷ xs) named) ⊎ IsTrue (is_one_of ys named)
-    later apart (inl here) = inl (rw apart here)
-    later apart (inr there) = inr there
-
--- one of one is that one
-pub the_one : (only named : Named) → IsTrue (is_one_of (only ∷ []) named) → named ≡ only
-the_one only named e =
-    either (same_named only named) (named ≡ only)
-    (λ yes. sym (same_is only named yes))
-    (λ no. let never : false ≡ true = rw no at e in absurd (cc))
-
-pub one_itself : (only : Named) → IsTrue (is_one_of (only ∷ []) only)
-one_itself only = rw (same_self only) refl
-
--- ---- what an image represents
-
-module _ (test : Test) where
-  by_look : (bytes : List ℕ) (look : Look) → look_of (Some bytes) ≡ look → PassesBy test bytes look → (named : Named) × Represents (Some bytes) named × IsTrue (test named)
-  by_look bytes NoFile is passes = absurd (file_there bytes is)
-  by_look bytes Refused is passes = (Unsound, is, passes)
-  by_look bytes (Accepted header) is passes = (
-    Closed header.schema passes.rows,
-    (bytes, refl, record { header = header; accepted = is; schema_is = refl; stands = passes.stands }),
-    passes.passes,
-  )
-
-  pub passes_represents : (c : Option (List ℕ)) → Passes test c → (named : Named) × Represents c named × IsTrue (test named)
-  passes_represents None passes = (Absent, refl, passes)
-  passes_represents (Some bytes) passes = by_look bytes (look_of (Some bytes)) refl passes
-
-  refused_passes : (c : Option (List ℕ)) → look_of c ≡ Refused → IsTrue (test Unsound) → Passes test c
-  refused_passes None is passes = absurd (cc)
-  refused_passes (Some bytes) is passes = subst (λ (look : Look). PassesBy test bytes look) (sym is) passes
-
-  pub represents_passes : (c : Option (List ℕ)) (named : Named) → Represents c named → IsTrue (test named) → Passes test c
-  represents_passes c Absent is passes = subst (λ (d : Option (List ℕ)). Passes test d) (sym is) passes
-  represents_passes c (Closed schema file) is passes =
-      let closed = is.2 in
-      let by : PassesBy test is.0 (look_of (Some is.0)) =
-      subst (λ (look : Look). PassesBy test is.0 look) (sym closed.accepted)
-      (record { rows = file; stands = closed.stands; passes = rw closed.schema_is passes }) in
-      subst (λ (d : Option (List ℕ)). Passes test d) (sym is.1) by
-  represents_passes c Unsound is passes = refused_passes c is passes
+use Rattle.shelf_run.proofs.FilesLemmas.{named_is, sound_of, represents_sound}
 
 -- ---- some that all images are among
 
--- at each moment from the one shelf to the other each image of the name is one of these, and of each of these this is so
-pub record Covers (P : Named → Type 0) (old new : ShelfState) (name : List ℕ) : Type 0 where
-  pub these : List Named
-  pub so : (named : Named) → IsTrue (is_one_of these named) → P named
-  pub pass : AllPass (is_one_of these) old new name
+-- at each moment from the one shelf to the other each image of the name is real, and is such
+abbrev pub Covers : (Named → Type 0) → ShelfState → ShelfState → List ℕ → Type 0
+Covers = EachImage moments_on
 
 pub cover_then : (P : Named → Type 0) (first middle last : ShelfState) (name : List ℕ) → Covers P first middle name → Covers P middle last name → Covers P first last name
-cover_then P first middle last name a b = record {
-  these = a.these ++ b.these;
-  so = λ named e. so named (one_of_either a.these b.these named e);
-  pass =
-      joins (is_one_of (a.these ++ b.these)) first middle last name
-      (widens (is_one_of a.these) (is_one_of (a.these ++ b.these)) first middle name (one_of_more a.these b.these) a.pass)
-      (widens (is_one_of b.these) (is_one_of (a.these ++ b.these)) middle last name (one_of_rest a.these b.these) b.pass);
-}
-  where
-    so : (named : Named) → IsTrue (is_one_of a.these named) ⊎ IsTrue (is_one_of b.these named) → P named
-    so named (inl here) = a.so named here
-    so named (inr there) = b.so named there
+cover_then P = each_then moments_on joins ends P
 
 pub cover_weaker : (P Q : Named → Type 0) (old new : ShelfState) (name : List ℕ) → ((named : Named) → P named → Q named) → Covers P old new name → Covers Q old new name
-cover_weaker P Q old new name weaker a = record { these = a.these; so = λ named e. weaker named (a.so named e); pass = a.pass }
+cover_weaker = each_weaker moments_on
 
--- what may be found represents something of which this is so
+-- what may be found represents something that is such
 pub cover_found : (P : Named → Type 0) (old new : ShelfState) (name : List ℕ) → Covers P old new name → (c : Option (List ℕ)) → MayBeFound (old.file name) (new.file name) c
     → (named : Named) × Represents c named × P named
 cover_found P old new name a c found =
-    let is = passes_represents (is_one_of a.these) c (moment (Passes (is_one_of a.these)) (old.file name) (new.file name) a.pass c found) in
-    (is.0, is.1, a.so is.0 is.2)
+    (named_of c, represents_sound c (found_such IsSoundImage (old.file name) (new.file name) a.0 c found), a.1 (named_of c) (c, found, refl))
+
+-- where whatever a crash now may leave represents something that is such
+pub cover_now : (P : Named → Type 0) (shelf : ShelfState) (name : List ℕ) → ((c : Option (List ℕ)) → Leaves (shelf.file name) c → (named : Named) × Represents c named × P named) → Covers P shelf shelf name
+cover_now P shelf name such =
+    each_read P (shelf.file name) (shelf.file name)
+    (throughout_none _ (shelf.file name) (shelf.file name) refl (λ c leaves.
+    let is = such c leaves in
+    (sound_of c is.0 is.1, subst P (sym (named_is c is.0 is.1)) is.2)))
 
 -- ---- steps
 
@@ -158,8 +96,8 @@ module _ (start : LibraryState) where
   stand_step : (statement : Statement) (before : Judged LibraryState) (lines : List Line) (after : Judged LibraryState) → IsSafeStretch shown_in start statement before lines after
       → StandNow shown_in start before → StandNow shown_in start after
   stand_step statement before lines after is now name =
-      subst (λ (ledger : Ledger). StandsBy shown_in.Throughout start name ledger after.point.library after.point.library) (sym (is.ledger name))
-      (behind_stretch shown_in (λ test first last other. ends test first.shelf last.shelf other)
+      subst (λ (ledger : Ledger). StandsBy shown_in.moments start name ledger after.point.library after.point.library) (sym (is.ledger name))
+      (behind_stretch shown_in (λ first last. ends first.shelf last.shelf)
       start statement before.point lines after.point is.stretch name (before.ledger name) (now name))
 
   pub stand_after : (statements : List Statement) (before : Judged LibraryState) (lines : List Line) (after : Judged LibraryState) → AreStepsOf (IsSafeStretch shown_in start) statements before lines after
@@ -236,26 +174,15 @@ module _ (start : LibraryState) (deck : Deck) (name : List ℕ) where
   -- ---- what its images are among
 
   module _ (may : Named → Type 0) (now : Covers may start.shelf start.shelf name) where
-    by_ledger : (ledger : Ledger) (named : Named) → IsTrue (is_one_of (images_by now.these ledger) named) → IsOfLedger may ledger named
-    by_ledger ledger named e =
-        either ledger.as_at_start (IsOfLedger may ledger named)
-        (λ yes. at_start yes (one_of_either now.these ledger.may named (rw yes at e)))
-        (λ no. inr (rw no at e))
-      where
-        at_start : ledger.as_at_start ≡ true → IsTrue (is_one_of now.these named) ⊎ IsTrue (is_one_of ledger.may named) → IsOfLedger may ledger named
-        at_start still (inl first) = inl (still, now.so named first)
-        at_start still (inr later) = inr later
+    by_ledger : (ledger : Ledger) (named : Named) → IsOfLedger (moments_on.IsImage start.shelf start.shelf name) ledger named → IsOfLedger may ledger named
+    by_ledger ledger named (inl first) = inl (first.0, now.1 named first.1)
+    by_ledger ledger named (inr later) = inr later
 
     -- where a name stands by its ledger
     pub cover_stands : (P : Named → Type 0) (ledger : Ledger) (old new : LibraryState) → ((named : Named) → IsOfLedger may ledger named → P named)
-        → StandsBy shown_in.Throughout start name ledger old new → Covers P old.shelf new.shelf name
-    cover_stands P ledger old new gives stands = record {
-      these = images_by now.these ledger;
-      so = λ named e. gives named (by_ledger ledger named e);
-      pass =
-          images_are_of_ledger shown_in (λ test wider first last other. widens test wider first.shelf last.shelf other)
-          start old new name ledger now.these now.pass stands;
-    }
+        → StandsBy shown_in.moments start name ledger old new → Covers P old.shelf new.shelf name
+    cover_stands P ledger old new gives stands =
+        cover_weaker (IsOfLedger (moments_on.IsImage start.shelf start.shelf name) ledger) P old.shelf new.shelf name (λ named is. gives named (by_ledger ledger named is)) (stands (λ _. now.0))
 
     -- what some of these steps may leave, from this point on, with the first of these lines
     abbrev pub LeftInPart : List Statement → Watched → List Line → Named → Type 0
@@ -283,8 +210,8 @@ module _ (start : LibraryState) (deck : Deck) (name : List ℕ) where
           let now_mark = step_mark statement before are.0 mark in
           let point = watched now_mark between in
           let step = one_step statement before are.0 between mark names are.3 in
-          let stands : StandsBy shown_in.Throughout start name ledger before.point.library between.point.library =
-          subst (λ (trace : Trace). StandsBy shown_in.Throughout start name (during trace (before.ledger name)) before.point.library between.point.library)
+          let stands : StandsBy shown_in.moments start name ledger before.point.library between.point.library =
+          subst (λ (trace : Trace). StandsBy shown_in.moments start name (during trace (before.ledger name)) before.point.library between.point.library)
           (same_trace (shown_in.world before.point.library) deck names statement before.point.run are.0 name) (are.3.stands name) in
           let here : Covers P before.point.library.shelf between.point.library.shelf name =
           cover_stands P ledger before.point.library between.point.library
@@ -377,7 +304,7 @@ module _ (start : LibraryState) (deck : Deck) (name : List ℕ) where
     module _
         (P : Named → Type 0) (statements : List Statement) (before : Judged LibraryState) (seen : List Line) (point : Judged LibraryState) (later : List Line) (after : Judged LibraryState)
         (names : HasNames before) (gives : (named : Named) → LeftBehind seen statements (watched first_mark before) (seen ++ later) named → P named)
-        (stands : StandsBy shown_in.Throughout start name (point.ledger name) point.point.library point.point.library) where
+        (stands : StandsBy shown_in.moments start name (point.ledger name) point.point.library point.point.library) where
       -- from the point on, of which what it may be there is said
       from_point : ((named : Named) → IsOfLedger may (point.ledger name) named → P named) → Covers P point.point.library.shelf point.point.library.shelf name
       from_point gives_there = cover_stands P (point.ledger name) point.point.library point.point.library gives_there stands

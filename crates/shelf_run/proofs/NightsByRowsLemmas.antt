@@ -2,27 +2,26 @@
 use Rattle.std.proofs.Common.{◌≡◌, ◌⊎◌, ℕ, List, [], ◌∷◌, ◌++◌, All, IsTrue, inl, inr, refl, sym, subst}
 use Rattle.std.proofs.lemmas.List.Elements.{All-head, All-tail, All-weaker}
 use Rattle.indexed_file.specs.World.{World, Named, named_in}
-use Rattle.indexed_file.specs.Images.{is_one_of}
+use Rattle.indexed_file.proofs.ImageLemmas.{each_now}
 use Rattle.page_store.specs.ShelfState.{ShelfState}
-use Rattle.page_store.proofs.MomentLemmas.{throughout_none, throughout_last}
 use Rattle.file_control.specs.Described.{file_names}
 use Rattle.deck_reader.specs.declared.deck.Deck.{Deck}
 use Rattle.deck_reader.specs.Deck.{IsDeck}
 use Rattle.deck_runner.specs.Beginning.{run_before, IsAttached}
 use Rattle.deck_runner.specs.Line.{Line}
-use Rattle.deck_runner.specs.NoFalseFile.{Judged, first_ledger, StandNow, RunsWhole, RunsInPart}
-use Rattle.shelf_library.specs.Crashes.{Passes}
-use Rattle.shelf_library.specs.Laws.{ends}
+use Rattle.deck_runner.specs.NoFalseFile.{Judged, first_ledger, IsOfLedger, StandNow, RunsWhole, RunsInPart}
+use Rattle.deck_runner.proofs.FalseFileRuns.{begun_stands}
+use Rattle.shelf_library.specs.Crashes.{moments_on}
+use Rattle.shelf_library.specs.MomentLaws.{joins, ends}
 use Rattle.shelf_library.specs.State.{LibraryState}
 use Rattle.shelf_library.specs.declared.held.Held.{Held}
 use Rattle.shelf_run.specs.AnyNights.{AnyNight, HasEnded, WasBrokenOff, CameToNothing}
 use Rattle.shelf_run.specs.Files.{files_of, reads_of, Represents}
-use Rattle.shelf_run.specs.NightRows.{Allowed, IsOfLedger, MayEndSo, MayBreakOffSo, WasTold, MayBeCutSo, MayBeCutBehind, Ending, Ended, BrokenOff, Nothing, Cut, CutBehind, EndedNight, HasEnding, crash_from, FollowAsEnded, allowed_behind, IsIn, as_in, StartAllowed, NightsByRows}
+use Rattle.shelf_run.specs.NightRows.{Allowed, MayEndSo, MayBreakOffSo, WasTold, MayBeCutSo, MayBeCutBehind, Ending, Ended, BrokenOff, Nothing, Cut, CutBehind, EndedNight, HasEnding, crash_from, FollowAsEnded, allowed_behind, IsIn, as_in, StartAllowed, NightsByRows}
 use Rattle.shelf_run.specs.NightPoints.{RunsThrough, HasEndedThrough}
 use Rattle.shelf_run.specs.ShelfRun.{shown_in, over}
-use Rattle.shelf_run.proofs.AnyNightLemmas.{moment}
 use Rattle.shelf_run.proofs.FilesLemmas.{named_is, sound_of, shown_truly, world_at_first}
-use Rattle.shelf_run.proofs.NightRowLemmas.{the_one, one_itself, represents_passes, Covers, cover_weaker, cover_found, first_mark, watched, LeftInRun, LeftBehind, cover_through, stand_at_point, cover_stands, cover_run, cover_broken_off, run_watched, broken_off_watched}
+use Rattle.shelf_run.proofs.NightRowLemmas.{Covers, cover_weaker, cover_found, cover_now, first_mark, watched, LeftInRun, LeftBehind, cover_through, stand_at_point, cover_stands, cover_run, cover_broken_off, run_watched, broken_off_watched}
 
 -- what a read gives of the name at the start of a night represents something that it may stand for
 abbrev pub ReadsAllowed : Allowed → ShelfState → List ℕ → Type 0
@@ -68,7 +67,7 @@ module _ (may : Allowed) (night : AnyNight) (honest : IsTrue night.new.is_honest
         cut_so begun named left = inr (deck, is_deck, shown_in.world start, allowed, told (λ all. LeftOf begun all named) left)
 
         attached : (begun : LibraryState) → IsAttached shown_in start begun deck → Covers (MayBeCutSo may night name) night.old begun.shelf name
-        attached begun is = record { these = now.these; so = λ named e. inl (now.so named e); pass = (is.images name).within (is_one_of now.these) now.pass }
+        attached begun is = cover_weaker _ (MayBeCutSo may night name) night.old begun.shelf name (λ named was. inl (now.1 named was)) ((is.images name).within now.0)
 
         pub cut_whole : RunsWhole shown_in start end deck lines → Covers (MayBeCutSo may night name) night.old night.new name
         cut_whole runs =
@@ -96,7 +95,7 @@ module _ (may : Allowed) (night : AnyNight) (honest : IsTrue night.new.is_honest
             let gives : (named : Named) → LeftHere (seen ++ later) named → P named =
             λ named left. (deck, is_deck, shown_in.world start, allowed, told (λ all. LeftHere all named) (subst (λ (all : List Line). LeftHere all named) (sym through.3) left)) in
             let first : StandNow shown_in start (begins is.0) =
-            λ other test was all. ends test night.old is.0.shelf other ((is.2.images other).within test (was refl)) in
+            λ other was. begun_stands shown_in (λ first last. ends first.shelf last.shelf) start is.0 other (is.2.images other) (was refl) in
             let stands = stand_at_point start deck.statements (begins is.0) seen point later is.1 through.4 first in
             let ran = cover_through start deck name (may name) now P deck.statements (begins is.0) seen point later is.1 is.2.names gives (stands name) through.4 in
             let to_end : Covers P point.point.library.shelf night.new name =
@@ -146,7 +145,7 @@ module _ (may : Allowed) (night : AnyNight) (honest : IsTrue night.new.is_honest
 
   -- nothing came of it
   pub stayed : (name : List ℕ) → CameToNothing night → Covers (may name) night.old night.old name → Covers (may name) night.old night.new name
-  stayed name leaves now = record { these = now.these; so = now.so; pass = (leaves.images honest name).within (is_one_of now.these) now.pass }
+  stayed name leaves now = cover_weaker _ (may name) night.old night.new name now.1 ((leaves.images honest name).within now.0)
 
   pub was_cut : (name : List ℕ) → HasEnded night ⊎ (WasBrokenOff night ⊎ CameToNothing night)
       → ((deck : Deck) → IsDeck night.bytes deck → All (ReadsAllowed may night.old) (file_names deck.files))
@@ -176,16 +175,7 @@ module _ (may : Allowed) (night : AnyNight) (honest : IsTrue night.new.is_honest
       → Covers (may name) night.old night.old name → Covers (allowed_behind ending may night name) (crash_from ending night) night.new name
   behind_night Ended name has reads now = ended name has reads now
   behind_night BrokenOff name has reads now = broke_off name has reads now
-  behind_night Nothing name has reads now = last_of (stayed name has now)
-    where
-      last_of : Covers (may name) night.old night.new name → Covers (may name) night.new night.new name
-      last_of a = record {
-        these = a.these;
-        so = a.so;
-        pass =
-            throughout_none (Passes (is_one_of a.these)) (night.new.file name) (night.new.file name) refl
-            (throughout_last (Passes (is_one_of a.these)) (night.old.file name) (night.new.file name) a.pass);
-      }
+  behind_night Nothing name has reads now = each_now moments_on joins ends (may name) night.old night.new name (stayed name has now)
   behind_night Cut name has reads now = was_cut name has reads now
   behind_night (CutBehind seen shelf) name has reads now = was_cut_behind seen shelf name has reads now
 
@@ -205,13 +195,7 @@ module _ (world : World) (first : ShelfState) where
       let reads : (name : List ℕ) → IsIn world first name → ReadsAllowed may night.old name =
       λ name such. cover_found (may name) old new name (covers name such) (reads_of night.old name) (starts.found name (reads_of night.old name) (starts.reads name)) in
       let now : (name : List ℕ) → IsIn world first name → Covers (may name) night.old night.old name =
-      λ name such. let so_far = covers name such in record {
-        these = so_far.these;
-        so = so_far.so;
-        pass =
-            throughout_none (Passes (is_one_of so_far.these)) (night.old.file name) (night.old.file name) refl
-            (λ c leaves. moment (Passes (is_one_of so_far.these)) (old.file name) (new.file name) so_far.pass c (starts.found name c leaves));
-      } in
+      λ name such. cover_now (may name) night.old name (λ c leaves. cover_found (may name) old new name (covers name such) c (starts.found name c leaves)) in
       let own : OfDecks one = All-head OfDecks one nights decks in
       let of_deck : (deck : Deck) → IsDeck night.bytes deck → All (ReadsAllowed may night.old) (file_names deck.files) =
       λ deck it. All-weaker (IsIn world first) (ReadsAllowed may night.old) reads (file_names deck.files) (own deck it) in
@@ -220,15 +204,7 @@ module _ (world : World) (first : ShelfState) where
       (reads, all_nights (allowed_behind one.ending may night) (crash_from one.ending night) night.new nights went follow.2 (All-tail OfDecks one nights decks))
 
   at_first : (name : List ℕ) → IsIn world first name → Covers (as_in world name) first first name
-  at_first name such =
-      let only = named_in world name in
-      record {
-        these = only ∷ [];
-        so = λ named e. the_one only named e;
-        pass =
-            throughout_none (Passes (is_one_of (only ∷ []))) (first.file name) (first.file name) refl
-            (λ c leaves. represents_passes (is_one_of (only ∷ [])) c only (such c leaves) (one_itself only));
-      }
+  at_first name such = cover_now (as_in world name) first name (λ c leaves. (named_in world name, such c leaves, refl))
 
   pub by_rows : (nights : List EndedNight) → FollowAsEnded first first nights → All OfDecks nights → StartAllowed (as_in world) (IsIn world first) nights
   by_rows nights = all_nights (as_in world) first first nights at_first

@@ -11,7 +11,8 @@ use Rattle.deck_runner.specs.NoFalseFile.{Judged, IsSafeStretch, IsSafeRun}
 use Rattle.deck_runner.specs.Run.{RunFile, Run}
 use Rattle.deck_runner.specs.Steps.{IsStep, IsStepOn, AreStepsOf, until_stop, closes_from}
 use Rattle.shelf_library.specs.State.{LibraryState}
-use Rattle.shelf_run.specs.Files.{reads_of, IsSoundImage}
+use Rattle.shelf_library.specs.Crashes.{IsSoundImage}
+use Rattle.shelf_run.specs.Files.{reads_of}
 use Rattle.shelf_run.specs.NightPoints.{GoThrough, RunGoesThrough, NightsGoThrough}
 use Rattle.shelf_run.specs.ShelfRun.{shown_in, over}
 use Rattle.shelf_run.proofs.FilesLemmas.{shown_truly}

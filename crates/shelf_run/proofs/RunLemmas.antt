@@ -4,8 +4,7 @@ use Rattle.std.proofs.lemmas.List.Elements.{All-weaker}
 use Rattle.indexed_file.specs.Calls.{Keeps}
 use Rattle.indexed_file.specs.World.{World, named_in}
 use Rattle.page_store.specs.Images.{Leaves}
-use Rattle.page_store.specs.Moments.{Throughout}
-use Rattle.page_store.proofs.MomentLemmas.{throughout_none, throughout_weaker}
+use Rattle.page_store.proofs.MomentLemmas.{throughout_none}
 use Rattle.file_control.specs.Described.{file_names}
 use Rattle.deck_reader.specs.declared.deck.Deck.{Deck}
 use Rattle.deck_runner.specs.declared.run_end.RunEnd.{RunEnd}
@@ -20,9 +19,10 @@ use Rattle.shelf_library.specs.Truth.{IsShownTruly}
 use Rattle.shelf_library.specs.Units.{world_of}
 use Rattle.shelf_library.specs.WorldLaws.{named_anywhere}
 use Rattle.shelf_library.specs.declared.held.Held.{Held}
-use Rattle.shelf_run.specs.Files.{files_of, reads_of, Represents, IsSoundImage, AllSound, AreImagesSound, AreSoundThroughout}
+use Rattle.shelf_library.specs.Crashes.{IsSoundImage}
+use Rattle.shelf_run.specs.Files.{files_of, reads_of, Represents, AllSound, AreImagesSound, AreSoundThroughout}
 use Rattle.shelf_run.specs.ShelfRun.{OnShelf, IsExactRun, RunsBy, Runs, BreaksOff, LeavesFiles, StaysSound, shown_in, over}
-use Rattle.shelf_run.proofs.FilesLemmas.{AreSound, world_at_first, named_same, sound_of, sound_if_closed, shown_truly, any, image_passes, image_sound}
+use Rattle.shelf_run.proofs.FilesLemmas.{AreSound, world_at_first, named_same, sound_of, sound_if_closed, shown_truly}
 use Rattle.shelf_run.proofs.WorldLemmas.{runs_from}
 use Rattle.shelf_run.proofs.StatesLemmas.{stays, runs_whole, runs_in_part}
 use Rattle.shelf_run.proofs.MomentsLemmas.{AreReal, over_run, over_broken_off}
@@ -87,10 +87,7 @@ module _ (old new : LibraryState) (none : old.shelf.names ≡ []) (empty : old.h
   -- ---- what a crash may leave
 
   real_at_first : (name : List ℕ) → ((c : Option (List ℕ)) → Leaves (old.shelf.file name) c → IsSoundImage c) → AreReal old old name
-  real_at_first name sound = throughout_none _ (old.shelf.file name) (old.shelf.file name) refl (λ c leaves. image_passes c (sound c leaves))
-
-  sound_throughout : (name : List ℕ) → AreReal old new name → Throughout IsSoundImage (old.shelf.file name) (new.shelf.file name)
-  sound_throughout name = throughout_weaker _ IsSoundImage (old.shelf.file name) (new.shelf.file name) image_sound
+  real_at_first name sound = throughout_none IsSoundImage (old.shelf.file name) (old.shelf.file name) refl sound
 
   no_false_file : (deck : Deck) (AreSuch : Judged LibraryState → List Line → Judged LibraryState → Type 0) (lines : List Line)
       → ((name : List ℕ) (before after : Judged LibraryState) → AreReal old old name → AreSuch before lines after → AreReal old before.point.library name → AreReal old after.point.library name)
@@ -101,9 +98,9 @@ module _ (old new : LibraryState) (none : old.shelf.names ≡ []) (empty : old.h
       (λ name all. all (old.shelf.file name).seen (an_image name was)) (file_names deck.files) sound in
       let is = runs.stretches honest (all_truly deck now) in
       let real = real_at_first name all in
-      let begun : AreReal old is.0 name = (is.2.images name).within any real in
+      let begun : AreReal old is.0 name = ((is.2.images name).within real).0 in
       let ended : AreReal old is.1.point.library name = goes name (record { point = record { run = run_before (shown_in.world old) deck; library = is.0 }; ledger = _ }) is.1 real is.3 begun in
-      sound_throughout name (subst (λ (state : LibraryState). AreReal old state name) is.4 ended)
+      subst (λ (state : LibraryState). AreReal old state name) is.4 ended
 
   -- ---- a run, by the states of the library
 

@@ -30,18 +30,18 @@ module _ {S : Type 0} (state : S → LibraryState) where
   shows : (at : Point S) → ShowsRun (shown_by state) at → ShowsRun shown_in (point at)
   shows at shown u file e = let is = shown u file e in record { named = is.named; file = is.file }
 
-  pub stays : (old new : S) (name : List ℕ) → Stays (shown_by state).Throughout old new name → Stays shown_in.Throughout (state old) (state new) name
+  pub stays : (old new : S) (name : List ℕ) → Stays (shown_by state).moments old new name → Stays shown_in.moments (state old) (state new) name
   stays old new name is = record { within = is.within; back = is.back }
 
-  may_leave : (these : List Named) (old new : S) (name : List ℕ) → LibraryMayLeave (shown_by state).Throughout these old new name → LibraryMayLeave shown_in.Throughout these (state old) (state new) name
+  may_leave : (these : List Named) (old new : S) (name : List ℕ) → LibraryMayLeave (shown_by state).moments these old new name → LibraryMayLeave shown_in.moments these (state old) (state new) name
   may_leave [] old new name may = stays old new name may
   may_leave (one ∷ these) old new name may = may
 
-  leaves_only : (only : Option Named) (new : S) (name : List ℕ) → LeavesOnly (shown_by state).Throughout only new name → LeavesOnly shown_in.Throughout only (state new) name
+  leaves_only : (only : Option Named) (new : S) (name : List ℕ) → LeavesOnly (shown_by state).moments only new name → LeavesOnly shown_in.moments only (state new) name
   leaves_only None new name leaves = tt
   leaves_only (Some only) new name leaves = leaves
 
-  images_go : (name : List ℕ) (trace : Trace) (old new : S) → ImagesGo (shown_by state).Throughout name trace old new → ImagesGo shown_in.Throughout name trace (state old) (state new)
+  images_go : (name : List ℕ) (trace : Trace) (old new : S) → ImagesGo (shown_by state).moments name trace old new → ImagesGo shown_in.moments name trace (state old) (state new)
   images_go name trace old new go = record {
     may = may_leave trace.may old new name go.may;
     only = leaves_only trace.only new name go.only;

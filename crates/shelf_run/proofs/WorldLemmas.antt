@@ -18,7 +18,8 @@ use Rattle.deck_runner.specs.Beginning.{run_before, file_before, item_before, ar
 use Rattle.deck_runner.specs.DeckRun.{RunsExactly}
 use Rattle.deck_runner.specs.Run.{RunFile, Run, lines_of_run, transcript, after_run}
 use Rattle.deck_runner.specs.RunEnd.{end_of}
-use Rattle.shelf_run.specs.Files.{files_of, reads_of, IsSoundImage, Represents, AreIn}
+use Rattle.shelf_library.specs.Crashes.{IsSoundImage}
+use Rattle.shelf_run.specs.Files.{files_of, reads_of, Represents, AreIn}
 use Rattle.shelf_run.specs.ShelfRun.{RunsFrom}
 use Rattle.shelf_run.specs.WorldAfter.{run_from, left_of, world_after}
 use Rattle.shelf_run.proofs.FilesLemmas.{named_is, sound_of, represents_sound}

@@ -1,13 +1,13 @@
 -- Runs one after another that end in any way, or are stopped by a crash. All of this is ours.
-use Rattle.std.specs.Prelude.{◌⊎◌, ℕ, ◌+◌, List, [], ◌∷◌, length, take, Option, All, IsTrue}
+use Rattle.std.specs.Prelude.{◌⊎◌, ℕ, List, [], ◌∷◌, Option, All, IsTrue}
 use Rattle.indexed_file.specs.World.{Named}
-use Rattle.page_store.specs.DeviceFile.{DeviceFile}
-use Rattle.page_store.specs.Images.{durable, MayLeave, Leaves}
+use Rattle.page_store.specs.Images.{Leaves}
 use Rattle.page_store.specs.ShelfState.{ShelfState}
 use Rattle.deck_reader.specs.declared.deck.Deck.{Deck}
 use Rattle.deck_reader.specs.Deck.{IsDeck}
 use Rattle.deck_runner.specs.RunEnd.{Told, ToldInPart}
 use Rattle.deck_runner.specs.declared.run_end.RunEnd.{RunEnd}
+use Rattle.shelf_library.specs.Crashes.{MayBeFound}
 use Rattle.shelf_run.specs.Files.{reads_of, Represents, AllSound, AreImagesSound}
 use Rattle.shelf_run.specs.ShelfRun.{OnShelf, Runs, BreaksOff, LeavesFiles}
 
@@ -42,11 +42,6 @@ CameToNothing night = LeavesFiles night.old night.new
 pub record IsNight (night : AnyNight) : Type 0 where
   pub honest : IsTrue night.new.is_honest
   pub ends : HasEnded night ⊎ (WasBrokenOff night ⊎ CameToNothing night)
-
--- a crash at some moment from the one state of a file to the other may leave this: the log had n
--- steps more by then
-abbrev pub MayBeFound : DeviceFile → DeviceFile → Option (List ℕ) → Type 0
-MayBeFound old new c = (n : ℕ) × MayLeave (durable (take (length old.log + n) new.log)) c
 
 -- at a start a read gives, of each name, what a crash now may leave; and that is what a crash may
 -- have left of it at some moment of the time before, the last one among them

@@ -1,17 +1,16 @@
 -- The files of a shelf, as a run finds and leaves them. All of this is ours.
 use Rattle.std.specs.Prelude.{◌≡◌, ℕ, List, [], All, Option, Some, None}
-use Rattle.indexed_file.specs.File.{File}
 use Rattle.indexed_file.specs.World.{World, Named, Absent, Closed, Unsound, named_in}
-use Rattle.page_store.specs.DeviceFile.{DeviceFile, bytes_or_none}
+use Rattle.page_store.specs.DeviceFile.{DeviceFile}
 use Rattle.page_store.specs.Images.{Leaves}
 use Rattle.page_store.specs.Moments.{Throughout}
 use Rattle.page_store.specs.ShelfState.{ShelfState}
 use Rattle.file_control.specs.Described.{file_names}
 use Rattle.deck_reader.specs.declared.deck.Deck.{Deck}
-use Rattle.file_header.specs.declared.header.Header.{Header}
-use Rattle.shelf_file.specs.declared.look.Look.TheVariants.{Refused, Accepted}
-use Rattle.shelf_file.specs.Named.{look_of, named_of, StandsIn}
+use Rattle.shelf_file.specs.declared.look.Look.TheVariants.{Refused}
+use Rattle.shelf_file.specs.Named.{look_of, named_of}
 use Rattle.shelf_file.specs.Shelves.{AreClosed}
+use Rattle.shelf_library.specs.Crashes.{IsSoundImage}
 
 -- what a read gives of the file of each name
 abbrev pub Reads : Type 0
@@ -35,12 +34,6 @@ AreIn world reads deck = All (λ name. Represents (reads name) (named_in world n
 -- what each name reads as, whether or not its file represents it
 abbrev pub files_of : ShelfState → World
 files_of shelf = record { units = []; elsewhere = λ name. named_of (shelf.file name).seen }
-
--- there is no file, or its first page is refused, as that of a file whose gate is open; or its gate
--- is closed, and it stands for rows
-abbrev pub IsSoundImage : Option (List ℕ) → Type 0
-IsSoundImage c =
-    (header : Header) → look_of c ≡ Accepted header → (rows : File) × StandsIn header (bytes_or_none c) rows
 
 -- whatever a crash may leave of a file now is sound
 abbrev pub AllSound : DeviceFile → Type 0

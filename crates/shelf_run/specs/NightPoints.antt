@@ -13,7 +13,8 @@ use Rattle.deck_runner.specs.declared.run_end.RunEnd.{RunEnd}
 use Rattle.deck_runner.specs.Steps.{AreStepsOf, until_stop, closes_from}
 use Rattle.shelf_library.specs.State.{LibraryState}
 use Rattle.shelf_run.specs.AnyNights.{AnyNight}
-use Rattle.shelf_run.specs.Files.{reads_of, IsSoundImage}
+use Rattle.shelf_library.specs.Crashes.{IsSoundImage}
+use Rattle.shelf_run.specs.Files.{reads_of}
 use Rattle.shelf_run.specs.ShelfRun.{OnShelf, RunsBy, Runs, shown_in}
 
 -- steps lead to a point, with these lines, and on from there, with those

@@ -1,8 +1,8 @@
 -- Which rows the files may have where runs follow one another and end in any way, or are stopped by
 -- a crash. All of this is ours.
-use Rattle.std.specs.Prelude.{◌≡◌, ◌⊎◌, ℕ, true, List, [], ◌∷◌, ◌++◌, get_or, All, IsTrue, Option, bytes_eq}
+use Rattle.std.specs.Prelude.{◌≡◌, ◌⊎◌, ℕ, List, [], ◌∷◌, ◌++◌, get_or, All, IsTrue, Option, bytes_eq}
 use Rattle.std.specs.Prelude.{if◌then◌else◌}
-use Rattle.indexed_file.specs.Images.{Trace, untouched, is_one_of}
+use Rattle.indexed_file.specs.Images.{Trace, untouched}
 use Rattle.indexed_file.specs.World.{World, Named, named_in}
 use Rattle.page_store.specs.Images.{Leaves}
 use Rattle.page_store.specs.ShelfState.{ShelfState}
@@ -14,7 +14,7 @@ use Rattle.deck_reader.specs.declared.deck.Deck.{Deck}
 use Rattle.deck_reader.specs.Deck.{IsDeck}
 use Rattle.deck_runner.specs.Beginning.{run_before}
 use Rattle.deck_runner.specs.Line.{Line}
-use Rattle.deck_runner.specs.NoFalseFile.{Ledger, first_ledger, during, behind}
+use Rattle.deck_runner.specs.NoFalseFile.{Ledger, first_ledger, IsOfLedger, during, behind}
 use Rattle.deck_runner.specs.Run.{Run}
 use Rattle.deck_runner.specs.RunEnd.{Told, ToldInPart}
 use Rattle.deck_runner.specs.declared.run_end.RunEnd.{RunEnd}
@@ -88,12 +88,6 @@ abbrev pub FromAllowed : Allowed → List ℕ → (Deck → World → Type 0) �
 FromAllowed may bytes P =
     (deck : Deck) × IsDeck bytes deck × (world : World)
     × All (λ name. may name (named_in world name)) (file_names deck.files) × P deck world
-
--- what is one of those that a ledger has: as before the run, until a CLOSE of a change has answered
--- 00; or what the steps may leave
-abbrev pub IsOfLedger : (Named → Type 0) → Ledger → Named → Type 0
-IsOfLedger before ledger named = ((ledger.as_at_start ≡ true) × before named)
-    ⊎ IsTrue (is_one_of ledger.may named)
 
 -- a run that came to its end has left this: a whole run, whose lines are those that were written
 abbrev pub MayEndSo : Allowed → AnyNight → Allowed

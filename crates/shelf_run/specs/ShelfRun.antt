@@ -14,11 +14,11 @@ use Rattle.deck_runner.specs.RunEnd.{Told, ToldInPart}
 use Rattle.deck_runner.specs.DeckRun.{RunsExactly, IsRefusedDeck}
 use Rattle.deck_runner.specs.Line.{Line}
 use Rattle.deck_runner.specs.NoFalseFile.{RunsWhole, RunsInPart}
-use Rattle.shelf_library.specs.Crashes.{AllPass}
+use Rattle.shelf_library.specs.Crashes.{IsSoundImage, moments_on}
 use Rattle.shelf_library.specs.Library.{shown_by}
 use Rattle.shelf_library.specs.State.{LibraryState, AreLimited}
 use Rattle.shelf_library.specs.declared.held.Held.{Held}
-use Rattle.shelf_run.specs.Files.{Represents, AreIn, files_of, reads_of, IsSoundImage, AreImagesSound}
+use Rattle.shelf_run.specs.Files.{Represents, AreIn, files_of, reads_of, AreImagesSound}
 use Rattle.shelf_run.specs.Files.{AreSoundThroughout}
 use Rattle.shelf_run.specs.WorldAfter.{world_after}
 
@@ -82,7 +82,7 @@ IsExactRun bytes old new written written_after end =
 -- is as it was
 pub record LeavesFiles (old new : ShelfState) : Type 0 where
   pub named : SameNames (files_of old) (files_of new)
-  pub images : IsTrue new.is_honest → (name : List ℕ) → Stays AllPass old new name
+  pub images : IsTrue new.is_honest → (name : List ℕ) → Stays moments_on old new name
 
 -- what is sound stays so: the promise at the end of a run is the premise of the next
 abbrev pub StaysSound : (old new : ShelfState) → Type 0

@@ -2,7 +2,7 @@
 use Rattle.std.proofs.Common.{◌≡◌, ◌≤◌, ℕ, ◌+◌, Bool, true, false, List, refl, sym, ◌∙◌, subst, arith, IsTrue}
 use Rattle.io_state.specs.declared.statement.FileStatement.{FileStatement}
 use Rattle.indexed_file.specs.World.{World, OnlyAt, name_at}
-use Rattle.indexed_file.specs.Moments.{Test}
+use Rattle.indexed_file.specs.Moments.{JoinsStretches, EndsNow}
 use Rattle.indexed_file.specs.Room.{Room}
 use Rattle.indexed_file.specs.Shown.{Shown}
 use Rattle.indexed_file.specs.Images.{ImagesGo}
@@ -24,8 +24,7 @@ from_none first asked most none few = omega arith
 
 module _
     {S : Type 0} (shown : Shown S)
-    (joins : (test : Test) (first then last : S) (name : List ℕ) → shown.Throughout test first then name → shown.Throughout test then last name → shown.Throughout test first last name)
-    (ends : (test : Test) (old new : S) (name : List ℕ) → shown.Throughout test old new name → shown.Throughout test new new name)
+    (joins : JoinsStretches shown.moments) (ends : EndsNow shown.moments)
     (u : ℕ) (statement : FileStatement) (n : ℕ) (held left : Held) (old mid new : S) (area next : List ℕ) (answer : Answer) where
   -- the count was begun
   begun_then :
@@ -64,9 +63,9 @@ module _
         from_none _ _ _ restarts.asked
         (subst (λ (room : Room). shown.pages_asked new u ≤ shown.pages_asked mid u + most_asked statement (key_of held.connector.session) room) (restarts.room u) few);
     images = λ honest truly standing.
-        goes_then shown.Throughout joins ends old mid new (name_at (shown.world old) u) _
+        goes_then shown.moments joins ends old mid new (name_at (shown.world old) u) _
         (record { may = restarts.images _; only = tt; others = λ other apart. restarts.images other })
-        (subst (λ (w : World). ImagesGo shown.Throughout (name_at w u) (trace_of statement (state_of held w u area) answer.status) mid new) restarts.world
+        (subst (λ (w : World). ImagesGo shown.moments (name_at w u) (trace_of statement (state_of held w u area) answer.status) mid new) restarts.world
         (done.images honest (truly_then truly) (stands standing)));
   }
     where

@@ -123,7 +123,7 @@ pub record IsCarriedOut
       → AnswersWithin shown u most after.library answer.status)
   -- what a crash may leave
   pub images : Trusted shown u before after
-      (ImagesGo shown.Throughout (name_at (shown.world before.library) u)
+      (ImagesGo shown.moments (name_at (shown.world before.library) u)
       (trace_of statement (state_in shown u before) answer.status) before.library after.library)
 
 -- the most pages that the statement may ask for

@@ -2,4 +2,4 @@ use Rattle.deck_runner.proofs.FalseFileLaws as laws
 use Rattle.deck_runner.proofs.whole_run.images_are_of_ledger.Goals as goal
 
 pub returns : goal.returns
-returns g c = laws.images_are_of_ledger g.L.Library.shown g.met.L.Library.widens
+returns g c = laws.images_are_of_ledger g.L.Library.shown

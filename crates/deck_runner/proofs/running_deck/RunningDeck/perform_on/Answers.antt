@@ -79,7 +79,7 @@ returns g c =
               causes = caused g.L.Library.shown c.args.library.now c.perform-answer.new.library c.args.u files file next items c.args.statement.now c.record_length-length.result answer
                   get limit c.perform-answer.ensures.short record_length_is done.cause (done.room honest shown standing) (done.step honest shown standing);
               names = units_after world world_after c.args.u done.only;
-              images = subst (λ (o : Option RunFile). ImagesGo g.L.Library.shown.Throughout (name_at world c.args.u) (trace_on c.args.statement.now o (line ∷ [])) c.args.library.now c.perform-answer.new.library)
+              images = subst (λ (o : Option RunFile). ImagesGo g.L.Library.shown.moments (name_at world c.args.u) (trace_on c.args.statement.now o (line ∷ [])) c.args.library.now c.perform-answer.new.library)
                   (sym (run_here world files c.args.u file get)) (done.images honest shown standing);
             };
         lines_are = line_is files c.args.u file next c.args.statement.now answer (g.L.Library.shown.fault_count c.args.library.now) (g.L.Library.shown.fault_count c.perform-answer.new.library) get same.name done.cause;
