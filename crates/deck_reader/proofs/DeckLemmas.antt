@@ -1,15 +1,16 @@
 -- What words that spell a deck determine.
 use Rattle.std.proofs.Common.{◌≡◌, ℕ, List, [], sym, ◌∙◌, ap, subst}
-use Rattle.std.specs.Prelude.{drop, All}
+use Rattle.std.specs.Prelude.{drop}
+use Rattle.deck_words.specs.OneReading.{Determines}
 use Rattle.deck_words.specs.Word.{Word}
 use Rattle.file_control.specs.declared.description.Description.{Description}
 use Rattle.file_control.specs.Description.{FileDesc, LengthItem}
 use Rattle.file_control.specs.Whole.{IsDescription}
 use Rattle.file_control.specs.Described.{AreDescribed}
 use Rattle.procedure_division.specs.declared.statement.Statement.{Statement}
-use Rattle.procedure_division.specs.Allowed.{IsAllowed}
 use Rattle.procedure_division.specs.Names.{Names, names_of}
-use Rattle.procedure_division.specs.Procedure.{procedure}
+use Rattle.procedure_division.specs.Procedure.{procedure, IsProcedure}
+use Rattle.procedure_division.specs.OnlyAllowed.{HaveOnlyAllowed}
 use Rattle.deck_reader.specs.declared.deck.Deck.{Deck}
 use Rattle.deck_reader.specs.Deck.{names_in, Spells, CanBeRun}
 
@@ -23,23 +24,23 @@ behind_description words deck s =
     subst (λ items. SpellsBehind words deck.statements s.0.files items s.0.words) s.3
     (subst (λ files. SpellsBehind words deck.statements files deck.items s.0.words) s.2 s.4)
 
-module _ (one_description : (a b : Description) (words : List Word) → IsDescription words a → IsDescription words b → a ≡ b) where
+module _ (one_description : Determines IsDescription) where
   -- behind the description no procedure stands, so the words spell no deck
   pub no_deck : (words : List Word) (description : Description) → IsDescription words description → ((statements : List Statement) → SpellsBehind words statements description.files description.items description.words → ⊥) → (deck : Deck) → Spells words deck → ⊥
   no_deck words description is none deck s =
-      none deck.statements (subst (λ (d : Description). SpellsBehind words deck.statements d.files d.items d.words) (one_description s.0 description words s.1 is) (behind_description words deck s))
+      none deck.statements (subst (λ (d : Description). SpellsBehind words deck.statements d.files d.items d.words) (one_description words s.0 description s.1 is) (behind_description words deck s))
 
-  pub one_spelling : ((names : Names) (a b : List Statement) (words : List Word) → (procedure names).Spells a words [] → (procedure names).Spells b words [] → a ≡ b) → (words : List Word) (a b : Deck) → Spells words a → Spells words b → a ≡ b
+  pub one_spelling : ((names : Names) → Determines (IsProcedure names)) → (words : List Word) (a b : Deck) → Spells words a → Spells words b → a ≡ b
   one_spelling one_procedure words a b s t =
-      let same = one_description t.0 s.0 words t.1 s.1 in
+      let same = one_description words t.0 s.0 t.1 s.1 in
       let files = s.2 ∙ sym (t.2 ∙ ap (λ (d : Description). d.files) same) in
       let items = s.3 ∙ sym (t.3 ∙ ap (λ (d : Description). d.items) same) in
       let other = subst (λ (d : Description). SpellsBehind words b.statements d.files d.items d.words) same (behind_description words b t) in
-      let statements = one_procedure (names_of s.0.files s.0.items) a.statements b.statements (drop s.0.words words) (behind_description words a s) other in
+      let statements = one_procedure (names_of s.0.files s.0.items) (drop s.0.words words) a.statements b.statements (behind_description words a s) other in
       λ j. record { files = files j; items = items j; statements = statements j }
 
 -- a deck's files and items are those of a description, and its statements are allowed
-pub can_be_run : ((words : List Word) (description : Description) → IsDescription words description → AreDescribed description.files description.items) → ((names : Names) (list : List Statement) (words : List Word) → AreDescribed names.files names.items → (procedure names).Spells list words [] → All (IsAllowed names) list) → (words : List Word) (deck : Deck) → Spells words deck → CanBeRun deck
+pub can_be_run : ((words : List Word) (description : Description) → IsDescription words description → AreDescribed description.files description.items) → HaveOnlyAllowed → (words : List Word) (deck : Deck) → Spells words deck → CanBeRun deck
 can_be_run are_described only_allowed words deck s =
     let of_files = subst (λ files. AreDescribed files s.0.items) (sym s.2) (are_described words s.0 s.1) in
     let described = subst (λ items. AreDescribed deck.files items) (sym s.3) of_files in

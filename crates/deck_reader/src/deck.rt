@@ -1,8 +1,8 @@
 //! A deck, read whole.
-ghost use Rattle.std.specs.Prelude.{◌≡◌, ◌≢◌, [], ℕ, List, IfOk, IfErr};
-ghost use Rattle.deck_words.specs.Fault.{IsTold, HasNoneIfTold};
+ghost use Rattle.std.specs.Prelude.{List, IfOk, IfErr};
+ghost use Rattle.deck_words.specs.Fault.{IsTold, HasNoneIfTold, GivesOrTells};
+ghost use Rattle.deck_words.specs.OneReading.{Determines};
 ghost use Rattle.deck_words.specs.Word.{Word};
-ghost use Rattle.procedure_division.specs.declared.statement.Statement.{Statement};
 ghost use Rattle.procedure_division.specs.Names.{names_of};
 ghost use Rattle.procedure_division.specs.Procedure.{IsProcedure};
 ghost use Rattle.deck_reader.specs.declared.deck.Deck.{Deck};
@@ -32,9 +32,7 @@ fn statements_of(
     items: &[LengthItem],
     words: &Words<'_>,
 ) -> Result<StatementList, DeckFault>
-    ensures statements { IfOk result (IsProcedure (names_of files.now items.now) words.now) }
-    ensures none { HasNoneIfTold (IsProcedure (names_of files.now items.now) words.now) result }
-    ensures told { IfErr result IsTold }
+    ensures { GivesOrTells (IsProcedure (names_of files.now items.now) words.now) result }
 {
     let names = Names::new(alloc, files, items).map_err(Refusal::from)?;
     procedure(alloc, &names, words)
@@ -42,9 +40,7 @@ fn statements_of(
 
 /// The deck that the words spell.
 fn read(alloc: Global, words: &Words<'_>) -> Result<Deck, DeckFault>
-    ensures deck { IfOk result (Spells words.now) }
-    ensures none { IfErr result (λ fault. fault.code ≢ 8 → (deck : Deck) → Spells words.now deck → ⊥) }
-    ensures told { IfErr result IsTold }
+    ensures { GivesOrTells (Spells words.now) result }
 {
     one_description();
     let description = read_description(alloc, words)?;
@@ -75,7 +71,7 @@ fn every_deck_can_be_run()
 /// items, and then those of the procedure. Or code 8 on line 0, for want of memory.
 pub fn read_deck(alloc: Global, bytes: &[u8]) -> Result<Deck, DeckFault>
     ensures deck { IfOk result (IsDeck bytes.now) }
-    ensures none { IfErr result (λ fault. fault.code ≢ 8 → (deck : Deck) → IsDeck bytes.now deck → ⊥) }
+    ensures none { HasNoneIfTold (IsDeck bytes.now) result }
     ensures runnable { IfOk result CanBeRun }
     ensures told { IfErr result IsTold }
 {
@@ -87,7 +83,7 @@ pub fn read_deck(alloc: Global, bytes: &[u8]) -> Result<Deck, DeckFault>
 
 /// No bytes are two decks.
 pub fn one_deck()
-    ensures { (bytes : List ℕ) (a b : Deck) → IsDeck bytes a → IsDeck bytes b → a ≡ b }
+    ensures { Determines IsDeck }
 {
     one_reading();
     no_words_are_two_decks();
@@ -95,7 +91,7 @@ pub fn one_deck()
 
 /// No words spell two decks.
 pub fn no_words_are_two_decks()
-    ensures { (words : List Word) (a b : Deck) → Spells words a → Spells words b → a ≡ b }
+    ensures { Determines Spells }
 {
     one_description();
     one_procedure();

@@ -31,9 +31,31 @@ use Rattle.procedure_division.specs.Allowed.{IsAllowedOn, IsAllowed}
 use Rattle.procedure_division.specs.Following.{followed, where_allowed}
 use Rattle.procedure_division.specs.Names.{Names, file_of, record_of, item_in, holder_of, item_of, length_item_of, access_at, prime_length, key_of, led_key_of}
 use Rattle.procedure_division.specs.Procedure.{statement, sentence, paragraph, paragraph_or_sentence, procedure}
-use Rattle.procedure_division.specs.StatementRules.{joined, some_of, perform, file, record_name, file_to_open, opened, opening, open_statement, lock, closed, close_statement, next, key_named, key, key_phrase, read_by, read_operand, read_phrases, read_statement, relation, file_to_start_named, file_to_start, led_key_named, led_key, start_by, start_phrase, start_operand, start_statement, source, moved_to, moved_to_named, receiver, receivers, move_statement, write_statement, rewrite_statement, delete_statement, stop_statement}
+use Rattle.procedure_division.specs.StatementRules.{joined, some_of, perform, file, record_name, opened, opening, open_statement, lock, closed, close_statement, next, key, key_phrase, read_by, read_operand, read_phrases, read_statement, relation, file_to_start, led_key, start_by, start_phrase, start_operand, start_statement, source, moved_to, receiver, receivers, move_statement, write_statement, rewrite_statement, delete_statement, stop_statement}
 use Rattle.procedure_division.proofs.GivesLemmas.{Gives, gives_second, gives_first, gives_pair, gives_either, gives_as, gives_followed, IfThere, gives_optional, joined_all, gives_some, found, all_at, one_all, field_found, keys_there}
 use Rattle.procedure_division.proofs.SourceLemmas.{HasDigits, gives_source, taken_is_number}
+
+-- the OPEN of the file of this name, where its access mode permits the open mode
+abbrev file_to_open : Names → OpenMode → List ℕ → Option (List Statement)
+file_to_open names mode name =
+    option_and_then (λ u. cond (may_open (access_at names u) mode) (Some (perform u (Open mode))) None) (file_of names name)
+
+-- the key that the file's item of this name is
+abbrev key_named : Names → ℕ → List ℕ → Option ℕ
+key_named names u name = option_and_then (key_of names u) (item_in names u name)
+
+-- the file of this name, unless its access is random
+abbrev file_to_start_named : Names → List ℕ → Option ℕ
+file_to_start_named names name =
+    option_and_then (λ u. cond (is_random (access_at names u)) None (Some u)) (file_of names name)
+
+-- the key that the file's item of this name leads, and the item's length
+abbrev led_key_named : Names → ℕ → List ℕ → Option (ℕ × ℕ)
+led_key_named names u name = option_and_then (led_key_of names u) (item_in names u name)
+
+-- the MOVE to the item of this name
+abbrev moved_to_named : Names → Source (List ℕ) → List ℕ → Option (List Statement)
+moved_to_named names sent name = moved_to sent (item_of names name) (length_item_of names name)
 
 -- ---- the file of a place
 

@@ -1,5 +1,5 @@
 -- What a source of MOVE is: the digits of a number, and of a literal of digits alone, are digits.
-use Rattle.std.proofs.Common.{◌≡◌, ℕ, cond, Bool, true, false, List, length, Some, refl, sym, subst}
+use Rattle.std.proofs.Common.{◌≡◌, ℕ, cond, Bool, true, false, List, length, Some, None, refl, sym, subst}
 use Rattle.std.specs.Prelude.{nat_le, IsTrue}
 use Rattle.std.specs.List.{list_all}
 use Rattle.std.specs.Char.{is_ascii_digit}

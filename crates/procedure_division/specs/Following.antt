@@ -4,19 +4,13 @@ use Rattle.deck_words.specs.Class.{all_apart}
 use Rattle.deck_words.specs.Rule.{Rule, where_it_gives}
 use Rattle.deck_words.specs.Word.{Word}
 
-abbrev pub SpellsFollowed : {A B : Type 0} → Rule A → (A → Rule B) → B → List Word → List Word → Type 0
-SpellsFollowed p q y words rest = (x : _) × (middle : List Word) × p.Spells x words middle
-    × (q x).Spells y middle rest
-
-abbrev pub reads_followed : {A B : Type 0} → Rule A → (A → Rule B) → List Word → Option (B × List Word)
-reads_followed p q words = option_and_then (λ a. (q a.0).reads a.1) (p.reads words)
-
 -- the first rule, and then the one that its value gives, whose value counts; that one looks ahead
 -- as the sample's does
 abbrev pub followed : {A B : Type 0} → A → Rule A → (A → Rule B) → Rule B
 followed sample p q = record {
-  Spells = SpellsFollowed p q;
-  reads = reads_followed p q;
+  Spells = λ y words rest. (x : _) × (middle : List Word) × p.Spells x words middle
+      × (q x).Spells y middle rest;
+  reads = λ words. option_and_then (λ a. (q a.0).reads a.1) (p.reads words);
   starts = if p.may_be_empty then p.starts ++ (q sample).starts else p.starts;
   goes_on = if (q sample).may_be_empty then (q sample).goes_on ++ p.goes_on else (q sample).goes_on;
   may_be_empty = p.may_be_empty && (q sample).may_be_empty;

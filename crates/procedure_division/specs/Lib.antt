@@ -4,3 +4,4 @@ pub mod Following
 pub mod StatementRules
 pub mod Procedure
 pub mod Allowed
+pub mod OnlyAllowed

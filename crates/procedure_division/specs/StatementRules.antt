@@ -69,15 +69,11 @@ record_name names = where_it_gives (record_of names) name
 
 -- ---- OPEN and CLOSE: a statement for each file, in order
 
--- the OPEN of the file of this name, where its access mode permits the open mode
-abbrev pub file_to_open : Names → OpenMode → List ℕ → Option (List Statement)
-file_to_open names mode name =
-    option_and_then (λ u. if may_open (access_at names u) mode then Some (perform u (Open mode)) else None)
-    (file_of names name)
-
--- the name of a file that may be opened in this mode
+-- the OPEN of the file of a name, where its access mode permits the open mode
 unfoldable pub opened : Names → OpenMode → Rule (List Statement)
-opened names mode = where_it_gives (file_to_open names mode) name
+opened names mode = where_it_gives (λ text. option_and_then
+    (λ u. if may_open (access_at names u) mode then Some (perform u (Open mode)) else None)
+    (file_of names text)) name
 
 -- (INPUT | OUTPUT | I-O | EXTEND) {name}..
 unfoldable pub opening : Names → Rule (List Statement)
@@ -111,13 +107,9 @@ next access =
     (λ n. is_sequential access || is_there n) <$> optional
     (where_allowed (not (is_random access)) (the (codes "NEXT")))
 
--- the key that the file's item of this name is
-abbrev pub key_named : Names → ℕ → List ℕ → Option ℕ
-key_named names u name = option_and_then (key_of names u) (item_in names u name)
-
 -- the name of an item of the file that is a key
 unfoldable pub key : Names → ℕ → Rule ℕ
-key names u = where_it_gives (key_named names u) name
+key names u = where_it_gives (λ text. option_and_then (key_of names u) (item_in names u text)) name
 
 -- ANSI X3.23-1985, Indexed I-O module, READ statement, general rules: by this key, or by the prime
 -- key where no KEY phrase stands
@@ -173,22 +165,14 @@ relation =
     ∣ not_less
     ∣ ((λ _. NotLess) <$> sign (codes ">="))
 
--- the file of this name, unless its access is random
-abbrev pub file_to_start_named : Names → List ℕ → Option ℕ
-file_to_start_named names name =
-    option_and_then (λ u. if is_random (access_at names u) then None else Some u) (file_of names name)
-
--- the name of a file that START is for
+-- the name of a file that START is for, unless its access is random
 unfoldable pub file_to_start : Names → Rule ℕ
-file_to_start names = where_it_gives (file_to_start_named names) name
+file_to_start names = where_it_gives (λ text. option_and_then
+    (λ u. if is_random (access_at names u) then None else Some u) (file_of names text)) name
 
--- the key that the file's item of this name leads, and the item's length
-abbrev pub led_key_named : Names → ℕ → List ℕ → Option (ℕ × ℕ)
-led_key_named names u name = option_and_then (led_key_of names u) (item_in names u name)
-
--- the name of an item of the file that is a key, or the leading part of one
+-- the name of an item of the file that is a key, or the leading part of one: the key, and the item's length
 unfoldable pub led_key : Names → ℕ → Rule (ℕ × ℕ)
-led_key names u = where_it_gives (led_key_named names u) name
+led_key names u = where_it_gives (λ text. option_and_then (led_key_of names u) (item_in names u text)) name
 
 -- ANSI X3.23-1985, Indexed I-O module, START statement, general rules: EQUAL by the prime key where
 -- no KEY phrase stands
@@ -247,13 +231,10 @@ moved_to sent (Some item) length_item =
 moved_to sent None (Some i) = if is_taken_by true sent then Some (MoveLength i sent ∷ []) else None
 moved_to sent None None = None
 
--- the MOVE to the item of this name
-abbrev pub moved_to_named : Names → Source (List ℕ) → List ℕ → Option (List Statement)
-moved_to_named names sent name = moved_to sent (item_of names name) (length_item_of names name)
-
 -- the name of an item that takes the source
 unfoldable pub receiver : Names → Source (List ℕ) → Rule (List Statement)
-receiver names sent = where_it_gives (moved_to_named names sent) name
+receiver names sent =
+    where_it_gives (λ text. moved_to sent (item_of names text) (length_item_of names text)) name
 
 -- TO {name}..
 unfoldable pub receivers : Names → Source (List ℕ) → Rule (List Statement)

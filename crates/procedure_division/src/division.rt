@@ -1,15 +1,13 @@
 //! The procedure division.
-ghost use Rattle.std.specs.Prelude.{◌≡◌, ◌≢◌, [], List, All, IfOk, IfErr};
-ghost use Rattle.deck_words.specs.Fault.{IsTold, HasNoneIfRefused, HasNoneIfTold};
+ghost use Rattle.std.specs.Prelude.{[]};
+ghost use Rattle.deck_words.specs.Fault.{GivesOrRefuses, GivesOrTells};
+ghost use Rattle.deck_words.specs.OneReading.{Determines};
 ghost use Rattle.deck_words.specs.Reading.{Reads};
 ghost use Rattle.deck_words.specs.Rule.{onto};
-ghost use Rattle.deck_words.specs.Word.{Word};
-ghost use Rattle.file_control.specs.Described.{AreDescribed};
-ghost use Rattle.procedure_division.specs.Allowed.{IsAllowed};
 ghost use Rattle.procedure_division.specs.Names.{Names};
 ghost use Rattle.procedure_division.specs.StatementRules.{joined};
 ghost use Rattle.procedure_division.specs.Procedure.{paragraph_or_sentence, procedure, IsProcedure};
-ghost use Rattle.procedure_division.specs.declared.statement.Statement.{Statement};
+ghost use Rattle.procedure_division.specs.OnlyAllowed.{HaveOnlyAllowed};
 
 use crate::names::Names;
 use crate::sentence::{paragraph_or_sentence, sees_sentence};
@@ -56,8 +54,7 @@ fn read_procedure(
     names: &Names<'_>,
     words: &Words<'_>,
 ) -> Result<StatementList, Refusal>
-    ensures statements { IfOk result (IsProcedure names.now words.now) }
-    ensures fault { HasNoneIfRefused (IsProcedure names.now words.now) result }
+    ensures { GivesOrRefuses (IsProcedure names.now words.now) result }
 {
     let mut parser = Parser::new(words);
     let statements = procedure_division(alloc, &mut parser, names)?;
@@ -74,21 +71,17 @@ pub fn procedure(
     names: &Names<'_>,
     words: &Words<'_>,
 ) -> Result<StatementList, DeckFault>
-    ensures statements { IfOk result (IsProcedure names.now words.now) }
-    ensures fault { HasNoneIfTold (IsProcedure names.now words.now) result }
-    ensures told { IfErr result IsTold }
+    ensures { GivesOrTells (IsProcedure names.now words.now) result }
 {
     Ok(read_procedure(alloc, names, words)?)
 }
 
 /// No words are two procedures.
 pub fn one_procedure()
-    ensures { (n : Names) (a b : List Statement) (words : List Word) → IsProcedure n words a
-        → IsProcedure n words b → a ≡ b }
+    ensures { (names : Names) → Determines (IsProcedure names) }
 {}
 
 /// The statements of a procedure are for files, items and keys of the deck, and the access modes allow them.
 pub fn only_allowed()
-    ensures { (n : Names) (list : List Statement) (words : List Word) → AreDescribed n.files n.items
-        → IsProcedure n words list → All (IsAllowed n) list }
+    ensures { HaveOnlyAllowed }
 {}

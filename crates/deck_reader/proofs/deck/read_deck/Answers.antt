@@ -14,4 +14,4 @@ returns-clause-none c =
     (subst (λ words. Spells words deck) (c.one_reading.ensures.words c.args.bytes.now d.0 c.in_ok-words.words d.1 c.in_ok-words.ensures.words) d.2)) c.read.ensures.none
 
 pub returns-clause-runnable : goal.returns-clause-runnable
-returns-clause-runnable c = IfOk-weaker c.read.result (Spells c.in_ok-words.words) CanBeRun (λ deck s. c.every_deck_can_be_run.ensures c.in_ok-words.words deck s) c.read.ensures.deck
+returns-clause-runnable c = IfOk-weaker c.read.result (Spells c.in_ok-words.words) CanBeRun (λ deck s. c.every_deck_can_be_run.ensures c.in_ok-words.words deck s) c.read.ensures.given

@@ -4,4 +4,4 @@ use Rattle.procedure_division.proofs.ProcedureLemmas.{lawful_procedure, procedur
 use Rattle.procedure_division.proofs.division.one_procedure.Goals as goal
 
 pub returns : goal.returns
-returns c = λ names a b words. only_one (procedure names) (lawful_procedure names) (procedure_is_fit names) a b words
+returns c = λ names words a b. only_one (procedure names) (lawful_procedure names) (procedure_is_fit names) a b words

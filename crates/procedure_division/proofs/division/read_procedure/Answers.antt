@@ -15,23 +15,29 @@ none_read : {A : Type 0} (refusal : Refusal) (read : Option A) → Refuses read 
 none_read Memory read r f = absurd f
 none_read (Fault line cause) read r f = r
 
-pub returns-clause-statements : goal.returns-clause-statements
-returns-clause-statements c =
+pub returns : goal.returns
+returns c =
     let rule = procedure c.args.names.now in
     let all = (lawful_procedure c.args.names.now).sound c.in_ok-statements.statements c.new-parser.result c.procedure_division.new.parser c.in_ok-statements.ensures in
-    subst (λ words. rule.Spells c.in_ok-statements.statements words []) c.new-parser.ensures
-    (subst (λ rest. rule.Spells c.in_ok-statements.statements c.new-parser.result rest) c.in_ok-end.ensures all)
+    record {
+      given = subst (λ words. rule.Spells c.in_ok-statements.statements words []) c.new-parser.ensures
+          (subst (λ rest. rule.Spells c.in_ok-statements.statements c.new-parser.result rest) c.in_ok-end.ensures all);
+      none = tt;
+    }
 
-pub returns-in_err-end-clause-fault : goal.returns-in_err-end-clause-fault
-returns-in_err-end-clause-fault c =
+pub returns-in_err-end : goal.returns-in_err-end
+returns-in_err-end c =
     let rule = procedure c.args.names.now in
     let none = not_all_spelled rule (lawful_procedure _) (procedure_is_fit _) c.in_ok-statements.statements c.new-parser.result c.procedure_division.new.parser c.in_ok-statements.ensures c.in_err-end.ensures in
     let p = err_from_is_err_and c.from_residual-in_err-end.result c.from_residual-in_err-end.ensures.1 in
-    rw (p.1) (λ _. subst (λ (words : List Word). (statements : List Statement) → rule.Spells statements words [] → ⊥) c.new-parser.ensures none)
+    rw (p.1) (record { given = tt; none = λ _. subst (λ (words : List Word). (statements : List Statement) → rule.Spells statements words [] → ⊥) c.new-parser.ensures none })
 
-pub returns-in_err-statements-clause-fault : goal.returns-in_err-statements-clause-fault
-returns-in_err-statements-clause-fault c =
+pub returns-in_err-statements : goal.returns-in_err-statements
+returns-in_err-statements c =
     let rule = procedure c.args.names.now in
     let p = err_from_is_err_and c.from_residual.result c.from_residual.ensures.1 in
-    rw (p.1, p.2) (λ f. subst (λ (words : List Word). (statements : List Statement) → rule.Spells statements words [] → ⊥) c.new-parser.ensures
-    (nothing_spelled rule (lawful_procedure _) (procedure_is_fit _) c.new-parser.result (none_read _ _ c.in_err-statements.ensures f)))
+    rw (p.1, p.2) (record {
+      given = tt;
+      none = λ f. subst (λ (words : List Word). (statements : List Statement) → rule.Spells statements words [] → ⊥) c.new-parser.ensures
+          (nothing_spelled rule (lawful_procedure _) (procedure_is_fit _) c.new-parser.result (none_read _ _ c.in_err-statements.ensures f));
+    })
