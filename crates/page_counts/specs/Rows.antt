@@ -1,6 +1,6 @@
 -- The levels of a tree over the pages of a file, as the pages of each level lead to those of the
 -- next. A row has the pages of one level, from left to right.
-use Rattle.std.specs.Prelude.{ℕ, zero, suc, ◌<◌, List, [], ◌∷◌, length, flat_map, slice_index_or}
+use Rattle.std.specs.Prelude.{ℕ, zero, suc, ◌<◌, ◌^◌, List, [], ◌∷◌, length, flat_map, slice_index_or}
 use Rattle.page_bytes.specs.Each.{Each}
 use Rattle.tree_node.specs.declared.shape.Shape.{Shape}
 use Rattle.tree_node.specs.Leaf.{IsLeaf, leaf_entries, leaf_room}
@@ -31,6 +31,11 @@ separators_in shape list row = flat_map (λ n. separators shape (page_at list n)
 -- the entries of the leaves of a row
 abbrev pub entries_in : Shape → List (List ℕ) → List ℕ → List (List ℕ)
 entries_in shape list row = flat_map (λ n. leaf_entries shape (page_at list n)) row
+
+-- these pages are leaves, whose entries can be counted
+pub record AreFewLeaves (shape : Shape) (list : List (List ℕ)) (row : List ℕ) : Type 0 where
+  pub leaves : Each (IsLeafIn shape list) row
+  pub few : length (entries_in shape list row) < 2 ^ 64
 
 -- a row with h levels below it leads to nodes, down to leaves
 abbrev pub AreNodes : Shape → List (List ℕ) → ℕ → List ℕ → Type 0

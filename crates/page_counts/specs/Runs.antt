@@ -2,6 +2,8 @@
 use Rattle.std.specs.Prelude.{◌≡◌, ℕ, ◌≤◌, ◌<◌, ◌^◌, List, [], ◌++◌, length, map, take, filter, bytes_eq}
 use Rattle.std.specs.Prelude.{slice_index_or, Some}
 use Rattle.std.specs.Option.{option_copied}
+use Rattle.tree_node.specs.declared.shape.Shape.{Shape}
+use Rattle.tree_node.specs.Leaf.{IsLeaf, leaf_entries}
 use Rattle.tree_search.specs.Calls.{last_of}
 use Rattle.tree_search.specs.Tree.{TreeOf, Bound, IsOrdered, entries_of}
 use Rattle.page_counts.specs.declared.runs.Run.{Run}
@@ -42,6 +44,12 @@ pub record CanGoOn (run : Run) (more : List (List ℕ)) : Type 0 where
   pub so_far : RunOf values run
   pub together : AreTogether (values ++ more)
   pub few : length (values ++ more) < 2 ^ 64
+
+-- so can those of a leaf's entries, each of which has as many bytes as a value
+pub record CanGoThrough (run : Run) (width : ℕ) (shape : Shape) (page : List ℕ) : Type 0 where
+  pub leaf : IsLeaf shape page
+  pub narrow : width ≤ shape.entry
+  pub go : CanGoOn run (values_of width (leaf_entries shape page))
 
 -- a tree whose keys rise keeps equal values together, where its keys begin with the values
 abbrev pub TreesKeepTogether : Type 0

@@ -4,8 +4,8 @@ ghost use Rattle.std.specs.Prelude.{◌≡◌, ◌<◌, ◌^◌, ◌++◌, [], �
 ghost use Rattle.page_bytes.specs.Each.{Each};
 ghost use Rattle.tree_node.specs.Inner.{IsInner, children};
 ghost use Rattle.page_counts.specs.Levels.{HasTree, CountsTree, LevelsHaveAllPages};
-ghost use Rattle.page_counts.specs.Rows.{IsInnerIn, IsLeafIn, AreNodes, children_in, entries_in, leaves_in};
-ghost use Rattle.page_counts.specs.Rows.{levels_in, leaf_level, inner_level};
+ghost use Rattle.page_counts.specs.Rows.{IsInnerIn, AreNodes, children_in, entries_in, AreFewLeaves};
+ghost use Rattle.page_counts.specs.Rows.{leaves_in, levels_in, leaf_level, inner_level};
 
 use crate::level::{Level, TreeCounts};
 use page_bytes::PAGE_SIZE;
@@ -54,8 +54,7 @@ fn children_of(
 
 /// How many entries these leaves have.
 fn count_entries(pages: &[[u8; PAGE_SIZE]], shape: Shape, leaves: &[u32]) -> u64
-    requires leaves { Each (IsLeafIn shape pages.now) leaves.now }
-    requires few { length (entries_in shape pages.now leaves.now) < 2 ^ 64 }
+    requires { AreFewLeaves shape pages.now leaves.now }
     ensures { result ≡ length (entries_in shape pages.now leaves.now) }
 {
     let mut entries = 0;
@@ -80,8 +79,7 @@ fn inner_counts(pages: &[[u8; PAGE_SIZE]], shape: Shape, row: &[u32], below: &[u
 
 /// What a row of leaves has.
 fn leaf_counts(pages: &[[u8; PAGE_SIZE]], shape: Shape, row: &[u32]) -> Level
-    requires leaves { Each (IsLeafIn shape pages.now) row.now }
-    requires few { length (entries_in shape pages.now row.now) < 2 ^ 64 }
+    requires { AreFewLeaves shape pages.now row.now }
     ensures { result ≡ leaf_level shape pages.now row.now }
 {
     Level {

@@ -3,10 +3,10 @@
 ghost use Rattle.std.specs.Prelude.{◌≡◌, ◌+◌, ◌<◌, ◌≤◌, ◌^◌, ◌↔◌, [], ◌∷◌, Some, IsTrue, length};
 ghost use Rattle.std.specs.Option.{option_copied};
 ghost use Rattle.page_bytes.specs.Each.{Each};
-ghost use Rattle.tree_node.specs.Leaf.{IsLeaf, leaf_entries};
+ghost use Rattle.tree_node.specs.Leaf.{leaf_entries};
 ghost use Rattle.page_counts.specs.Rows.{IsLeafIn, entries_in};
 ghost use Rattle.page_counts.specs.Runs.{values_of, AreTogether, IsGreatestCount, TakesValues, CanGoOn};
-ghost use Rattle.page_counts.specs.Runs.{TreesKeepTogether};
+ghost use Rattle.page_counts.specs.Runs.{CanGoThrough, TreesKeepTogether};
 
 use page_bytes::PAGE_SIZE;
 use tree_node::{LeafView, Shape};
@@ -49,9 +49,7 @@ fn with_value<'a>(run: Run<'a>, value: &'a [u8]) -> Run<'a>
 
 /// The values so far with those of a leaf's entries, so many bytes of each.
 fn with_leaf<'a>(run: Run<'a>, page: &'a [u8; PAGE_SIZE], shape: Shape, width: u16) -> Run<'a>
-    requires leaf { IsLeaf shape page.now }
-    requires narrow { width ≤ shape.entry }
-    requires go { CanGoOn run (values_of width (leaf_entries shape page.now)) }
+    requires { CanGoThrough run width shape page.now }
     ensures { TakesValues (values_of width (leaf_entries shape page.now)) run.entry result }
 {
     let leaf = LeafView { page, shape };

@@ -7,15 +7,14 @@ use Rattle.page_counts.proofs.levels.+add_rows.Goals as goal
 
 -- ---- a row of leaves
 
-pub leaf_counts-requires-clause-leaves : goal.leaf_counts-requires-clause-leaves
-leaf_counts-requires-clause-leaves m c =
-    subst (λ (row : List ℕ). Each (IsLeafIn c.args.shape c.args.pages.now) row) (sym c.deref.ensures.value)
-    (subst (λ (k : ℕ). AreNodes c.args.shape c.args.pages.now k c.args.row.items) c.if-height-eq0.true c.requires.nodes)
-
-pub leaf_counts-requires-clause-few : goal.leaf_counts-requires-clause-few
-leaf_counts-requires-clause-few m c =
-    subst (λ (row : List ℕ). length (entries_in c.args.shape c.args.pages.now row) < 2 ^ 64) (sym c.deref.ensures.value)
-    (subst (λ (k : ℕ). length (entries_in c.args.shape c.args.pages.now (leaves_in c.args.shape c.args.pages.now k c.args.row.items)) < 2 ^ 64) c.if-height-eq0.true c.requires.few)
+pub leaf_counts-requires : goal.leaf_counts-requires
+leaf_counts-requires m c =
+    record {
+      leaves = subst (λ (row : List ℕ). Each (IsLeafIn c.args.shape c.args.pages.now) row) (sym c.deref.ensures.value)
+          (subst (λ (k : ℕ). AreNodes c.args.shape c.args.pages.now k c.args.row.items) c.if-height-eq0.true c.requires.nodes);
+      few = subst (λ (row : List ℕ). length (entries_in c.args.shape c.args.pages.now row) < 2 ^ 64) (sym c.deref.ensures.value)
+          (subst (λ (k : ℕ). length (entries_in c.args.shape c.args.pages.now (leaves_in c.args.shape c.args.pages.now k c.args.row.items)) < 2 ^ 64) c.if-height-eq0.true c.requires.few);
+    }
 
 pub returns-then-height-eq0-clause-levels : goal.returns-then-height-eq0-clause-levels
 returns-then-height-eq0-clause-levels m c =
