@@ -6,7 +6,7 @@ use Rattle.std.specs.declared.io.traits.Write.{Ghosts as Writes}
 use Rattle.std.specs.declared.io.traits.Seek.{Ghosts as Seeks}
 use Rattle.page_store.specs.declared.shelf.Shelf.{Ghosts}
 use Rattle.folder_shelf.specs.Replay.{Unseen}
-use Rattle.folder_shelf.specs.declared.disk.Disk.{Ghosts as On}
+use Rattle.folder_shelf.specs.declared.disk.Disk.{Ghosts as Disks}
 use Rattle.standard_input.specs.declared.standard_input.StandardInput.{StandardInput}
 use Rattle.standard_output.specs.Writes.{taken_by}
 use Rattle.standard_output.specs.declared.standard_output.StandardOutput.{StandardOutput}
@@ -24,7 +24,7 @@ taken out = Some (taken_by out.calls.writes)
 
 -- a run has these types as parameters, and the ghost members of some of them
 module _ {R D F E : Type 0} {reads : Reads F} {writes : Writes F} {seeks : Seeks F}
-    {entries : Reads E} {on : On D} where
+    {entries : Reads E} {disks : Disks D} where
   -- the exit status, which is answered with the run that was begun, is that of an outcome: this was
   -- done for the words, where they ask for a session it came to that, and the outcome is right of what
   -- was read and written
@@ -32,7 +32,7 @@ module _ {R D F E : Type 0} {reads : Reads F} {writes : Writes F} {seeks : Seeks
       {X File I W : Type 0} (shelf : Ghosts X) (remaining : File → Option (List ℕ)) (disk : List ℕ → Unseen)
       (words : List (String Global)) (left : I → Option (List ℕ)) (input input_after : StandardInput I)
       (out out_after : StandardOutput W)
-      (answer : ℕ × Option (Ran R D F E reads writes seeks entries on)) : Type 0 where
+      (answer : ℕ × Option (Ran R D F E reads writes seeks entries disks)) : Type 0 where
     pub outcome : Result Outcome Fault
     pub status_is : answer.0 ≡ exit_status outcome
     pub did : DidFor words (begun_by disk answer.1) (wrote taken out out_after) outcome

@@ -8,7 +8,7 @@ use Rattle.arrayvec.specs.ArrayString.{ArrayString}
 use Rattle.page_store.specs.ShelfState.{ShelfState}
 use Rattle.folder_shelf.specs.Events.{Event, in_folder}
 use Rattle.folder_shelf.specs.Replay.{Unseen, folder_state}
-use Rattle.folder_shelf.specs.declared.disk.Disk.{Ghosts as On}
+use Rattle.folder_shelf.specs.declared.disk.Disk.{Ghosts as Disks}
 use Rattle.folder_shelf.specs.declared.folder_shelf.FolderShelf.{FolderShelf}
 
 -- what the folder of this path held before the first call on it
@@ -26,9 +26,9 @@ OverFolder disk path names calls IsSo = IsSo (folder_at_first disk path) (folder
 
 -- a shelf over a folder has these types as parameters, and the ghost members of some of them
 module _ {R D F E : Type 0} {reads : Reads F} {writes : Writes F} {seeks : Seeks F}
-    {entries : Reads E} {on : On D} where
+    {entries : Reads E} {disks : Disks D} where
   -- the same by the shelf over it, which has these calls and names
   abbrev pub OverShelf : (List ℕ → Unseen) → (path : String Global)
-      → FolderShelf R D F E reads writes seeks entries on → (ShelfState → ShelfState → Type 0) → Type 0
+      → FolderShelf R D F E reads writes seeks entries disks → (ShelfState → ShelfState → Type 0) → Type 0
   OverShelf disk path shelf IsSo =
       OverFolder disk (string_bytes path) shelf.units.items shelf.folder.calls.events IsSo

@@ -1,6 +1,6 @@
 -- What is loaded into a file of a deck over a folder. All of this is ours.
-use Rattle.std.specs.Prelude.{◌≡◌, ℕ, Bool, true, false, List, Option, Result, Ok, IfOk, OnErr, String}
-use Rattle.std.specs.Prelude.{string_bytes}
+use Rattle.std.specs.Prelude.{◌≡◌, ◌≢◌, ℕ, Bool, true, false, List, Option, Result, Ok, IfOk, IfErr, OnErr}
+use Rattle.std.specs.Prelude.{String, string_bytes}
 use Rattle.std.specs.Global.{Global}
 use Rattle.std.specs.Io.KnownBytes.{Appends}
 use Rattle.arrayvec.specs.ArrayString.{ArrayString}
@@ -20,12 +20,13 @@ use Rattle.shelf_loading.specs.Loaded.{Ends, KeepsOthers, IsSafe}
 use Rattle.shelf_loading.specs.declared.end.ShelfEnd.{ShelfEnd}
 use Rattle.shelf_loading.specs.declared.end.ShelfEnd.TheVariants.{IsThere, Loaded}
 use Rattle.command_line.specs.Folder.{OverFolder}
-use Rattle.command_line.specs.LoadForm.{IsFormOf, word_of}
-use Rattle.file_commands.specs.DeckFile.{IsFileOf}
+use Rattle.command_line.specs.LoadForm.{IsFormOf, IsLoadFault, word_of}
+use Rattle.file_commands.specs.DeckFile.{IsFileOf, IsDeckFault}
 use Rattle.file_commands.specs.Front.{IsTextNamed, OfDeck}
 use Rattle.standard_input.specs.declared.standard_input.StandardInput.{StandardInput}
 use Rattle.command_line.specs.declared.load_form.FormKind.{FormKind}
 use Rattle.command_line.specs.declared.loading.Loading.{Loading}
+use Rattle.command_outcomes.specs.Status.{status_of}
 use Rattle.command_outcomes.specs.declared.outcome.Outcome.{Outcome}
 use Rattle.command_outcomes.specs.declared.outcome.Outcome.TheVariants.{Loaded as LoadEnded}
 use Rattle.command_outcomes.specs.declared.fault.Fault.{Fault}
@@ -80,20 +81,27 @@ pub record LoadsDeck
   pub loads : LoadsFolder disk folder file.file file.schema (load_of into) (listing form text) (Ok end)
   pub told : WritesAnswer end before behind
 
+-- a load came to an end of which this is so; or to one of these faults, and then nothing was written,
+-- unless the input, the output or memory failed
+pub record ComesOfLoad {W : Type 0} (IsSo : ShelfEnd → Type 0) (IsSuch : Fault → Type 0) (old new : W)
+    (result : Result Outcome Fault) : Type 0 where
+  pub loaded : IfOk result (λ outcome. (end : ShelfEnd) × (outcome ≡ LoadEnded end) × IsSo end)
+  pub untouched : IfErr result (λ fault. status_of fault ≢ 4 → new ≡ old)
+  pub fault : IfErr result IsSuch
+
 -- into a file of the deck that the bytes are, a text was loaded that is read of a path or of the input
 abbrev pub LoadsBytes : {F I W : Type 0} → (F → Option (List ℕ)) → (I → Option (List ℕ)) → StandardInput I
     → (List ℕ → Unseen) → (bytes : List ℕ) → (path : String Global) → FormKind → Loading
-    → (W → Option (List ℕ)) → (old new : W) → Outcome → Type 0
-LoadsBytes remaining left input disk bytes path kind asked contents old new outcome = (end : ShelfEnd)
-    × (outcome ≡ LoadEnded end)
-    × LoadsDeck disk (IsTextNamed remaining (left input.reader) asked.text.now) bytes (string_bytes path)
-    asked.file.now (word_of kind) asked.into (contents old) (contents new) end
+    → (W → Option (List ℕ)) → (old new : W) → Result Outcome Fault → Type 0
+LoadsBytes remaining left input disk bytes path kind asked contents old new result = ComesOfLoad (λ end.
+    LoadsDeck disk (IsTextNamed remaining (left input.reader) asked.text.now) bytes (string_bytes path)
+    asked.file.now (word_of kind) asked.into (contents old) (contents new) end) IsDeckFault old new result
 
 -- into a file of the deck of a path, or of the input where the path is a hyphen
 abbrev pub LoadsAsked : {F I W : Type 0} → (F → Option (List ℕ)) → (I → Option (List ℕ)) → StandardInput I
     → (List ℕ → Unseen) → (deck folder : List ℕ) → Loading → (W → Option (List ℕ)) → (old new : W)
-    → Outcome → Type 0
-LoadsAsked remaining left input disk deck folder asked contents old new outcome = (end : ShelfEnd)
-    × (outcome ≡ LoadEnded end) × OfDeck remaining (left input.reader) deck (λ bytes.
+    → Result Outcome Fault → Type 0
+LoadsAsked remaining left input disk deck folder asked contents old new result = ComesOfLoad (λ end.
+    OfDeck remaining (left input.reader) deck (λ bytes.
     LoadsDeck disk (IsTextNamed remaining (left input.reader) asked.text.now) bytes folder asked.file.now
-    asked.form.now asked.into (contents old) (contents new) end)
+    asked.form.now asked.into (contents old) (contents new) end)) (IsLoadFault asked.form.now) old new result

@@ -10,7 +10,7 @@ use Rattle.clap.specs.Words.{Text}
 use Rattle.clap.specs.declared.error.Error.{Error}
 use Rattle.folder_shelf.specs.Events.{Event}
 use Rattle.folder_shelf.specs.Replay.{Unseen}
-use Rattle.folder_shelf.specs.declared.disk.Disk.{Ghosts as On}
+use Rattle.folder_shelf.specs.declared.disk.Disk.{Ghosts as Disks}
 use Rattle.deck_words.specs.declared.fault.DeckFault.{DeckFault}
 use Rattle.deck_runner.specs.DeckRun.{IsNoDeck}
 use Rattle.deck_runner.specs.RunEnd.{Told, ToldInPart}
@@ -60,9 +60,10 @@ begun disk bytes names calls faults = record {
 
 -- a run has these types as parameters, and the ghost members of some of them
 module _ {R D F E : Type 0} {reads : Reads F} {writes : Writes F} {seeks : Seeks F}
-    {entries : Reads E} {on : On D} where
+    {entries : Reads E} {disks : Disks D} where
   -- the run that was given back, if one was begun
-  abbrev pub begun_by : (List ℕ → Unseen) → Option (Ran R D F E reads writes seeks entries on) → Option Begun
+  abbrev pub begun_by : (List ℕ → Unseen) → Option (Ran R D F E reads writes seeks entries disks)
+      → Option Begun
   begun_by disk = option_map (λ ran.
       begun disk ran.bytes.items ran.shelf.units.items ran.shelf.folder.calls.events ran.shelf.faults)
 

@@ -6,7 +6,7 @@ use Rattle.std.specs.declared.io.traits.Write.{Ghosts as Writes}
 use Rattle.std.specs.declared.io.traits.Seek.{Ghosts as Seeks}
 use Rattle.std.specs.NonZero.{non_zero_usize_get}
 use Rattle.folder_shelf.specs.Replay.{Unseen}
-use Rattle.folder_shelf.specs.declared.disk.Disk.{Ghosts as On}
+use Rattle.folder_shelf.specs.declared.disk.Disk.{Ghosts as Disks}
 use Rattle.folder_shelf.specs.declared.folder_shelf.FolderShelf.{FolderShelf}
 use Rattle.deck_words.specs.declared.fault.DeckFault.{DeckFault}
 use Rattle.deck_runner.specs.DeckRun.{IsNoDeck}
@@ -20,10 +20,10 @@ use Rattle.command_outcomes.specs.declared.fault.Fault.TheVariants.{Deck, Output
 
 -- a shelf over a folder has these types as parameters, and the ghost members of some of them
 module _ {R D F E : Type 0} {reads : Reads F} {writes : Writes F} {seeks : Seeks F}
-    {entries : Reads E} {on : On D} where
+    {entries : Reads E} {disks : Disks D} where
   -- a run whose end is clean is exact, between what the folder held first and what it holds last
   abbrev pub TellsExactly : {W : Type 0} → (List ℕ → Unseen) → (path : String Global)
-      → FolderShelf R D F E reads writes seeks entries on → (bytes : List ℕ) → (W → Option (List ℕ))
+      → FolderShelf R D F E reads writes seeks entries disks → (bytes : List ℕ) → (W → Option (List ℕ))
       → (old new : W) → RunEnd → Type 0
   TellsExactly disk path shelf bytes contents old new end = end.clean ≡ true
       → OverShelf disk path shelf (λ first last.
@@ -31,7 +31,7 @@ module _ {R D F E : Type 0} {reads : Reads F} {writes : Writes F} {seeks : Seeks
 
   -- the transcript of the deck was written, up to this end
   abbrev pub TellsRun : {W : Type 0} → (List ℕ → Unseen) → (path : String Global)
-      → FolderShelf R D F E reads writes seeks entries on → (bytes : List ℕ) → Limits
+      → FolderShelf R D F E reads writes seeks entries disks → (bytes : List ℕ) → Limits
       → (W → Option (List ℕ)) → (old new : W) → RunEnd → Type 0
   TellsRun disk path shelf bytes limits contents old new end = OverShelf disk path shelf (λ first last.
       OnShelf bytes first last (λ deck. Told (contents old) (contents new) end
@@ -39,7 +39,7 @@ module _ {R D F E : Type 0} {reads : Reads F} {writes : Writes F} {seeks : Seeks
 
   -- where the writer refused a line, lines of it were written, up to that one
   abbrev pub TellsPart : {W : Type 0} → (List ℕ → Unseen) → (path : String Global)
-      → FolderShelf R D F E reads writes seeks entries on → (bytes : List ℕ) → Limits
+      → FolderShelf R D F E reads writes seeks entries disks → (bytes : List ℕ) → Limits
       → (W → Option (List ℕ)) → (old new : W) → Fault → Type 0
   TellsPart disk path shelf bytes limits contents old new fault =
       fault ≡ Output → OverShelf disk path shelf (λ first last.
@@ -48,7 +48,7 @@ module _ {R D F E : Type 0} {reads : Reads F} {writes : Writes F} {seeks : Seeks
 
   -- at any other fault nothing was written, and no file was changed
   abbrev pub LeavesAll : {W : Type 0} → (List ℕ → Unseen) → (path : String Global)
-      → FolderShelf R D F E reads writes seeks entries on → (old new : W) → Fault → Type 0
+      → FolderShelf R D F E reads writes seeks entries disks → (old new : W) → Fault → Type 0
   LeavesAll disk path shelf old new fault =
       fault ≢ Output → (new ≡ old) × OverShelf disk path shelf LeavesFiles
 

@@ -1,6 +1,5 @@
 //! The loading of a text into a file of a deck over a folder.
-ghost use Rattle.std.specs.Prelude.{◌≡◌, ◌≢◌, [], true, false, codes, IfOk, IfErr};
-ghost use Rattle.file_commands.specs.DeckFile.{IsDeckFault};
+ghost use Rattle.std.specs.Prelude.{◌≡◌, [], true, false, codes, IfErr};
 ghost use Rattle.file_commands.specs.Front.{GivesSuch};
 ghost use Rattle.record_reading.specs.Whole.{IsWhole};
 ghost use Rattle.command_line.specs.Loaded.{load_of, LoadsDescribed, TellsLoad, LoadsBytes};
@@ -133,10 +132,8 @@ pub fn load_deck<R: Files, D: Disk, I: Read, P: Progress, W: Write>(
 ) -> Result<Outcome, Fault>
 where
     R::File: FileExt + LockFile,
-    ensures loaded { IfOk result (LoadsBytes R.File.remaining I.remaining input.old D.Disk.unseen
-        bytes.now folder kind asked.entry W.contents out.old out.new) }
-    ensures untouched { IfErr result (λ fault. status_of fault ≢ 4 → out.new ≡ out.old) }
-    ensures fault { IfErr result IsDeckFault }
+    ensures { LoadsBytes R.File.remaining I.remaining input.old D.Disk.unseen bytes.now folder kind
+        asked.entry W.contents out.old out.new result }
 {
     let deck = match deck_of(alloc, bytes) {
         Ok(deck) => deck,

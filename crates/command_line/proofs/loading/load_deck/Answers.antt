@@ -25,8 +25,9 @@ load_over_folder-end-requires g c =
           c.in-Ok-form_of.form c.in-Ok-form_of.ensures.form;
     }
 
-pub returns-in-Ok-end-clause-loaded : goal.returns-in-Ok-end-clause-loaded
-returns-in-Ok-end-clause-loaded g c =
+-- where the answer is not written, the status is 4
+pub returns-in-Ok-end : goal.returns-in-Ok-end
+returns-in-Ok-end g c =
     let end = c.in-Ok-end.end in
     let file = c.in-Some.file.now in
     let before = g.W.Write.contents c.args.out.now in
@@ -36,34 +37,28 @@ returns-in-Ok-end-clause-loaded g c =
     let loads_as : Load → List ℕ → Type 0 = λ load text. LoadsFolder g.D.Disk.unseen (string_bytes c.args.folder) file.file file.schema load (listing c.in-Ok-form_of.form text) (Ok end) in
     let loads : loads_as (load_of c.args.asked.into) c.in-Ok-read_text.text.items =
     subst (loads_as (load_of c.args.asked.into)) c.as_slice-2.ensures.value (subst (λ (load : Load). loads_as load c.as_slice-2.result.now) c.load_of.ensures c.in-Ok-end.ensures.loads) in
-    IfOk-weaker c.write_answer.result (λ outcome. (outcome ≡ Loaded end) × WritesAnswer end before behind)
-    (λ outcome. (e : ShelfEnd) × (outcome ≡ Loaded e) × LoadsDeck g.D.Disk.unseen
-    (IsTextNamed g.R.File.Read.remaining (g.I.Read.remaining c.args.input.now.reader) c.args.asked.text.now)
-    c.args.bytes.now (string_bytes c.args.folder) c.args.asked.file.now (word_of c.args.kind) c.args.asked.into before behind e)
-    (λ outcome done. (
-      end,
-      done.0,
-      record {
-        deck = c.in-Ok.deck;
-        is_deck = c.in-Ok.ensures.deck;
-        file = file;
-        named = named;
-        form = c.in-Ok-form_of.form;
-        is_form = c.in-Ok-form_of.ensures.form;
-        text = c.in-Ok-read_text.text.items;
-        is_text = c.in-Ok-read_text.ensures.bytes;
-        loads = loads;
-        told = done.1;
-      },
-    ))
-    (such_if_ok _ c.write_answer.result c.write_answer.ensures)
-
--- where the answer is not written, the status is 4
-pub returns-in-Ok-end-clause-untouched : goal.returns-in-Ok-end-clause-untouched
-returns-in-Ok-end-clause-untouched g c =
-    IfErr-weaker c.write_answer.result (λ fault. status_of fault ≡ 4) (λ fault. status_of fault ≢ 4 → c.write_answer.new.out ≡ c.args.out.now) (λ fault is other. absurd (other is))
-    (failed_if_err _ c.write_answer.result c.write_answer.ensures)
-
-pub returns-in-Ok-end-clause-fault : goal.returns-in-Ok-end-clause-fault
-returns-in-Ok-end-clause-fault g c =
-    IfErr-weaker c.write_answer.result (λ fault. status_of fault ≡ 4) IsDeckFault not_there (failed_if_err _ c.write_answer.result c.write_answer.ensures)
+    let failed = failed_if_err _ c.write_answer.result c.write_answer.ensures in record {
+      loaded = IfOk-weaker c.write_answer.result (λ outcome. (outcome ≡ Loaded end) × WritesAnswer end before behind)
+          (λ outcome. (e : ShelfEnd) × (outcome ≡ Loaded e) × LoadsDeck g.D.Disk.unseen
+          (IsTextNamed g.R.File.Read.remaining (g.I.Read.remaining c.args.input.now.reader) c.args.asked.text.now)
+          c.args.bytes.now (string_bytes c.args.folder) c.args.asked.file.now (word_of c.args.kind) c.args.asked.into before behind e)
+          (λ outcome done. (
+            end,
+            done.0,
+            record {
+              deck = c.in-Ok.deck;
+              is_deck = c.in-Ok.ensures.deck;
+              file = file;
+              named = named;
+              form = c.in-Ok-form_of.form;
+              is_form = c.in-Ok-form_of.ensures.form;
+              text = c.in-Ok-read_text.text.items;
+              is_text = c.in-Ok-read_text.ensures.bytes;
+              loads = loads;
+              told = done.1;
+            },
+          ))
+          (such_if_ok _ c.write_answer.result c.write_answer.ensures);
+      untouched = IfErr-weaker c.write_answer.result (λ fault. status_of fault ≡ 4) (λ fault. status_of fault ≢ 4 → c.write_answer.new.out ≡ c.args.out.now) (λ fault is other. absurd (other is)) failed;
+      fault = IfErr-weaker c.write_answer.result (λ fault. status_of fault ≡ 4) IsDeckFault not_there failed;
+    }

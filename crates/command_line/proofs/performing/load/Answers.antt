@@ -9,8 +9,8 @@ use Rattle.command_line.proofs.LoadingLemmas.{text_at_first, loads_as}
 use Rattle.command_outcomes.specs.declared.outcome.Outcome.TheVariants.{Loaded}
 use Rattle.command_line.proofs.performing.load.Goals as goal
 
-pub returns-clause-loaded : goal.returns-clause-loaded
-returns-clause-loaded g c =
+pub returns : goal.returns
+returns g c =
     let inputs = c.in_ok-bytes in
     let left = g.I.Read.remaining c.inputs_of.new.input.reader in
     let at_first = g.I.Read.remaining c.args.input.now.reader in
@@ -19,23 +19,23 @@ returns-clause-loaded g c =
     LoadsDeck g.D.Disk.unseen IsTheText bytes folder c.args.asked.file.now word c.args.asked.into (g.W.Write.contents c.args.out.now) (g.W.Write.contents c.load_deck.new.out) end in
     let known : (text : List ℕ) → is_text left text → is_text at_first text = λ text.
     text_at_first g.R.File.Read.remaining at_first left c.args.deck.now c.args.asked.text.now text
-    (λ other. ap (λ input. g.I.Read.remaining input.reader) (c.inputs_of.ensures.unread other)) (c.are_both_input.ensures.other c.if-are_both_input.false) in
-    IfOk-weaker c.load_deck.result
-    (λ outcome. (end : ShelfEnd) × (outcome ≡ Loaded end) × loads (is_text left) c.as_slice.result.now (string_bytes inputs.folder) (word_of c.in-Some.kind) end)
-    (λ outcome. (end : ShelfEnd) × (outcome ≡ Loaded end) × ((bytes : List ℕ) × IsDeckNamed g.R.File.Read.remaining at_first c.args.deck.now bytes × loads (is_text at_first) bytes c.args.folder.now c.args.asked.form.now end))
-    (λ outcome is. (
-      is.0,
-      is.1,
-      (
-        inputs.bytes.items,
-        inputs.ensures.deck,
-        loads_as known
-            (subst (λ (word : List ℕ). loads (is_text left) inputs.bytes.items c.args.folder.now word is.0) (sym c.in-Some.ensures.kind)
-            (subst (λ (folder : List ℕ). loads (is_text left) inputs.bytes.items folder (word_of c.in-Some.kind) is.0) inputs.ensures.folder
-            (subst (λ (bytes : List ℕ). loads (is_text left) bytes (string_bytes inputs.folder) (word_of c.in-Some.kind) is.0) c.as_slice.ensures.value is.2))),
-      ),
-    ))
-    c.load_deck.ensures.loaded
-
-pub returns-clause-fault : goal.returns-clause-fault
-returns-clause-fault g c = IfErr-weaker c.load_deck.result IsDeckFault (IsLoadFault c.args.asked.form.now) (λ fault is. inr is) c.load_deck.ensures.fault
+    (λ other. ap (λ input. g.I.Read.remaining input.reader) (c.inputs_of.ensures.unread other)) (c.are_both_input.ensures.other c.if-are_both_input.false) in record {
+      loaded = IfOk-weaker c.load_deck.result
+          (λ outcome. (end : ShelfEnd) × (outcome ≡ Loaded end) × loads (is_text left) c.as_slice.result.now (string_bytes inputs.folder) (word_of c.in-Some.kind) end)
+          (λ outcome. (end : ShelfEnd) × (outcome ≡ Loaded end) × ((bytes : List ℕ) × IsDeckNamed g.R.File.Read.remaining at_first c.args.deck.now bytes × loads (is_text at_first) bytes c.args.folder.now c.args.asked.form.now end))
+          (λ outcome is. (
+            is.0,
+            is.1,
+            (
+              inputs.bytes.items,
+              inputs.ensures.deck,
+              loads_as known
+                  (subst (λ (word : List ℕ). loads (is_text left) inputs.bytes.items c.args.folder.now word is.0) (sym c.in-Some.ensures.kind)
+                  (subst (λ (folder : List ℕ). loads (is_text left) inputs.bytes.items folder (word_of c.in-Some.kind) is.0) inputs.ensures.folder
+                  (subst (λ (bytes : List ℕ). loads (is_text left) bytes (string_bytes inputs.folder) (word_of c.in-Some.kind) is.0) c.as_slice.ensures.value is.2))),
+            ),
+          ))
+          c.load_deck.ensures.loaded;
+      untouched = c.load_deck.ensures.untouched;
+      fault = IfErr-weaker c.load_deck.result IsDeckFault (IsLoadFault c.args.asked.form.now) (λ fault is. inr is) c.load_deck.ensures.fault;
+    }
