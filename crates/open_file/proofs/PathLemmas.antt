@@ -1,16 +1,21 @@
 -- An open file with another path stands for the same file.
-use Rattle.std.proofs.Common.{◌≡◌, ℕ, ◌+◌, ◌<◌, List, length, Option, None, Some, ap, sym, subst, ◌∙◌}
+use Rattle.std.proofs.Common.{◌≡◌, ℕ, ◌+◌, ◌<◌, false, List, length, Option, None, Some, Ok, Err, ap, sym, subst, ◌∙◌}
+use Rattle.std.specs.Prelude.{Result}
+use Rattle.std.specs.Result.{is_err}
+use Rattle.io_state.specs.declared.fault.Fault.{Fault}
+use Rattle.pages.specs.Answer.{IsAnswer}
 use Rattle.std.specs.Prelude.{slice_index_or}
 use Rattle.indexed_file.specs.File.{File}
 use Rattle.pages.specs.PageMap.{PageMap}
 use Rattle.key_index.specs.declared.alt_index.AltIndex.{AltIndex}
 use Rattle.key_index.specs.declared.cursor.AltCursor.{AltCursor}
+use Rattle.key_index.specs.declared.cursor.PrimeCursor.{PrimeCursor}
 use Rattle.key_index.specs.Cursors.{AltBelongs}
 use Rattle.open_file.specs.declared.open_file.OpenFile.{OpenFile}
 use Rattle.open_file.specs.declared.path.Path.{Path}
-use Rattle.open_file.specs.declared.path.Path.TheVariants.{Alternate}
+use Rattle.open_file.specs.declared.path.Path.TheVariants.{Prime, Alternate}
 use Rattle.open_file.specs.InOrder.{alt_entries, prime_entries}
-use Rattle.open_file.specs.Paths.{IsOnPath}
+use Rattle.open_file.specs.Paths.{IsOnPath, IsInPrime, IsInAlternate}
 use Rattle.page_marks.specs.Parted.{own_at}
 use Rattle.open_file.specs.Stands.{Stands}
 use Rattle.open_file.proofs.PartsLemmas.{same_default}
@@ -34,15 +39,24 @@ with_path opened path pages file stands on =
       on_path = on;
     }
 
--- the path was taken out, and the prime index stays
-pub same_prime_index : (old without : OpenFile) → without ≡ record old { path = None } → without.prime ≡ old.prime
-same_prime_index old without is = ap (λ (o : OpenFile). o.prime) is
+-- only the path is another, and the prime index stays
+pub same_prime_index : (old led : OpenFile) → led ≡ record old { path = led.path } → led.prime ≡ old.prime
+same_prime_index old led is = ap (λ (o : OpenFile). o.prime) is
 
--- the path was taken out, and another is put in
-pub put_path : (old without : OpenFile) (path : Option Path) (pages : PageMap) (file : File) → without ≡ record old { path = None } → (stands : Stands old pages file)
-    → IsPathOf path old pages file stands → Stands (record without { path = path }) pages file
-put_path old without path pages file is stands on =
+-- only the path is another, and then it is this one
+pub put_path : (old led : OpenFile) (path : Option Path) (pages : PageMap) (file : File) → led ≡ record old { path = led.path } → (stands : Stands old pages file)
+    → IsPathOf path old pages file stands → Stands (record led { path = path }) pages file
+put_path old led path pages file is stands on =
     subst (λ (o : OpenFile). Stands (record o { path = path }) pages file) (sym is) (with_path old path pages file stands on)
+
+-- what is so of the cursor of a path that is in the prime index
+pub in_prime : (path : Option Path) (cursor : PrimeCursor) (fact : PrimeCursor → Type 0) → path ≡ Some (Prime cursor) → IsInPrime path fact → fact cursor
+in_prime path cursor fact is behind = rw is at behind
+
+-- the same of a path in the index of an alternate key
+pub in_alternate : (path : Option Path) (j : ℕ) (cursor : AltCursor) (place : ℕ) (fact : AltCursor → Type 0) → path ≡ Some (Alternate j cursor) → IsInAlternate path place fact
+    → (j ≡ place) × fact cursor
+in_alternate path j cursor place fact is behind = rw is at behind
 
 -- what stands at a place of a list does not depend on what is given where nothing does
 only_one : (indexes : List AltIndex) (j : ℕ) (index other : AltIndex) → j < length indexes → index ≡ slice_index_or indexes j index → other ≡ slice_index_or indexes j other → index ≡ other
@@ -56,3 +70,13 @@ pub on_alternate : (opened : OpenFile) (pages : PageMap) (file : File) (stands :
 on_alternate opened pages file stands j index cursor is belongs other within again =
     subst (λ (i : AltIndex). AltBelongs cursor i pages (alt_entries opened.schema (j + 1) file.rows) (own_at stands.parts.owns (j + 2)))
     (only_one opened.alternates.items j index other within is again) belongs
+
+-- what is so of an answer where one thing follows from another
+pub answered : {X : Type 0} (result : Result X Fault) (P Q : X → Type 0) → ((x : X) → P x → Q x) → IsAnswer result P → IsAnswer result Q
+answered (Ok x) P Q f given = record { answer = f x given.answer; no_damage = tt }
+answered (Err fault) P Q f given = record { answer = tt; no_damage = given.no_damage }
+
+-- what follows from an answer that is no fault
+pub no_fault : {X : Type 0} (result : Result X Fault) (P : X → Type 0) (Q : Type 0) → is_err result ≡ false → ((x : X) → P x → Q) → IsAnswer result P → Q
+no_fault (Ok x) P Q right f given = f x given.answer
+no_fault (Err fault) P Q right f given = absurd (cc)

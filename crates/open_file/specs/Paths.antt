@@ -33,17 +33,38 @@ WhereOnPath opened fact =
     → IsOnPath opened.path opened.prime opened.alternates.items pages primes entries owns
     → fact pages primes entries owns
 
--- a cursor of the prime index behind a value, taken from the path where that is there; the path is gone
-pub record TakesPrimeCursor (old new : OpenFile) (value : List ℕ) (cursor : PrimeCursor) : Type 0 where
+-- the path is in the prime index, and its cursor is so
+abbrev pub IsInPrime : Option Path → (PrimeCursor → Type 0) → Type 0
+IsInPrime None fact = ⊥
+IsInPrime (Some (Prime cursor)) fact = fact cursor
+IsInPrime (Some (Alternate j cursor)) fact = ⊥
+
+-- the path is in the index of an alternate key (from 0), and its cursor is so
+abbrev pub IsInAlternate : Option Path → ℕ → (AltCursor → Type 0) → Type 0
+IsInAlternate None place fact = ⊥
+IsInAlternate (Some (Prime cursor)) place fact = ⊥
+IsInAlternate (Some (Alternate j cursor)) place fact = (j ≡ place) × fact cursor
+
+-- a cursor of the prime index behind a value, that of the path where it is there
+pub record IsBehindPrime (opened : OpenFile) (value : List ℕ) (cursor : PrimeCursor) : Type 0 where
   pub after : cursor.cursor.key.items ≡ value
-  pub belongs : WhereOnPath old (λ pages primes entries owns.
-      PrimeBelongs cursor old.prime pages primes (own_at owns 1))
-  pub gone : new ≡ record old { path = None }
+  pub belongs : WhereOnPath opened (λ pages primes entries owns.
+      PrimeBelongs cursor opened.prime pages primes (own_at owns 1))
 
 -- the same of the index of alternate key k, behind a value and stamp
-pub record TakesAltCursor (old new : OpenFile) (k : ℕ) (index : AltIndex) (value : List ℕ) (stamp : ℕ)
+pub record IsBehindAlternate (opened : OpenFile) (k : ℕ) (index : AltIndex) (value : List ℕ) (stamp : ℕ)
     (cursor : AltCursor) : Type 0 where
   pub after : cursor.cursor.key.items ≡ value ++ big_bytes 8 stamp
-  pub belongs : WhereOnPath old (λ pages primes entries owns.
+  pub belongs : WhereOnPath opened (λ pages primes entries owns.
       AltBelongs cursor index pages (entries (k - 1)) (own_at owns (k - 1 + 2)))
-  pub gone : new ≡ record old { path = None }
+
+-- the path is in the prime index, behind a value
+pub record LeadsInPrime (old new : OpenFile) (value : List ℕ) : Type 0 where
+  pub rest : new ≡ record old { path = new.path }
+  pub behind : IsInPrime new.path (IsBehindPrime old value)
+
+-- the path is in the index of alternate key k, behind a value and stamp
+pub record LeadsInAlternate (old new : OpenFile) (k : ℕ) (index : AltIndex) (value : List ℕ)
+    (stamp : ℕ) : Type 0 where
+  pub rest : new ≡ record old { path = new.path }
+  pub behind : IsInAlternate new.path (k - 1) (IsBehindAlternate old k index value stamp)

@@ -6,7 +6,7 @@ ghost use Rattle.key_index.specs.Entries.{from_prime, after_prime, from_value, a
 ghost use Rattle.key_index.specs.Standing.{alt_height};
 ghost use Rattle.open_file.specs.Lent.{LendsByIndex, LendsBehind, IsAlternateBy};
 ghost use Rattle.open_file.specs.Asked.{AsksAlone};
-ghost use Rattle.open_file.specs.Paths.{TakesPrimeCursor, TakesAltCursor};
+ghost use Rattle.open_file.specs.Paths.{LeadsInPrime, LeadsInAlternate};
 ghost use Rattle.open_file.specs.Steps.{admits_prime, admits_alt, TellsNextOfKey, MovesPath, StepsInPrime};
 ghost use Rattle.open_file.specs.Steps.{StepsInAlternate};
 
@@ -134,10 +134,15 @@ impl OpenFile {
         if value.len() != usize::from(self.prime.width) {
             return self.prime.first_after(pages, value);
         }
-        let mut cursor = self.prime_cursor(value);
-        let found = cursor.next(&self.prime, pages)?;
-        self.path = Some(Path::Prime(cursor));
-        Ok(found)
+        self.lead_in_prime(value);
+        let found = match &mut self.path {
+            Some(Path::Prime(cursor)) => cursor.next(&self.prime, pages),
+            _ => unreachable!(),
+        };
+        if found.is_err() {
+            self.path = None;
+        }
+        found
     }
 
     /// The first entry of the index of an alternate key whose value is not less than this one.
@@ -175,39 +180,45 @@ impl OpenFile {
         if value.len() != usize::from(index.width) {
             return index.first_after(pages, value, stamp);
         }
-        let mut cursor = self.alternate_cursor(k, index, value, stamp);
-        let found = cursor.next(&index, pages)?;
-        self.path = Some(Path::Alternate(k - 1, cursor));
-        Ok(found)
-    }
-
-    /// A cursor of the prime index behind a value: that of the path, where it is there. The path is
-    /// gone then.
-    fn prime_cursor(&mut self, value: &[u8]) -> PrimeCursor
-        requires whole { length value.now ≡ self.old.prime.width }
-        ensures { TakesPrimeCursor self.old self.new value.now result }
-    {
-        if let Some(Path::Prime(cursor)) = self.path.take() {
-            if cursor.is_after(value) {
-                return cursor;
-            }
+        self.lead_in_alternate(k, index, value, stamp);
+        let found = match &mut self.path {
+            Some(Path::Alternate(_, cursor)) => cursor.next(&index, pages),
+            _ => unreachable!(),
+        };
+        if found.is_err() {
+            self.path = None;
         }
-        self.prime.cursor(value)
+        found
     }
 
-    /// A cursor of the index of an alternate key behind a value and stamp: that of the path, where
-    /// it is there. The path is gone then.
-    fn alternate_cursor(&mut self, k: usize, index: AltIndex, value: &[u8], stamp: u64) -> AltCursor
+    /// Has the path in the prime index, behind a value. Where it is there it stays where it is.
+    fn lead_in_prime(&mut self, value: &[u8])
+        requires whole { length value.now ≡ self.old.prime.width }
+        ensures { LeadsInPrime self.old self.new value.now }
+    {
+        let there = match &self.path {
+            Some(Path::Prime(cursor)) => cursor.is_after(value),
+            _ => false,
+        };
+        if !there {
+            self.path = Some(Path::Prime(self.prime.cursor(value)));
+        }
+    }
+
+    /// Has the path in the index of an alternate key, behind a value and stamp. Where it is there
+    /// it stays where it is.
+    fn lead_in_alternate(&mut self, k: usize, index: AltIndex, value: &[u8], stamp: u64)
         requires key { IsAlternateBy self.old k index }
         requires whole { length value.now ≡ index.width }
-        ensures { TakesAltCursor self.old self.new k index value.now stamp result }
+        ensures { LeadsInAlternate self.old self.new k index value.now stamp }
     {
-        if let Some(Path::Alternate(j, cursor)) = self.path.take() {
-            if j == k - 1 && cursor.is_after(value, stamp) {
-                return cursor;
-            }
+        let there = match &self.path {
+            Some(Path::Alternate(j, cursor)) => *j == k - 1 && cursor.is_after(value, stamp),
+            _ => false,
+        };
+        if !there {
+            self.path = Some(Path::Alternate(k - 1, index.cursor(value, stamp)));
         }
-        index.cursor(value, stamp)
     }
 
     /// Has the path behind a value of the prime key.
