@@ -37,11 +37,6 @@ HasNoneIfRefused {U = U} Is result = IfErr result (λ refusal. IsFault refusal �
 abbrev pub HasNoneIfTold : {T U : Type 0} → (U → Type 0) → Result T DeckFault → Type 0
 HasNoneIfTold {U = U} Is result = IfErr result (λ fault. fault.code ≢ 8 → (x : U) → Is x → ⊥)
 
--- a fault is told of a refusal and, but for want of memory, only where there is nothing of which this is so
-pub record TellsFault {T U : Type 0} (Is : U → Type 0) (result : Result T DeckFault) : Type 0 where
-  pub none : HasNoneIfTold Is result
-  pub told : IfErr result IsTold
-
 -- a call gives something of which this is so, or is refused where there is nothing
 pub record GivesOrRefuses {T : Type 0} (Is : T → Type 0) (result : Result T Refusal) : Type 0 where
   pub given : IfOk result Is
