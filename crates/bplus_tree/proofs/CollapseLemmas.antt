@@ -84,11 +84,6 @@ collapsed_same shape before after h root t same tree apart filled rooted =
       changes = changes_none before after (pages_of h t) same apart;
     }
 
-pub collapses_leaf : (shape : Shape) (before after : PageMap) (is_sound : Type 0) (h root : ℕ) → h ≡ 0 → after ≡ before → is_sound → Collapses shape h root (Ok (record { root = root; levels = h })) before after is_sound
-collapses_leaf shape before after is_sound zero root none same sound t tree apart filled =
-    record { answer = (collapsed_same shape before after zero root t same tree apart filled tt, sound); no_damage = tt }
-collapses_leaf shape before after is_sound (suc h) root none same sound t tree apart filled = absurd (omega arith)
-
 module _ (shape : Shape) (before after : PageMap) (is_sound : Type 0) (h k root : ℕ) (one : h ≡ suc k) where
   pub collapses_none : CollapsesInner shape root (Ok None) before after is_sound → Collapses shape h root (Ok (record { root = root; levels = h })) before after is_sound
   collapses_none collapses = subst (λ (n : ℕ). Collapses shape n root (Ok (record { root = root; levels = n })) before after is_sound) (sym one) (λ t tree apart filled.

@@ -12,9 +12,6 @@ use Rattle.deck_runner.specs.HeldLines.{MakesWay, SoFar, so_far, ReadBehindFirst
 
 -- ---- the lines that are held
 
-no_line_held : AreHeld [] []
-no_line_held = record { text = refl; reads = tt }
-
 pub none_held : (held : List ℕ) → held ≡ [] → AreHeld held []
 none_held held none = record { text = none; reads = tt }
 

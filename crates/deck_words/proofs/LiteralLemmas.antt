@@ -15,10 +15,6 @@ abbrev pub with_front : List ℕ → Option (List ℕ × List ℕ) → Option (L
 with_front front None = None
 with_front front (Some cut) = Some (front ++ cut.0, cut.1)
 
-pub with_front-with_first : (front : List ℕ) (b : ℕ) (cut : Option (List ℕ × List ℕ)) → with_front front (with_first b cut) ≡ with_front (front ++ b ∷ []) cut
-with_front-with_first front b None = refl
-with_front-with_first front b (Some cut) = ap (λ (r : List ℕ). Some (r, cut.1)) (sym (append_assoc front (b ∷ []) cut.0))
-
 same_byte : (b : ℕ) → eqb b b ≡ true
 same_byte b = grind (arith, nat_tests)
 
@@ -96,10 +92,6 @@ with_count count (Some cut) = Some (count + length cut.0, cut.1)
 pub with_count-with_first : (count b : ℕ) (cut : Option (List ℕ × List ℕ)) → with_count count (with_first b cut) ≡ with_count (count + 1) cut
 with_count-with_first count b None = refl
 with_count-with_first count b (Some cut) = ap (λ (n : ℕ). Some (n, cut.1)) (omega arith)
-
-pub counted_from_none : (cut : Option (List ℕ × List ℕ)) → with_count 0 cut ≡ option_map (λ (c : List ℕ × List ℕ). (length c.0, c.1)) cut
-counted_from_none None = refl
-counted_from_none (Some cut) = ap (λ (n : ℕ). Some (n, cut.1)) (omega arith)
 
 -- ---- a byte at a time
 

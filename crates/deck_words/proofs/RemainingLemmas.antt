@@ -148,9 +148,6 @@ pub record Counted (bytes : List ℕ) (rest : Rest) (count : ℕ) : Type 0 where
   pub counted : length words ≡ count
   pub few : count + length rest.bytes ≤ length bytes
 
-pub counted_start : (bytes : List ℕ) → length bytes ≤ 1048576 → Counted bytes (rest_of 1 bytes) 0
-counted_start bytes short = record { words = []; so = start bytes short; all = refl; counted = refl; few = omega arith }
-
 pub counted_step : (bytes : List ℕ) (rest : Rest) (count : ℕ) (next : Next) → Counted bytes rest count → piece_at rest ≡ Some next → Counted bytes next.1 (count + length next.0)
 counted_step bytes rest count next c e =
     let t = takes rest next e in

@@ -41,9 +41,6 @@ rest_of_many : {A : Type 0} (p : Rule A) → LeavesRest p → (xs : List A) (wor
 rest_of_many p h [] words rest s = nothing_taken words rest s
 rest_of_many p h (x ∷ xs) words rest s = end_of_end words s.0 rest (h.ends x words s.0 s.1) (rest_of_many p h xs s.0 rest s.2)
 
-pub rest_many : {A : Type 0} (p : Rule A) → LeavesRest p → LeavesRest (many p)
-rest_many p h = record { ends = rest_of_many p h }
-
 pub rest_onto : {A S : Type 0} (add : S → A → Option S) (s : S) (p : Rule A) → LeavesRest p → LeavesRest (onto add s p)
 rest_onto add s p h = record { ends = λ t words rest k. rest_of_many p h k.0 words rest k.2 }
 

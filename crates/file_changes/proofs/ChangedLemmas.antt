@@ -56,10 +56,6 @@ need_step schema old new indexes j index many lt is =
     ap (λ ks. need_of_changed ks old new (map alt_height (drop j indexes))) (dropped schema.keys d (j + 1) key)
     ∙ ap (λ (is : List AltIndex). need_of_changed (key_at schema (j + 1) ∷ drop (j + 1 + 1) schema.keys) old new (map alt_height is)) (indexes_dropped indexes j index lt is)
 
-pub need_past : (schema : Schema) (old new : List ℕ) (indexes : List AltIndex) (j : ℕ) → length schema.keys ≡ length indexes + 1 → length indexes ≤ j → need_from schema old new indexes j ≡ 0
-need_past schema old new indexes j many past =
-    ap (λ ks. need_of_changed ks old new (map alt_height (drop j indexes))) (all_dropped schema.keys (j + 1) (omega (arith, many, past)))
-
 -- ---- the stamps and the record
 
 -- the stamps of the keys up to j are written

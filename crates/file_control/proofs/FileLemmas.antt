@@ -55,22 +55,3 @@ keys_are_named entries layout least entry schema is given =
     both_are (is_name_of entries (Some entry.record_key)) _ p.0 p.1
 
 -- ---- lengths
-
-pub least_within : (lengths : Option RecordLength) (greatest least : ℕ) → 1 ≤ greatest → least_length lengths greatest ≡ Some least → (1 ≤ least) × (least ≤ greatest)
-least_within None greatest least some e = let same = same_Some greatest least e in (omega (arith, some, same), omega (arith, same))
-least_within (Some (Fixed n)) greatest least some e =
-    let same = same_Some greatest least (then_some (eqb n greatest) (Some greatest) least e).1 in (omega (arith, some, same), omega (arith, same))
-least_within (Some (Varying lengths)) greatest least some e =
-    let from = lengths.least in
-    let to = lengths.greatest in
-    let t = then_some (leb 1 from && (leb from to && eqb to greatest)) (Some from) least e in
-    let same : from ≡ least = same_Some from least t.1 in
-    let a = both_true (leb 1 from) (leb from to && eqb to greatest) t.0 in
-    let b = both_true (leb from to) (eqb to greatest) a.1 in
-    (low from least a.0 same, high from to greatest least b.0 b.1 same)
-  where
-    low : (from least : ℕ) → leb 1 from ≡ true → from ≡ least → 1 ≤ least
-    low from least e same = grind (arith, nat_tests)
-
-    high : (from to greatest least : ℕ) → leb from to ≡ true → eqb to greatest ≡ true → from ≡ least → least ≤ greatest
-    high from to greatest least k m same = grind (arith, nat_tests)

@@ -102,9 +102,6 @@ alt_key w p e fit =
     ∙ front (w + 8) (e.value.items ++ bytes_high_first 8 e.stamp) e.prime.items
     (simp (length-append, length-bytes_high_first) (omega (arith, fit.long)))
 
-pub alt_length : (w p : ℕ) (e : AltEntry) → IsAltEntry w p e → length (alt_bytes e) ≡ w + 8 + p
-alt_length w p e fit = simp (length-append, length-bytes_high_first) (omega (arith, fit.long, fit.prime_long))
-
 then_eq : (a b : Ordering) → is_eq (ordering_then a b) ≡ (is_eq a && is_eq b)
 then_eq Less b = refl
 then_eq Equal b = refl

@@ -37,11 +37,6 @@ fails_finding r fault was honest opened pages k test old new sound same =
       kept = rw p.1 same;
     }
 
--- the cause of a fault of a file that was not broken
-pub caused_in : {X : Type 0} (r : Result X Fault) (broken : Bool) (failed lacks : Type 0) → IfErr r (IsCaused failed lacks) → IfErr r (IsCausedIn broken failed lacks)
-caused_in (Ok x) broken failed lacks is = tt
-caused_in (Err e) broken failed lacks is = record { device = is.device; full = is.full; broken = λ b. absurd (is.not_broken b) }
-
 -- what follows from an answer
 pub on_ok : {X : Type 0} (r : Result X Fault) (A B : Type 0) → (A → B) → OnOk r A → OnOk r B
 on_ok (Ok x) A B f h = f h

@@ -46,10 +46,6 @@ or_false : (b : Bool) → (b || false) ≡ b
 or_false true = refl
 or_false false = refl
 
-or_swap : (a b c : Bool) → (a || (b || c)) ≡ ((a || b) || c)
-or_swap true b c = refl
-or_swap false b c = refl
-
 -- one key whose value is not there
 pub step_absent : (keys : List KeyPart) (d : KeyPart) (bytes : List ℕ) (rows : List Row) (k : ℕ) (repeated : Bool) → k < length keys → is_there (slice_index_or keys k d) bytes rows ≡ false
     → LooksOn keys bytes rows k repeated → LooksOn keys bytes rows (k + 1) repeated

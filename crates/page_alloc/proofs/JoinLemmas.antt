@@ -143,9 +143,6 @@ gives_back shown n a b (Err e) given kept fails honest asked step = record {
   writes = record { cause = fails.caused; asked = asked; step = step };
 }
 
-pub over_after : (d e : Cache) (t : ShelfState) → SameFrames d e → IsOver d t → IsOver e t
-over_after d e t same over = over_same d e t same.store same.frames over
-
 -- a page of the cache is lent, or could not be loaded
 pub reads_after : (a b : PagedFile) (s t : ShelfState) (i j : ℕ) → b.pager ≡ a.pager → b.changed ≡ a.changed → KeepsPages a.cache b.cache s t → OnlyLooks a.cache b.cache s t → a.cache.asked ≤ b.cache.asked → i ≤ j → ReadsPages a b s t i j
 reads_after a b s t i j pager gate kept looks asked faults = record {

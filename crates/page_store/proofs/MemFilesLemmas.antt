@@ -33,11 +33,6 @@ named_at [] name i d at = absurd at
 named_at (f ∷ fs) name zero d at = at
 named_at (f ∷ fs) name (suc i) d at = named_at fs name i d at.1
 
-pub within_at : (fs : List MemFile) (name : List ℕ) (i : ℕ) → IsFirstNamedAt fs name i → i < length fs
-within_at [] name i at = absurd at
-within_at (f ∷ fs) name zero at = omega arith
-within_at (f ∷ fs) name (suc i) at = let l = within_at fs name i at.1 in omega arith
-
 pub file_set : (fs : List MemFile) (name : List ℕ) (i : ℕ) (g : MemFile) → IsFirstNamedAt fs name i → has_name g name ≡ true → file_in (set fs i g) name ≡ file_of g
 file_set [] name i g at is = absurd at
 file_set (f ∷ fs) name zero g at is = rw is refl

@@ -20,18 +20,6 @@ crashed_some image f g bytes left is = record {
   settled = λ c may. only_synced [] bytes c (subst (λ (x : DeviceFile). Leaves x c) is may) ∙ sym (ap (λ (x : DeviceFile). x.seen) is);
 }
 
--- a file that was not
-pub crashed_none : (image : Image) (f : MemFile) → None ≡ image_of image (file_of f) → Crashed image (file_of f) absent
-crashed_none image f left = record {
-  left = left;
-  may = subst (Leaves (file_of f)) (sym left) (crash_image image (file_of f) f.sound);
-  settled = absent_only;
-}
-
--- and one that has never been there
-pub crashed_absent : (image : Image) → Crashed image absent absent
-crashed_absent image = record { left = sym (image_of_absent image); may = refl; settled = absent_only }
-
 name_is : (f : MemFile) (name : List ℕ) → has_name f name ≡ true → f.name.bytes ≡ name
 name_is f name is = (bytes_eq-Decides f.name.bytes name).0 is
 

@@ -43,9 +43,3 @@ pub quiet_written : (f g : DeviceFile) (at n : ℕ) → 0 < at → g.log ≡ f.l
 quiet_written f g at n low same =
     throughout_one _ f g (wrote at n) same (λ c may. (c, may, begins_self c))
     (λ c may. begins_written (durable f.log) at n c low (subst (λ (d : Durable). MayLeave d c) (ap durable same ∙ durable_push f.log (wrote at n)) may))
-
--- a sync, since what a read gives is one of the images
-pub quiet_synced : (f g : DeviceFile) (bytes : List ℕ) → Leaves f (Some bytes) → g.log ≡ f.log ++ synced bytes ∷ [] → Quiet f g
-quiet_synced f g bytes was same =
-    throughout_one _ f g (synced bytes) same (λ c may. (c, may, begins_self c))
-    (λ c may. let e = only_synced f.log bytes c (subst (λ (l : List FileStep). MayLeave (durable l) c) same may) in (Some bytes, was, subst (λ (v : Option (List ℕ)). Begins v (Some bytes)) (sym e) (begins_self (Some bytes))))

@@ -71,6 +71,3 @@ module _ {A B : Type 0} (sample : A) (p : Rule A) (q : A → Rule B) (lawful_p :
 
   pub lawful_followed : Lawful (followed sample p q)
   lawful_followed = record { sound = followed_sound; complete = followed_complete; first = followed_first }
-
-pub lawful_where_allowed : {A : Type 0} (allowed : Bool) (p : Rule A) → Lawful p → Lawful (where_allowed allowed p)
-lawful_where_allowed allowed p lawful = lawful_as _ p lawful

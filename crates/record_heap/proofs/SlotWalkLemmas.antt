@@ -122,10 +122,6 @@ marked_more shape pages page own n m m' marked there one = record {
         kept (inl on) = inl (one.others p (inl d.1) ∙ on)
         kept (inr found) = inr found
 
--- nothing is marked of no pages
-pub marked_none : (shape : Shape) (pages : PageMap) (m : SlotMarks) → ((p : Place) → marked_slot m p ≡ false) → AreMarked shape pages [] m
-marked_none shape pages m none = record { free = λ p below mark. absurd (clash (marked_slot m p) mark (none p)); every = λ p below of. absurd of }
-
 -- one slot more of the chain
 pub slots_more : (shape : Shape) (pages : PageMap) (first at next : Place) (m0 m m' : SlotMarks) (free : List Place) → SlotsWalked shape pages first at m0 m free
     → TakesMark shape pages at next m m' → SlotsWalked shape pages first next m0 m' (free ++ at ∷ [])
@@ -150,9 +146,6 @@ slots_more shape pages first at next m0 m m' free walked takes =
     moved : (p : Place) → p.slot < room shape → p ≢ at → (marked_slot m p ≡ true) ⊎ IsOneOf free p → (marked_slot m' p ≡ true) ⊎ IsOneOf (free ++ at ∷ []) p
     moved p below d (inl on) = inl (takes.sets.others p d ∙ on)
     moved p below d (inr of) = inr (one_more free at p of)
-
-pub slots_none : (shape : Shape) (pages : PageMap) (first : Place) (m : SlotMarks) → SlotsWalked shape pages first first m m []
-slots_none shape pages first m = record { path = refl; once = tt; were = tt; every = λ p below on. inl on; only = λ p below on. on }
 
 path_chain : (behind : Place → Option Place) (first at : Place) (free : List Place) → IsFreePath behind first free at → at.page ≡ 0 → IsFreeChain behind first free
 path_chain behind first at [] path end = ap (λ (p : Place). p.page) path ∙ end

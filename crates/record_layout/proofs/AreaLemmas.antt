@@ -3,10 +3,6 @@ use Rattle.std.proofs.Common.{◌≡◌, ℕ, ◌-◌, min, List, ◌++◌, leng
 use Rattle.std.proofs.lemmas.List.{places, same_lists}
 use Rattle.record_layout.specs.Area.{to_the_left, to_the_right}
 
--- the text as far as there is room, and then spaces
-pub to_the_left-is : (n : ℕ) (text : List ℕ) → to_the_left n text ≡ take (min (length text) n) text ++ replicate (n - min (length text) n) 32
-to_the_left-is n text = same_lists _ _ (search (rules, places)) (λ k d h. grind (arith, places))
-
 -- zeros, and then as much of the end of the digits as there is room for
 pub to_the_right-is : (n : ℕ) (digits : List ℕ) → to_the_right n digits ≡ replicate (n - min (length digits) n) 48 ++ drop (length digits - min (length digits) n) digits
 to_the_right-is n digits = same_lists _ _ (search (rules, places)) (λ k d h. grind (arith, places))

@@ -17,15 +17,3 @@ item_within items i item layout h is =
     let P : Placed → Type 0 = λ placed. (1 ≤ placed.field.length) × (placed.field.offset + placed.field.length ≤ length_of (map item_of items)) in
     let there : i < length (map item_of items) = subst (λ n. i < n) (sym (length-map items item_of)) h in
     subst P same (All-get_or P (map item_of items) i (item_of item) there layout.within)
-
--- the item of a name is the next one, or one behind it
-pub field_of_more : (items : List Declared) (i : ℕ) (d : Declared) (name : List ℕ) → i < length items → field_of (map item_of (drop i items)) name ≡ cond (is_named name (item_of (get_or items i d)).name) (Some (get_or items i d).field) (field_of (map item_of (drop (i + 1) items)) name)
-field_of_more items i d name h = at_drop_more (λ xs. field_of (map item_of xs) name) items i d h
-
--- an area with one item more
-pub blank_more : (n : ℕ) (items : List Declared) (i : ℕ) (item : Declared) → i < length items → item ≡ get_or items i item → blank_area n (map item_of (take (i + 1) items)) ≡ cond item.field.numeric (moved item.field (Fill Zero) (blank_area n (map item_of (take i items)))) (blank_area n (map item_of (take i items)))
-blank_more n items i item h is =
-    let with : List ℕ → Placed → List ℕ = λ area placed. cond placed.field.numeric (moved placed.field (Fill Zero) area) area in
-    ap (blank_area n) (map_more item_of items i item h)
-    ∙ (fold-append with (replicate n 32) (map item_of (take i items)) (item_of (get_or items i item) ∷ [])
-    ∙ ap (λ (read : Declared). with (blank_area n (map item_of (take i items))) (item_of read)) (sym is))

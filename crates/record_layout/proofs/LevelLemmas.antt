@@ -10,20 +10,6 @@ use Rattle.record_layout.specs.Picture.{IsTooLong, IsBad}
 use Rattle.record_layout.specs.Layout.{Entry, entry_of}
 use Rattle.record_layout.specs.LayoutFault.{HasPictureFault}
 
--- the order does not matter to whether one of them passes
-pub list_any-reverse : (p : Entry → Bool) (items : List Item) → list_any p (reverse (map entry_of items)) ≡ list_any (λ item. p (entry_of item)) items
-list_any-reverse p [] = refl
-list_any-reverse p (item ∷ items) =
-    ap (list_any p) (reverse-append (entry_of item ∷ []) (map entry_of items))
-    ∙ (list_any-append p (reverse (map entry_of items)) (entry_of item ∷ [])
-    ∙ (ap (λ b. b || (p (entry_of item) || false)) (list_any-reverse p items) ∙ turned (list_any (λ item. p (entry_of item)) items) (p (entry_of item))))
-  where
-    turned : (a b : Bool) → (a || (b || false)) ≡ (b || a)
-    turned true true = refl
-    turned true false = refl
-    turned false true = refl
-    turned false false = refl
-
 -- one item more stands first
 pub reverse_more : (items : List Item) (i : ℕ) (d : Item) → i < length items → reverse (map entry_of (take (i + 1) items)) ≡ entry_of (get_or items i d) ∷ reverse (map entry_of (take i items))
 reverse_more items i d h = ap reverse (map_more entry_of items i d h) ∙ reverse-append (map entry_of (take i items)) (entry_of (get_or items i d) ∷ [])

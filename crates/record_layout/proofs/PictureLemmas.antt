@@ -258,12 +258,6 @@ pub of_this_kind : (k numeric : Bool) (text : List ℕ) (n : ℕ) → numeric �
 of_this_kind k numeric text n e m =
     let same : k ≡ numeric = kind_of k text n m ∙ sym e in (same, subst (λ v. Means v text n) same m)
 
-pub below_cap : (n : ℕ) → capped n ≤ 4000 → capped n ≡ n
-below_cap n h = omega (arith, h)
-
-pub above_cap : (n : ℕ) → 4000 < capped n → 4000 < n
-above_cap n h = omega (arith, h)
-
 pub above_18 : (n : ℕ) → 18 < capped n → 18 < n
 above_18 n h = omega (arith, h)
 

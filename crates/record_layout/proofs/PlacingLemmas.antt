@@ -120,10 +120,6 @@ at_end items i total places so h =
     subst (λ rest. SoFar (map entry_of items) (reverse (map entry_of items)) rest total (map item_of places)) (ap (map entry_of) (drop_all i items h))
     (subst (λ read. SoFar (map entry_of items) (reverse (map entry_of read)) (map entry_of (drop i items)) total (map item_of places)) (take_all i items h) so)
 
-pub members_more : (level : ℕ) (items : List Item) (places : List Declared) (i : ℕ) (item : Item) (place : Declared) → i < length items → i < length places → members_length level (map entry_of (drop i items)) (map item_of (drop i places)) ≡ cond (ltb level (get_or items i item).level) ((get_or places i place).field.length + members_length level (map entry_of (drop (i + 1) items)) (map item_of (drop (i + 1) places))) 0
-members_more level items places i item place h k =
-    λ j. members_length level (map entry_of (drop_more items i item h j)) (map item_of (drop_more places i place k j))
-
 pub sum_more : (places : List Declared) (i : ℕ) (place : Declared) → i < length places → sum_by (λ place. place.field.length) (drop i places) ≡ (get_or places i place).field.length + sum_by (λ place. place.field.length) (drop (i + 1) places)
 sum_more places i place h =
     let f : Declared → ℕ = λ place. place.field.length in

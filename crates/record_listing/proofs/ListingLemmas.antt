@@ -33,11 +33,6 @@ is_closed NoFile schema is = absurd (cc)
 is_closed Refused schema is = absurd (cc)
 is_closed (Closed other file) schema is = let same : schema ≡ other = cc in (file, ap (λ (s : Schema). Closed s file) (sym same))
 
-pub is_absent : (named : Named) → SeenAbsent ≡ seen_of named → named ≡ NoFile
-is_absent NoFile is = refl
-is_absent Refused is = absurd (cc)
-is_absent (Closed other file) is = absurd (cc)
-
 pub is_refused : (named : Named) → SeenUnsound ≡ seen_of named → named ≡ Refused
 is_refused NoFile is = absurd (cc)
 is_refused Refused is = refl

@@ -112,7 +112,3 @@ module _ (form : Form) where
 -- nothing was written
 pub unwritten : (text : List ℕ) (a : Option (List ℕ)) → IsWrittenInPart text a a
 unwritten text a = record { front = []; rest = text; text_is = refl; appends = Appends-nil a }
-
--- a front was written
-pub front_written : (text : List ℕ) (a b : Option (List ℕ)) → AppendsFront a b text → IsWrittenInPart text a b
-front_written text a b (front, rest, is, some, appends) = record { front = front; rest = rest; text_is = is; appends = appends }

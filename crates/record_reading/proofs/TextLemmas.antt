@@ -157,10 +157,6 @@ text_part text area area_now n behind same read = record {
       (one, append_cancel_left (text_line (take n area_now)) other_behind behind (ap (λ (l : List ℕ). text_line l ++ other_behind) (sym one) ∙ both));
 }
 
--- and where none was read, there is no such part
-pub no_text_part : (text : List ℕ) (most : ℕ) → BeginsWithNoLine Text text most → HasNoPart (line_text Text) Anything text 0 most
-no_text_part text most none bytes behind are few follows is = none bytes behind are (let few' : 0 + length bytes ≤ most = few in omega (arith, few')) is
-
 -- the same of what was answered
 pub text_parts : (form : Form) (result : Option Line) (text area area_now : List ℕ) → form ≡ Text → length area_now ≡ length area
     → IfSome result (λ line. ReadsLine Text text area area_now line.length line.behind.now)

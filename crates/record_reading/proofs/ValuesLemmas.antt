@@ -87,18 +87,6 @@ pub record AreReadUpTo (quoting : Quoting) (columns : List Column) (text area : 
   pub from : (bytes behind : List ℕ) → AreBytes bytes → length bytes ≤ length area → EndsValue quoting behind → text ≡ values_text quoting true columns bytes behind
       → IsRest quoting is_first left start at bytes (take at area_now) rest behind
 
-pub no_column : (quoting : Quoting) (columns : List Column) (text area : List ℕ) → AreTiled 0 (map part_of columns) (length area) → AreReadUpTo quoting columns text area true columns area 0 text
-no_column quoting columns text area whole = record {
-  start = 0;
-  tiled = whole;
-  before = omega arith;
-  are_bytes = tt;
-  same = refl;
-  tail = refl;
-  to = λ bytes behind short is. is;
-  from = λ bytes behind are few ends is. record { bytes_left = bytes; bytes_are = refl; are_bytes = are; short = λ less. absurd (omega (arith, less)); text = is };
-}
-
 module _ (quoting : Quoting) (columns : List Column) (text area : List ℕ) (is_first : Bool) (area_now : List ℕ) (at : ℕ) (rest : List ℕ) where
   -- all columns were read
   pub all_read : AreReadUpTo quoting columns text area is_first [] area_now at rest → ReadsPart (values_text quoting true columns) (EndsValue quoting) text area 0 (length area) area_now at rest

@@ -31,8 +31,3 @@ more_keys front new count k rows later key whole h e pushed dropped before =
     (λ i. behind (pushed i) (keys_in (count - (k + 1)) (dropped i)))
     ∙ sym (one_behind front key keys) ∙ ap (λ (first : Option KeyPart). behind front (key_and first keys)) (sym e)
     ∙ sym (next_keys front count k rows h) ∙ before
-
-pub last_keys : (front : List KeyPart) (count k : ℕ) (rows : List ℕ) → k ≡ count → behind front (keys_in (count - k) rows) ≡ Some front
-last_keys front count k rows e =
-    let none : count - k ≡ 0 = omega (arith, e) in
-    ap (λ (n : ℕ). behind front (keys_in n rows)) none ∙ ap (λ (l : List KeyPart). Some l) (append-nil front)

@@ -23,21 +23,6 @@ gives_on a b c xs ys zs first then is = record {
 pub gives_none : (a : Source) → Gives a a []
 gives_none a = record { next = Consumes-nil a.left; noted = sym (append-nil (given_by a.reads)) }
 
--- a read that gave this, after some that gave nothing
-pub read_gave : (a b c : Source) (n : ℕ) (part : List ℕ) → Gives a b [] → Consumes b.left c.left (take n part)
-    → c.reads ≡ record { room = length part; given = Some (take n part) } ∷ b.reads → Gives a c (take n part)
-read_gave a b c n part none came noted = gives_on a b c [] (take n part) (take n part) none (record { next = came; noted = ap given_by noted }) refl
-
--- and one that failed
-pub read_fails : (a b c : Source) (room : ℕ) → Gives a b [] → Keeps b.left c.left → c.reads ≡ record { room = room; given = None } ∷ b.reads → Gives a c []
-read_fails a b c room none kept noted = record {
-  next = Consumes-kept a.left b.left c.left [] none.next kept;
-  noted = ap given_by noted ∙ append-nil (given_by b.reads) ∙ none.noted;
-}
-
-pub fails_there : (b c : Source) (room : ℕ) → c.reads ≡ record { room = room; given = None } ∷ b.reads → HasFailed c
-fails_there b c room noted = subst TellFailure (sym noted) refl
-
 -- the part of the room that was filled
 pub room_more : (room part : List ℕ) (at n : ℕ) → at ≤ length room → n ≤ length part
     → take (at + n) (put_mid at (length room - at) room part) ≡ take at room ++ take n part
@@ -83,15 +68,6 @@ no_length a b less = (less.bytes, NoLength less.bytes less.few, less.read)
 pub no_body : (a b c : Source) (head : List ℕ) (size n : ℕ) → big_bytes 2 size ≡ head → size ≤ 8192 → n ≡ size → Gives a b head → GivesLess n b c → BreaksOff a c
 no_body a b c head size n is small e came less =
     (big_bytes 2 size ++ less.bytes, NoBody size less.bytes small (let few = less.few in omega arith), gives_on a b c head less.bytes (big_bytes 2 size ++ less.bytes) came less.read (ap (λ l. l ++ less.bytes) is))
-
--- a length and the body
-pub whole_frame : (a b c : Source) (head body : List ℕ) (size : ℕ) → big_bytes 2 size ≡ head → length body ≡ size → Gives a b head → Gives b c body → Gives a c (framed body)
-whole_frame a b c head body size is long came then =
-    gives_on a b c head body (framed body) came then (ap (λ n. big_bytes 2 n ++ body) long ∙ ap (λ l. l ++ body) is)
-
--- the body in the buffer
-pub in_buffer : (part behind : List ℕ) (size : ℕ) → length part ≡ size → take size (part ++ behind) ≡ part
-in_buffer part behind size long = subst (λ (n : ℕ). take n (part ++ behind) ≡ part) long (take-append-le (length part) part behind (omega arith) ∙ take_all (length part) part (omega arith))
 
 -- what came, where it is known
 pub came_as : (a b : Source) (buffer : List ℕ) (next is : Next) → Came a b buffer (Ok next) → next ≡ is → Came a b buffer (Ok is)

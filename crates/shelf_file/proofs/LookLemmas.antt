@@ -15,17 +15,6 @@ use Rattle.shelf_file.specs.Named.{look_of, look_by}
 pub same_file : (old new : ShelfState) (unit : ℕ) → OnlyAnswers old new → unit_file new unit ≡ unit_file old unit
 same_file old new unit only = rw (only.names, only.file) refl
 
--- no file is there
-pub absent_look : (seen : Option (List ℕ)) (there : Bool) → there ≡ is_some seen → there ≡ false → NoFile ≡ look_of seen
-absent_look None there is isnt = refl
-absent_look (Some bytes) there is isnt = absurd (cc)
-
--- the file is shorter than a page
-pub short_look : (seen : Option (List ℕ)) (there : Bool) (size : ℕ) → there ≡ is_some seen → there ≡ true → size ≡ length (bytes_or_none seen) → nat_lt size 4096 ≡ true
-    → Refused ≡ look_of seen
-short_look None there size is so long short = absurd (cc)
-short_look (Some bytes) there size is so long short = rw (subst (λ n. nat_lt n 4096 ≡ true) long short) refl
-
 -- its first page was read
 pub read_look : (seen : Option (List ℕ)) (there : Bool) (size : ℕ) (page : List ℕ) (header : Option Header) (look : Look)
     → there ≡ is_some seen → there ≡ true → size ≡ length (bytes_or_none seen) → 4096 ≤ size

@@ -40,9 +40,6 @@ recount (Opened file) = Opened (recounted file)
 same_open : (a b : ShelfFile) → Opened a ≡ Opened b → a ≡ b
 same_open a b e = cc
 
-same_looked : (a b : Header) → Looked a ≡ Looked b → a ≡ b
-same_looked a b e = cc
-
 recounted_ready : (shelf : ShelfState) (u : ℕ) (file : ShelfFile) → IsReadyAt shelf u file → IsReadyAt shelf u (recounted file)
 recounted_ready shelf u file at =
     let over = at.ready.over in

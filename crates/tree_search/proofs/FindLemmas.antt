@@ -90,7 +90,3 @@ module _ (width : ℕ) (key : List ℕ) where
 pub is_false : (b : Bool) → not b ≡ true → b ≡ false
 is_false true h = cc h
 is_false false h = refl
-
-pub is_true : (b : Bool) → not b ≡ false → b ≡ true
-is_true true h = refl
-is_true false h = cc h

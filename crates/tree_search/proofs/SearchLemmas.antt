@@ -226,10 +226,6 @@ back_length shape pages k page low high key t step tree b =
 or_head : (o : Option (List ℕ)) (h : Option (List ℕ)) → o ≡ None → option_or o h ≡ h
 or_head o h none = ap (λ (x : Option (List ℕ)). option_or x h) none
 
-no_back : (xs : List (List ℕ)) → length xs ≡ 0 → xs ≡ []
-no_back [] h = refl
-no_back (x ∷ xs) h = absurd (omega arith)
-
 module _ (shape : Shape) (pages : PageMap) (h k page : ℕ) (key : List ℕ) (past : Bool) (one : h ≡ suc k) where
   pub next_down_fails : (fault : Fault) (out : Result (Option (ArrayVec ℕ)) Fault) → Steps shape pages page key (Err fault) → IsErrAnd out (λ e. e ≡ fault) → FindsFilled shape pages h page (first_of past shape.width key) out
   next_down_fails fault out steps was = subst (λ (n : ℕ). FindsFilled shape pages n page (first_of past shape.width key) out) (sym one) (λ t low high tree filled.
